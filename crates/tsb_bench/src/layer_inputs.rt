@@ -49,11 +49,12 @@ impl Cabinet {
         }
     }
 
-    /// Selects a pattern.
+    /// Selects a pattern at tick number `tick`.
     pub(crate) fn set_pattern(&mut self, tick: u32, n: u32, out: &mut Changes)
         requires shut { IsShut self.old }
         requires by { AreAllBy tick (rows_of self.old) }
         requires allowed { verdict (all_in tick (rows_of self.old)) (inputs.Pattern n) ≡ None }
+        requires in_time { tick ≤ last_tick }
         requires empty { out.old.items ≡ [] }
         ensures done { IsDone (inputs.Pattern n) tick (rows_of self.old) (rows_of self.new) out.new.items }
         ensures few { array_vec_len out.new ≤ MOST_CELLS }
@@ -61,7 +62,7 @@ impl Cabinet {
         ensures passing { self.new.passing ≡ self.old.passing }
     {
         self.controller.open();
-        self.controller.set_pattern(n, &self.plan);
+        self.controller.set_pattern(n, tick, &self.plan);
         self.controller.close_onto(out);
     }
 

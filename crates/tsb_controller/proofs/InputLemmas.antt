@@ -20,7 +20,8 @@ use Rattle.tsb_phase.specs.Moves.{unforced}
 use Rattle.tsb_phase.specs.Cells.{phase_in}
 use Rattle.tsb_phase.specs.Promises as phases
 use Rattle.tsb_coord.specs.Coordinated as coordination
-use Rattle.tsb_coord.specs.Cells.{pattern_in}
+use Rattle.tsb_coord.specs.Cells.{pattern_in, correction_in}
+use Rattle.tsb_coord.specs.Correction.{local_now, selected_correction}
 use Rattle.tsb_coord.specs.Promises as coord
 use Rattle.tsb_preempt.specs.Preempts as preempts_words
 use Rattle.tsb_preempt.specs.Preempts.{Preempts, is_preempt, after_reset, with_switch, switch_refusal}
@@ -61,8 +62,17 @@ unforced-all now old new done = fun_ext (λ p. elim (cases_Bool (is_phase p)) [
 
 -- ## Patterns
 
-pub selected : (n : ℕ) (plan : Plan) (old new : List ℕ) → coordination.refusal plan n ≡ None → coord.IsSelected n plan old new → pattern_in new ≡ coordination.selects n
-selected n plan old new allowed done = done ∙ ap (λ (o : Option Refusal). coord.selected_after o n (pattern_in old)) allowed
+pub selected : (n now : ℕ) (plan : Plan) (old new : List ℕ) → coordination.refusal plan n ≡ None → coord.IsSelected n now plan old new →
+    pattern_in new ≡ coordination.selects n
+selected n now plan old new allowed done = done.pattern ∙ ap (λ (o : Option Refusal). coord.selected_after o n (pattern_in old)) allowed
+
+-- how its local counter comes into step, by the plan beside the rows
+pub corrected : (n now : ℕ) (plan beside : Plan) (old new : List ℕ) → coordination.refusal plan n ≡ None → coord.IsSelected n now plan old new → beside ≡ plan →
+    correction_in new ≡ selected_correction beside (coordination.selects n) now (local_now beside (pattern_in old) (correction_in old) now)
+corrected n now plan beside old new allowed done same =
+    done.correction
+    ∙ ap (λ (o : Option Refusal). coord.correction_after o plan now n old) allowed
+    ∙ ap (λ (x : Plan). selected_correction x (coordination.selects n) now (local_now x (pattern_in old) (correction_in old) now)) (sym same)
 
 -- ## Preempts
 

@@ -50,9 +50,9 @@ use Rattle.tsb_ring.specs.Moves.{is_ended, is_cleared, is_started}
 use Rattle.tsb_ring.specs.Next as rings_next
 use Rattle.tsb_ring.specs.Rings.{number}
 use Rattle.tsb_ring.proofs.MoveLemmas.{ends_ready, clears_over}
-use Rattle.tsb_coord.specs.Cells.{pattern_in}
+use Rattle.tsb_coord.specs.Cells.{pattern_in, correction_in}
 use Rattle.tsb_coord.specs.Coordinated as coordination
-use Rattle.tsb_coord.specs.Coordinated.{asks_force_off, asks_recycle}
+use Rattle.tsb_coord.specs.Correction.{forces, lets_walk_again}
 use Rattle.tsb_preempt.specs.Cells.{preempts_in}
 use Rattle.tsb_preempt.specs.Laws as preempt_laws
 use Rattle.tsb_preempt.specs.Preempts as preempts_words
@@ -205,20 +205,20 @@ module _ (now t : ℕ) (plan : Plan) (desk : Desk) (lamp : Option Lamp) (row : R
 
   forced_agree : Agree (forced u) (forced s)
   forced_agree p from to =
-      ap (λ (n : ℕ). asks_force_off plan n (pattern_in r.pattern) p) (sym t_is)
+      ap (λ (n : ℕ). forces plan (pattern_in r.pattern) (correction_in r.pattern) n p) (sym t_is)
       ∙ sym ((o.coordination t behind sooner a.sensed.coordination a.seen.ordered).forced p from to)
       ∙ a.seen.ordered.forced p from to
-      ∙ ap (λ (n : ℕ). asks_force_off plan n (pattern_in r.pattern) p) now_is
+      ∙ ap (λ (n : ℕ). forces plan (pattern_in r.pattern) (correction_in r.pattern) n p) now_is
 
   forced_same : clipped (forced u) ≡ clipped (forced s)
   forced_same = clipped-same (forced u) (forced s) forced_agree
 
   recycle_agree : Agree (recycle u) (recycle s)
   recycle_agree p from to =
-      ap (λ (n : ℕ). asks_recycle plan n (pattern_in r.pattern) p) (sym t_is)
+      ap (λ (n : ℕ). lets_walk_again plan (pattern_in r.pattern) (correction_in r.pattern) n p) (sym t_is)
       ∙ sym ((o.coordination t behind sooner a.sensed.coordination a.seen.ordered).recycle p from to)
       ∙ a.seen.ordered.recycle p from to
-      ∙ ap (λ (n : ℕ). asks_recycle plan n (pattern_in r.pattern) p) now_is
+      ∙ ap (λ (n : ℕ). lets_walk_again plan (pattern_in r.pattern) (correction_in r.pattern) n p) now_is
 
   recycle_same : clipped (recycle u) ≡ clipped (recycle s)
   recycle_same = clipped-same (recycle u) (recycle s) recycle_agree
@@ -282,9 +282,9 @@ module _ (now t : ℕ) (plan : Plan) (desk : Desk) (lamp : Option Lamp) (row : R
     must_end = λ p from to. ap (λ (x : Orders). has x.must_end p) a.told.conditions_are.orders_are ∙ a.seen.standing.must_end p from to
         ∙ ap (λ (f : Option (ℕ → Bool)). is_outside f p) (a.seen.standing.target ∙ target_now) ∙ sym (clipped-agrees (tick.must_end s row) p from to);
     forced = λ p from to. ap (λ (x : Orders). has x.forced p) a.told.conditions_are.orders_are ∙ a.seen.ordered.forced p from to
-        ∙ ap (λ (n : ℕ). asks_force_off plan n (pattern_in r.pattern) p) now_is ∙ sym (clipped-agrees (forced s) p from to);
+        ∙ ap (λ (n : ℕ). forces plan (pattern_in r.pattern) (correction_in r.pattern) n p) now_is ∙ sym (clipped-agrees (forced s) p from to);
     recycle = λ p from to. ap (λ (x : Orders). has x.recycle p) a.told.conditions_are.orders_are ∙ a.seen.ordered.recycle p from to
-        ∙ ap (λ (n : ℕ). asks_recycle plan n (pattern_in r.pattern) p) now_is ∙ sym (clipped-agrees (recycle s) p from to);
+        ∙ ap (λ (n : ℕ). lets_walk_again plan (pattern_in r.pattern) (correction_in r.pattern) n p) now_is ∙ sym (clipped-agrees (recycle s) p from to);
   }
     where
       served_now : number_of (preempts_in now r.preempts).service ≡ service s row
@@ -439,6 +439,7 @@ module _ (now t : ℕ) (plan : Plan) (desk : Desk) (lamp : Option Lamp) (row : R
     plan = plan;
     desk = desk;
     pattern = pattern_in r.pattern;
+    correction = correction_in r.pattern;
     detectors = detectors_then i;
     memories = memories_then i;
     phases = phases_then i;

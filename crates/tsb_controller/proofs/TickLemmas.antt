@@ -55,8 +55,8 @@ use Rattle.tsb_ring.specs.Rings.{number}
 use Rattle.tsb_ring.proofs.ActLemmas.{acts_as_next}
 use Rattle.tsb_ring.proofs.LookLemmas.{moves-same}
 use Rattle.tsb_ring.proofs.MoveLemmas.{ends_ready, clears_over}
-use Rattle.tsb_coord.specs.Cells.{pattern_in}
-use Rattle.tsb_coord.specs.Coordinated.{asks_force_off, asks_recycle}
+use Rattle.tsb_coord.specs.Cells.{pattern_in, correction_in}
+use Rattle.tsb_coord.specs.Correction.{forces, lets_walk_again}
 use Rattle.tsb_preempt.specs.Cells.{preempts_in}
 use Rattle.tsb_preempt.specs.Laws as preempt_laws
 use Rattle.tsb_preempt.specs.Preempts as preempts_words
@@ -231,9 +231,9 @@ module _ (now : ℕ) (plan : Plan) (desk : Desk) (lamp : Option Lamp) (row : Row
       must_end = λ p from to. ap (λ (x : Orders). has x.must_end p) are.orders_are ∙ wanted.must_end p from to
           ∙ sym (clipped-agrees (tick.must_end t row) p from to);
       forced = λ p from to. ap (λ (x : Orders). has x.forced p) are.orders_are ∙ sensed.ordered.forced p from to
-          ∙ ap (λ (n : ℕ). asks_force_off plan n t.pattern p) now_is ∙ sym (clipped-agrees (tick.forced t) p from to);
+          ∙ ap (λ (n : ℕ). forces plan t.pattern t.correction n p) now_is ∙ sym (clipped-agrees (tick.forced t) p from to);
       recycle = λ p from to. ap (λ (x : Orders). has x.recycle p) are.orders_are ∙ sensed.ordered.recycle p from to
-          ∙ ap (λ (n : ℕ). asks_recycle plan n t.pattern p) now_is ∙ sym (clipped-agrees (tick.recycle t) p from to);
+          ∙ ap (λ (n : ℕ). lets_walk_again plan t.pattern t.correction n p) now_is ∙ sym (clipped-agrees (tick.recycle t) p from to);
     }
 
     pub told : (p : ℕ) → 1 ≤ p → p ≤ 16 → IsToldTheSame plan (phases.given_of conditions) (phases_given t row) p
@@ -358,6 +358,7 @@ module _ (now : ℕ) (plan : Plan) (desk : Desk) (lamp : Option Lamp) (row : Row
       plan = plan;
       desk = desk;
       pattern = pattern_in old.pattern;
+      correction = correction_in old.pattern;
       detectors = detectors_are i;
       memories = memories_are d new decided settled i;
       phases = phases_are i;

@@ -57,11 +57,11 @@ abbrev pub IsLit : Option Lamp → Option Lamp → Plan → Rows → Option Trip
 IsLit was lamp plan rows found = (now : ℕ) (desk : Desk) →
     state_of now (tripping now found plan desk lamp) rows ≡ with_lamp lamp (state_of now (untripped plan desk was) rows)
 
--- ## Other inputs, at whatever tick, whatever stands beside the rows
+-- ## Other inputs, whatever stands beside the rows, and but for the first at whatever tick
 
--- `set_pattern(n, plan)`
-abbrev pub IsSelected : ℕ → Rows → Rows → Type 0
-IsSelected n old new = (now : ℕ) (b : Beside) → state_of now b new ≡ with_pattern n (state_of now b old)
+-- `set_pattern(n, now, plan)`, at that tick
+abbrev pub IsSelected : ℕ → ℕ → Plan → Rows → Rows → Type 0
+IsSelected n now plan old new = (b : Beside) → b.plan ≡ plan → state_of now b new ≡ with_pattern n (state_of now b old)
 
 -- `switch(n, on, plan)`
 abbrev pub IsSwitched : ℕ → Bool → Rows → Rows → Type 0

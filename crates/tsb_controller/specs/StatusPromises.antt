@@ -8,8 +8,9 @@ use Rattle.tsb_step.specs.tsb_types.Intervals.{in_service, is_green}
 use Rattle.tsb_step.specs.tsb_types.Sets.{has, has_number}
 use Rattle.tsb_step.specs.tsb_plan.Plan.{Plan}
 use Rattle.tsb_step.specs.tsb_plan.Running.{running}
-use Rattle.tsb_coord.specs.Cells.{pattern_in}
-use Rattle.tsb_coord.specs.Coordinated.{force_off, local}
+use Rattle.tsb_coord.specs.Cells.{pattern_in, correction_in}
+use Rattle.tsb_coord.specs.Coordinated.{force_off}
+use Rattle.tsb_coord.specs.Correction.{local_now}
 use Rattle.tsb_phase.specs.Cells.{phase_in}
 use Rattle.tsb_ring.specs.Rings.{Ring, Ring1, Ring2, ring_numbered}
 use Rattle.tsb_step.specs.declared.status.PreemptState.{PreemptState}
@@ -106,7 +107,7 @@ abbrev pub force_off_by : Plan → ℕ → Rows → Option PhaseFound → Option
 force_off_by plan now rows None = None
 force_off_by plan now rows (Some q) =
     if is_green q.times.interval
-    then force_off_from plan (running plan (pattern_in rows.pattern)) (local plan now (pattern_in rows.pattern))
+    then force_off_from plan (running plan (pattern_in rows.pattern)) (local_now plan (pattern_in rows.pattern) (correction_in rows.pattern) now)
     (force_off plan (running plan (pattern_in rows.pattern)) q.phase)
     else None
 

@@ -1,9 +1,10 @@
 //! The controller at power-up, and the inputs between ticks that change its layers: a pattern, a switch, a reset, and a
 //! commit of the structure.
-ghost use Rattle.std.specs.Prelude.{◌≡◌, ◌+◌, ◌<◌, ◌^◌, None};
+ghost use Rattle.std.specs.Prelude.{◌≡◌, ◌+◌, ◌<◌, ◌≤◌, ◌^◌, None};
 ghost use Rattle.tsb_objects.specs.Checked.{checked_plan};
 ghost use Rattle.tsb_coord.specs.Coordinated.{refusal};
 ghost use Rattle.tsb_preempt.specs.Preempts.{switch_refusal};
+ghost use Rattle.tsb_step.specs.Step.{last_tick};
 ghost use Rattle.tsb_ring.specs.Cells as rings;
 ghost use Rattle.tsb_coord.specs.Cells as coord;
 ghost use Rattle.tsb_controller.specs.Rows.{AreBy};
@@ -37,18 +38,19 @@ impl Controller {
         }
     }
 
-    /// Selects a pattern, or free operation by 0, and takes the forced latch of every phase back. `Coord::refusal` says
-    /// whether it may be selected.
-    pub fn set_pattern(&mut self, n: u32, plan: &Checked)
+    /// Selects a pattern at tick number `now`, or free operation by 0, and takes the forced latch of every phase back.
+    /// `Coord::refusal` says whether it may be selected.
+    pub fn set_pattern(&mut self, n: u32, now: u32, plan: &Checked)
         requires opened { IsOpen self.old }
         requires allowed { refusal (checked_plan plan.now) n ≡ None }
         requires pattern_by { coord.IsBy (rows_of self.old).pattern }
-        ensures state { IsSelected n (rows_of self.old) (rows_of self.new) }
+        requires in_time { now ≤ last_tick }
+        ensures state { IsSelected n now (checked_plan plan.now) (rows_of self.old) (rows_of self.new) }
         ensures by { KeepsBy (rows_of self.old) (rows_of self.new) }
         ensures kept { kept_of self.new ≡ kept_of self.old }
         ensures opened { IsOpen self.new }
     {
-        let _done = self.coord.set_pattern(n, plan);
+        let _done = self.coord.set_pattern(n, now, plan);
         self.phases.unforce();
     }
 

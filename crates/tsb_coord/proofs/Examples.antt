@@ -5,9 +5,11 @@ pub mod LateExamples
 pub mod PermissiveExamples
 pub mod LeadLagExamples
 pub mod RecycleExamples
+pub mod CorrectionExamples
 pub mod Mistakes
 pub mod LawMistakes
 pub mod LateMistakes
 pub mod PermissiveMistakes
 pub mod RecycleMistakes
+pub mod CorrectionMistakes
 pub mod RangeMistakes

@@ -1,4 +1,5 @@
 pub mod LocalLemmas
 pub mod CellLemmas
+pub mod CorrectionLemmas
 pub mod WaitLemmas
 pub mod Examples

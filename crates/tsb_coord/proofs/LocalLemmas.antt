@@ -25,7 +25,7 @@ same_residue m a b i j e =
     sym (add-mul-mod_self_right a i m) ∙ (ap (λ x. x % m) e ∙ add-mul-mod_self_right b j m)
 
 -- k after the residue of a - (b + k) stands that of a - b
-difference_moves_on : (m a b k : ℕ) → 0 < m → (residue_of_difference m a (b + k) + k) % m ≡ residue_of_difference m a b
+pub difference_moves_on : (m a b k : ℕ) → 0 < m → (residue_of_difference m a (b + k) + k) % m ≡ residue_of_difference m a b
 difference_moves_on m a b k some =
     mod-add-mod (a + (m - (b + k) % m)) m k ∙
     same_residue m (a + (m - (b + k) % m) + k) (a + (m - b % m)) (b / m) ((b + k) / m)
@@ -118,7 +118,7 @@ first_passes test a (suc n) c e =
         let below : c < a + 1 + n = rest.below in
         record { from = omega arith; below = omega arith; passes = rest.passes }
 
-in_range : (plan : Plan) (n : ℕ) → is_pattern plan n ≡ true → (1 ≤ n) × (n ≤ 16) × (is_used plan n ≡ true)
+pub in_range : (plan : Plan) (n : ℕ) → is_pattern plan n ≡ true → (1 ≤ n) × (n ≤ 16) × (is_used plan n ≡ true)
 in_range plan n is =
     let parts = and_parts (nat_le 1 n && nat_le n 16) (is_used plan n) is in
     let ends = and_parts (nat_le 1 n) (nat_le n 16) parts.0 in

@@ -17,10 +17,12 @@ use Rattle.tsb_objects.specs.Instants.{is_coordinated_in, coordinated_in_ring}
 use Rattle.tsb_objects.proofs.tsb_rules.ConsistentLemmas.{whole, coordinated}
 use Rattle.tsb_objects.proofs.InstantLemmas.{instants-below, late-end-below}
 use Rattle.tsb_coord.specs.declared.coordination.Coordination.{Coordination}
-use Rattle.tsb_coord.specs.Cells.{pattern_in}
+use Rattle.tsb_coord.specs.Cells.{pattern_in, correction_in}
 use Rattle.tsb_coord.specs.Coordinated.{counter, local_in, residue_of_difference, instant_from, first_coordinated, reference, force_off, agree, yields_to, instant_of, late_end, is_from_to, counted_on, is_late, is_forced_late, yields_for, is_behind, is_permitted, permissive_end_from, permissive_end, forces_off, walk_and_clearance, may_recycle, is_left, recycles, recycle_end_from, recycle_end, asks_force_off, asks_recycle}
+use Rattle.tsb_coord.specs.Correction.{Correction, clock, skips, forces, is_in_step, lets_walk_again}
 use Rattle.tsb_coord.specs.Due.{ForcesOff, EndsPermission, EndsRecycle, IsMet, IsEnded, IsExact}
 use Rattle.tsb_coord.specs.Promises.{AreOrders}
+use Rattle.tsb_coord.proofs.CorrectionLemmas.{stays_in_step, forces_in_step, walks_in_step}
 use Rattle.tsb_coord.proofs.LocalLemmas.{counter_moves_on, IsFirst, first_passes, IsReference, reference_is, reference_found, at_instant_asks}
 
 -- ## Until an instant is met
@@ -458,12 +460,16 @@ module _ (plan : Plan) (few : plan.phase_count ≤ 16) (none : first_broken plan
           ∙ ap (λ l. not (forced k) && l)
           (same_left m time (counter plan n now) k at (instants-below plan n p at used refl) (λ j to_k. quiet.at p j from to (omega arith) some) ends)
 
-  pub same_orders : (row : List ℕ) (t : ℕ) (orders : Coordination) → pattern_in row ≡ selected → now < t → t < now + wait →
+  -- where the local counter was in step before, so that it is in each tick of the meantime
+  pub same_orders : (row : List ℕ) (t : ℕ) (orders : Coordination) → pattern_in row ≡ selected →
+      is_in_step plan (pattern_in row) (correction_in row) (now - 1) ≡ true → now < t → t < now + wait →
       AreOrders now plan row orders → AreOrders t plan row orders
-  same_orders row t orders is later before said =
+  same_orders row t orders is in_step later before said =
+      let c : Correction = correction_in row in
       let some : 1 < wait = omega arith in
       let here : now + 0 ≡ now = omega arith in
       let there : now + (t - now) ≡ t = omega arith in
+      let still : is_in_step plan (pattern_in row) c (t - 1) ≡ true = stays_in_step plan (pattern_in row) c (now - 1) (t - 1) in_step (omega arith) in
       let same : (p : ℕ) → 1 ≤ p → p ≤ 16 → asks_force_off plan now selected p ≡ asks_force_off plan t selected p =
       λ p from to. ap (λ x. asks_force_off plan x selected p) (sym here) ∙ same_asked p (t - now) from to (omega arith) some
       ∙ ap (λ x. asks_force_off plan x selected p) there in
@@ -474,10 +480,12 @@ module _ (plan : Plan) (few : plan.phase_count ≤ 16) (none : first_broken plan
         runs = said.runs;
         sequence = said.sequence;
         hold = said.hold;
-        forced = λ p from to. said.forced p from to ∙ ap (λ o. asks_force_off plan now o p) is ∙ same p from to
-            ∙ sym (ap (λ o. asks_force_off plan t o p) is);
-        recycle = λ p from to. said.recycle p from to ∙ ap (λ o. asks_recycle plan now o p) is ∙ same_walks p from to
-            ∙ sym (ap (λ o. asks_recycle plan t o p) is);
+        forced = λ p from to. said.forced p from to ∙ forces_in_step plan (pattern_in row) c now p in_step
+            ∙ ap (λ o. asks_force_off plan now o p) is ∙ same p from to ∙ sym (ap (λ o. asks_force_off plan t o p) is)
+            ∙ sym (forces_in_step plan (pattern_in row) c t p still);
+        recycle = λ p from to. said.recycle p from to ∙ walks_in_step plan (pattern_in row) c now p in_step
+            ∙ ap (λ o. asks_recycle plan now o p) is ∙ same_walks p from to ∙ sym (ap (λ o. asks_recycle plan t o p) is)
+            ∙ sym (walks_in_step plan (pattern_in row) c t p still);
         omit = said.omit;
       }
 
@@ -493,11 +501,24 @@ free_orders plan row now t orders free said = record {
   omit = said.omit;
 }
   where
-    no_walk : (t p : ℕ) → asks_recycle plan t (pattern_in row) p ≡ false
-    no_walk t p = ap (λ o. recycles plan o (local_in plan t o) p) free
+    and_false : (b : Bool) → (b && false) ≡ false
+    and_false true = refl
+    and_false false = refl
 
-    unasked : (t p : ℕ) → asks_force_off plan t (pattern_in row) p ≡ false
-    unasked t p = ap (λ o. forces_off plan o (local_in plan t o) p) free
+    no_walk : (t p : ℕ) → lets_walk_again plan (pattern_in row) (correction_in row) t p ≡ false
+    no_walk t p =
+        ap (λ b. is_in_step plan (pattern_in row) (correction_in row) (t - 1) && b) (ap (λ o. recycles plan o (local_in plan t o) p) free)
+        ∙ and_false (is_in_step plan (pattern_in row) (correction_in row) (t - 1))
+
+    none_at : (t p : ℕ) → asks_force_off plan t (pattern_in row) p ≡ false
+    none_at t p = ap (λ o. forces_off plan o (local_in plan t o) p) free
+
+    unasked : (t p : ℕ) → forces plan (pattern_in row) (correction_in row) t p ≡ false
+    unasked t p =
+        let at : ℕ = clock plan (pattern_in row) (correction_in row) t in
+        let two : Bool = skips plan (pattern_in row) (correction_in row) t in
+        ap (λ b. b || (two && asks_force_off plan (at - 1) (pattern_in row) p)) (none_at at p)
+        ∙ ap (λ b. two && b) (none_at (at - 1) p) ∙ and_false two
 
 -- ## Until the next force-off
 
@@ -565,20 +586,30 @@ no_whole_cycle plan few none n now ticks from_one within used here quiet some wh
     both_ways : true ≡ false → ⊥
     both_ways e = cc
 
--- a phase whose instant is met is forced off then, or is now
+-- a phase whose instant is met is forced off then, or is now, where the local counter was in step before
 pub forced_then : (plan : Plan) → first_broken plan ≡ None → (n now ticks p : ℕ) → 1 ≤ n → n ≤ 16 → is_used plan n ≡ true →
-    (selected : Option ℕ) → running plan selected ≡ Some n → IsMet (cycle plan n) (counter plan n now) (force_off plan (Some n) p) ticks →
-    ForcesOff plan selected (now + ticks) ⊎ ((now + ticks ≡ now + 1) × ForcesOff plan selected now)
-forced_then plan none n now ticks p from_one within used selected runs met =
+    (selected : Option ℕ) (c : Correction) → running plan selected ≡ Some n → is_in_step plan selected c (now - 1) ≡ true →
+    IsMet (cycle plan n) (counter plan n now) (force_off plan (Some n) p) ticks →
+    ForcesOff plan selected c (now + ticks) ⊎ ((now + ticks ≡ now + 1) × ForcesOff plan selected c now)
+forced_then plan none n now ticks p from_one within used selected c runs in_step met =
     let below : offset plan n < cycle plan n = (whole plan none n from_one within used).below in
+    let still : is_in_step plan selected c (now + ticks - 1) ≡ true = stays_in_step plan selected c (now - 1) (now + ticks - 1) in_step (omega arith) in
     elim met [
       | inl it ↦ inl (
         p,
-        at_instant_asks plan (now + ticks) selected p
+        forces_in_step plan selected c (now + ticks) p still
+            ∙ at_instant_asks plan (now + ticks) selected p
             (ap (λ o. agree (local_in plan (now + ticks) o) (force_off plan o p)) runs
             ∙ ap (λ x. agree (Some x) (force_off plan (Some n) p)) (counter_moves_on plan n now ticks below) ∙ it),
       )
-      | inr here ↦ inr (ap (λ (k : ℕ). now + k) here.0, (p, at_instant_asks plan now selected p (ap (λ o. agree (local_in plan now o) (force_off plan o p)) runs ∙ here.1)))
+      | inr here ↦ inr (
+        ap (λ (k : ℕ). now + k) here.0,
+        (
+          p,
+          forces_in_step plan selected c now p in_step
+              ∙ at_instant_asks plan now selected p (ap (λ o. agree (local_in plan now o) (force_off plan o p)) runs ∙ here.1),
+        ),
+      )
     ]
 
 -- a phase whose permissive time is at its end has ended it then
@@ -607,22 +638,24 @@ some_cycle : (plan : Plan) (n : ℕ) → is_used plan n ≡ true → 1 < cycle p
 some_cycle plan n used = let some : 1 ≤ plan.value PatternCycleTime n = grind (arith, nat_tests, used) in omega arith
 
 pub is_exact : (plan : Plan) → plan.phase_count ≤ 16 → first_broken plan ≡ None → (n now ticks local : ℕ) → 1 ≤ n → n ≤ 16 → is_used plan n ≡ true →
-    (row : List ℕ) → running plan (pattern_in row) ≡ Some n → local ≡ counter plan n now → local < cycle plan n → IsQuiet plan n now ticks →
+    (row : List ℕ) → running plan (pattern_in row) ≡ Some n → is_in_step plan (pattern_in row) (correction_in row) (now - 1) ≡ true →
+    local ≡ counter plan n now → local < cycle plan n → IsQuiet plan n now ticks →
     ((ticks ≡ cycle plan n) ⊎ (((p : ℕ) × IsMet (cycle plan n) local (force_off plan (Some n) p) ticks)
     ⊎ (((p : ℕ) × IsEnded (cycle plan n) local (permissive_end plan (Some n) p) ticks)
     ⊎ ((p : ℕ) × IsEnded (cycle plan n) local (recycle_end plan (Some n) p) ticks)))) → IsExact now plan row (now + ticks)
-is_exact plan most none n now ticks local from_one within used row runs told below quiet met =
+is_exact plan most none n now ticks local from_one within used row runs in_step told below quiet met =
     let here : counter plan n now < cycle plan n = subst (λ (x : ℕ). x < cycle plan n) told below in
-    let forces : ForcesOff plan (pattern_in row) (now + ticks)
-    ⊎ (EndsPermission plan (pattern_in row) (now + ticks)
-    ⊎ (EndsRecycle plan (pattern_in row) (now + ticks) ⊎ ((now + ticks ≡ now + 1) × ForcesOff plan (pattern_in row) now))) =
+    let c : Correction = correction_in row in
+    let Now : Type 0 = ForcesOff plan (pattern_in row) c now ⊎ (is_in_step plan (pattern_in row) c (now - 1) ≡ false) in
+    let forces_then : ForcesOff plan (pattern_in row) c (now + ticks)
+    ⊎ (EndsPermission plan (pattern_in row) (now + ticks) ⊎ (EndsRecycle plan (pattern_in row) (now + ticks) ⊎ ((now + ticks ≡ now + 1) × Now))) =
     elim met [
       | inl whole_cycle ↦ absurd (no_whole_cycle plan most none n now ticks from_one within used here quiet (some_cycle plan n used) whole_cycle)
       | inr either ↦ elim either [
-        | inl it ↦ elim (forced_then plan none n now ticks it.0 from_one within used (pattern_in row) runs
+        | inl it ↦ elim (forced_then plan none n now ticks it.0 from_one within used (pattern_in row) c runs in_step
             (subst (λ (x : ℕ). IsMet (cycle plan n) x (force_off plan (Some n) it.0) ticks) told it.1)) [
               | inl there ↦ inl there
-              | inr next ↦ inr (inr (inr next))
+              | inr next ↦ inr (inr (inr (next.0, inl next.1)))
             ]
         | inr ends ↦ elim ends [
           | inl it ↦ inr (inl (ended_then plan none n now ticks it.0 from_one within used (pattern_in row) runs
@@ -632,7 +665,16 @@ is_exact plan most none n now ticks local from_one within used row runs told bel
         ]
       ]
     ] in
-    record { runs = λ m is. forces; free = λ is. absurd (not_both (pattern_in row) n runs is) }
+    record { runs = λ m is. forces_then; free = λ is. absurd (not_both (pattern_in row) n runs is) }
+  where
+    not_both : (selected : Option ℕ) (n : ℕ) → running plan selected ≡ Some n → running plan selected ≡ None → ⊥
+    not_both selected n one other = cc
+
+-- while it is coming into step the next tick is due
+pub next_is_due : (plan : Plan) (n now : ℕ) (row : List ℕ) → running plan (pattern_in row) ≡ Some n →
+    is_in_step plan (pattern_in row) (correction_in row) (now - 1) ≡ false → IsExact now plan row (now + 1)
+next_is_due plan n now row runs coming =
+    record { runs = λ m is. inr (inr (inr (refl, inr coming))); free = λ is. absurd (not_both (pattern_in row) n runs is) }
   where
     not_both : (selected : Option ℕ) (n : ℕ) → running plan selected ≡ Some n → running plan selected ≡ None → ⊥
     not_both selected n one other = cc

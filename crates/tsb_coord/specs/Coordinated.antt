@@ -1,11 +1,13 @@
--- What coordination asks of the rings in a tick: the pattern that runs, its local counter, and by it hold, force-off,
--- pedestrian recycle and omit. Cycle, offset, splits, split modes, coordinated phases and sequences are the objects of
--- NTCIP 1202 of these names. That the local counter is 0 where the coordinated split of ring 1 ends, that a phase is
--- forced off in time for its split to end with its red clearance (fixed force-off, no transition after a change of
--- pattern), late force-off, the permissive time, pedestrian recycle, and the orders, are the profile's own.
+-- What coordination asks of the rings in a tick: the pattern that runs, its local counter in step, and by it hold,
+-- force-off, pedestrian recycle and omit. Cycle, offset, splits, split modes, coordinated phases and sequences are the
+-- objects of NTCIP 1202 of these names. That the local counter is 0 where the coordinated split of ring 1 ends, that a
+-- phase is forced off in time for its split to end with its red clearance (fixed force-off), late force-off, the
+-- permissive time, pedestrian recycle, and the orders, are the profile's own. How the counter comes into step is in
+-- Correction.
 --
 -- `t` is the number of this tick, and `selected` the pattern that the operator selected, if any. Times are in ticks,
--- which are tenths of a second. All is found from these and the plan, so the only state is which pattern is selected.
+-- which are tenths of a second. All is found from these and the plan, so the only state beside how the counter comes
+-- into step is which pattern is selected.
 use Rattle.std.specs.Prelude.{ℕ, ◌+◌, ◌-◌, ◌%◌, ◌==◌, nat_le, Bool, ◌&&◌, ◌||◌, if◌then◌else◌, List, Option, Some, None}
 use Rattle.tsb_objects.specs.tsb_types.declared.refusal.Refusal.{Refusal}
 use Rattle.tsb_objects.specs.tsb_types.declared.refusal.Refusal.TheVariants.{NoSuchPattern}
@@ -22,7 +24,7 @@ unfoldable pub use Rattle.tsb_objects.specs.Instants.{force_off}
 abbrev pub at_power_up : Option ℕ
 at_power_up = None
 
--- the local counter of a pattern: t less the offset, within the cycle. K17: the offset is below the cycle.
+-- the local counter of a pattern in step: t less the offset, within the cycle. K17: the offset is below the cycle.
 abbrev pub counter : Plan → ℕ → ℕ → ℕ
 counter plan n t = (t + cycle plan n - offset plan n) % cycle plan n
 

@@ -1,11 +1,12 @@
 -- When the orders of coordination may next be others: the clauses of `Coord::due`, over the cell `row` and a tick
 -- `now`.
-use Rattle.std.specs.Prelude.{◌≡◌, ℕ, ◌+◌, ◌%◌, ◌<◌, ◌⊎◌, true, List, Option, Some, None}
+use Rattle.std.specs.Prelude.{◌≡◌, ℕ, ◌+◌, ◌-◌, ◌%◌, ◌<◌, ◌⊎◌, true, false, List, Option, Some, None}
 use Rattle.tsb_objects.specs.tsb_plan.Plan.{Plan}
 use Rattle.tsb_objects.specs.tsb_plan.Running.{running}
 use Rattle.tsb_coord.specs.declared.coordination.Coordination.{Coordination}
-use Rattle.tsb_coord.specs.Cells.{pattern_in}
-use Rattle.tsb_coord.specs.Coordinated.{agree, asks_force_off, ends_permissive_time, ends_recycle}
+use Rattle.tsb_coord.specs.Cells.{pattern_in, correction_in}
+use Rattle.tsb_coord.specs.Coordinated.{agree, ends_permissive_time, ends_recycle}
+use Rattle.tsb_coord.specs.Correction.{Correction, forces, is_in_step}
 use Rattle.tsb_coord.specs.Promises.{AreOrders}
 
 -- clause `quiet`: the orders of `now` are those of each tick in between
@@ -14,8 +15,8 @@ KeepsOrders now plan row result = (t : ℕ) → now < t → t < result →
     (orders : Coordination) → AreOrders now plan row orders → AreOrders t plan row orders
 
 -- a phase is forced off in tick t
-abbrev pub ForcesOff : Plan → Option ℕ → ℕ → Type 0
-ForcesOff plan selected t = (p : ℕ) × (asks_force_off plan t selected p ≡ true)
+abbrev pub ForcesOff : Plan → Option ℕ → Correction → ℕ → Type 0
+ForcesOff plan selected c t = (p : ℕ) × (forces plan selected c t p ≡ true)
 
 -- the permissive time of a coordinated phase has just ended in tick t, where it has one
 abbrev pub EndsPermission : Plan → Option ℕ → ℕ → Type 0
@@ -26,13 +27,15 @@ abbrev pub EndsRecycle : Plan → Option ℕ → ℕ → Type 0
 EndsRecycle plan selected t = (p : ℕ) × (ends_recycle plan t selected p ≡ true)
 
 -- clause `exact`: while a pattern runs, a phase is forced off in that tick, or a permissive time or the time for a walk
--- has just ended there, or it is the next tick and a phase is forced off now; in free operation it is after the last
--- tick that there is
+-- has just ended there, or it is the next tick and a phase is forced off now or the local counter was not in step
+-- before; in free operation it is after the last tick that there is
 pub record IsExact (now : ℕ) (plan : Plan) (row : List ℕ) (result : ℕ) : Type 0 where
   pub runs : (n : ℕ) → running plan (pattern_in row) ≡ Some n →
-      ForcesOff plan (pattern_in row) result
+      ForcesOff plan (pattern_in row) (correction_in row) result
       ⊎ (EndsPermission plan (pattern_in row) result
-      ⊎ (EndsRecycle plan (pattern_in row) result ⊎ ((result ≡ now + 1) × ForcesOff plan (pattern_in row) now)))
+      ⊎ (EndsRecycle plan (pattern_in row) result
+      ⊎ ((result ≡ now + 1) × (ForcesOff plan (pattern_in row) (correction_in row) now
+      ⊎ (is_in_step plan (pattern_in row) (correction_in row) (now - 1) ≡ false)))))
   pub free : running plan (pattern_in row) ≡ None → result ≡ 6000001
 
 -- the local counter is at the instant so many ticks later, or it is there now and it is one tick

@@ -1,12 +1,17 @@
 -- Where the local counter stands once a phase that is forced off in time has ended its yellow change and red clearance;
--- of which phases and modes late force-off and the permissive time are; and that the cell of coordination is that of
--- what it says. Each law here is the contract of a function in src/laws.rt, and proved there.
-use Rattle.std.specs.Prelude.{◌≡◌, ℕ, ◌+◌, ◌%◌, ◌≤◌, true, false, ◌||◌, List, Option, Some}
+-- of which phases and modes late force-off and the permissive time are; how the local counter comes into step; and that
+-- the cells of coordination are those of what they say. Each law here is the contract of a function in src/laws.rt, and
+-- proved there.
+use Rattle.std.specs.Prelude.{◌≡◌, ◌≢◌, ℕ, ◌+◌, ◌-◌, ◌*◌, ◌/◌, ◌%◌, ◌<◌, ◌≤◌, true, false, ◌||◌, List, Option, Some}
 use Rattle.tsb_objects.specs.tsb_plan.Plan.{Plan, yellow_change, red_clear}
-use Rattle.tsb_objects.specs.tsb_plan.Parts.{cycle, permissive_time, leads_and_lags, forces_late}
+use Rattle.tsb_objects.specs.tsb_plan.declared.plan.patterns.CorrectionMode.{CorrectionMode}
+use Rattle.tsb_objects.specs.tsb_plan.declared.plan.patterns.CorrectionMode.TheVariants.{AtOnce, Dwell, ShortWay, AddOnly}
+use Rattle.tsb_objects.specs.tsb_plan.Parts.{cycle, permissive_time, leads_and_lags, forces_late, correction_mode, correction_limit}
 use Rattle.tsb_objects.specs.tsb_plan.Running.{running, is_coordinated_now}
 use Rattle.tsb_objects.specs.tsb_rules.Consistent.{IsPhase}
-use Rattle.tsb_coord.specs.Cells.{pattern_in, pattern_cells, IsBy}
+use Rattle.tsb_objects.specs.tsb_types.declared.limits.TheConstants.{TICKS}
+use Rattle.tsb_coord.specs.Cells.{pattern_in, correction_in, pattern_cells, IsBy}
+use Rattle.tsb_coord.specs.Correction.{Correction, longest_wait, way, is_slower_way, local_now, forces, is_in_step, selected_correction}
 use Rattle.tsb_coord.specs.Coordinated.{local, residue_of_difference, end_of, reference, is_at_force_off, is_in_permissive_time, asks_force_off, yields_to, is_pattern}
 
 -- the tick at which p has ended its yellow change and red clearance, if its green ended in tick t
@@ -83,21 +88,93 @@ EndsWhereItYields plan = (n t p c : ℕ) → is_pattern plan n ≡ true → yiel
     is_at_force_off plan t (Some n) c ≡ true →
     asks_force_off plan t (Some n) p ≡ (is_at_force_off plan t (Some n) p || is_in_permissive_time plan t (Some n) p)
 
--- ## The cell
+-- ## Coming into step
+
+-- how many steps the local counter takes in a tick at most
+abbrev pub most_steps : CorrectionMode → ℕ
+most_steps AtOnce = 1
+most_steps Dwell = 1
+most_steps ShortWay = 2
+most_steps AddOnly = 1
+
+-- it takes no more from each tick to the next, so that it does not jump; a limit is 50 percent at most
+abbrev pub TakesFewSteps : Plan → Type 0
+TakesFewSteps plan = (n : ℕ) (c : Correction) (t l : ℕ) → is_pattern plan n ≡ true → correction_limit plan ≤ 50 →
+    local_now plan (Some n) c t ≡ Some l →
+    IsAtMostBehind plan n l (most_steps (correction_mode plan)) (local_now plan (Some n) c (t + 1))
+
+-- nor where it is selected, but with mode 0: it goes on from where that of the old pattern stood, within the new cycle
+abbrev pub GoesOn : Plan → Type 0
+GoesOn plan = (n now l : ℕ) → is_pattern plan n ≡ true → correction_mode plan ≢ AtOnce →
+    local_now plan (Some n) (selected_correction plan (Some n) now (Some l)) now ≡ Some (l % cycle plan n)
+
+-- in tick t it is in step: it is that of the cycle and the offset
+pub record CountsInStep (plan : Plan) (selected : Option ℕ) (c : Correction) (t : ℕ) : Type 0 where
+  pub there : is_in_step plan selected c t ≡ true
+  pub counts : local_now plan selected c t ≡ local plan t selected
+
+-- once it is in step it stays so
+abbrev pub StaysInStep : Plan → Type 0
+StaysInStep plan = (selected : Option ℕ) (c : Correction) (t u : ℕ) → is_in_step plan selected c t ≡ true → t ≤ u →
+    CountsInStep plan selected c u
+
+-- from the next tick on a phase is forced off as by the counter in step
+abbrev pub ForcesInStep : Plan → Type 0
+ForcesInStep plan = (selected : Option ℕ) (c : Correction) (t p : ℕ) → is_in_step plan selected c (t - 1) ≡ true →
+    forces plan selected c t p ≡ asks_force_off plan t selected p
+
+-- so many ticks are enough for a slower counter, and for a faster one
+abbrev pub HasLostAll : Plan → Correction → ℕ → Type 0
+HasLostAll plan c ticks = c.ahead * (100 + correction_limit plan) ≤ ticks * correction_limit plan
+
+abbrev pub HasGainedAll : Plan → ℕ → Correction → ℕ → Type 0
+HasGainedAll plan n c ticks = (cycle plan n - c.ahead) * (100 - correction_limit plan) ≤ ticks * correction_limit plan
+
+-- for one that waits in a cycle of m for `most`, so many from where it first waits on: whole cycles and waits, and the
+-- rest of a wait
+abbrev pub waits : ℕ → ℕ → ℕ → ℕ
+waits m most ahead = (ahead - 1) / most * (m + most) + ((ahead - 1) % most + 1)
+
+-- in each mode
+abbrev pub IsLongEnough : CorrectionMode → Plan → ℕ → Correction → ℕ → Type 0
+IsLongEnough AtOnce plan n c ticks = 0 ≤ ticks
+IsLongEnough Dwell plan n c ticks =
+    way plan n c + waits (cycle plan n) (longest_wait (correction_limit plan) (cycle plan n)) c.ahead ≤ ticks
+IsLongEnough ShortWay plan n c ticks =
+    (is_slower_way (cycle plan n) c.ahead ≡ true → HasLostAll plan c ticks)
+    × (is_slower_way (cycle plan n) c.ahead ≡ false → HasGainedAll plan n c ticks)
+IsLongEnough AddOnly plan n c ticks = HasLostAll plan c ticks
+
+-- then the counter is in step
+abbrev pub ComesIntoStep : Plan → Type 0
+ComesIntoStep plan = (n : ℕ) (c : Correction) (t : ℕ) → is_pattern plan n ≡ true → correction_limit plan ≤ 50 → c.ahead < cycle plan n →
+    IsLongEnough (correction_mode plan) plan n c (t - c.since) → is_in_step plan (Some n) c t ≡ true
+
+-- ## The cells
 
 -- a row that coordination can hold is the table of what it says
 abbrev pub RowsAreTold : Type 0
-RowsAreTold = (row : List ℕ) → IsBy row → pattern_cells (pattern_in row) ≡ row
+RowsAreTold = (row : List ℕ) → IsBy row → pattern_cells (pattern_in row) (correction_in row) ≡ row
 
 -- a pattern that can be selected, if one is, is one of 1 to 16
 pub record IsSelectable (selected : Option ℕ) : Type 0 where
   pub from_one : (n : ℕ) → selected ≡ Some n → 1 ≤ n
   pub within : (n : ℕ) → selected ≡ Some n → n ≤ 16
 
--- the table of such a pattern is read as it, and is a row that coordination can hold
-abbrev pub StatesAreRead : Type 0
-StatesAreRead = (selected : Option ℕ) → IsSelectable selected → pattern_in (pattern_cells selected) ≡ selected
+-- how a local counter can come into step: since a tick that there is, and less than a cycle ahead
+pub record IsCorrectable (c : Correction) : Type 0 where
+  pub since : c.since ≤ TICKS
+  pub ahead : c.ahead ≤ 2550
 
--- so coordination can keep the selection of each pattern from 1 to 16, and of none
+-- the table of such a pattern and of how its counter comes into step is read as these
+pub record AreRead (selected : Option ℕ) (c : Correction) : Type 0 where
+  pub pattern : pattern_in (pattern_cells selected c) ≡ selected
+  pub correction : correction_in (pattern_cells selected c) ≡ c
+
+-- so of each
+abbrev pub StatesAreRead : Type 0
+StatesAreRead = (selected : Option ℕ) (c : Correction) → IsSelectable selected → AreRead selected c
+
+-- and is a row that coordination can hold: it can keep the selection of each pattern from 1 to 16, and of none
 abbrev pub StatesAreBy : Type 0
-StatesAreBy = (selected : Option ℕ) → IsSelectable selected → IsBy (pattern_cells selected)
+StatesAreBy = (selected : Option ℕ) (c : Correction) → IsSelectable selected → IsCorrectable c → IsBy (pattern_cells selected c)

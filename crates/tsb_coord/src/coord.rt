@@ -1,4 +1,4 @@
-//! Coordination over its cell.
+//! Coordination over its cells.
 ghost use Rattle.std.specs.Prelude.{◌≡◌, ◌≢◌, ℕ, ◌+◌, ◌<◌, ◌≤◌, ◌^◌, ◌++◌, true, false, Some, None, IfSome, slice_index, length};
 ghost use Rattle.arrayvec.specs.ArrayVec.{array_vec_len};
 ghost use Rattle.tsb_objects.specs.tsb_types.declared.limits.TheConstants.{TICKS};
@@ -9,13 +9,15 @@ ghost use Rattle.tsb_objects.specs.tsb_plan.Running.{running};
 ghost use Rattle.tsb_objects.specs.tsb_types.declared.refusal.Refusal.{Refusal};
 ghost use Rattle.tsb_objects.specs.tsb_types.Sets.{has};
 ghost use Rattle.tsb_coord.specs.declared.TheConstants.{CELLS};
-ghost use Rattle.tsb_coord.specs.Cells.{pattern_in, IsBy};
+ghost use Rattle.tsb_coord.specs.Cells.{pattern_in, correction_in, IsBy};
+ghost use Rattle.tsb_coord.specs.Correction.{forces, lets_walk_again};
 ghost use Rattle.tsb_coord.specs.Coordinated.{refusal};
 ghost use Rattle.tsb_coord.specs.Due.{KeepsOrders, IsExact};
-ghost use Rattle.tsb_coord.specs.Promises.{IsAtPowerUp, AreOrders, IsAnswered, IsSelected, TellsLocal, TellsPattern};
+ghost use Rattle.tsb_coord.specs.Promises.{IsAtPowerUp, AreOrders, IsAnswered, IsSelected, correction_after, TellsLocal, TellsPattern};
 
 use crate::CELLS;
 use crate::coordination::Coordination;
+use crate::correction::{Correction, ahead_in, begun, skips, was_in_step};
 use crate::counting::counter;
 use crate::waiting::ticks_to_next;
 use arrayvec::ArrayVec;
@@ -26,7 +28,8 @@ use tsb_objects::{Checked, Pattern, PhaseSet, Refusal, Sequence};
 /// The sequence in free operation.
 const FREE_SEQUENCE: u8 = 1;
 
-/// Coordination: which pattern is selected. All else is found from this, the plan and the number of the tick.
+/// Coordination: which pattern is selected, and how its local counter comes into step. All else is found from these,
+/// the plan and the number of the tick.
 #[derive(Clone, Copy)]
 pub struct Coord {
     bank: Bank<CELLS>,
@@ -52,6 +55,50 @@ fn free() -> Coordination
     }
 }
 
+/// The phases that a pattern forces off in tick `now`: where its local counter is, and where it takes two steps at the
+/// first of them too.
+#[inline(always)]
+fn forced(plan: &Checked, n: Pattern, correction: Correction, now: u32) -> PhaseSet
+    requires used { is_used (checked_plan plan.now) n ≡ true }
+    requires since { correction.since ≤ TICKS }
+    requires in_time { now ≤ TICKS }
+    ensures { (p : ℕ) → 1 ≤ p → p ≤ 16 → has result p ≡ forces (checked_plan plan.now) (Some n) correction now p }
+{
+    if was_in_step(plan, n, correction, now) {
+        return plan.forced_at(n, counter(plan, n, now));
+    }
+    let clock = now + ahead_in(plan, n, correction, now);
+    let forced = plan.forced_at(n, counter(plan, n, clock));
+    if skips(plan, n, correction, now) {
+        let first = counter(plan, n, clock.saturating_sub(1));
+        return forced.union(plan.forced_at(n, first));
+    }
+    forced
+}
+
+/// The phases that a pattern lets walk again in tick `now`, where it forces these off: none while its local counter is
+/// coming into step.
+#[inline(always)]
+fn recycled(
+    plan: &Checked,
+    n: Pattern,
+    correction: Correction,
+    now: u32,
+    forced: PhaseSet,
+) -> PhaseSet
+    requires used { is_used (checked_plan plan.now) n ≡ true }
+    requires since { correction.since ≤ TICKS }
+    requires in_time { now ≤ TICKS }
+    requires told { (p : ℕ) → 1 ≤ p → p ≤ 16 → has forced p ≡ forces (checked_plan plan.now) (Some n) correction now p }
+    ensures { (p : ℕ) → 1 ≤ p → p ≤ 16 → has result p ≡ lets_walk_again (checked_plan plan.now) (Some n) correction now p }
+{
+    if was_in_step(plan, n, correction, now) {
+        plan.recycled_at(n, counter(plan, n, now), forced)
+    } else {
+        PhaseSet::empty()
+    }
+}
+
 impl Coord {
     ghost use Rattle.tsb_coord.specs.Layer.{cells_of, kept_of, is_open};
 
@@ -64,8 +111,8 @@ impl Coord {
         Coord { bank: Bank::new() }
     }
 
-    /// Coordination as at power-up: no pattern is selected. The tick is that of every layer's `reset`; coordination has
-    /// no timer.
+    /// Coordination as at power-up: no pattern is selected. The tick is that of every layer's `reset`; nothing begins
+    /// at it.
     pub fn reset(&mut self, _now: u32)
         requires opened { is_open self.old ≡ true }
         ensures each { IsAtPowerUp (cells_of self.new) }
@@ -74,6 +121,8 @@ impl Coord {
         ensures opened { is_open self.new ≡ true }
     {
         self.bank.put(0, 0);
+        self.bank.put(1, 0);
+        self.bank.put(2, 0);
     }
 
     /// Why a pattern cannot be selected, if it cannot: `NoSuchPattern` (E9), where the number is neither 0, which is
@@ -96,12 +145,15 @@ impl Coord {
         }
     }
 
-    /// Selects a pattern, or free operation by 0. A refused number is E9, and leaves all as it was.
-    pub fn set_pattern(&mut self, n: u32, plan: &Checked) -> Result<(), Refusal>
+    /// Selects a pattern at tick number `now`, or free operation by 0. With `coordCorrectionMode` its local counter
+    /// goes on from that of the pattern that ran, and comes into step from there. A refused number is E9, and leaves
+    /// all as it was.
+    pub fn set_pattern(&mut self, n: u32, now: u32, plan: &Checked) -> Result<(), Refusal>
         requires opened { is_open self.old ≡ true }
         requires by { IsBy (cells_of self.old) }
+        requires in_time { now ≤ TICKS }
         ensures refused { IsAnswered n (checked_plan plan.now) result }
-        ensures selected { IsSelected n (checked_plan plan.now) (cells_of self.old) (cells_of self.new) }
+        ensures selected { IsSelected n now (checked_plan plan.now) (cells_of self.old) (cells_of self.new) }
         ensures stays { (r : Refusal) → refusal (checked_plan plan.now) n ≡ Some r → cells_of self.new ≡ cells_of self.old }
         ensures by { IsBy (cells_of self.new) }
         ensures kept { kept_of self.new ≡ kept_of self.old }
@@ -110,9 +162,40 @@ impl Coord {
         match Coord::refusal(n, plan) {
             Some(refusal) => Err(refusal),
             None => {
+                let correction = self.selected(n, now, plan);
                 self.bank.put(0, n);
+                self.bank.put(1, correction.since);
+                self.bank.put(2, correction.ahead);
                 Ok(())
             }
+        }
+    }
+
+    /// How the local counter comes into step where this pattern is selected, which is not refused.
+    fn selected(&self, n: u32, now: u32, plan: &Checked) -> Correction
+        requires by { IsBy (cells_of self.now) }
+        requires in_time { now ≤ TICKS }
+        requires allowed { refusal (checked_plan plan.now) n ≡ None }
+        ensures value { result ≡ correction_after None (checked_plan plan.now) now n (cells_of self.now) }
+        ensures since { result.since ≤ TICKS }
+        ensures ahead { result.ahead ≤ 2550 }
+    {
+        match Pattern::new(n) {
+            None => Correction { since: 0, ahead: 0 },
+            Some(pattern) => begun(plan, pattern, now, &self.local(now, plan)),
+        }
+    }
+
+    /// How the local counter comes into step.
+    #[inline(always)]
+    fn correction(&self) -> Correction
+        requires by { IsBy (cells_of self.now) }
+        ensures value { result ≡ correction_in (cells_of self.now) }
+        ensures since { result.since ≤ TICKS }
+    {
+        Correction {
+            since: self.bank.get(1),
+            ahead: self.bank.get(2),
         }
     }
 
@@ -153,14 +236,14 @@ impl Coord {
         match self.running(plan) {
             None => free(),
             Some(n) => {
-                let local = counter(plan, n, now);
-                let forced = plan.forced_at(n, local);
+                let correction = self.correction();
+                let forced = forced(plan, n, correction, now);
                 Coordination {
                     runs: Some(n),
                     sequence: plan.sequence_in_effect(Some(n)),
                     hold: plan.coordinated(Some(n)),
                     forced,
-                    recycle: plan.recycled_at(n, local, forced),
+                    recycle: recycled(plan, n, correction, now, forced),
                     omit: plan.omitted(Some(n)),
                 }
             }
@@ -169,8 +252,8 @@ impl Coord {
 
     /// The first tick after `now` at which `orders` may differ: the next force-off instant of the pattern that runs, or
     /// the first tick behind a permissive time, or the first at which a recycled walk no longer fits, or the next tick,
-    /// where `now` is at an instant. Late force-off begins and ends at instants too. In free operation it is after the
-    /// last tick that there is.
+    /// where `now` is at an instant, or the local counter is coming into step. Late force-off begins and ends at
+    /// instants too. In free operation it is after the last tick that there is.
     pub fn due(&self, now: u32, plan: &Checked) -> u32
         requires by { IsBy (cells_of self.now) }
         requires in_time { now ≤ TICKS }
@@ -183,7 +266,11 @@ impl Coord {
             Some(n) => {
                 n.known();
                 let _consistent = plan.plan();
-                now + ticks_to_next(plan, n, counter(plan, n, now))
+                if was_in_step(plan, n, self.correction(), now) {
+                    now + ticks_to_next(plan, n, counter(plan, n, now))
+                } else {
+                    now + 1
+                }
             }
         }
     }
@@ -197,7 +284,10 @@ impl Coord {
     {
         match self.running(plan) {
             None => None,
-            Some(n) => Some(counter(plan, n, now)),
+            Some(n) => {
+                let ahead = ahead_in(plan, n, self.correction(), now);
+                Some(counter(plan, n, now + ahead))
+            }
         }
     }
 

@@ -1,8 +1,8 @@
-//! What holds of coordination in every plan that meets the rules, and of its cell, each law the contract of a function
+//! What holds of coordination in every plan that meets the rules, and of its cells, each law the contract of a function
 //! that does nothing.
 ghost use Rattle.tsb_objects.specs.tsb_plan.Plan.{Plan};
 ghost use Rattle.tsb_objects.specs.tsb_rules.Consistent.{OfConsistentPlans};
-ghost use Rattle.tsb_coord.specs.Laws.{EndWithTheirSplits, CoordinatedEndAtZero, CoordinatedEndInTime, CoordinatedEndNearZero, AtInstantsInMode0, CoordinatedAtInstants, OthersAreNotPermitted, NoneIsPermittedWithout, ForcedAtInstants, EndsWhereItYields, RowsAreTold, StatesAreRead, StatesAreBy};
+ghost use Rattle.tsb_coord.specs.Laws.{EndWithTheirSplits, CoordinatedEndAtZero, CoordinatedEndInTime, CoordinatedEndNearZero, AtInstantsInMode0, CoordinatedAtInstants, OthersAreNotPermitted, NoneIsPermittedWithout, ForcedAtInstants, EndsWhereItYields, GoesOn, TakesFewSteps, ComesIntoStep, StaysInStep, ForcesInStep, RowsAreTold, StatesAreRead, StatesAreBy};
 
 /// A phase that is forced off at its instant has time to clear by the end of its split. Its yellow change and red
 /// clearance, counted from its force-off instant, end where its split ends on the local counter; those of the
@@ -42,6 +42,25 @@ pub fn late_force_off_is_an_option()
     ensures without { (plan : Plan) → NoneIsPermittedWithout plan }
     ensures at_instant { (plan : Plan) → ForcedAtInstants plan }
     ensures yields { (plan : Plan) → EndsWhereItYields plan }
+{}
+
+/// The local counter comes into step. Where a pattern is selected while another one runs it goes on from where that of
+/// the old pattern stood, but with `coordCorrectionMode` 0. From each tick to the next it takes one step or none, or, by
+/// the short way, up to two. It is in step after as many ticks as its mode and limit need for it, and stays so: then it
+/// is the counter of the cycle and the offset, and from the next tick on what is forced off is so by that one.
+///
+/// Needs: a plan that breaks no rule, with a limit of 50 percent at most, as in all plans in memory.
+/// Not said: that it is not in step sooner; that a commit in the meantime lets it go on from where it stands.
+/// Mistakes: a counter that is in step at once in each mode, `at_once` (`would_jump`); one that gains without end,
+/// `gains_on` (`would_leave_step`); one that loses in each tick the limit of one tick, without a rest, `lost_in_each`
+/// (`would_never_arrive`).
+/// Witness: `goes_on`, `waits_once`, `is_slower_in_step`, `is_faster_in_step` of CorrectionExamples.
+pub fn counters_come_into_step()
+    ensures goes_on { OfConsistentPlans GoesOn }
+    ensures steps { OfConsistentPlans TakesFewSteps }
+    ensures arrives { OfConsistentPlans ComesIntoStep }
+    ensures stays { (plan : Plan) → StaysInStep plan }
+    ensures forces { (plan : Plan) → ForcesInStep plan }
 {}
 
 /// A row that the layer can have is the encoding of what is read in it.

@@ -41,6 +41,7 @@ pub mod ServedArrivalLemmas
 pub mod ServedTickLemmas
 pub mod ServedRunLemmas
 pub mod CoordinatedCallLemmas
+pub mod InStepLemmas
 pub mod CoordinatedInstantLemmas
 pub mod RecycleTimeLemmas
 pub mod RecycledTickLemmas
@@ -61,5 +62,6 @@ pub mod ReturnRunLemmas
 pub mod CalledStartLemmas
 pub mod LateGreenLemmas
 pub mod OptionLemmas
+pub mod SelectionLemmas
 pub mod PatternPressLemmas
 pub mod PatternEndLemmas

@@ -7,6 +7,7 @@ pub mod ChoiceLemmas
 pub mod EnabledLemmas
 pub mod RingLemmas
 pub mod DueLemmas
+pub mod LastTickLemmas
 pub mod ServedLemmas
 pub mod SideSoughtLemmas
 pub mod CrossingRingLemmas

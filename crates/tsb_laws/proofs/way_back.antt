@@ -1,5 +1,6 @@
 pub mod PlanLemmas
 pub mod DeskLemmas
+pub mod CorrectionLemmas
 pub mod DetectLemmas
 pub mod CallLemmas
 pub mod PhaseLemmas

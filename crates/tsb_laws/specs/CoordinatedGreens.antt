@@ -5,6 +5,9 @@
 -- Meanwhile no pattern is selected and nothing is committed. A pattern that is selected takes force-offs back, be it the
 -- one that runs; and a commit can move an instant away each time before the local counter comes to it. So over these no
 -- time bounds how long a coordinated phase waits.
+--
+-- Where a law has a cycle among its times, the local counter is in step as its stretch begins: while it comes into step a
+-- cycle takes longer or shorter.
 use Rattle.std.specs.Prelude.{◌≡◌, ◌≢◌, ℕ, ◌+◌, ◌-◌, ◌*◌, ◌<◌, ◌≤◌, ◌==◌, Bool, true, false, not, ◌&&◌, if◌then◌else◌, max, sum_by, count_by, List, [], ◌∷◌, ◌++◌, Some, None, is_some, is_none, ◌⊎◌}
 use Rattle.tsb_step.specs.tsb_types.declared.row.Row.{Row}
 use Rattle.tsb_step.specs.tsb_types.declared.interval.Interval.TheVariants.{Green}
@@ -12,13 +15,15 @@ use Rattle.tsb_step.specs.tsb_types.Intervals.{is_green}
 use Rattle.tsb_step.specs.tsb_plan.Parts.{cycle}
 use Rattle.tsb_step.specs.tsb_plan.Plan.{Plan, phases, is_enabled, is_concurrent, side_of, walk, pedestrian_clear, yellow_change, red_clear, red_revert}
 use Rattle.tsb_step.specs.tsb_rules.Consistent.{IsPhase}
-use Rattle.tsb_step.specs.tsb_coord.Coordinated.{is_at_force_off, asks_force_off, serving_order}
+use Rattle.tsb_step.specs.tsb_coord.Coordinated.{serving_order}
+use Rattle.tsb_step.specs.tsb_coord.Correction.{forces, comes_to_force_off}
 use Rattle.tsb_step.specs.tsb_ring.Rings.{Ring, Ring1, Ring2, other, number, in_ring}
 use Rattle.tsb_step.specs.tsb_ring.Wants.{is_on_side}
 use Rattle.tsb_step.specs.declared.inputs.Input.{Input}
 use Rattle.tsb_step.specs.declared.inputs.Input.TheVariants.{Tick, Pattern, Commit}
 use Rattle.tsb_step.specs.State.{State, interval}
 use Rattle.tsb_step.specs.Tick.{service, runs, hold, callable, conflict, ready}
+use Rattle.tsb_step.specs.Signs.{IsInStep}
 use Rattle.tsb_step.specs.Runs.{replay, AreTaken}
 use Rattle.tsb_step.specs.Laws.{IsConsistent}
 use Rattle.tsb_laws.specs.Stretches.{IsUntripped}
@@ -51,12 +56,12 @@ pub record ComesInCycle (s : State) (k p : ℕ) : Type 0 where
   pub tick : ℕ
   pub later : s.now < tick
   pub soon : tick ≤ s.now + cycle s.plan k
-  pub at_instant : is_at_force_off s.plan tick s.pattern p ≡ true
+  pub at_instant : comes_to_force_off s.plan s.pattern s.correction tick p ≡ true
 
--- So it is of each enabled phase after every run, while a pattern runs.
+-- So it is of each enabled phase after every run, while a pattern runs and its local counter is in step.
 abbrev pub ForceOffsCome : Type 0
 ForceOffsCome = (plan : Plan) (is : List Input) (k p : ℕ) → IsConsistent plan → AreTaken plan is → runs (replay plan is) ≡ Some k →
-    is_enabled (replay plan is).plan p ≡ true → ComesInCycle (replay plan is) k p
+    IsInStep (replay plan is) → is_enabled (replay plan is).plan p ≡ true → ComesInCycle (replay plan is) k p
 
 -- ## Greens that are forced off may end
 
@@ -74,12 +79,13 @@ pub record IsForcedWithin (s : State) (p n : ℕ) : Type 0 where
   pub tick : ℕ
   pub later : s.now < tick
   pub soon : tick ≤ s.now + n + 1
-  pub forced : asks_force_off s.plan tick s.pattern p ≡ true
+  pub forced : forces s.plan s.pattern s.correction tick p ≡ true
   pub initial : longest_initial s.plan p ≤ n
   pub walk : walk s.plan p + pedestrian_clear s.plan p ≤ n
 
 -- A green that has had a conflict for so long is forced off: in the next tick it is ready. So it is of coordinated phases
--- and of all others, also where a green begins behind its own force-off instant.
+-- and of all others, also where a green begins behind its own force-off instant, and while the local counter comes into
+-- step.
 abbrev pub ForcedGreensMayEnd : Type 0
 ForcedGreensMayEnd = (plan : Plan) (base later : List Input) (row : Row) (p n : ℕ) → IsConsistent plan → plan.phase_count ≤ 16 →
     AreTaken plan (later ++ base) → IsUntripped plan base later → HasGoneOn (is_pressed_in_pattern p) plan base (Tick row ∷ later) →
@@ -191,7 +197,7 @@ is_called_in_pattern c s i = true
 abbrev pub CalledPhasesAreServedInPatterns : Type 0
 CalledPhasesAreServedInPatterns = (plan : Plan) (base later : List Input) (k j h : ℕ) (r : Ring) (c : ℕ) → IsConsistent plan → plan.phase_count ≤ 16 →
     AreTaken plan (later ++ base) → IsUntripped plan base later → IsFullyConcurrent (replay plan base).plan →
-    runs (replay plan base) ≡ Some k → in_ring (replay plan base).plan r c ≡ true →
+    runs (replay plan base) ≡ Some k → IsInStep (replay plan base) → in_ring (replay plan base).plan r c ≡ true →
     TurnsInPattern (replay plan base).plan k j h → HasGoneOn (is_called_in_pattern c) plan base later →
     (replay plan (later ++ base)).now ≤ (replay plan base).now + time_to_be_served (replay plan base) k j h r c
 
@@ -199,7 +205,7 @@ CalledPhasesAreServedInPatterns = (plan : Plan) (base later : List Input) (k j h
 abbrev pub CoordinatedPhasesAreServed : Type 0
 CoordinatedPhasesAreServed = (plan : Plan) (base later : List Input) (k j h : ℕ) (r : Ring) (c : ℕ) → IsConsistent plan → plan.phase_count ≤ 16 →
     AreTaken plan (later ++ base) → IsUntripped plan base later → IsFullyConcurrent (replay plan base).plan →
-    runs (replay plan base) ≡ Some k → in_ring (replay plan base).plan r c ≡ true →
+    runs (replay plan base) ≡ Some k → IsInStep (replay plan base) → in_ring (replay plan base).plan r c ≡ true →
     TurnsInPattern (replay plan base).plan k j h → HasGoneOn (is_out c) plan base later →
     (replay plan (later ++ base)).now ≤ (replay plan base).now + time_to_be_served (replay plan base) k j h r c
 
@@ -228,6 +234,6 @@ time_to_return plan k j r c =
 abbrev pub CoordinatedPhasesReturn : Type 0
 CoordinatedPhasesReturn = (plan : Plan) (base later : List Input) (k j : ℕ) (r : Ring) (c : ℕ) → IsConsistent plan → plan.phase_count ≤ 16 →
     AreTaken plan (later ++ base) → IsUntripped plan base later → IsFullyConcurrent (replay plan base).plan →
-    runs (replay plan base) ≡ Some k → ClearsWithin (replay plan base).plan j → in_ring (replay plan base).plan r c ≡ true →
+    runs (replay plan base) ≡ Some k → IsInStep (replay plan base) → ClearsWithin (replay plan base).plan j → in_ring (replay plan base).plan r c ≡ true →
     HasGoneOn (is_out c) plan base later →
     (replay plan (later ++ base)).now ≤ (replay plan base).now + time_to_return (replay plan base).plan k j r c

@@ -3,11 +3,12 @@
 --
 -- A plan here has 16 phases at most, as every plan in memory has: no hold and no omit is told of a phase of a greater
 -- number.
-use Rattle.std.specs.Prelude.{◌≡◌, ℕ, ◌+◌, ◌≤◌, Bool, true, false, ◌&&◌, ◌||◌, List, [], ◌∷◌, Some, None, ◌⊎◌}
+use Rattle.std.specs.Prelude.{◌≡◌, ℕ, ◌+◌, ◌-◌, ◌≤◌, Bool, true, false, ◌&&◌, ◌||◌, List, [], ◌∷◌, Some, None, ◌⊎◌}
 use Rattle.tsb_step.specs.tsb_types.declared.row.Row.{Row}
 use Rattle.tsb_step.specs.tsb_types.Intervals.{is_green}
 use Rattle.tsb_step.specs.tsb_plan.Plan.{Plan}
 use Rattle.tsb_step.specs.tsb_coord.Coordinated.{is_in_permissive_time}
+use Rattle.tsb_step.specs.tsb_coord.Correction.{clock, skips}
 use Rattle.tsb_step.specs.tsb_phase.Phase.{held_of}
 use Rattle.tsb_step.specs.tsb_phase.Green.{floats_off}
 use Rattle.tsb_step.specs.tsb_ring.Rings.{Ring}
@@ -25,9 +26,12 @@ use Rattle.tsb_laws.specs.Stretches.{EndsGreen, StartsGreen}
 abbrev pub is_forced_off : State → Row → ℕ → Bool
 is_forced_off s row p = forced s p || floats_off s.plan (phases_given s row) p (held_of (phase_read s p))
 
--- the next tick is in the permissive time of p
+-- in the next tick the local counter is in the permissive time of p, or takes two steps and is there at the first
 abbrev pub in_permissive_time : State → ℕ → Bool
-in_permissive_time s p = is_in_permissive_time s.plan (s.now + 1) s.pattern p
+in_permissive_time s p =
+    is_in_permissive_time s.plan (clock s.plan s.pattern s.correction (s.now + 1)) s.pattern p ||
+    (skips s.plan s.pattern s.correction (s.now + 1) &&
+    is_in_permissive_time s.plan (clock s.plan s.pattern s.correction (s.now + 1) - 1) s.pattern p)
 
 -- p was forced off in some tick of the green that it is in now
 abbrev pub was_forced_off : Plan → ℕ → List Input → Bool

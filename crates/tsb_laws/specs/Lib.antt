@@ -66,6 +66,8 @@ pub mod SavedRuns
 pub mod Told
 -- that coordinated phases are awaited and other greens forced off, and within which time a coordinated phase is Green again
 pub mod CoordinatedGreens
+-- when the local counter is in step, and from where a selected pattern goes on
+pub mod InStep
 -- that the options of a plan change nothing where they are 0
 pub mod Options
 -- that greens which begin behind their force-off instant end late, where the plan says so

@@ -3,7 +3,7 @@
 -- that object.
 use Rattle.std.specs.Prelude.{◌≡◌, ℕ, ◌==◌, true, false, ◌&&◌, ◌||◌, if◌then◌else◌, Option, Some, None, is_some, is_none}
 use Rattle.tsb_step.specs.tsb_cells.Timer.{has_reached}
-use Rattle.tsb_step.specs.tsb_plan.declared.object.Object.TheVariants.{CoordForceMode, CoordMaximumMode, PatternPermissiveTime, PatternLeadLag, PhasePedestrianRecycle}
+use Rattle.tsb_step.specs.tsb_plan.declared.object.Object.TheVariants.{CoordForceMode, CoordMaximumMode, PatternPermissiveTime, PatternLeadLag, PhasePedestrianRecycle, CoordCorrectionMode}
 use Rattle.tsb_step.specs.tsb_plan.Parts.{leads_and_lags, split_of, sequence_of}
 use Rattle.tsb_step.specs.tsb_plan.Plan.{Plan, is_enabled, side_of, is_concurrent}
 use Rattle.tsb_step.specs.tsb_plan.Running.{running}
@@ -11,6 +11,7 @@ use Rattle.tsb_step.specs.tsb_rules.PatternRules.{some_and, each_pattern, split_
 use Rattle.tsb_step.specs.tsb_rules.Rules.{first_broken}
 use Rattle.tsb_step.specs.tsb_objects.Instants.{first_coordinated}
 use Rattle.tsb_step.specs.tsb_coord.Coordinated.{local, instant_by, force_off, agree, asks_force_off, asks_recycle, is_pattern}
+use Rattle.tsb_step.specs.tsb_coord.Correction.{Correction, is_in_step}
 use Rattle.tsb_step.specs.tsb_phase.Phase.{Given, GreenHeld}
 use Rattle.tsb_step.specs.tsb_phase.DynamicMaximum.{maximum_in_use}
 use Rattle.tsb_step.specs.tsb_phase.Green.{conflict_timer, acting_maximum, has_maxed_out, forced_latch}
@@ -22,6 +23,7 @@ pub record HasNoOptions (plan : Plan) : Type 0 where
   pub pattern_permissive_time : (n : ℕ) → plan.value PatternPermissiveTime n ≡ 0
   pub pattern_lead_lag : (n : ℕ) → plan.value PatternLeadLag n ≡ 0
   pub phase_pedestrian_recycle : (p : ℕ) → plan.value PhasePedestrianRecycle p ≡ 0
+  pub coord_correction_mode : plan.value CoordCorrectionMode 1 ≡ 0
 
 -- each definition that reads an option is the one without it
 pub record OptionsOff (plan : Plan) : Type 0 where
@@ -48,6 +50,8 @@ pub record OptionsOff (plan : Plan) : Type 0 where
       ≡ each_pattern plan (λ n. some_and (λ s. some_and (coordinated_agree plan false s) (split_of plan n)) (sequence_of plan n))
   -- no phase may walk again, so a walk begins with a green alone
   pub recycled : (t : ℕ) (selected : Option ℕ) (p : ℕ) → asks_recycle plan t selected p ≡ false
+  -- the local counter is in step at once, whatever is selected
+  pub stepped : (selected : Option ℕ) (c : Correction) (t : ℕ) → is_in_step plan selected c t ≡ true
   -- K23 asks for nothing
   pub permissive : permissive_times_end plan ≡ true
 

@@ -14,6 +14,7 @@ use Rattle.tsb_step.specs.tsb_plan.Parts.{cycle, permissive_time}
 use Rattle.tsb_step.specs.tsb_plan.Plan.{Plan, walk, pedestrian_clear}
 use Rattle.tsb_step.specs.tsb_plan.Running.{pattern_maximum}
 use Rattle.tsb_step.specs.tsb_coord.Coordinated.{counter, force_off}
+use Rattle.tsb_step.specs.tsb_coord.Correction.{clock}
 use Rattle.tsb_step.specs.tsb_phase.Phase.{held_of}
 use Rattle.tsb_step.specs.tsb_phase.Green.{conflict_timer, initial_has_passed}
 use Rattle.tsb_step.specs.tsb_phase.Pedestrian.{pedestrian_now}
@@ -83,6 +84,10 @@ MaximumGreensMayEnd = (plan : Plan) (base later : List Input) (row : Row) (p n m
 
 -- ## The permissive time
 
+-- the local counter of pattern n in the next tick, as it goes, also while it comes into step
+abbrev pub next_counter : State → ℕ → ℕ
+next_counter s n = counter s.plan n (clock s.plan s.pattern s.correction (s.now + 1))
+
 -- p is coordinated in the pattern that runs, and in the next tick the local counter is at most the permissive time
 -- behind the instant of p, in this cycle or from the last one on
 pub record IsInPermissiveTime (s : State) (p : ℕ) : Type 0 where
@@ -92,8 +97,8 @@ pub record IsInPermissiveTime (s : State) (p : ℕ) : Type 0 where
   pub some : 0 < permissive_time s.plan number
   pub instant : ℕ
   pub own : force_off s.plan (Some number) p ≡ Some instant
-  pub within : ((instant ≤ counter s.plan number (s.now + 1)) × (counter s.plan number (s.now + 1) ≤ instant + permissive_time s.plan number))
-      ⊎ (counter s.plan number (s.now + 1) + cycle s.plan number ≤ instant + permissive_time s.plan number)
+  pub within : ((instant ≤ next_counter s number) × (next_counter s number ≤ instant + permissive_time s.plan number))
+      ⊎ (next_counter s number + cycle s.plan number ≤ instant + permissive_time s.plan number)
 
 -- In every run a coordinated green is ready then.
 abbrev pub PermittedGreensAreReady : Type 0

@@ -19,12 +19,12 @@ use Rattle.tsb_step.specs.tsb_ring.Moves.{is_started}
 use Rattle.tsb_step.specs.tsb_rules.Consistent.{IsPhase}
 use Rattle.tsb_step.specs.tsb_ring.Rings.{Ring, other, in_ring}
 use Rattle.tsb_step.specs.declared.inputs.Input.{Input}
-use Rattle.tsb_step.specs.declared.inputs.Input.TheVariants.{Tick}
+use Rattle.tsb_step.specs.declared.inputs.Input.TheVariants.{Tick, Pattern}
 use Rattle.tsb_step.specs.ClearanceLaws.{EndsNow, ClearsInTime, IsForcedOff, IsOverInTime, split_end_from}
 use Rattle.tsb_step.specs.tsb_coord.Laws.{IsCountedFrom}
 use Rattle.tsb_step.specs.Laws.{IsConsistent, ServesTogether, WalksBesideGreen, StartsWaiting, ServesPreempt, is_unlit}
 use Rattle.tsb_step.specs.Runs.{replay}
-use Rattle.tsb_step.specs.Signs.{display, field, IsSafe}
+use Rattle.tsb_step.specs.Signs.{display, field, IsSafe, IsInStep}
 use Rattle.tsb_step.specs.State.{State, interval}
 use Rattle.tsb_step.specs.Step.{step, verdict}
 use Rattle.tsb_step.specs.Tick.{service, must_end, runs, hold, forced, at_force_off, omitted, conflict as has_conflict, ready, moves}
@@ -37,6 +37,7 @@ use Rattle.tsb_laws.specs.CrossingGreens.{IsCalm}
 use Rattle.tsb_laws.specs.Crossings.{BeginsCrossing, TakesAtMost, CompletesWithin}
 use Rattle.tsb_laws.specs.GreenEnds.{HasFloated, EndsForAReason}
 use Rattle.tsb_laws.specs.Intergreens.{AreApart, HasCleared, WalksBefore, HasWalked}
+use Rattle.tsb_laws.specs.InStep.{selects_none, BeginsInStep, StaysInStep, GoesOnFrom}
 use Rattle.tsb_laws.specs.KeptCalls.{restarts, RunsOn, Remembers, HasTurnedGreen, HasBegunWalk}
 use Rattle.tsb_laws.specs.LateGreens.{IsInLateSpan, IsLateGreen}
 use Rattle.tsb_laws.specs.PatternEnds.{LacksOnlyItsEnd, HasWaitedInPattern, HasMaxedInPattern, IsInPermissiveTime}
@@ -297,7 +298,7 @@ ReadiesPermittedGreensInTime plan is = (base later : List Input) (row : Row) (p 
 -- while a pattern ran, a phase that stayed called has not waited for longer than it may, nor has a coordinated one
 abbrev pub ServesInPatterns : (ℕ → State → Input → Bool) → Plan → List Input → Type 0
 ServesInPatterns waits plan is = (base later : List Input) (k j h : ℕ) (r : Ring) (c : ℕ) → is ≡ later ++ base → IsUntripped plan base later →
-    IsFullyConcurrent (replay plan base).plan → runs (replay plan base) ≡ Some k → in_ring (replay plan base).plan r c ≡ true →
+    IsFullyConcurrent (replay plan base).plan → runs (replay plan base) ≡ Some k → IsInStep (replay plan base) → in_ring (replay plan base).plan r c ≡ true →
     TurnsInPattern (replay plan base).plan k j h → HasGoneOn (waits c) plan base later →
     (replay plan is).now ≤ (replay plan base).now + time_to_be_served (replay plan base) k j h r c
 
@@ -307,9 +308,14 @@ ServesInPatterns waits plan is = (base later : List Input) (k j h : ℕ) (r : Ri
 abbrev pub AwaitsCoordinated : State → Type 0
 AwaitsCoordinated s = (row : Row) (c : ℕ) → IsPhase s.plan c → hold s c ≡ true → is_green (interval s c) ≡ false → IsAwaited s row c
 
--- and each enabled phase has its force-off instant within a cycle
+-- and while the local counter is in step each enabled phase has its force-off instant within a cycle
 abbrev pub HasInstants : State → Type 0
-HasInstants s = (k p : ℕ) → runs s ≡ Some k → is_enabled s.plan p ≡ true → ComesInCycle s k p
+HasInstants s = (k p : ℕ) → runs s ≡ Some k → IsInStep s → is_enabled s.plan p ≡ true → ComesInCycle s k p
+
+-- a pattern that was selected in free operation, or with correction mode 0, is in step until another is selected
+abbrev pub IsSelectedInStep : Plan → List Input → Type 0
+IsSelectedInStep plan is = (older later : List Input) (n : ℕ) → is ≡ later ++ (Pattern n ∷ older) → BeginsInStep (replay plan older) →
+    HasGoneOn selects_none plan (Pattern n ∷ older) later → IsInStep (replay plan is)
 
 -- a green that is late, and that nothing else keeps, is ready in the next tick
 abbrev pub ReadiesLateGreens : State → Type 0
@@ -414,6 +420,9 @@ pub record KeepsLaws (plan : Plan) (is : List Input) (s : State) : Type 0 where
   pub coordination_goes_on_instants : HasInstants s
   pub coordination_goes_on_forced : ForcesGreensOff plan is
   pub coordination_goes_on_ends : Untripped MakesWay plan is
+  pub counters_are_in_step_selected : IsSelectedInStep plan is
+  pub counters_are_in_step_stays : StaysInStep s
+  pub selections_go_on : GoesOnFrom s
   pub late_greens_are_ready : ReadiesLateGreens s
   pub late_greens_are_ready_in_time : ReadiesLateGreensInTime plan is
   pub floating_greens_are_ready : Untripped ReadiesFloatingGreens plan is

@@ -6,7 +6,7 @@ use Rattle.tsb_step.specs.tsb_types.declared.interval.Interval.TheVariants.{Gree
 use Rattle.tsb_step.specs.tsb_types.declared.interval.PedestrianInterval.TheVariants.{DontWalk, Walk}
 use Rattle.tsb_step.specs.tsb_types.declared.row.Row.{Row}
 use Rattle.tsb_step.specs.tsb_plan.Plan.{Plan, walk, pedestrian_clear, rests_in_walk, recycles_walk}
-use Rattle.tsb_step.specs.tsb_coord.Coordinated.{asks_force_off}
+use Rattle.tsb_step.specs.tsb_coord.Correction.{forces}
 use Rattle.tsb_step.specs.tsb_phase.Phase.{held_of}
 use Rattle.tsb_step.specs.tsb_phase.Green.{initial_has_passed}
 use Rattle.tsb_step.specs.tsb_phase.Pedestrian.{pedestrian_now}
@@ -14,6 +14,7 @@ use Rattle.tsb_step.specs.declared.inputs.Input.{Input}
 use Rattle.tsb_step.specs.declared.inputs.Input.TheVariants.{Tick, Pattern, Commit}
 use Rattle.tsb_step.specs.State.{State, interval, pedestrian_part}
 use Rattle.tsb_step.specs.Tick.{service, hold, forced, conflict, pedestrian_call, phases_given, phase_read, ready}
+use Rattle.tsb_step.specs.Signs.{IsInStep}
 use Rattle.tsb_step.specs.Step.{step}
 use Rattle.tsb_step.specs.Runs.{replay, AreTaken}
 use Rattle.tsb_step.specs.Laws.{IsConsistent, OfEveryRun}
@@ -32,11 +33,11 @@ pub record WalksAgain (s : State) (row : Row) (p : ℕ) : Type 0 where
 -- the ticks that both take is p forced off
 abbrev pub FitsBeforeForceOff : State → ℕ → Type 0
 FitsBeforeForceOff s p = (t : ℕ) → s.now < t → t ≤ s.now + (walk s.plan p + pedestrian_clear s.plan p) →
-    asks_force_off s.plan t s.pattern p ≡ false
+    forces s.plan s.pattern s.correction t p ≡ false
 
 -- in the tick p may walk again: it has pedestrian recycle and is a coordinated phase of the pattern that runs, it was
 -- Green in DontWalk and has a pedestrian call, no preempt is in service, no force-off stands for a conflict that it
--- still has, and a walk fits
+-- still has, the local counter is in step, and a walk fits
 pub record MayWalkAgain (s : State) (row : Row) (p : ℕ) : Type 0 where
   pub recycles : recycles_walk s.plan p ≡ true
   pub coordinated : hold s p ≡ true
@@ -45,6 +46,7 @@ pub record MayWalkAgain (s : State) (row : Row) (p : ℕ) : Type 0 where
   pub called : pedestrian_call s row p ≡ true
   pub quiet : service s row ≡ None
   pub unforced : ((s.phases p).forced && conflict s row p) ≡ false
+  pub in_step : IsInStep s
   pub fits : FitsBeforeForceOff s p
 
 -- what may walk again does; no other walk begins within a green; and its button is then forgotten

@@ -3,6 +3,7 @@
 ghost use Rattle.tsb_laws.specs.KeptCalls.{CallsAreRemembered, PedestrianCallsStand, VehicleCallsStand};
 ghost use Rattle.tsb_laws.specs.CrossingGreens.{CommittedRingsClear};
 ghost use Rattle.tsb_laws.specs.GreenEnds.{GreensEndForAReason};
+ghost use Rattle.tsb_laws.specs.InStep.{OnceInStep, SelectedInStep, SelectionsGoOn};
 ghost use Rattle.tsb_laws.specs.LateGreens.{LateGreensAreReady, LateGreensMayEnd};
 ghost use Rattle.tsb_laws.specs.Options.{OptionsOffChangeNothing};
 ghost use Rattle.tsb_laws.specs.OverlapPhases.{OverlapsGoWithPhases};
@@ -259,16 +260,17 @@ pub fn called_phases_are_served()
 /// Mistake: a pattern that gives its coordinated phases no recall, `by_itself` (`would_not_be_called`).
 /// Witness: `an_awaited` of CoordinatedRuns.
 ///
-/// `instants`: A force-off comes in each cycle. While a pattern runs the local counter is at the force-off instant of each
-/// enabled phase within a cycle, if plan and pattern stay as they are.
+/// `instants`: A force-off comes in each cycle. While a pattern runs and its local counter is in step, this is at the
+/// force-off instant of each enabled phase within a cycle, if plan and pattern stay as they are.
 ///
+/// Not said: anything of a local counter that comes into step, by which a cycle takes longer or shorter.
 /// Mistake: an instant that is not taken within the cycle, `past_the_cycle` (`would_never_come`).
 /// Witness: `a_pattern` of CoordinatedRuns.
 ///
 /// `forced`: A green that is forced off may end, whatever calls it. Where it has a conflict in each tick, and has been
 /// forced off, at its instant, late or in its permissive time, it is ready as soon as its initial time, its walk and
 /// its pedestrian clearance have passed. That is so of coordinated phases and all others, also where a green began
-/// behind its instant.
+/// behind its instant, and while the local counter comes into step.
 ///
 /// Needs: a pattern that runs, and no preempt in service; no pattern selected and nothing committed meanwhile; an untripped
 /// run; at most 16 phases.
@@ -300,8 +302,8 @@ pub fn coordination_goes_on()
 /// it, and wait each time for all turns across. A turn is a cycle, or what the phase asks for if that is longer, and what
 /// its ring may clear.
 ///
-/// Needs: a plan in which all phases of one side and of different rings are concurrent; no pattern selected and nothing
-/// committed meanwhile; an untripped run; at most 16 phases.
+/// Needs: a plan in which all phases of one side and of different rings are concurrent; a local counter that is in step
+/// as it begins; no pattern selected and nothing committed meanwhile; an untripped run; at most 16 phases.
 /// Not said: that its walk begins; anything of a time in which a preempt is in service.
 /// Mistake: a ring that looks across the barrier for its own phases alone, `by_own_ring` (`may_end_2`, `has_conflict_2`,
 /// `would_rest`).
@@ -324,8 +326,8 @@ pub fn phases_are_served_in_patterns()
 /// instant, and in no other tick; and no green is forced off for its length. Where `coordMaximumMode` is 0, maximums
 /// end greens in free operation alone. Where no pattern leads and lags, K20 asks that coordinated splits end at one
 /// time, and instants are as counted from the first coordinated phase. Where no phase has pedestrian recycle, none may
-/// walk again within its green. K23 then asks for nothing. So it is in every tick, for each phase, and whatever pattern
-/// is selected.
+/// walk again within its green. Where `coordCorrectionMode` is 0, the local counter is in step at once. K23 then asks
+/// for nothing. So it is in every tick, for each phase, and whatever pattern is selected.
 ///
 /// Needs: for what instants are counted from, a plan that breaks no rule and a pattern that is used.
 /// Mistakes: force-off that is late whatever the mode is, `late_always` (`is_not_asked`, `would_ask`); that floats,
@@ -333,17 +335,48 @@ pub fn phases_are_served_in_patterns()
 /// (`is_not_permitted`, `would_permit`); a maximum that acts in patterns, `maximum_always` (`is_not_out`,
 /// `would_be_out`); a K20 that lets splits end apart (`ends_at_another_time`, `would_agree`); instants from the begin
 /// of the cycle, `from_the_begin` (`is_counted`, `would_be_later`); a second walk in each coordinated green,
-/// `recycles_always` (`is_not_recycled`, `would_walk_again`); a K23 that asks for a time, `asks_for_time`
+/// `recycles_always` (`is_not_recycled`, `would_walk_again`); a local counter that takes the short way whatever the
+/// mode is, `steps_always` (`is_in_step_at_once`, `would_lag`); a K23 that asks for a time, `asks_for_time`
 /// (`ends_in_time`, `would_refuse`).
 /// Witness: `two_has_none`, `quad_has_none` of OptionMistakes, the built-in plans.
 pub fn options_off_change_nothing()
     ensures { OptionsOffChangeNothing }
 {}
 
+/// `selected`: A pattern that is selected in free operation is in step. Its local counter is that of the cycle and the
+/// offset after each input from then on, also where `coordCorrectionMode` is not 0, until another pattern is selected;
+/// and so it is with one that is selected while the mode is 0. Commits do not change that.
+///
+/// Mistake: a pattern that begins at local 0, `from_zero` (`would_be_ahead`).
+/// Witness: `a_selection` of InStepRuns.
+///
+/// `stays`: Once in step the local counter stays so. That is over each input but a selection and a commit, by whatever
+/// mode it came into step, also in a controller that has tripped.
+///
+/// Not said: when it comes into step, which tsb_coord says.
+/// Mistake: a counter that goes on to lose by its limit, `loses_on` (`comes_into_step`, `would_fall_behind`).
+/// Witness: `a_step` of InStepRuns.
+pub fn counters_are_in_step()
+    ensures selected { SelectedInStep }
+    ensures stays { OnceInStep }
+{}
+
+/// A pattern that is selected goes on from the local counter of the one that ran. Where `coordCorrectionMode` is not 0
+/// and a pattern is selected while one runs, its local counter stands where that of the old one stood, within its own
+/// cycle.
+///
+/// Needs: a mode that is not 0; with mode 2 or 3 also a limit that is not 0.
+/// Not said: how it goes on from there, which tsb_coord says.
+/// Mistake: a counter that is in step at once whatever the mode is, `jumps` (`goes_on_from_1`, `would_jump`).
+/// Witness: `another_selection` of InStepRuns.
+pub fn selections_go_on()
+    ensures { SelectionsGoOn }
+{}
+
 /// `ready`: A green that is late may end. With `coordForceMode` 1 or 2, a phase that is not coordinated is ready in
 /// each tick from its force-off instant up to that of the coordinated phase that it yields to, also past the end of the
-/// cycle. That is so wherever it is Green with a conflict, its initial time has passed and its pedestrian part is
-/// DontWalk; so it needs no gap and no next cycle.
+/// cycle, and as the local counter stands while it comes into step. That is so wherever it is Green with a conflict,
+/// its initial time has passed and its pedestrian part is DontWalk; so it needs no gap and no next cycle.
 ///
 /// Needs: no preempt in service; at most 16 phases.
 /// Not said: that it ends then, as it may wait for the other ring at the barrier (`coordination_goes_on`).
@@ -417,8 +450,8 @@ pub fn maximums_end_greens_in_patterns()
 
 /// `ready`: A call within the permissive time is served as one before the instant. A coordinated phase is ready in each
 /// tick in which the local counter is at most `patternPermissiveTime` behind its force-off instant, also past the end
-/// of the cycle. That is so wherever it is Green with a conflict, its initial time has passed and its pedestrian part
-/// is DontWalk.
+/// of the cycle, and as it stands while it comes into step. That is so wherever it is Green with a conflict, its
+/// initial time has passed and its pedestrian part is DontWalk.
 ///
 /// Needs: a permissive time that is not 0; no preempt in service; at most 16 phases.
 /// Not said: that it ends then, as it may wait for the other ring at the barrier (`coordination_goes_on`).
@@ -441,9 +474,9 @@ pub fn permissive_times_let_calls_in()
 
 /// A pedestrian call begins a walk within a green, where there is time for it. A coordinated phase of the pattern that
 /// runs, with `phasePedestrianRecycle`, which was Green in DontWalk and has a pedestrian call, is in Walk after the
-/// tick, and its button is forgotten. That is so where it is forced off in none of the ticks that its walk and its
-/// pedestrian clearance take, and where no force-off stands for a conflict that it still has. No other walk begins
-/// within a green.
+/// tick, and its button is forgotten. That is so while the local counter is in step, where it is forced off in none of
+/// the ticks that its walk and its pedestrian clearance take, and where no force-off stands for a conflict that it
+/// still has. No other walk begins within a green.
 ///
 /// Needs: no preempt in service; an untripped run; at most 16 phases.
 /// Not said: anything of a walk that begins with a green.

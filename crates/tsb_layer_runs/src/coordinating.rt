@@ -65,7 +65,7 @@ impl Coordinating {
         let pattern = numbers.number()?;
         let mut layer = self.layer;
         layer.open();
-        let answer = layer.set_pattern(pattern, plan);
+        let answer = layer.set_pattern(pattern, 0, plan);
         let changes = layer.close();
         self.layer = layer;
         numbers.tells_refusal(answer.err())?;
@@ -124,7 +124,7 @@ impl Ticked for Coordinating {
         let mut layer = self.layer;
         layer.open();
         if given.pattern != self.selected {
-            let _answer = layer.set_pattern(given.pattern, plan);
+            let _answer = layer.set_pattern(given.pattern, now, plan);
             self.selected = given.pattern;
         }
         let said = layer.orders(now, plan);

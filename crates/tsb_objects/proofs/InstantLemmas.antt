@@ -8,7 +8,7 @@ use Rattle.tsb_plan.specs.PlanOf.{plan_in}
 use Rattle.tsb_plan.specs.Parts.{cycle, is_used, permissive_time, forces_late}
 use Rattle.tsb_plan.specs.Plan.{Plan, is_enabled, yellow_change, red_clear}
 use Rattle.tsb_plan.specs.Running.{is_coordinated_now}
-use Rattle.tsb_objects.specs.Instants.{residue_of_difference, end_of, instant_from, reference, instant_by, force_off, agree, yields_to, instant_of, late_end, is_from_to, counted_on, is_late, yields_for, is_behind, permissive_end_from, permissive_end, forces_off}
+use Rattle.tsb_objects.specs.Instants.{residue_of_difference, end_of, instant_from, reference, instant_by, force_off, agree, yields_to, instant_of, late_end, is_from_to, counted_on, is_late, yields_for, is_behind, permissive_end_from, permissive_end, forces_off, tick_before, waiting_point}
 use Rattle.tsb_objects.specs.PatternTables.{instant_in, end_behind, permissive_end_in}
 
 -- the residue of a difference is that of the residues' difference
@@ -190,3 +190,14 @@ permissive-ends-below plan n p used = go (force_off plan (Some n) p)
         choose : (b : Bool) → IfSome (if b then Some ((i + yields_for plan n p + 1) % cycle plan n) else None) (λ i. i < cycle plan n)
         choose true = mod-lt (i + yields_for plan n p + 1) some
         choose false = tt
+
+-- where a pattern waits is below its cycle
+pub waits-below : (plan : Plan) (n : ℕ) → is_used plan n ≡ true → waiting_point plan n < cycle plan n
+waits-below plan n used = go (instant_of plan n (reference plan n))
+  where
+    some : 0 < cycle plan n
+    some = grind (arith, nat_tests, used)
+
+    go : (o : Option ℕ) → tick_before (cycle plan n) o < cycle plan n
+    go None = some
+    go (Some i) = mod-lt (i + (cycle plan n - 1 % cycle plan n)) some

@@ -187,3 +187,15 @@ recycle_end plan (Some n) p =
     if may_recycle plan (Some n) p
     then recycle_end_from (cycle plan n) (walk_and_clearance plan p) (force_off plan (Some n) p)
     else None
+
+-- ## Dwell
+
+-- a tick before an instant in a cycle of m; 0 where there is none
+abbrev pub tick_before : ℕ → Option ℕ → ℕ
+tick_before m None = 0
+tick_before m (Some i) = residue_of_difference m i 1
+
+-- where the local counter of pattern n waits while it comes into step by dwell: a tick before the instant of the
+-- coordinated phase that instants are counted from
+abbrev pub waiting_point : Plan → ℕ → ℕ
+waiting_point plan n = tick_before (cycle plan n) (instant_of plan n (reference plan n))

@@ -6,7 +6,7 @@ use Rattle.tsb_plan.specs.Running.{is_coordinated_now, is_omitted_now, is_on_min
 use Rattle.tsb_objects.specs.declared.pattern_tables.Asked.{Asked}
 use Rattle.tsb_objects.specs.declared.pattern_tables.Asked.TheVariants.{Coordinated, Omitted, MinimumRecall, MaximumRecall, PedestrianRecall, PedestrianRecycle}
 use Rattle.tsb_objects.specs.declared.pattern_tables.PatternTables.{PatternTables}
-use Rattle.tsb_objects.specs.Instants.{force_off, late_end, counted_on, yields_for, may_recycle}
+use Rattle.tsb_objects.specs.Instants.{force_off, late_end, counted_on, yields_for, may_recycle, waiting_point}
 use Rattle.tsb_types.specs.Sets.{names}
 
 -- what is asked of phase p while a pattern runs, or in free operation
@@ -59,7 +59,12 @@ AreEnds plan words =
     (n p : ℕ) → 1 ≤ n → n ≤ 16 → 1 ≤ p → p ≤ 16 → is_used plan n ≡ true →
     slice_index words (16 * (n - 1) + (p - 1)) ≡ end_behind (cycle plan n) (force_off plan (Some n) p) (late_end plan (Some n) p) (yields_for plan n p)
 
--- six tables of lists and two of ticks, so that no tick has to search the plan for them
+-- a word for each pattern: where it waits
+abbrev pub AreWaitingPoints : Plan → List ℕ → Type 0
+AreWaitingPoints plan words =
+    (n : ℕ) → 1 ≤ n → n ≤ 16 → is_used plan n ≡ true → slice_index words (n - 1) ≡ waiting_point plan n
+
+-- six tables of lists and three of ticks, so that no tick has to search the plan for them
 pub record ArePatternTables (plan : Plan) (tables : PatternTables) : Type 0 where
   pub coordinated : AreInEffect plan Coordinated tables.coordinated
   pub omitted : AreInEffect plan Omitted tables.omitted
@@ -69,3 +74,4 @@ pub record ArePatternTables (plan : Plan) (tables : PatternTables) : Type 0 wher
   pub pedestrian_recycle : AreInEffect plan PedestrianRecycle tables.pedestrian_recycle
   pub instants : AreInstants plan tables.instants
   pub ends : AreEnds plan tables.ends
+  pub waiting_points : AreWaitingPoints plan tables.waiting_points

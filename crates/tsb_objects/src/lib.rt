@@ -17,7 +17,8 @@ mod unions;
 
 pub use checked::Checked;
 pub use tsb_plan::{
-    Object, ObjectId, PLAN_CELLS, Plan, Range, SplitMode, Version, is_structural, range_of,
+    CorrectionMode, Object, ObjectId, PLAN_CELLS, Plan, Range, SplitMode, Version, is_structural,
+    range_of,
 };
 pub use tsb_rules::{Rule, check, split_end};
 pub use tsb_types::{

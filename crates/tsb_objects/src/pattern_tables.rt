@@ -2,13 +2,13 @@
 #![tactic(auto, unfolding(tsb_plan::specs::PlanOf::plan_of))]
 
 ghost use Rattle.std.specs.Prelude.{◌≡◌, ◌≢◌, ℕ, ◌+◌, ◌-◌, ◌*◌, ◌<◌, ◌≤◌, true, false, Some, IfSome, length, slice_index};
-ghost use Rattle.tsb_objects.specs.PatternTables.{is_so, AreInEffect, AreInstants, AreEnds, ArePatternTables, instant_in, late_until, end_behind, permissive_end_in};
-ghost use Rattle.tsb_objects.specs.Instants.{force_off, late_end, is_from_to, yields_for};
+ghost use Rattle.tsb_objects.specs.PatternTables.{is_so, AreInEffect, AreInstants, AreEnds, AreWaitingPoints, ArePatternTables, instant_in, late_until, end_behind, permissive_end_in};
+ghost use Rattle.tsb_objects.specs.Instants.{force_off, late_end, is_from_to, yields_for, reference, instant_of, tick_before, waiting_point};
 ghost use Rattle.tsb_plan.specs.Parts.{cycle, is_used, unless_zero};
 ghost use Rattle.tsb_plan.specs.PlanOf.{plan_of};
 ghost use Rattle.tsb_types.specs.Sets.{has};
 
-use crate::instants::instant;
+use crate::instants::{instant, reference};
 use crate::late_ends::{late_end, yields_for};
 use tsb_plan::Plan;
 use tsb_types::{Pattern, Phase, PhaseSet};
@@ -48,6 +48,8 @@ pub struct PatternTables {
     /// For each of these the tick of the local counter behind the last one at which the phase is forced off, or 0. It
     /// is counted on past the end of the cycle; at most 5,100.
     pub(crate) ends: [u16; 256],
+    /// Where on its local counter each pattern waits while it comes into step (`coordCorrectionMode` 1).
+    pub(crate) waiting_points: [u16; 16],
 }
 
 impl PatternTables {
@@ -65,6 +67,7 @@ impl PatternTables {
             pedestrian_recycle: in_effect(plan, Asked::PedestrianRecycle),
             instants: words,
             ends: ends(plan, &words),
+            waiting_points: waiting_points(plan),
         }
     }
 }
@@ -191,6 +194,45 @@ fn ends(plan: &Plan, instants: &[u16; 256]) -> [u16; 256]
     words
 }
 
+/// Where each pattern waits while its local counter comes into step.
+fn waiting_points(plan: &Plan) -> [u16; 16]
+    ensures full { length result ≡ 16 }
+    ensures told { AreWaitingPoints (plan_of plan.now) result }
+{
+    let mut words = [0; 16];
+    for k in 0..16usize {
+        words[k] = waiting_word(plan, Pattern::of(k as u8 + 1));
+    }
+    words
+}
+
+/// A tick before an instant, in that cycle; 0 where there is none.
+fn tick_before(cycle: u32, instant: &Option<u32>) -> u32
+    requires some { 1 < cycle }
+    requires small { cycle ≤ 2550 }
+    requires below { IfSome instant.now (λ i. i < 2550) }
+    ensures value { result ≡ tick_before cycle instant.now }
+    ensures below { result < cycle }
+{
+    match instant {
+        None => 0,
+        Some(at) => (*at + cycle - 1) % cycle,
+    }
+}
+
+/// Where a pattern waits, as a word. It has no meaning for a pattern that is not used.
+fn waiting_word(plan: &Plan, n: Pattern) -> u16
+    ensures { is_used (plan_of plan.now) n ≡ true → result ≡ waiting_point (plan_of plan.now) n }
+{
+    if !plan.is_used(n) {
+        return 0;
+    }
+    match reference(plan, n) {
+        None => 0,
+        Some(c) => tick_before(plan.cycle(n), &instant(plan, n, c)) as u16,
+    }
+}
+
 /// The instant of a phase in a pattern, from the words of all.
 #[inline(always)]
 pub(crate) fn instant_at(words: &[u16; 256], n: Pattern, p: Phase) -> Option<u32>
@@ -202,6 +244,14 @@ pub(crate) fn instant_at(words: &[u16; 256], n: Pattern, p: Phase) -> Option<u32
     } else {
         Some(u32::from(at))
     }
+}
+
+/// Where a pattern waits, from the words of all.
+#[inline(always)]
+pub(crate) fn waiting_at(words: &[u16; 16], n: Pattern) -> u32
+    ensures { result ≡ slice_index words.now (n - 1) }
+{
+    u32::from(words[usize::from(n.number()) - 1])
 }
 
 /// The set with the phase if `on`, for a set that does not have it yet: it only adds.

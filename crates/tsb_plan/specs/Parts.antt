@@ -2,7 +2,9 @@
 -- tenths of a second. Names are those of NTCIP 1202; the numbers of split modes, overlap types and force modes are the
 -- profile's own, as permissive time and lead and lag are.
 use Rattle.std.specs.Prelude.{ℕ, ◌+◌, ◌-◌, ◌*◌, ◌==◌, Bool, not, if◌then◌else◌, Option, Some, None}
-use Rattle.tsb_plan.specs.declared.object.Object.TheVariants.{VehicleDetectorCallPhase, VehicleDetectorDelay, VehicleDetectorExtend, VehicleDetectorNoActivity, VehicleDetectorMaxPresence, VehicleDetectorErraticCounts, VehicleDetectorFailTime, PedestrianDetectorCallPhase, OverlapIncludedPhases, PatternCycleTime, PatternOffsetTime, PatternSplitNumber, PatternSequenceNumber, SplitTime, SplitMode as SplitModeObject, SplitCoordPhase, PreemptDelay, PreemptMinimumDuration, PreemptMaximumPresence, PreemptMinimumGreen, PreemptMinimumWalk, PreemptEnterPedClear, PreemptTrackGreen, PreemptTrackPhase, PreemptDwellPhase, PreemptExitPhase, OverlapType, OverlapModifierPhases, CoordForceMode, PatternPermissiveTime, PatternLeadLag}
+use Rattle.tsb_plan.specs.declared.object.Object.TheVariants.{VehicleDetectorCallPhase, VehicleDetectorDelay, VehicleDetectorExtend, VehicleDetectorNoActivity, VehicleDetectorMaxPresence, VehicleDetectorErraticCounts, VehicleDetectorFailTime, PedestrianDetectorCallPhase, OverlapIncludedPhases, PatternCycleTime, PatternOffsetTime, PatternSplitNumber, PatternSequenceNumber, SplitTime, SplitMode as SplitModeObject, SplitCoordPhase, PreemptDelay, PreemptMinimumDuration, PreemptMaximumPresence, PreemptMinimumGreen, PreemptMinimumWalk, PreemptEnterPedClear, PreemptTrackGreen, PreemptTrackPhase, PreemptDwellPhase, PreemptExitPhase, OverlapType, OverlapModifierPhases, CoordForceMode, PatternPermissiveTime, PatternLeadLag, CoordCorrectionMode, CoordCorrectionLimit}
+use Rattle.tsb_plan.specs.declared.plan.patterns.CorrectionMode.{CorrectionMode}
+use Rattle.tsb_plan.specs.declared.plan.patterns.CorrectionMode.TheVariants.{AtOnce, Dwell, ShortWay, AddOnly}
 use Rattle.tsb_plan.specs.declared.plan.patterns.SplitMode.{SplitMode}
 use Rattle.tsb_plan.specs.declared.plan.patterns.SplitMode.TheVariants.{NoMode, MinimumRecall, MaximumRecall, PedestrianRecall, MaximumAndPedestrianRecall, Omitted}
 use Rattle.tsb_plan.specs.Plan.{Plan}
@@ -74,6 +76,21 @@ forces_late plan = not (plan.value CoordForceMode 1 == 0)
 -- floating force-off in all patterns, mode 2: such a phase is besides forced off once its green has lasted its split
 abbrev pub floats : Plan → Bool
 floats plan = plan.value CoordForceMode 1 == 2
+
+-- by how much of it a cycle is made longer or shorter at most while the local counter comes into step, in percent
+abbrev pub correction_limit : Plan → ℕ
+correction_limit plan = plan.value CoordCorrectionLimit 1
+
+-- what each number of coordCorrectionMode stands for (profile), with this limit: 0 for at once; without a limit the
+-- short way and add only are at once as well
+abbrev pub correction_mode_of : ℕ → ℕ → CorrectionMode
+correction_mode_of limit n =
+    if n == 1 then Dwell
+    else (if limit == 0 then AtOnce else (if n == 2 then ShortWay else (if n == 3 then AddOnly else AtOnce)))
+
+-- how the local counter comes into step once a pattern is selected while another ran
+abbrev pub correction_mode : Plan → CorrectionMode
+correction_mode plan = correction_mode_of (correction_limit plan) (plan.value CoordCorrectionMode 1)
 
 -- the cycle length of the pattern, in tenths of a second; 0 for a pattern that is not used
 abbrev pub cycle : Plan → ℕ → ℕ

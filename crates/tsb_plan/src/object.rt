@@ -144,6 +144,10 @@ pub enum Object {
     PatternLeadLag,
     /// `phasePedestrianRecycle`: phase, yes or no, whether a coordinated phase may walk again (profile); 0 to 1.
     PhasePedestrianRecycle,
+    /// `coordCorrectionMode`: 1 alone, 0 at once, 1 dwell, 2 short way, 3 add only (profile); 0 to 3.
+    CoordCorrectionMode,
+    /// `coordCorrectionLimit`: 1 alone, percent of the cycle (profile); 0 to 50.
+    CoordCorrectionLimit,
 }
 
 /// THE TABLE OF OBJECTS, each row as the macro that is named takes it: the object, its name in plan texts,
@@ -221,6 +225,8 @@ macro_rules! table {
             PatternPermissiveTime       "patternPermissiveTime"        1232 [16 255]    [absent]    free
             PatternLeadLag              "patternLeadLag"               1248 [16 1]      [absent]    free
             PhasePedestrianRecycle      "phasePedestrianRecycle"       1264 [16 1]      [absent]    free
+            CoordCorrectionMode         "coordCorrectionMode"          1280 [1 3]       [absent]    free
+            CoordCorrectionLimit        "coordCorrectionLimit"         1281 [1 50]      [absent]    free
         }
     };
 }

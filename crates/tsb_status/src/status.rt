@@ -31,7 +31,8 @@ pub struct RingStatus {
     pub yellow_left: Option<u32>,
     /// Of its red clearance.
     pub red_clearance_left: Option<u32>,
-    /// Of a green in a pattern: until the local counter is at its force-off instant, less than the cycle.
+    /// Of a green in a pattern: until the local counter is at its force-off instant, less than the cycle. Steps of the
+    /// counter are counted; while it comes into step these are not ticks.
     pub force_off_in: Option<u32>,
 }
 

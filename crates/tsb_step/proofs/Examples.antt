@@ -18,3 +18,5 @@ pub mod TimeRuns
 pub mod EndMistakes
 pub mod OtherRuns
 pub mod MemoryMistakes
+pub mod CorrectionRuns
+pub mod CorrectionMistakes

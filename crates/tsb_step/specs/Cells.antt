@@ -9,7 +9,7 @@
 -- | `first_cell.CALLS` | the calls' |
 -- | `first_cell.PHASES` | the phases' |
 -- | `first_cell.RINGS` | the rings' |
--- | `first_cell.COORD` | the pattern's that is selected |
+-- | `first_cell.COORD` | coordination's: the pattern that is selected, and how its counter comes into step |
 -- | `first_cell.PREEMPTS` | the preempts' |
 -- | `first_cell.MONITOR` | the monitor's and the injected lamp's |
 --
@@ -29,7 +29,7 @@ use Rattle.tsb_phase.specs.Cells.{phases_cells, phase_in}
 use Rattle.tsb_ring.specs.declared.TheConstants.{CELLS as RING_CELLS}
 use Rattle.tsb_ring.specs.Cells.{rings_cells, rings_in}
 use Rattle.tsb_coord.specs.declared.TheConstants.{CELLS as PATTERN_CELLS}
-use Rattle.tsb_coord.specs.Cells.{pattern_cells, pattern_in}
+use Rattle.tsb_coord.specs.Cells.{pattern_cells, pattern_in, correction_in}
 use Rattle.tsb_preempt.specs.declared.TheConstants.{CELLS as PREEMPT_CELLS}
 use Rattle.tsb_preempt.specs.Cells.{preempts_cells, preempts_in}
 use Rattle.tsb_step.specs.declared.TheConstants.{MONITOR_CELLS}
@@ -59,7 +59,7 @@ cells_of s =
     ++ memories_cells s.memories
     ++ phases_cells (clock s) s.phases
     ++ rings_cells s.rings
-    ++ pattern_cells s.pattern
+    ++ pattern_cells s.pattern s.correction
     ++ preempts_cells (clock s) s.preempts
     ++ monitor_cells s.lamp s.trip
 
@@ -85,7 +85,7 @@ phases_row row = row_at PHASE_CELLS row first_cell.PHASES
 abbrev pub rings_row : List ℕ → List ℕ
 rings_row row = row_at RING_CELLS row first_cell.RINGS
 
--- the cell of coordination, which has the pattern
+-- the cells of coordination, of which the first has the pattern
 abbrev pub pattern_row : List ℕ → List ℕ
 pattern_row row = row_at PATTERN_CELLS row first_cell.COORD
 
@@ -108,6 +108,7 @@ state_in now row = record {
   plan = plan_in (row_at PLAN_CELLS row 0);
   desk = desk_in (desk_row row);
   pattern = pattern_in (pattern_row row);
+  correction = correction_in (pattern_row row);
   detectors = detector_in (clock_in now row) (detectors_row row);
   memories = memories_in (calls_row row);
   phases = phase_in (clock_in now row) (phases_row row);

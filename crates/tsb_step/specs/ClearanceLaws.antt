@@ -7,7 +7,8 @@ use Rattle.tsb_types.specs.declared.interval.Interval.TheVariants.{Yellow, RedCl
 use Rattle.tsb_types.specs.declared.interval.PedestrianInterval.TheVariants.{DontWalk}
 use Rattle.tsb_types.specs.declared.row.Row.{Row}
 use Rattle.tsb_objects.specs.tsb_plan.Plan.{Plan, is_enabled, yellow_change}
-use Rattle.tsb_objects.specs.tsb_plan.Parts.{cycle, permissive_time}
+use Rattle.tsb_objects.specs.tsb_plan.declared.plan.patterns.CorrectionMode.TheVariants.{AtOnce}
+use Rattle.tsb_objects.specs.tsb_plan.Parts.{cycle, permissive_time, correction_mode}
 use Rattle.tsb_objects.specs.tsb_plan.Running.{is_coordinated_now}
 use Rattle.tsb_phase.specs.ClearanceLaws.{clearance}
 use Rattle.tsb_phase.specs.Laws.{least_green}
@@ -18,7 +19,7 @@ use Rattle.tsb_coord.specs.Laws.{IsCountedFrom, IsAtMostBehind}
 use Rattle.tsb_step.specs.declared.inputs.Input.TheVariants.{Tick}
 use Rattle.tsb_step.specs.State.{State, interval}
 use Rattle.tsb_step.specs.Tick.{phases_given, phase_read, forced, moves, over, reverted}
-use Rattle.tsb_step.specs.Signs.{local}
+use Rattle.tsb_step.specs.Signs.{local, IsInStep}
 use Rattle.tsb_step.specs.Step.{step}
 use Rattle.tsb_step.specs.Laws.{OfEveryRun}
 
@@ -69,12 +70,25 @@ pub record ClearsInTime (s : State) (rows : ℕ → Row) (p : ℕ) : Type 0 wher
 abbrev pub GreensClearInTime : Type 0
 GreensClearInTime = OfEveryRun (λ s. (rows : ℕ → Row) (p : ℕ) → EndsNow s rows p → ClearsInTime s rows p)
 
--- a coordinated phase of the pattern that runs, forced off in the tick in which its green ends; that is at its instant,
--- or in its permissive time
+-- ## The local counter in step
+
+-- With coordCorrectionMode 0 the local counter is in step, in whatever state.
+abbrev pub InStepAtOnce : Type 0
+InStepAtOnce = (s : State) → correction_mode s.plan ≡ AtOnce → IsInStep s
+
+-- Once in step it stays so over ticks, from whatever state and whatever the rows are.
+abbrev pub StaysInStep : Type 0
+StaysInStep = (s : State) (rows : ℕ → Row) (k : ℕ) → IsInStep s → IsInStep (after_ticks s rows k)
+
+-- ## Where the local counter stands then
+
+-- a coordinated phase of the pattern that runs, whose local counter is in step, forced off in the tick in which its
+-- green ends; that is at its instant, or in its permissive time
 pub record IsForcedOff (s : State) (n p : ℕ) : Type 0 where
   pub selected : s.pattern ≡ Some n
   pub used : is_pattern s.plan n ≡ true
   pub coordinated : is_coordinated_now s.plan (Some n) p ≡ true
+  pub in_step : IsInStep s
   pub forced : forced s p ≡ true
 
 -- it is over in a tick after which the local counter is this, or at most the permissive time of pattern n behind it

@@ -34,6 +34,8 @@ pub record IsGood (s : State) : Type 0 where
   pub fit : AreFit s.plan s.desk.edits
   pub done : s.desk.state ≡ Done → found s.plan s.desk ≡ None
   pub pattern : (n : ℕ) → s.pattern ≡ Some n → IsPatternNumber n
+  -- its local counter has been coming into step since a tick that was
+  pub since : s.correction.since ≤ s.now
   pub rings : IsSound s.plan (interval s) s.rings
   pub walks : WalksBesideGreen s
   pub service : (x : Service) → s.preempts.service ≡ Some x → IsInStage s.plan x

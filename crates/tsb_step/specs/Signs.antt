@@ -1,13 +1,13 @@
 -- What the controller shows: its display, the field with a lamp that a fault has lit, the local counter and the stage
 -- of a preempt; when a display is safe; and the monitor, which judges the field.
-use Rattle.std.specs.Prelude.{ℕ, Option, is_some, option_map, if◌then◌else◌}
+use Rattle.std.specs.Prelude.{◌≡◌, ℕ, true, Option, is_some, option_map, if◌then◌else◌}
 use Rattle.tsb_types.specs.declared.stage.Stage.{Stage}
 use Rattle.tsb_heads.specs.Heads.{Shown, Heads}
 use Rattle.tsb_heads.specs.Displays as heads
 use Rattle.tsb_heads.specs.Monitoring as monitor
 use Rattle.tsb_heads.specs.Reading.{commitment_of}
 use Rattle.tsb_ring.specs.Rings.{Ring1, Ring2}
-use Rattle.tsb_coord.specs.Coordinated as coordination
+use Rattle.tsb_coord.specs.Correction.{local_now, is_in_step}
 use Rattle.tsb_preempt.specs.Promises.{stage_of}
 use Rattle.tsb_step.specs.State.{State, interval, pedestrian_part}
 
@@ -34,7 +34,11 @@ IsSafe s = monitor.IsSafe s.plan (display s)
 
 -- the local counter of the pattern that runs, which goes on also while the controller is tripped
 abbrev pub local : State → Option ℕ
-local s = coordination.local s.plan s.now s.pattern
+local s = local_now s.plan s.pattern s.correction s.now
+
+-- the local counter is in step with the cycle and the offset: in free operation, and by correction mode 0, it always is
+abbrev pub IsInStep : State → Type 0
+IsInStep s = is_in_step s.plan s.pattern s.correction s.now ≡ true
 
 -- the preempt in service and its stage
 abbrev pub stage : State → Option (ℕ × Stage)

@@ -13,6 +13,7 @@ use Rattle.tsb_phase.specs.Phase as phase
 use Rattle.tsb_phase.specs.Phase.{Phase}
 use Rattle.tsb_ring.specs.Rings as rings
 use Rattle.tsb_coord.specs.Coordinated as coordination
+use Rattle.tsb_coord.specs.Correction.{Correction, in_step}
 use Rattle.tsb_preempt.specs.Preempts as preempts
 use Rattle.tsb_preempt.specs.Preempts.{Preempts}
 use Rattle.tsb_heads.specs.declared.monitor.Trip.{Trip}
@@ -30,8 +31,9 @@ pub record State : Type 0 where
   -- the plan in effect, and the desk at which stations change it
   pub plan : Plan
   pub desk : Desk
-  -- the pattern that the operator selected
+  -- the pattern that the operator selected, and how its local counter comes into step
   pub pattern : Option ℕ
+  pub correction : Correction
   -- of each vehicle detector, of each phase
   pub detectors : ℕ → Detector
   pub memories : Memories
@@ -49,6 +51,7 @@ start plan = record {
   plan = plan;
   desk = closed;
   pattern = coordination.at_power_up;
+  correction = in_step;
   detectors = λ d. detector.at_power_up;
   memories = calls.at_power_up;
   phases = λ p. phase.at_power_up;

@@ -120,7 +120,8 @@ abbrev pub part_of : State → Option ℕ → RingPart
 part_of s None = parts.RedRest
 part_of s (Some p) = part_in s p (interval s p)
 
--- from a place of the local counter until an instant, within the cycle
+-- from a place of the local counter until an instant, within the cycle: in its steps, each of which is a tick where it
+-- is in step
 abbrev pub until_instant : ℕ → ℕ → ℕ → ℕ
 until_instant length now instant = (instant + length - now) % length
 

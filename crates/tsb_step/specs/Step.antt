@@ -14,6 +14,7 @@ use Rattle.tsb_objects.specs.tsb_rules.Rules.{first_broken}
 use Rattle.tsb_phase.specs.Moves.{unforced}
 use Rattle.tsb_ring.specs.Rings as rings
 use Rattle.tsb_coord.specs.Coordinated as coordination
+use Rattle.tsb_coord.specs.Correction.{selected_correction}
 use Rattle.tsb_preempt.specs.Preempts as preempts
 use Rattle.tsb_transact.specs.Desk.{Desk, with_edits}
 use Rattle.tsb_transact.specs.Commit as commit
@@ -22,7 +23,7 @@ use Rattle.tsb_step.specs.declared.inputs.Input.{Input}
 use Rattle.tsb_step.specs.declared.inputs.Input.TheVariants.{Tick, Pattern, Switch, Fault, Reset, Begin, Set, Verify, Commit, Abort}
 use Rattle.tsb_step.specs.State.{State, interval, restarted}
 use Rattle.tsb_step.specs.Tick as tick
-use Rattle.tsb_step.specs.Signs.{commitment, unless_tripped}
+use Rattle.tsb_step.specs.Signs.{commitment, local, unless_tripped}
 use Rattle.tsb_step.specs.Tables.{place_refusal}
 
 -- ## What each input does
@@ -31,9 +32,13 @@ use Rattle.tsb_step.specs.Tables.{place_refusal}
 abbrev pub ticked : Row → State → State
 ticked row s = if is_some s.trip then record s { now = s.now + 1 } else unless_tripped s (tick.next s row)
 
--- a selected pattern takes every forced latch back
+-- a selected pattern takes every forced latch back; its local counter goes on from that of the old one, or is in step
 abbrev pub with_pattern : ℕ → State → State
-with_pattern n s = record s { pattern = coordination.selects n; phases = λ p. unforced (s.phases p) }
+with_pattern n s = record s {
+  pattern = coordination.selects n;
+  correction = selected_correction s.plan (coordination.selects n) s.now (local s);
+  phases = λ p. unforced (s.phases p);
+}
 
 -- the switch of preempt n is set; while it is on, so is the input of the preempt
 abbrev pub with_switch : ℕ → Bool → State → State

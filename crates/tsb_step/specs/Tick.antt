@@ -29,6 +29,7 @@ use Rattle.tsb_ring.specs.Rings.{Ring, number}
 use Rattle.tsb_ring.specs.Moves as ring_moves
 use Rattle.tsb_ring.specs.Next as rings_next
 use Rattle.tsb_coord.specs.Coordinated as coordination
+use Rattle.tsb_coord.specs.Correction as correction
 use Rattle.tsb_preempt.specs.Preempts as preempts
 use Rattle.tsb_preempt.specs.Service.{Service}
 use Rattle.tsb_step.specs.State.{State, interval, pedestrian_part}
@@ -80,16 +81,16 @@ hold s = coordination.asks_hold s.plan s.pattern
 -- the phase is forced off in this tick by the cycle: at its force-off instant, late, or as a coordinated phase in its
 -- permissive time. By floating force-off phase timing forces it off
 abbrev pub forced : State → ℕ → Bool
-forced s = coordination.asks_force_off s.plan (s.now + 1) s.pattern
+forced s = correction.forces s.plan s.pattern s.correction (s.now + 1)
 
 -- the phase may walk again within its green in this tick: it is a coordinated phase with pedestrian recycle that is not
--- forced off, and a walk and the pedestrian clearance end by its instant
+-- forced off, and a walk and the pedestrian clearance end by its instant; not while the local counter comes into step
 abbrev pub recycle : State → ℕ → Bool
-recycle s = coordination.asks_recycle s.plan (s.now + 1) s.pattern
+recycle s = correction.lets_walk_again s.plan s.pattern s.correction (s.now + 1)
 
 -- the local counter is at the phase's force-off instant in this tick
 abbrev pub at_force_off : State → ℕ → Bool
-at_force_off s = coordination.is_at_force_off s.plan (s.now + 1) s.pattern
+at_force_off s = correction.comes_to_force_off s.plan s.pattern s.correction (s.now + 1)
 
 -- its split mode in the pattern that runs omits it
 abbrev pub omitted : State → ℕ → Bool
@@ -232,6 +233,7 @@ next s row = record {
   plan = s.plan;
   desk = s.desk;
   pattern = s.pattern;
+  correction = s.correction;
   detectors = new_detectors s row;
   memories = settled.next s.plan (calls_given s row) (done s row) s.memories;
   phases = λ p. phase_next.next s.plan (phases_given s row) (moved s row) p (s.phases p);

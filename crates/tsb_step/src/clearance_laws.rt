@@ -1,6 +1,6 @@
 //! What moves have waited for, and what follows a green that ends, each law the contract of a function that does
 //! nothing.
-ghost use Rattle.tsb_step.specs.ClearanceLaws.{ClearedAreOver, CoordinatedClearAtZero, CoordinatedClearWithTheirSplits, EndedGreensHaveLasted, GreensClearInTime, StartedHaveReverted};
+ghost use Rattle.tsb_step.specs.ClearanceLaws.{ClearedAreOver, CoordinatedClearAtZero, CoordinatedClearWithTheirSplits, EndedGreensHaveLasted, GreensClearInTime, InStepAtOnce, StartedHaveReverted, StaysInStep};
 
 /// `ended`: A green that ends has lasted its least green and shows DontWalk. This holds at a crossing too, or where a
 /// preempt ends it; from any state, not only in runs.
@@ -38,12 +38,32 @@ pub fn greens_clear_in_time()
     ensures { GreensClearInTime }
 {}
 
+/// `at_once`: With `coordCorrectionMode` 0 the local counter is in step. This holds in whatever state, and with modes 2
+/// and 3 too where `coordCorrectionLimit` is 0.
+///
+/// Mistake: a counter that goes on from that of the old pattern in each mode, `ahead_in_each_mode`
+/// (`is_in_step_at_once`, `would_be_ahead`).
+/// Witness: `off_at_once` of CorrectionRuns.
+///
+/// `stays`: Once in step the local counter stays so, tick after tick. This holds from whatever state, and whatever
+/// detectors, buttons and preempts do.
+///
+/// Needs: only ticks come between. A selection or a commit can take the counter out of step.
+/// Not said: that it ever comes into step.
+/// Mistake: a counter that loses its ticks anew in each cycle, `lost_anew` (`stays_there`, `would_leave`).
+/// Witness: `has_come` of CorrectionRuns.
+pub fn local_counters_stay_in_step()
+    ensures at_once { InStepAtOnce }
+    ensures stays { StaysInStep }
+{}
+
 /// `zero`: A coordinated phase that is forced off has cleared at local zero, or within its permissive time of it. Where
 /// its green ends at its force-off instant, it is over in a tick after which the local counter is 0; where it ends in
 /// its permissive time, the local counter is then at most that time behind 0. Where the pattern leads and lags, this is
 /// of the phase that instants are counted from.
 ///
-/// Needs: what `greens_clear_in_time` needs: only ticks come between, and the controller does not trip.
+/// Needs: what `greens_clear_in_time` needs: only ticks come between, and the controller does not trip. The local
+/// counter is in step, as it always is with `coordCorrectionMode` 0.
 /// Not said: that the green ends at the instant. A force-off waits for the initial time, for pedestrians and for a
 /// conflict.
 /// Mistakes: those of the law `forced_phases_end_with_their_splits` of tsb_coord, such as `instant_from_own`.
@@ -52,7 +72,7 @@ pub fn greens_clear_in_time()
 /// `splits`: A coordinated phase that is forced off has cleared where its split ends, or within its permissive time of
 /// it. So it is with each coordinated phase, and where the pattern leads and lags too.
 ///
-/// Needs: what `greens_clear_in_time` needs.
+/// Needs: what `greens_clear_in_time` needs, and that the local counter is in step.
 /// Not said: that the green ends at the instant.
 /// Mistake: instants that are counted from the first coordinated phase in a pattern that leads and lags,
 /// `counted_from_it` of tsb_coord (`clears_elsewhere`).

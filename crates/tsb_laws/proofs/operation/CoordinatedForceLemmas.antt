@@ -13,7 +13,7 @@ use Rattle.tsb_step.specs.tsb_types.declared.row.Row.{Row}
 use Rattle.tsb_step.specs.tsb_types.Intervals.{is_green, is_dont_walk}
 use Rattle.tsb_step.specs.tsb_types.Sets.{is_phase}
 use Rattle.tsb_step.specs.tsb_plan.Plan.{Plan, walk, pedestrian_clear}
-use Rattle.tsb_step.specs.tsb_coord.Coordinated.{asks_force_off}
+use Rattle.tsb_step.specs.tsb_coord.Correction.{forces}
 use Rattle.tsb_step.specs.tsb_phase.Phase.{Phase, Given, held_of}
 use Rattle.tsb_step.specs.tsb_phase.Green.{initial, initial_has_passed, is_gapped, is_by_gap, has_maxed_out, floats_off, forced_latch}
 use Rattle.tsb_step.specs.tsb_phase.Pedestrian.{ended_by, pedestrian_now, walks_again, pedestrian_timer_in}
@@ -104,7 +104,7 @@ module _ (s : State) (row : Row) (p : ℕ) (on : is_phase p ≡ true) (pressed :
   latches running = let some = told_runs running in rw (some, told_service, told_conflict, told_forced) refl
 
 module _ (s : State) (row : Row) (p f : ℕ) (on : is_phase p ≡ true) (pressed : conflict s row p ≡ true) (running : is_some (runs s) ≡ true) (quiet : service s row ≡ None)
-    (comes : asks_force_off s.plan f s.pattern p ≡ true) where
+    (comes : forces s.plan s.pattern s.correction f p ≡ true) where
   ends_by_none : ended_by (phases_given s row) p ≡ None
   ends_by_none = ended_by_none s row p on pressed quiet
 
@@ -118,7 +118,7 @@ module _ (s : State) (row : Row) (p f : ℕ) (on : is_phase p ≡ true) (pressed
   latch_is = latches s row p on pressed quiet running
 
   forced_at : s.now + 1 ≡ f → forced s p ≡ true
-  forced_at e = ap (λ (t : ℕ). asks_force_off s.plan t s.pattern p) e ∙ comes
+  forced_at e = ap (λ (t : ℕ). forces s.plan s.pattern s.correction t p) e ∙ comes
 
   -- where it is forced off in this tick, and nothing else keeps it, it is ready
   pub ready_at_once : s.now + 1 ≡ f → interval s p ≡ Green → initial_has_passed s.plan (phases_given s row) p (held_of (phase_read s p)) ≡ true →

@@ -10,6 +10,7 @@ use Rattle.tsb_step.proofs.tsb_coord.LocalLemmas.{counter_moves_on}
 use Rattle.tsb_step.proofs.tsb_coord.WaitLemmas.{met_within, HasInstant, has_instant}
 use Rattle.tsb_step.specs.declared.inputs.Input.{Input}
 use Rattle.tsb_step.specs.State.{State}
+use Rattle.tsb_step.specs.Signs.{IsInStep}
 use Rattle.tsb_step.specs.Tick.{runs}
 use Rattle.tsb_step.specs.Runs.{replay, AreTaken}
 use Rattle.tsb_step.specs.Laws.{IsConsistent}
@@ -17,6 +18,7 @@ use Rattle.tsb_step.specs.Good.{IsGood, IsPatternNumber}
 use Rattle.tsb_step.proofs.GoodLemmas.{good_run}
 use Rattle.tsb_laws.specs.CoordinatedGreens.{ComesInCycle}
 use Rattle.tsb_laws.proofs.operation.CoordinatedCallLemmas.{IsRunning, running_is, runs_whole}
+use Rattle.tsb_laws.proofs.operation.InStepLemmas.{comes_as}
 
 -- each enabled phase has an instant in a pattern that runs, and it is below the cycle
 pub record HasOwnInstant (plan : Plan) (k p : ℕ) : Type 0 where
@@ -46,8 +48,8 @@ instant_now s k p good running on =
     let number : IsPatternNumber k = good.pattern k chosen.selected in
     own_instant s.plan good.plan.rules k p (runs_whole s k good running) number.from_one number.within chosen.used on
 
-comes_in : (s : State) (k p : ℕ) → IsGood s → runs s ≡ Some k → is_enabled s.plan p ≡ true → ComesInCycle s k p
-comes_in s k p good running on = go (met_within (cycle s.plan k) (counter s.plan k (s.now + 1)) own.instant (mod-lt _ some) own.below)
+comes_in : (s : State) (k p : ℕ) → IsGood s → runs s ≡ Some k → IsInStep s → is_enabled s.plan p ≡ true → ComesInCycle s k p
+comes_in s k p good running stepped on = go (met_within (cycle s.plan k) (counter s.plan k (s.now + 1)) own.instant (mod-lt _ some) own.below)
   where
     parts : IsWhole s.plan k
     parts = runs_whole s k good running
@@ -68,11 +70,12 @@ comes_in s k p good running on = go (met_within (cycle s.plan k) (counter s.plan
           tick = s.now + 1 + met.0;
           later = omega arith;
           soon = omega (arith, less);
-          at_instant = ap (λ (o : Option ℕ). agree (local_in s.plan (s.now + 1 + met.0) o) (force_off s.plan o p)) running
+          at_instant = comes_as s (s.now + 1 + met.0) p stepped (omega arith)
+              ∙ (ap (λ (o : Option ℕ). agree (local_in s.plan (s.now + 1 + met.0) o) (force_off s.plan o p)) running
               ∙ (ap (λ (o : Option ℕ). agree (Some (counter s.plan k (s.now + 1 + met.0))) o) own.is
-              ∙ (ap (λ (x : ℕ). x == own.instant) (counter_moves_on s.plan k (s.now + 1) met.0 below) ∙ met.1.1));
+              ∙ (ap (λ (x : ℕ). x == own.instant) (counter_moves_on s.plan k (s.now + 1) met.0 below) ∙ met.1.1)));
         }
 
 pub instants_come : (plan : Plan) (is : List Input) (k p : ℕ) → IsConsistent plan → AreTaken plan is → runs (replay plan is) ≡ Some k →
-    is_enabled (replay plan is).plan p ≡ true → ComesInCycle (replay plan is) k p
-instants_come plan is k p ok taken running on = comes_in (replay plan is) k p (good_run plan is ok taken) running on
+    IsInStep (replay plan is) → is_enabled (replay plan is).plan p ≡ true → ComesInCycle (replay plan is) k p
+instants_come plan is k p ok taken running stepped on = comes_in (replay plan is) k p (good_run plan is ok taken) running stepped on

@@ -12,7 +12,7 @@ use Rattle.tsb_step.specs.tsb_types.declared.row.Row.{Row}
 use Rattle.tsb_step.specs.tsb_types.Intervals.{is_green, in_service}
 use Rattle.tsb_step.specs.tsb_types.Sets.{is_phase}
 use Rattle.tsb_step.specs.tsb_plan.Plan.{Plan, walk, pedestrian_clear}
-use Rattle.tsb_step.specs.tsb_coord.Coordinated.{asks_force_off}
+use Rattle.tsb_step.specs.tsb_coord.Correction.{forces}
 use Rattle.tsb_step.specs.tsb_phase.Phase.{Phase}
 use Rattle.tsb_step.specs.tsb_ring.Moves.{is_ended, is_started}
 use Rattle.tsb_step.specs.declared.inputs.Input.{Input}
@@ -36,9 +36,10 @@ use Rattle.tsb_laws.proofs.safety.StretchLemmas.{dark_now, at_next}
 use Rattle.tsb_laws.proofs.safety.DueLemmas.{count_run}
 use Rattle.tsb_laws.proofs.operation.PhaseTimeLemmas.{left, walking_in}
 use Rattle.tsb_laws.proofs.operation.PressedRunLemmas.{timed_run, is_one, not_ended, green_is}
+use Rattle.tsb_laws.proofs.operation.InStepLemmas.{same_forces}
 use Rattle.tsb_laws.proofs.operation.CoordinatedForceLemmas.{forcing_left, pattern_left, IsAhead, Forces, forces_down, presses_down, ready_then}
 
--- ## Inputs that leave plan and pattern
+-- ## Inputs that leave plan and pattern, and how its local counter comes into step
 
 pub pattern_stays : (s : State) (row : Row) → (step s (Tick row)).pattern ≡ s.pattern
 unfolding step watched
@@ -48,10 +49,19 @@ pattern_stays s row = go (is_some s.trip)
     go true = refl
     go false = refl
 
+pub correction_stays : (s : State) (row : Row) → (step s (Tick row)).correction ≡ s.correction
+unfolding step watched
+correction_stays s row = go (is_some s.trip)
+  where
+    go : (b : Bool) → (if b then record s { now = s.now + 1 } else (if b then next s row else watched s (next s row))).correction ≡ s.correction
+    go true = refl
+    go false = refl
+
 -- an input that is no tick, and neither selects a pattern nor commits
 pub record Leaves (s after : State) (p : ℕ) : Type 0 where
   pub plan : after.plan ≡ s.plan
   pub pattern : after.pattern ≡ s.pattern
+  pub correction : after.correction ≡ s.correction
   pub now : after.now ≡ s.now
   pub phase : after.phases p ≡ s.phases p
 
@@ -60,15 +70,15 @@ unfolding watched
 lit_leaves s lamp p = go (is_some s.trip)
   where
     go : (b : Bool) → Leaves s (if b then record s { lamp = lamp } else watched s (record s { lamp = lamp })) p
-    go true = record { plan = refl; pattern = refl; now = refl; phase = refl }
-    go false = record { plan = refl; pattern = refl; now = refl; phase = refl }
+    go true = record { plan = refl; pattern = refl; correction = refl; now = refl; phase = refl }
+    go false = record { plan = refl; pattern = refl; correction = refl; now = refl; phase = refl }
 
 reset_leaves : (s : State) (p : ℕ) → s.trip ≡ None → Leaves s (reset s) p
 reset_leaves s p dark = go (is_some s.trip) (ap is_some dark)
   where
     go : (b : Bool) → b ≡ false → Leaves s (if b then restarted s else s) p
     go true h = absurd (true≢false h)
-    go false h = record { plan = refl; pattern = refl; now = refl; phase = refl }
+    go false h = record { plan = refl; pattern = refl; correction = refl; now = refl; phase = refl }
 
 pub leaves : (s : State) (i : Input) (p : ℕ) → is_tick i ≡ false → is_pressed_in_pattern p s i ≡ true → s.trip ≡ None → Leaves s (step s i) p
 unfolding step
@@ -77,7 +87,7 @@ leaves s (inputs.Pattern n) p t h dark = absurd (false≢true h)
 leaves s (inputs.Commit station) p t h dark = absurd (false≢true h)
 leaves s (inputs.Fault lamp) p t h dark = lit_leaves s lamp p
 leaves s inputs.Reset p t h dark = reset_leaves s p dark
-leaves s i p t h dark = record { plan = refl; pattern = refl; now = refl; phase = refl }
+leaves s i p t h dark = record { plan = refl; pattern = refl; correction = refl; now = refl; phase = refl }
 
 -- ## Along a stretch
 
@@ -108,29 +118,31 @@ walking_most a b t Walk = let most = left_most a t in omega (arith, most)
 walking_most a b t PedestrianClear = let most = left_most b t in omega (arith, most)
 
 module _ (plan : Plan) (base : List Input) (f p n a b : ℕ) (ok : IsConsistent plan) (few : plan.phase_count ≤ 16)
-    (comes : asks_force_off (replay plan base).plan f (replay plan base).pattern p ≡ true) (later_than : (replay plan base).now < f)
+    (comes : forces (replay plan base).plan (replay plan base).pattern (replay plan base).correction f p ≡ true) (later_than : (replay plan base).now < f)
     (soon : f ≤ (replay plan base).now + n + 1) (both : a + b ≤ n) (walk_is : walk (replay plan base).plan p ≡ a)
     (clear_is : pedestrian_clear (replay plan base).plan p ≡ b) where
   abbrev left_after : List Input → ℕ
   left_after is = pattern_left f ((replay plan is).now + 1) n a b ((replay plan is).phases p)
 
-  -- plan and pattern are those of the base
+  -- plan, pattern and correction are those of the base
   record Same (is : List Input) : Type 0 where
     plan_is : (replay plan is).plan ≡ (replay plan base).plan
     pattern_is : (replay plan is).pattern ≡ (replay plan base).pattern
+    correction_is : (replay plan is).correction ≡ (replay plan base).correction
 
   same_still : (is : List Input) (i : Input) → Same is → (replay plan (i ∷ is)).plan ≡ (replay plan is).plan →
-      (replay plan (i ∷ is)).pattern ≡ (replay plan is).pattern → Same (i ∷ is)
-  same_still is i before e g = record { plan_is = e ∙ before.plan_is; pattern_is = g ∙ before.pattern_is }
+      (replay plan (i ∷ is)).pattern ≡ (replay plan is).pattern → (replay plan (i ∷ is)).correction ≡ (replay plan is).correction → Same (i ∷ is)
+  same_still is i before e g h = record { plan_is = e ∙ before.plan_is; pattern_is = g ∙ before.pattern_is; correction_is = h ∙ before.correction_is }
 
   same_now : (later : List Input) → IsUntripped plan base later → HasGoneOn (is_pressed_in_pattern p) plan base later → Same (later ++ base)
-  same_now [] dark pressed = record { plan_is = refl; pattern_is = refl }
+  same_now [] dark pressed = record { plan_is = refl; pattern_is = refl; correction_is = refl }
   same_now (inputs.Tick row ∷ later) dark pressed =
       same_still (later ++ base) (Tick row) (same_now later dark.0 pressed.0) (plan_stays (replay plan (later ++ base)) row) (pattern_stays (replay plan (later ++ base)) row)
+      (correction_stays (replay plan (later ++ base)) row)
   same_now (i ∷ later) dark pressed =
       let it : Leaves (replay plan (later ++ base)) (replay plan (i ∷ (later ++ base))) p =
       leaves (replay plan (later ++ base)) i p refl pressed.1 (dark_now plan base later dark.0) in
-      same_still (later ++ base) i (same_now later dark.0 pressed.0) it.plan it.pattern
+      same_still (later ++ base) i (same_now later dark.0 pressed.0) it.plan it.pattern it.correction
 
   few_now : (is : List Input) → (replay plan is).plan.phase_count ≤ 16
   few_now is = let same = count_run plan is in omega (arith, same, few)
@@ -139,7 +151,7 @@ module _ (plan : Plan) (base : List Input) (f p n a b : ℕ) (ok : IsConsistent 
   record Knows (is : List Input) : Type 0 where
     good : IsGood (replay plan is)
     on : is_phase p ≡ true
-    comes_now : asks_force_off (replay plan is).plan f (replay plan is).pattern p ≡ true
+    comes_now : forces (replay plan is).plan (replay plan is).pattern (replay plan is).correction f p ≡ true
     walk_now : walk (replay plan is).plan p ≡ a
     clear_now : pedestrian_clear (replay plan is).plan p ≡ b
 
@@ -147,8 +159,8 @@ module _ (plan : Plan) (base : List Input) (f p n a b : ℕ) (ok : IsConsistent 
   knows is taken same green = record {
     good = good;
     on = is_one (replay plan is).plan p (few_now is) (good.rings.listed p (ap in_service green));
-    comes_now = ap (λ (x : Plan). asks_force_off x f (replay plan is).pattern p) same.plan_is
-        ∙ (ap (λ (o : Option ℕ). asks_force_off (replay plan base).plan f o p) same.pattern_is ∙ comes);
+    comes_now = same_forces (replay plan is).plan (replay plan base).plan (replay plan is).pattern (replay plan base).pattern (replay plan is).correction
+        (replay plan base).correction f p same.plan_is same.pattern_is same.correction_is ∙ comes;
     walk_now = ap (λ (x : Plan). walk x p) same.plan_is ∙ walk_is;
     clear_now = ap (λ (x : Plan). pedestrian_clear x p) same.plan_is ∙ clear_is;
   }

@@ -14,5 +14,6 @@ pub mod CoordinatedRuns
 pub mod CalledStartRuns
 pub mod OptionMistakes
 pub mod LateGreenRuns
+pub mod InStepRuns
 pub mod PatternEndRuns
 pub mod RecycledWalkRuns

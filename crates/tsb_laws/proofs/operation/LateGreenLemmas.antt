@@ -4,13 +4,15 @@ use Rattle.std.proofs.lemmas.Bool.{or_left, or_right}
 use Rattle.tsb_step.specs.tsb_types.declared.row.Row.{Row}
 use Rattle.tsb_step.specs.tsb_types.Intervals.{in_service}
 use Rattle.tsb_step.specs.tsb_types.Sets.{is_phase}
+use Rattle.tsb_step.specs.tsb_plan.Parts.{cycle}
 use Rattle.tsb_step.specs.tsb_plan.Plan.{Plan, walk, pedestrian_clear}
 use Rattle.tsb_step.specs.tsb_plan.Running.{is_coordinated_now}
-use Rattle.tsb_step.specs.tsb_coord.Coordinated.{counter, local_in, force_off, agree, late_end, is_forced_late, is_permitted, forces_off, asks_force_off}
+use Rattle.tsb_step.specs.tsb_coord.Coordinated.{counter, local_in, force_off, agree, late_end, is_from_to, counted_on, is_forced_late, is_permitted, forces_off, asks_force_off}
+use Rattle.tsb_step.specs.tsb_coord.Correction.{clock}
 use Rattle.tsb_step.specs.declared.inputs.Input.{Input}
 use Rattle.tsb_step.specs.declared.inputs.Input.TheVariants.{Tick}
 use Rattle.tsb_step.specs.State.{State}
-use Rattle.tsb_step.specs.Tick.{ready}
+use Rattle.tsb_step.specs.Tick.{forced, ready}
 use Rattle.tsb_step.specs.Runs.{replay, AreTaken}
 use Rattle.tsb_step.specs.Laws.{IsConsistent}
 use Rattle.tsb_step.specs.Good.{IsGood}
@@ -21,6 +23,7 @@ use Rattle.tsb_laws.specs.CoordinatedGreens.{HasGoneOn, is_pressed_in_pattern}
 use Rattle.tsb_laws.specs.LateGreens.{IsInLateSpan, IsLateGreen}
 use Rattle.tsb_laws.proofs.safety.DueLemmas.{count_run}
 use Rattle.tsb_laws.proofs.operation.PressedRunLemmas.{is_one}
+use Rattle.tsb_laws.proofs.operation.InStepLemmas.{forced_by_clock}
 use Rattle.tsb_laws.proofs.operation.CoordinatedForceLemmas.{ready_at_once}
 use Rattle.tsb_laws.proofs.operation.CoordinatedRunLemmas.{forced_may_end}
 
@@ -30,15 +33,21 @@ ends_late s p it =
     let other : is_coordinated_now s.plan (Some it.number) p ≡ false = rw it.runs at it.other in
     rw (it.late, other, it.yields) it.until
 
--- it is forced off in the next tick
-forced_late : (s : State) (p : ℕ) → IsInLateSpan s p → asks_force_off s.plan (s.now + 1) s.pattern p ≡ true
-forced_late s p it =
-    let late : is_forced_late s.plan (Some it.number) (Some (counter s.plan it.number (s.now + 1))) p ≡ true = rw (it.own, ends_late s p it) it.within in
-    ap (λ (o : Option ℕ). forces_off s.plan o (local_in s.plan (s.now + 1) o) p) it.runs
-    ∙ or_right (agree (Some (counter s.plan it.number (s.now + 1))) (force_off s.plan (Some it.number) p))
-    (is_forced_late s.plan (Some it.number) (Some (counter s.plan it.number (s.now + 1))) p || is_permitted s.plan (Some it.number) (Some (counter s.plan it.number (s.now + 1))) p)
-    (or_left (is_forced_late s.plan (Some it.number) (Some (counter s.plan it.number (s.now + 1))) p)
-    (is_permitted s.plan (Some it.number) (Some (counter s.plan it.number (s.now + 1))) p) late)
+-- it is forced off where the local counter is in this span
+late_by : (s : State) (p : ℕ) (it : IsInLateSpan s p) (t : ℕ) →
+    is_from_to (cycle s.plan it.number) (counter s.plan it.number t) it.instant (counted_on (cycle s.plan it.number) it.instant it.limit) ≡ true →
+    asks_force_off s.plan t s.pattern p ≡ true
+late_by s p it t within =
+    let late : is_forced_late s.plan (Some it.number) (Some (counter s.plan it.number t)) p ≡ true = rw (it.own, ends_late s p it) within in
+    ap (λ (o : Option ℕ). forces_off s.plan o (local_in s.plan t o) p) it.runs
+    ∙ or_right (agree (Some (counter s.plan it.number t)) (force_off s.plan (Some it.number) p))
+    (is_forced_late s.plan (Some it.number) (Some (counter s.plan it.number t)) p || is_permitted s.plan (Some it.number) (Some (counter s.plan it.number t)) p)
+    (or_left (is_forced_late s.plan (Some it.number) (Some (counter s.plan it.number t)) p)
+    (is_permitted s.plan (Some it.number) (Some (counter s.plan it.number t)) p) late)
+
+-- so it is in the next tick
+forced_late : (s : State) (p : ℕ) → IsInLateSpan s p → forced s p ≡ true
+forced_late s p it = forced_by_clock s.plan s.pattern s.correction (s.now + 1) p (late_by s p it (clock s.plan s.pattern s.correction (s.now + 1)) it.within)
 
 pub late_is_ready : (plan : Plan) (is : List Input) (row : Row) (p : ℕ) → IsConsistent plan → plan.phase_count ≤ 16 →
     AreTaken plan is → IsLateGreen (replay plan is) row p → ready (replay plan is) row p ≡ true

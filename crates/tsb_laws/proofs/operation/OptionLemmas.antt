@@ -1,5 +1,5 @@
 -- Where the options of coordination are 0, each definition that reads one is the definition without it.
-use Rattle.std.proofs.Common.{◌≡◌, ℕ, suc, zero, ◌+◌, ◌*◌, ◌<◌, ◌==◌, nat_lt, Bool, true, false, not, ◌&&◌, ◌||◌, if◌then◌else◌, List, [], ◌∷◌, Option, Some, None, is_some, is_none, refl, arith, sym, ap, ◌∙◌}
+use Rattle.std.proofs.Common.{◌≡◌, ℕ, suc, zero, ◌+◌, ◌-◌, ◌*◌, ◌%◌, ◌<◌, ◌==◌, nat_lt, Bool, true, false, not, ◌&&◌, ◌||◌, if◌then◌else◌, List, [], ◌∷◌, Option, Some, None, is_some, is_none, refl, arith, sym, ap, ◌∙◌}
 use Rattle.std.specs.List.{list_all}
 use Rattle.std.proofs.lemmas.Bool.{and_parts, true≢false}
 use Rattle.std.proofs.lemmas.Bool.Decides.{nat_tests}
@@ -7,13 +7,16 @@ use Rattle.tsb_step.specs.tsb_types.Lists.{first, or_else, run_from}
 use Rattle.tsb_step.specs.tsb_cells.Timer.{has_reached}
 use Rattle.tsb_step.specs.tsb_plan.declared.object.Object.TheVariants.{PatternCycleTime}
 use Rattle.tsb_step.specs.tsb_plan.Plan.{Plan, phases, is_enabled, ring_of, recycles_walk}
-use Rattle.tsb_step.specs.tsb_plan.Parts.{floats, is_used, cycle, permissive_time, leads_and_lags, is_coordinated}
-use Rattle.tsb_step.specs.tsb_plan.Running.{is_coordinated_now, split_in_effect, split_green, floating_in, floating_time, maximum_by_mode, pattern_maximum}
+use Rattle.tsb_step.specs.tsb_plan.declared.plan.patterns.CorrectionMode.{CorrectionMode}
+use Rattle.tsb_step.specs.tsb_plan.declared.plan.patterns.CorrectionMode.TheVariants.{AtOnce}
+use Rattle.tsb_step.specs.tsb_plan.Parts.{floats, is_used, cycle, correction_mode, permissive_time, leads_and_lags, is_coordinated}
+use Rattle.tsb_step.specs.tsb_plan.Running.{running, is_coordinated_now, split_in_effect, split_green, floating_in, floating_time, maximum_by_mode, pattern_maximum}
 use Rattle.tsb_step.specs.tsb_rules.Consistent.{IsWhole}
 use Rattle.tsb_step.specs.tsb_rules.PatternRules.{permissive_times_end}
 use Rattle.tsb_step.specs.tsb_rules.Rules.{first_broken}
 use Rattle.tsb_step.specs.tsb_objects.Instants.{is_coordinated_in, coordinated_in_ring, first_coordinated, recycles}
-use Rattle.tsb_step.specs.tsb_coord.Coordinated.{reference, instant_by, force_off, is_same_from_both, is_pattern}
+use Rattle.tsb_step.specs.tsb_coord.Coordinated.{residue_of_difference, counter, reference, instant_by, force_off, is_same_from_both, is_pattern}
+use Rattle.tsb_step.specs.tsb_coord.Correction.{Correction, in_step, ahead_by, within_cycle, ahead_in, is_in_step, ahead_with, begun, selected_correction}
 use Rattle.tsb_step.proofs.tsb_coord.LocalLemmas.{IsFirst, first_passes, its_parts, ends_agree, IsReference, reference_is}
 use Rattle.tsb_step.specs.tsb_phase.Phase.{Given, GreenHeld}
 use Rattle.tsb_step.specs.tsb_phase.Green.{conflict_timer, has_reached_some, acting_maximum, has_maxed_out, forced_latch}
@@ -58,6 +61,22 @@ freely_alone plan given p held running none = go given.runs
 pub never_recycles : (plan : Plan) (runs local : Option ℕ) (p : ℕ) → recycles_walk plan p ≡ false → recycles plan runs local p ≡ false
 never_recycles plan None local p off = refl
 never_recycles plan (Some n) local p off = rw off refl
+
+-- ## The local counter comes into step at once
+
+pub none_ahead_at_once : (plan : Plan) (runs : Option ℕ) (c : Correction) (t : ℕ) → correction_mode plan ≡ AtOnce → ahead_in plan runs c t ≡ 0
+none_ahead_at_once plan None c t mode = refl
+none_ahead_at_once plan (Some n) c t mode = ap (λ (m : CorrectionMode). ahead_by m plan n (within_cycle plan n c) (t - c.since)) mode
+
+pub in_step_at_once : (plan : Plan) (selected : Option ℕ) (c : Correction) (t : ℕ) → correction_mode plan ≡ AtOnce → is_in_step plan selected c t ≡ true
+in_step_at_once plan selected c t mode = ap (λ (ahead : ℕ). ahead == 0) (none_ahead_at_once plan (running plan selected) c t mode)
+
+pub begins_at_once : (plan : Plan) (selected : Option ℕ) (now : ℕ) (l : Option ℕ) → correction_mode plan ≡ AtOnce →
+    selected_correction plan selected now l ≡ in_step
+begins_at_once plan None now l mode = refl
+begins_at_once plan (Some n) now None mode = refl
+begins_at_once plan (Some n) now (Some x) mode =
+    ap (λ (m : CorrectionMode). begun now (ahead_with m (residue_of_difference (cycle plan n) (x % cycle plan n) (counter plan n now)))) mode
 
 -- ## Rules K20 and K23
 

@@ -8,8 +8,7 @@ use Rattle.tsb_step.specs.tsb_types.Intervals.{in_service}
 use Rattle.tsb_step.specs.tsb_types.Sets.{is_phase}
 use Rattle.tsb_step.specs.tsb_plan.Parts.{cycle}
 use Rattle.tsb_step.specs.tsb_plan.Plan.{walk, pedestrian_clear}
-use Rattle.tsb_step.specs.tsb_coord.Coordinated.{asks_force_off}
-use Rattle.tsb_step.proofs.tsb_coord.LocalLemmas.{at_instant_asks}
+use Rattle.tsb_step.specs.tsb_coord.Correction.{forces}
 use Rattle.tsb_step.specs.tsb_ring.Moves.{is_ended, is_started}
 use Rattle.tsb_step.specs.State.{State, interval}
 use Rattle.tsb_step.specs.Tick.{service, runs, conflict, ready, moves, next}
@@ -18,6 +17,7 @@ use Rattle.tsb_laws.specs.ServedCalls.{longest_initial}
 use Rattle.tsb_laws.specs.CoordinatedGreens.{ComesInCycle, longest_in_pattern}
 use Rattle.tsb_laws.proofs.operation.PhaseTimeLemmas.{left, IsTimed}
 use Rattle.tsb_laws.proofs.operation.PressedRunLemmas.{is_one}
+use Rattle.tsb_laws.proofs.operation.InStepLemmas.{coming_forces}
 use Rattle.tsb_laws.proofs.operation.CoordinatedForceLemmas.{forcing_left, pattern_left, IsAhead, Forces, forces_down, presses_down, ready_then}
 use Rattle.tsb_laws.proofs.operation.CoordinatedRunLemmas.{left_most, walking_most}
 use Rattle.tsb_laws.proofs.operation.RingPlaceLemmas.{View, view}
@@ -26,7 +26,7 @@ use Rattle.tsb_laws.proofs.operation.RingStepLemmas.{BoundsGreens}
 -- it is forced off in a tick, or has been in this green, and then n ticks are left at most
 pub record LastsInPattern (v : View) (p n : ℕ) : Type 0 where
   pub tick : ℕ
-  pub forced : asks_force_off v.plan tick v.pattern p ≡ true
+  pub forced : forces v.plan v.pattern v.correction tick p ≡ true
   pub ahead : IsAhead tick (v.now + 1) (v.phases p).forced
   pub most : pattern_left tick (v.now + 1) (longest_initial v.plan p) (walk v.plan p) (pedestrian_clear v.plan p) (v.phases p) ≤ n
 
@@ -35,7 +35,7 @@ pub lasts_now : (s : State) (k p : ℕ) → ComesInCycle s k p → LastsInPatter
 unfolding longest_in_pattern
 lasts_now s k p it = record {
   tick = it.tick;
-  forced = at_instant_asks s.plan it.tick s.pattern p it.at_instant;
+  forced = coming_forces s.plan s.pattern s.correction it.tick p it.at_instant;
   ahead = ahead (s.phases p).forced;
   most = (let first = forcing (s.phases p).forced in
       let second : left (longest_initial s.plan p) (s.phases p).timer ≤ longest_initial s.plan p = left_most (longest_initial s.plan p) (s.phases p).timer in

@@ -15,6 +15,7 @@ use Rattle.tsb_step.specs.tsb_types.Sets.{is_phase}
 use Rattle.tsb_step.specs.tsb_plan.Plan.{Plan, walk, pedestrian_clear, recycles_walk}
 use Rattle.tsb_step.specs.tsb_plan.Running.{is_coordinated_now}
 use Rattle.tsb_step.specs.tsb_coord.Coordinated.{local_in, asks_hold, recycles}
+use Rattle.tsb_step.specs.tsb_coord.Correction.{is_in_step}
 use Rattle.tsb_step.specs.tsb_phase.Phase.{Phase, held_of}
 use Rattle.tsb_step.specs.tsb_phase.Green.{initial, initial_has_passed}
 use Rattle.tsb_step.specs.tsb_phase.Pedestrian.{pedestrian_now}
@@ -72,8 +73,12 @@ held_as plan base later p same =
 
 -- no other phase has pedestrian recycle
 others_not : (s : State) (p : ℕ) → hold s p ≡ false → recycle s p ≡ false
-others_not s p other = go (runs s) other
+others_not s p other = ap (λ (b : Bool). is_in_step s.plan s.pattern s.correction (s.now + 1 - 1) && b) (go (runs s) other) ∙ never_both (is_in_step s.plan s.pattern s.correction (s.now + 1 - 1))
   where
+    never_both : (b : Bool) → (b && false) ≡ false
+    never_both true = refl
+    never_both false = refl
+
     go : (o : Option ℕ) → is_coordinated_now s.plan o p ≡ false → recycles s.plan o (local_in s.plan (s.now + 1) o) p ≡ false
     go None h = refl
     go (Some n) h = rw h (never (recycles_walk s.plan p) _)

@@ -9,14 +9,17 @@ use Rattle.tsb_step.specs.tsb_plan.Plan.{Plan, is_enabled, walk, pedestrian_clea
 use Rattle.tsb_step.specs.tsb_plan.Running.{running, is_coordinated_now}
 use Rattle.tsb_step.specs.tsb_rules.Consistent.{IsWhole}
 use Rattle.tsb_step.specs.tsb_coord.Coordinated.{residue_of_difference, counter, local_in, force_off, agree, is_from_to, late_end, is_late, is_permitted, forces_off, asks_force_off, walk_and_clearance, may_recycle, is_left, recycles, asks_recycle}
+use Rattle.tsb_step.specs.tsb_coord.Correction.{forces}
 use Rattle.tsb_step.proofs.tsb_objects.InstantLemmas.{instants-below, coordinated-has-no-end}
 use Rattle.tsb_step.proofs.tsb_coord.LocalLemmas.{counter_moves_on}
 use Rattle.tsb_step.specs.State.{State}
+use Rattle.tsb_step.specs.Signs.{IsInStep}
 use Rattle.tsb_step.specs.Tick.{runs, hold, forced, recycle}
 use Rattle.tsb_step.specs.Good.{IsGood}
 use Rattle.tsb_laws.specs.RecycledWalks.{FitsBeforeForceOff}
 use Rattle.tsb_laws.proofs.operation.CoordinatedCallLemmas.{IsRunning, running_is, runs_whole, held_runs}
 use Rattle.tsb_laws.proofs.operation.CoordinatedInstantLemmas.{HasOwnInstant, instant_now}
+use Rattle.tsb_laws.proofs.operation.InStepLemmas.{forces_as, LetsWalk, lets_walk, walk_let}
 
 -- ## On the local counter
 
@@ -36,7 +39,7 @@ to_instant m l i here low =
     ]
 
 -- after so many ticks the local counter is there
-reaches : (m l i : ℕ) → l < m → i < m → (l + residue_of_difference m i l) % m ≡ i
+pub reaches : (m l i : ℕ) → l < m → i < m → (l + residue_of_difference m i l) % m ≡ i
 reaches m l i here low =
     elim (to_instant m l i here low) [
       | inl it ↦
@@ -134,6 +137,10 @@ recycles_so plan n t p h = go (force_off plan (Some n) p) refl inner.1
       fits = k;
     }
 
+-- by the cycle and the offset it is forced off in none of the ticks of its walk and its clearance
+abbrev AsksNoForceOff : State → ℕ → Type 0
+AsksNoForceOff s p = (t : ℕ) → s.now < t → t ≤ s.now + (walk s.plan p + pedestrian_clear s.plan p) → asks_force_off s.plan t s.pattern p ≡ false
+
 module _ (s : State) (good : IsGood s) (n p : ℕ) (runs_now : runs s ≡ Some n) where
   parts : IsWhole s.plan n
   parts = runs_whole s n good runs_now
@@ -147,7 +154,7 @@ module _ (s : State) (good : IsGood s) (n p : ℕ) (runs_now : runs s ≡ Some n
   asks_as : (t : ℕ) → asks_force_off s.plan t s.pattern p ≡ forces_off s.plan (Some n) (Some (counter s.plan n t)) p
   asks_as t = ap (λ (o : Option ℕ). forces_off s.plan o (local_in s.plan t o) p) runs_now
 
-  recycles_as : recycle s p ≡ recycles s.plan (Some n) (Some (counter s.plan n (s.now + 1))) p
+  recycles_as : asks_recycle s.plan (s.now + 1) s.pattern p ≡ recycles s.plan (Some n) (Some (counter s.plan n (s.now + 1))) p
   recycles_as = ap (λ (o : Option ℕ). recycles s.plan o (local_in s.plan (s.now + 1) o) p) runs_now
 
   instant_below : (i : ℕ) → force_off s.plan (Some n) p ≡ Some i → i < cycle s.plan n
@@ -157,7 +164,7 @@ module _ (s : State) (good : IsGood s) (n p : ℕ) (runs_now : runs s ≡ Some n
       chosen = running_is s.plan s.pattern n runs_now
 
   -- what may walk again in the next tick is not forced off before its walk and its clearance end
-  fits_later : recycle s p ≡ true → (d : ℕ) → asks_force_off s.plan (s.now + 1 + d) s.pattern p ≡ true → walk_and_clearance s.plan p ≤ d
+  fits_later : asks_recycle s.plan (s.now + 1) s.pattern p ≡ true → (d : ℕ) → asks_force_off s.plan (s.now + 1 + d) s.pattern p ≡ true → walk_and_clearance s.plan p ≤ d
   fits_later h d comes =
       let it : Recycles s.plan n (s.now + 1) p = recycles_so s.plan n (s.now + 1) p (sym recycles_as ∙ h) in
       let at : counter s.plan n (s.now + 1 + d) ≡ (counter s.plan n (s.now + 1) + d) % cycle s.plan n = counter_moves_on s.plan n (s.now + 1) d below in
@@ -174,7 +181,7 @@ module _ (s : State) (good : IsGood s) (n p : ℕ) (runs_now : runs s ≡ Some n
 
   -- and the other way round, of a coordinated phase with pedestrian recycle
   recycles_then : (i : ℕ) → force_off s.plan (Some n) p ≡ Some i → recycles_walk s.plan p ≡ true → is_coordinated_now s.plan (Some n) p ≡ true →
-      1 ≤ walk_and_clearance s.plan p → FitsBeforeForceOff s p → recycle s p ≡ true
+      1 ≤ walk_and_clearance s.plan p → AsksNoForceOff s p → asks_recycle s.plan (s.now + 1) s.pattern p ≡ true
   recycles_then i own may one least fits =
       recycles_as ∙ and_from (may_recycle s.plan (Some n) p) (not (forces_off s.plan (Some n) (Some here) p)
       && is_left (cycle s.plan n) (walk_and_clearance s.plan p) (Some here) (force_off s.plan (Some n) p))
@@ -209,8 +216,11 @@ module _ (s : State) (good : IsGood s) (n p : ℕ) (runs_now : runs s ≡ Some n
 
 -- what may walk again in a tick is not forced off in it
 pub unforced_now : (s : State) (p : ℕ) → recycle s p ≡ true → forced s p ≡ false
-unforced_now s p h = go (runs s) h
+unforced_now s p h = forces_as s (s.now + 1) p it.in_step (omega arith) ∙ go (runs s) it.asks
   where
+    it : LetsWalk s p
+    it = lets_walk s p h
+
     go : (o : Option ℕ) → recycles s.plan o (local_in s.plan (s.now + 1) o) p ≡ true → forces_off s.plan o (local_in s.plan (s.now + 1) o) p ≡ false
     go None k = absurd (false≢true k)
     go (Some n) k =
@@ -221,26 +231,36 @@ unforced_now s p h = go (runs s) h
         (is_left (cycle s.plan n) (walk_and_clearance s.plan p) (Some (counter s.plan n (s.now + 1))) (force_off s.plan (Some n) p)) outer.1).0
 
 -- the walk and the clearance of what may walk again in the next tick end by each tick in which it is forced off
-pub fits_to : (s : State) (p f : ℕ) → IsGood s → recycle s p ≡ true → s.now < f → asks_force_off s.plan f s.pattern p ≡ true →
+pub fits_to : (s : State) (p f : ℕ) → IsGood s → recycle s p ≡ true → s.now < f → forces s.plan s.pattern s.correction f p ≡ true →
     walk s.plan p + pedestrian_clear s.plan p ≤ f - (s.now + 1)
-fits_to s p f good h after comes = go (runs s) refl h
+fits_to s p f good h after comes = go (runs s) refl it.asks
   where
+    it : LetsWalk s p
+    it = lets_walk s p h
+
+    asked : asks_force_off s.plan f s.pattern p ≡ true
+    asked = sym (forces_as s f p it.in_step after) ∙ comes
+
     go : (o : Option ℕ) → runs s ≡ o → recycles s.plan o (local_in s.plan (s.now + 1) o) p ≡ true → walk s.plan p + pedestrian_clear s.plan p ≤ f - (s.now + 1)
     go None e k = absurd (false≢true k)
     go (Some n) e k =
         let then : s.now + 1 + (f - (s.now + 1)) ≡ f = omega (arith, after) in
-        fits_later s good n p e h (f - (s.now + 1)) (ap (λ (t : ℕ). asks_force_off s.plan t s.pattern p) then ∙ comes)
+        fits_later s good n p e it.asks (f - (s.now + 1)) (ap (λ (t : ℕ). asks_force_off s.plan t s.pattern p) then ∙ asked)
 
--- what may walk again is a coordinated phase with pedestrian recycle, and in none of the ticks of its walk and its
--- clearance is it forced off
+-- what may walk again is a coordinated phase with pedestrian recycle, the local counter is in step, and in none of the
+-- ticks of its walk and its clearance is it forced off
 pub record IsRecycled (s : State) (p : ℕ) : Type 0 where
   pub recycles : recycles_walk s.plan p ≡ true
   pub coordinated : hold s p ≡ true
+  pub in_step : IsInStep s
   pub fits : FitsBeforeForceOff s p
 
 pub recycled_so : (s : State) (p : ℕ) → IsGood s → recycle s p ≡ true → IsRecycled s p
-recycled_so s p good h = go (runs s) refl h
+recycled_so s p good h = go (runs s) refl lets.asks
   where
+    lets : LetsWalk s p
+    lets = lets_walk s p h
+
     go : (o : Option ℕ) → runs s ≡ o → recycles s.plan o (local_in s.plan (s.now + 1) o) p ≡ true → IsRecycled s p
     go None e k = absurd (false≢true k)
     go (Some n) e k =
@@ -248,11 +268,12 @@ recycled_so s p good h = go (runs s) refl h
         record {
           recycles = it.recycles;
           coordinated = ap (λ (o : Option ℕ). is_coordinated_now s.plan o p) e ∙ it.coordinated;
-          fits = λ t after soon. unforced t after soon (asks_force_off s.plan t s.pattern p) refl;
+          in_step = lets.in_step;
+          fits = λ t after soon. unforced t after soon (forces s.plan s.pattern s.correction t p) refl;
         }
       where
         unforced : (t : ℕ) → s.now < t → t ≤ s.now + (walk s.plan p + pedestrian_clear s.plan p) → (b : Bool) →
-            asks_force_off s.plan t s.pattern p ≡ b → asks_force_off s.plan t s.pattern p ≡ false
+            forces s.plan s.pattern s.correction t p ≡ b → forces s.plan s.pattern s.correction t p ≡ false
         unforced t after soon false m = m
         unforced t after soon true m = let late = fits_to s p t good h after m in absurd (omega (arith, after, soon, late))
 
@@ -260,5 +281,8 @@ pub recycled_by : (s : State) (p : ℕ) → IsGood s → is_enabled s.plan p ≡
 recycled_by s p good on least it =
     let some = held_runs s p it.coordinated in
     let own : HasOwnInstant s.plan some.0 p = instant_now s some.0 p good some.1 on in
+    let asks : asks_recycle s.plan (s.now + 1) s.pattern p ≡ true =
     recycles_then s good some.0 p some.1 own.instant own.is it.recycles
-    (sym (ap (λ (o : Option ℕ). is_coordinated_now s.plan o p) some.1) ∙ it.coordinated) (omega (arith, least)) it.fits
+    (sym (ap (λ (o : Option ℕ). is_coordinated_now s.plan o p) some.1) ∙ it.coordinated) (omega (arith, least))
+    (λ t after soon. sym (forces_as s t p it.in_step after) ∙ it.fits t after soon) in
+    walk_let s p (record { in_step = it.in_step; asks = asks })

@@ -13,7 +13,8 @@ use Rattle.tsb_step.specs.tsb_types.Sets.{is_phase}
 use Rattle.tsb_step.specs.tsb_plan.Parts.{floats, is_coordinated}
 use Rattle.tsb_step.specs.tsb_plan.Plan.{Plan, walk, pedestrian_clear, rests_in_walk}
 use Rattle.tsb_step.specs.tsb_plan.Running.{running, split_in_effect, coordinates_in, is_coordinated_now, split_green, floating_in, floating_time}
-use Rattle.tsb_step.specs.tsb_coord.Coordinated.{asks_force_off, asks_hold}
+use Rattle.tsb_step.specs.tsb_coord.Coordinated.{asks_hold}
+use Rattle.tsb_step.specs.tsb_coord.Correction.{forces}
 use Rattle.tsb_step.specs.tsb_calls.Memories.{Memories}
 use Rattle.tsb_step.specs.tsb_calls.Settled.{walk_starts}
 use Rattle.tsb_step.specs.tsb_phase.Phase.{Phase, Given, held_of}
@@ -45,8 +46,9 @@ use Rattle.tsb_laws.proofs.operation.PhaseTimeLemmas.{walking_in, IsTimed}
 use Rattle.tsb_laws.proofs.operation.PressedGreenLemmas.{walks_down, walks_no_more}
 use Rattle.tsb_laws.proofs.operation.PressedRunLemmas.{timed_run, is_one}
 use Rattle.tsb_laws.proofs.operation.CoordinatedCallLemmas.{held_runs}
+use Rattle.tsb_laws.proofs.operation.InStepLemmas.{same_forces}
 use Rattle.tsb_laws.proofs.operation.CoordinatedForceLemmas.{ready_at_once}
-use Rattle.tsb_laws.proofs.operation.CoordinatedRunLemmas.{pattern_stays, Leaves, leaves, none_is}
+use Rattle.tsb_laws.proofs.operation.CoordinatedRunLemmas.{pattern_stays, correction_stays, Leaves, leaves, none_is}
 use Rattle.tsb_laws.proofs.operation.RecycleTimeLemmas.{IsRecycled, recycled_so, recycled_by, fits_to}
 use Rattle.tsb_laws.proofs.operation.RecycledTickLemmas.{IsWalked, called_walks, Again, again_parts, part_goes_on, part_ends, walk_goes_on, again_walks}
 
@@ -66,7 +68,7 @@ module _ (s : State) (row : Row) (p : ℕ) (good : IsGood s) (few : s.plan.phase
       all_hold (is_dont_walk (pedestrian_part s p)) (is_green (interval s p)) ((phases_given s row).recycle p)
       (gives_walk ((phases_given s row).pedestrian_call p) (service s row)) ((s.phases p).forced && (phases_given s row).conflict p)
       (ap is_dont_walk it.dont_walk) (ap is_green it.green)
-      (and_from (is_phase p) (recycle s p) on (recycled_by s p good walked.enabled walked.long (record { recycles = it.recycles; coordinated = it.coordinated; fits = it.fits })))
+      (and_from (is_phase p) (recycle s p) on (recycled_by s p good walked.enabled walked.long (record { recycles = it.recycles; coordinated = it.coordinated; in_step = it.in_step; fits = it.fits })))
       (and_from ((phases_given s row).pedestrian_call p) (is_none (service s row)) (and_from (is_phase p) (pedestrian_call s row p) on it.called) (ap is_none it.quiet))
       (ap (λ (b : Bool). (s.phases p).forced && (b && conflict s row p)) on ∙ it.unforced)
     where
@@ -110,6 +112,7 @@ module _ (s : State) (row : Row) (p : ℕ) (good : IsGood s) (few : s.plan.phase
         called = it.called;
         quiet = it.quiet;
         unforced = sym (ap (λ (b : Bool). (s.phases p).forced && (b && conflict s row p)) it.on) ∙ it.unforced;
+        in_step = asked.in_step;
         fits = asked.fits;
       }
 
@@ -152,7 +155,7 @@ floats_never plan o p t h = go (split_in_effect plan o) h
 
 -- what its pedestrians still take is over by each tick in which p is forced off
 abbrev IsOverBy : State → ℕ → Type 0
-IsOverBy s p = (f : ℕ) → s.now < f → asks_force_off s.plan f s.pattern p ≡ true →
+IsOverBy s p = (f : ℕ) → s.now < f → forces s.plan s.pattern s.correction f p ≡ true →
     walking_in (walk s.plan p) (pedestrian_clear s.plan p) (s.phases p).pedestrian_timer (s.phases p).pedestrian ≤ f - (s.now + 1)
 
 -- p is Green and coordinated, its force-off has not come, and its walk is over by then
@@ -251,7 +254,7 @@ module _ (s : State) (row : Row) (p : ℕ) (good : IsGood s) (few : s.plan.phase
       ∙ ap (λ (x : PedestrianInterval). takes (pedestrian_timer_in (pedestrian_part s p) (pedestrian_now s.plan (phases_given s row) p (phase_read s p)) (phase_read s p).pedestrian_timer) x) part)
 
   -- a walk that begins takes no longer than up to the next force-off
-  begun_takes : Again s row p → (f : ℕ) → s.now < f → asks_force_off s.plan f s.pattern p ≡ true → then_takes ≤ f - (s.now + 1) - 1
+  begun_takes : Again s row p → (f : ℕ) → s.now < f → forces s.plan s.pattern s.correction f p ≡ true → then_takes ≤ f - (s.now + 1) - 1
   begun_takes it f later comes =
       let fits = fits_to s p f good it.recycled later comes in
       let least = it.long in
@@ -260,7 +263,7 @@ module _ (s : State) (row : Row) (p : ℕ) (good : IsGood s) (few : s.plan.phase
       omega (arith, fits, least, same, begun)
 
   -- what the tick makes of it, if its pedestrians take so long then
-  goes_on_then : ((f : ℕ) → s.now + 1 < f → asks_force_off s.plan f s.pattern p ≡ true → then_takes ≤ f - (s.now + 1) - 1) → GoesOn (step s (Tick row)) p
+  goes_on_then : ((f : ℕ) → s.now + 1 < f → forces s.plan s.pattern s.correction f p ≡ true → then_takes ≤ f - (s.now + 1) - 1) → GoesOn (step s (Tick row)) p
   goes_on_then short = record {
     green = ap (λ (x : Phase). x.interval) after_is ∙ rw (no_start, green, stays_green) refl;
     held = ap (λ (x : Plan). asks_hold x (step s (Tick row)).pattern p) (plan_stays s row) ∙ (ap (λ (o : Option ℕ). asks_hold s.plan o p) (pattern_stays s row) ∙ held);
@@ -271,9 +274,9 @@ module _ (s : State) (row : Row) (p : ℕ) (good : IsGood s) (few : s.plan.phase
       over : IsOverBy (step s (Tick row)) p
       over f later comes =
           let now : (step s (Tick row)).now ≡ s.now + 1 = one_later s row in
-          let comes_then : asks_force_off s.plan f s.pattern p ≡ true =
-          sym (ap (λ (x : Plan). asks_force_off x f s.pattern p) (plan_stays s row))
-          ∙ (sym (ap (λ (o : Option ℕ). asks_force_off (step s (Tick row)).plan f o p) (pattern_stays s row)) ∙ comes) in
+          let comes_then : forces s.plan s.pattern s.correction f p ≡ true =
+          sym (same_forces (step s (Tick row)).plan s.plan (step s (Tick row)).pattern s.pattern (step s (Tick row)).correction s.correction f p
+          (plan_stays s row) (pattern_stays s row) (correction_stays s row)) ∙ comes in
           let less = short f (omega (arith, now, later)) comes_then in
           let same = ap (λ (x : Plan). walking_in (walk x p) (pedestrian_clear x p) after.pedestrian_timer after.pedestrian) (plan_stays s row) in
           let takes = takes_then in
@@ -321,7 +324,7 @@ module _ (s : State) (row : Row) (p : ℕ) (good : IsGood s) (few : s.plan.phase
   goes_on : IsTimed (s.phases p) → GoesOn s p → Unheld s row p → forced s p ≡ false → GoesOn (step s (Tick row)) p
   goes_on timed it free not_now = goes_on_then s row p good few dark it.green it.held free.quiet (still_unforced it) not_now short
     where
-      short : (f : ℕ) → s.now + 1 < f → asks_force_off s.plan f s.pattern p ≡ true →
+      short : (f : ℕ) → s.now + 1 < f → forces s.plan s.pattern s.correction f p ≡ true →
           then_takes s row p good few dark it.green it.held free.quiet (still_unforced it) not_now ≤ f - (s.now + 1) - 1
       short f later comes = go (walks_again (phases_given s row) p (phase_read s p)) refl
         where
@@ -385,9 +388,8 @@ goes_on_by s after p same it = record {
   where
     over : IsOverBy after p
     over f later comes =
-        let comes_then : asks_force_off s.plan f s.pattern p ≡ true =
-        sym (ap (λ (x : Plan). asks_force_off x f s.pattern p) same.plan)
-        ∙ (sym (ap (λ (o : Option ℕ). asks_force_off after.plan f o p) same.pattern) ∙ comes) in
+        let comes_then : forces s.plan s.pattern s.correction f p ≡ true =
+        sym (same_forces after.plan s.plan after.pattern s.pattern after.correction s.correction f p same.plan same.pattern same.correction) ∙ comes in
         let now : after.now ≡ s.now = same.now in
         let was = it.over f (omega (arith, now, later)) comes_then in
         let takes = ap (λ (x : Plan). walking_in (walk x p) (pedestrian_clear x p) (after.phases p).pedestrian_timer (after.phases p).pedestrian) same.plan in

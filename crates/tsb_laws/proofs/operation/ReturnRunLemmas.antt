@@ -11,6 +11,7 @@ use Rattle.tsb_step.specs.tsb_plan.Plan.{Plan, is_enabled, side_of}
 use Rattle.tsb_step.specs.tsb_plan.Running.{running as running_of}
 use Rattle.tsb_step.specs.tsb_rules.Consistent.{IsPhase, IsPlaced}
 use Rattle.tsb_step.proofs.tsb_rules.ConsistentLemmas.{placed}
+use Rattle.tsb_step.specs.tsb_coord.Correction.{is_in_step}
 use Rattle.tsb_step.specs.tsb_ring.Rings as rings
 use Rattle.tsb_step.specs.tsb_ring.Rings.{Ring, Ring1, Ring2, in_ring}
 use Rattle.tsb_step.specs.declared.inputs.Input.{Input}
@@ -18,14 +19,14 @@ use Rattle.tsb_step.specs.declared.inputs.Input.TheVariants as inputs
 use Rattle.tsb_step.specs.declared.inputs.Input.TheVariants.{Tick}
 use Rattle.tsb_step.specs.State.{State, restarted, interval}
 use Rattle.tsb_step.specs.Tick.{service, runs, hold, callable, next}
-use Rattle.tsb_step.specs.Signs.{watched}
+use Rattle.tsb_step.specs.Signs.{watched, IsInStep}
 use Rattle.tsb_step.specs.Step.{with_lamp, reset, step}
 use Rattle.tsb_step.specs.Runs.{replay, AreTaken}
 use Rattle.tsb_step.specs.Laws.{IsConsistent}
 use Rattle.tsb_step.specs.Good.{IsGood}
 use Rattle.tsb_step.specs.Tables.{has_place}
 use Rattle.tsb_step.specs.TimeLaws.{is_tick}
-use Rattle.tsb_step.proofs.ClearLemmas.{one_later, plan_stays}
+use Rattle.tsb_step.proofs.ClearLemmas.{one_later, plan_stays, stays_in_step}
 use Rattle.tsb_step.proofs.GivenLemmas.{enabled_is_listed}
 use Rattle.tsb_step.proofs.GoodLemmas.{good_run}
 use Rattle.tsb_step.proofs.SideRunLemmas.{sided_run}
@@ -105,7 +106,7 @@ ringed_is_phase plan ok r p own =
 -- ## Along the run
 
 module _ (plan : Plan) (base : List Input) (k j h : ℕ) (r : Ring) (c : ℕ) (ok : IsConsistent plan) (few : plan.phase_count ≤ 16) (taken_base : AreTaken plan base)
-    (full : IsFullyConcurrent (replay plan base).plan) (running : runs (replay plan base) ≡ Some k) (on : is_enabled (replay plan base).plan c ≡ true)
+    (full : IsFullyConcurrent (replay plan base).plan) (running : runs (replay plan base) ≡ Some k) (stepped : IsInStep (replay plan base)) (on : is_enabled (replay plan base).plan c ≡ true)
     (own : in_ring (replay plan base).plan r c ≡ true) (times : TurnsInPattern (replay plan base).plan k j h) where
   abbrev longest : ℕ → ℕ
   longest p = longest_in_pattern (replay plan base).plan k p
@@ -113,25 +114,31 @@ module _ (plan : Plan) (base : List Input) (k j h : ℕ) (r : Ring) (c : ℕ) (o
   few_now : (is : List Input) → (replay plan is).plan.phase_count ≤ 16
   few_now is = let same = count_run plan is in omega (arith, same, few)
 
-  -- plan and pattern are those of the base
+  -- plan and pattern are those of the base, and the local counter is in step
   record Same (is : List Input) : Type 0 where
     plan_is : (replay plan is).plan ≡ (replay plan base).plan
     pattern_is : (replay plan is).pattern ≡ (replay plan base).pattern
+    in_step : IsInStep (replay plan is)
 
-  same_by : (is : List Input) (i : Input) (v : View) → view (replay plan (i ∷ is)) ≡ v → v.plan ≡ (replay plan is).plan → v.pattern ≡ (replay plan is).pattern → Same is → Same (i ∷ is)
-  same_by is i v e f g was = record {
+  same_by : (is : List Input) (i : Input) (v : View) → view (replay plan (i ∷ is)) ≡ v → v.plan ≡ (replay plan is).plan → v.pattern ≡ (replay plan is).pattern → IsInStep (replay plan (i ∷ is)) → Same is →
+      Same (i ∷ is)
+  same_by is i v e f g h was = record {
     plan_is = ap (λ (x : View). x.plan) e ∙ (f ∙ was.plan_is);
     pattern_is = ap (λ (x : View). x.pattern) e ∙ (g ∙ was.pattern_is);
+    in_step = h;
   }
 
   same_now : (later : List Input) → IsUntripped plan base later → HasGoneOn (is_called_in_pattern c) plan base later → Same (later ++ base)
-  same_now [] dark out = record { plan_is = refl; pattern_is = refl }
+  same_now [] dark out = record { plan_is = refl; pattern_is = refl; in_step = stepped }
   same_now (inputs.Tick row ∷ later) dark out =
+      let was : Same (later ++ base) = same_now later dark.0 out.0 in
       same_by (later ++ base) (Tick row) (view (next (replay plan (later ++ base)) row)) (view_then (replay plan (later ++ base)) row (dark_now plan base later dark.0)) refl refl
-      (same_now later dark.0 out.0)
+      (stays_in_step (replay plan (later ++ base)) (λ k. row) 1 was.in_step) was
   same_now (i ∷ later) dark out =
-      same_by (later ++ base) i (view (replay plan (later ++ base))) (view_stays (replay plan (later ++ base)) i c refl out.1 (dark_now plan base later dark.0)) refl refl
-      (same_now later dark.0 out.0)
+      let was : Same (later ++ base) = same_now later dark.0 out.0 in
+      let seen = view_stays (replay plan (later ++ base)) i c refl out.1 (dark_now plan base later dark.0) in
+      same_by (later ++ base) i (view (replay plan (later ++ base))) seen refl refl
+      (ap (λ (v : View). is_in_step v.plan v.pattern v.correction v.now) seen ∙ was.in_step) was
 
   -- ## What holds of each state
 
@@ -159,7 +166,7 @@ module _ (plan : Plan) (base : List Input) (k j h : ℕ) (r : Ring) (c : ℕ) (o
     greens_now p green =
         let on : is_enabled (replay plan is).plan p ≡ true = (enabled_run plan is ok taken).serves p (ap in_service green) in
         subst (λ (x : Plan). LastsInPattern (view (replay plan is)) p (longest_in_pattern x k p)) same.plan_is
-        (lasts_now (replay plan is) k p (instants_come plan is k p ok taken runs_now on))
+        (lasts_now (replay plan is) k p (instants_come plan is k p ok taken runs_now same.in_step on))
 
     over_now : IsOver j (view (replay plan is))
     over_now =
@@ -281,7 +288,7 @@ module _ (plan : Plan) (base : List Input) (k j h : ℕ) (r : Ring) (c : ℕ) (o
   }
     where
       same_first : Same base
-      same_first = record { plan_is = refl; pattern_is = refl }
+      same_first = record { plan_is = refl; pattern_is = refl; in_step = stepped }
 
   in_time : (later : List Input) → AreTaken plan (later ++ base) → IsUntripped plan base later → HasGoneOn (is_called_in_pattern c) plan base later → InTime later
   in_time [] taken dark out = at_first
@@ -313,18 +320,18 @@ module _ (plan : Plan) (base : List Input) (c : ℕ) where
 
 pub served_in_pattern : (plan : Plan) (base later : List Input) (k j h : ℕ) (r : Ring) (c : ℕ) → IsConsistent plan → plan.phase_count ≤ 16 →
     AreTaken plan (later ++ base) → IsUntripped plan base later → IsFullyConcurrent (replay plan base).plan →
-    runs (replay plan base) ≡ Some k → in_ring (replay plan base).plan r c ≡ true →
+    runs (replay plan base) ≡ Some k → IsInStep (replay plan base) → in_ring (replay plan base).plan r c ≡ true →
     TurnsInPattern (replay plan base).plan k j h → HasGoneOn (is_called_in_pattern c) plan base later →
     (replay plan (later ++ base)).now ≤ (replay plan base).now + time_to_be_served (replay plan base) k j h r c
-served_in_pattern plan base later k j h r c ok few taken dark full running own times out = go (on_or_still plan base c later dark out).1
+served_in_pattern plan base later k j h r c ok few taken dark full running stepped own times out = go (on_or_still plan base c later dark out).1
   where
     go : (is_enabled (replay plan base).plan c ≡ true) ⊎ ((replay plan (later ++ base)).now ≡ (replay plan base).now) →
         (replay plan (later ++ base)).now ≤ (replay plan base).now + time_to_be_served (replay plan base) k j h r c
     go (inr same) = omega (arith, same)
     go (inl on) =
-        let it = in_time plan base k j h r c ok few (taken_before plan base later taken) full running on own times later taken dark out in
+        let it = in_time plan base k j h r c ok few (taken_before plan base later taken) full running stepped on own times later taken dark out in
         let all = it.in_time in
-        let most = left_is plan base k j h r c ok few (taken_before plan base later taken) full running on own times in
+        let most = left_is plan base k j h r c ok few (taken_before plan base later taken) full running stepped on own times in
         omega (arith, all, most)
 
 -- ## A coordinated phase is called in each tick
@@ -358,10 +365,10 @@ module _ (plan : Plan) (base : List Input) (c : ℕ) (ok : IsConsistent plan) (p
 
 pub coordinated_in_time : (plan : Plan) (base later : List Input) (k j h : ℕ) (r : Ring) (c : ℕ) → IsConsistent plan → plan.phase_count ≤ 16 →
     AreTaken plan (later ++ base) → IsUntripped plan base later → IsFullyConcurrent (replay plan base).plan →
-    runs (replay plan base) ≡ Some k → in_ring (replay plan base).plan r c ≡ true →
+    runs (replay plan base) ≡ Some k → IsInStep (replay plan base) → in_ring (replay plan base).plan r c ≡ true →
     TurnsInPattern (replay plan base).plan k j h → HasGoneOn (is_out c) plan base later →
     (replay plan (later ++ base)).now ≤ (replay plan base).now + time_to_be_served (replay plan base) k j h r c
-coordinated_in_time plan base later k j h r c ok few taken dark full running own times out =
+coordinated_in_time plan base later k j h r c ok few taken dark full running stepped own times out =
     let good = good_run plan base ok (taken_before plan base later taken) in
-    served_in_pattern plan base later k j h r c ok few taken dark full running own times
+    served_in_pattern plan base later k j h r c ok few taken dark full running stepped own times
     (called_on plan base c ok (ringed_is_phase (replay plan base).plan good.plan r c own) later taken out)

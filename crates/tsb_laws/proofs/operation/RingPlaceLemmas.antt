@@ -8,6 +8,7 @@ use Rattle.tsb_step.specs.tsb_types.Lists.{first, among, after, up_to, later, no
 use Rattle.tsb_step.specs.tsb_plan.Plan.{Plan, phases, yellow_change, red_clear, red_revert}
 use Rattle.tsb_step.specs.tsb_rules.SequenceRules.{lists_once}
 use Rattle.tsb_step.specs.tsb_coord.Coordinated.{serving_order}
+use Rattle.tsb_step.specs.tsb_coord.Correction.{Correction}
 use Rattle.tsb_step.specs.tsb_phase.Phase.{Phase}
 use Rattle.tsb_step.specs.tsb_ring.Rings as rings
 use Rattle.tsb_step.specs.tsb_ring.Rings.{Ring, number, in_ring}
@@ -32,9 +33,10 @@ pub record View : Type 0 where
   pub phases : ℕ → Phase
   pub now : ℕ
   pub pattern : Option ℕ
+  pub correction : Correction
 
 abbrev pub view : State → View
-view s = record { plan = s.plan; rings = s.rings; phases = s.phases; now = s.now; pattern = s.pattern }
+view s = record { plan = s.plan; rings = s.rings; phases = s.phases; now = s.now; pattern = s.pattern; correction = s.correction }
 
 -- the order of a ring by the sequence in effect
 abbrev pub order_of : View → Ring → List ℕ

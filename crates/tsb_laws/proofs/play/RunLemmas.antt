@@ -45,6 +45,7 @@ use Rattle.tsb_laws.proofs.operation.WantedPhaseLemmas.{wanted_starts}
 use Rattle.tsb_laws.proofs.operation.CoordinatedCallLemmas.{awaited}
 use Rattle.tsb_laws.proofs.operation.CoordinatedInstantLemmas.{instants_come}
 use Rattle.tsb_laws.proofs.operation.CoordinatedRunLemmas.{forced_may_end}
+use Rattle.tsb_laws.proofs.operation.SelectionLemmas.{selected_in_step, once_so, goes_on_from}
 use Rattle.tsb_laws.proofs.operation.CoordinatedBarrierLemmas.{makes_way_or_kept}
 use Rattle.tsb_laws.proofs.operation.LateGreenLemmas.{late_is_ready, late_may_end}
 use Rattle.tsb_laws.proofs.operation.PatternEndLemmas.{floating_is_ready, floating_may_end, maximum_is_ready, maximum_may_end, permitted_is_ready, permitted_may_end}
@@ -133,11 +134,14 @@ module _ (plan : Plan) (held : IsHeld plan) where
     called_phases_are_served = λ base later r q k h e dark full takes own waited.
         rw e (served_in_time plan base later r q k h ok (few plan held) (rw e at taken) dark full takes own waited);
     coordination_goes_on_awaited = λ row c phase held dark. awaited plan is row c ok taken phase held dark;
-    coordination_goes_on_instants = λ k p running on. instants_come plan is k p ok taken running on;
+    coordination_goes_on_instants = λ k p running stepped on. instants_come plan is k p ok taken running stepped on;
     coordination_goes_on_forced = λ base later row p n e dark pressed most long.
         rw e (forced_may_end plan base later row p n ok (few plan held) (rw e at taken) dark pressed most (rw e at long));
     coordination_goes_on_ends = λ dark row r p quiet full own green fit pressed.
         makes_way_or_kept plan is row r p ok (few plan held) taken dark quiet full own green fit pressed;
+    counters_are_in_step_selected = λ older later n e begins gone. rw e (selected_in_step plan older later n begins gone);
+    counters_are_in_step_stays = once_so (replay plan is);
+    selections_go_on = goes_on_from (replay plan is) good;
     late_greens_are_ready = λ row p it. late_is_ready plan is row p ok (few plan held) taken it;
     late_greens_are_ready_in_time = λ base later row p n e dark pressed span initial walks long.
         rw e (late_may_end plan base later row p n ok (few plan held) (rw e at taken) dark pressed span initial walks (rw e at long));
@@ -153,10 +157,10 @@ module _ (plan : Plan) (held : IsHeld plan) where
     recycled_calls_walk = λ dark row p. calls_are_recycled plan is row p ok (few plan held) taken dark;
     recycled_walks_end_in_time = λ older later row next p e dark walks free comes last.
         rw e (walk_is_over plan older later row next p ok (few plan held) (rw e at taken) dark walks free (rw e at comes) (rw e at last));
-    phases_are_served_in_patterns_called = λ base later k j h r c e dark full running own times out.
-        rw e (served_in_pattern plan base later k j h r c ok (few plan held) (rw e at taken) dark full running own times out);
-    phases_are_served_in_patterns_coordinated = λ base later k j h r c e dark full running own times out.
-        rw e (coordinated_in_time plan base later k j h r c ok (few plan held) (rw e at taken) dark full running own times out);
+    phases_are_served_in_patterns_called = λ base later k j h r c e dark full running stepped own times out.
+        rw e (served_in_pattern plan base later k j h r c ok (few plan held) (rw e at taken) dark full running stepped own times out);
+    phases_are_served_in_patterns_coordinated = λ base later k j h r c e dark full running stepped own times out.
+        rw e (coordinated_in_time plan base later k j h r c ok (few plan held) (rw e at taken) dark full running stepped own times out);
   }
     where
       ok : IsConsistent plan

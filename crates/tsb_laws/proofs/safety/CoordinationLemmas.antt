@@ -1,19 +1,20 @@
 -- Coordinated phases end by their force-off, and what is omitted is not served.
-use Rattle.std.proofs.Common.{◌≡◌, ℕ, ◌+◌, ◌≤◌, arith, Bool, true, false, not, ◌&&◌, ◌||◌, if◌then◌else◌, List, [], ◌∷◌, Option, Some, None, is_some, is_none, option_map, refl, sym, ap, ◌∙◌, inl, inr, ◌⊎◌}
-use Rattle.std.proofs.lemmas.Bool.{cases_Bool, and_parts, or_cases, or_left, or_right, true≢false, false≢true}
+use Rattle.std.proofs.Common.{◌≡◌, ℕ, ◌+◌, ◌-◌, ◌≤◌, arith, Bool, true, false, not, ◌&&◌, ◌||◌, if◌then◌else◌, List, [], ◌∷◌, Option, Some, None, is_some, is_none, option_map, refl, sym, ap, ◌∙◌, inl, inr, ◌⊎◌}
+use Rattle.std.proofs.lemmas.Bool.{cases_Bool, and_parts, and_from, or_cases, or_left, or_right, true≢false, false≢true}
 use Rattle.tsb_step.specs.tsb_types.declared.lamp.Lamp.{Lamp}
 use Rattle.tsb_step.specs.tsb_types.declared.row.Row.{Row}
 use Rattle.tsb_step.specs.tsb_types.Intervals.{is_green, is_dont_walk, in_service}
 use Rattle.tsb_step.specs.tsb_types.Lists.{is}
 use Rattle.tsb_step.specs.tsb_plan.Plan.{Plan}
 use Rattle.tsb_step.specs.tsb_plan.Parts.{cycle, forces_late, floats}
-use Rattle.tsb_step.specs.tsb_plan.Running.{split_in_effect, coordinates_in, is_coordinated_now, split_green, floating_in}
+use Rattle.tsb_step.specs.tsb_plan.Running.{running, split_in_effect, coordinates_in, is_coordinated_now, split_green, floating_in}
 use Rattle.tsb_step.specs.tsb_phase.Phase.{Phase, Given, held_of}
 use Rattle.tsb_step.specs.tsb_phase.Green.{initial_has_passed, has_reached_some, floats_off, forced_latch}
 use Rattle.tsb_step.specs.tsb_phase.Pedestrian.{ended_by, pedestrian_now}
 use Rattle.tsb_step.specs.tsb_phase.Next.{is_green_after}
 use Rattle.tsb_step.specs.tsb_phase.Ready.{needs_forced, may_end, green_is_done, is_ready}
-use Rattle.tsb_step.specs.tsb_coord.Coordinated.{local, force_off, yields_to, instant_of, late_end, is_late, is_forced_late}
+use Rattle.tsb_step.specs.tsb_coord.Coordinated.{local, force_off, yields_to, instant_of, late_end, is_late, is_forced_late, is_at_force_off, is_in_permissive_time, asks_force_off, asks_hold}
+use Rattle.tsb_step.specs.tsb_coord.Correction.{clock, skips}
 use Rattle.tsb_step.specs.tsb_preempt.Service.{Service}
 use Rattle.tsb_step.specs.tsb_preempt.Preempts as preempts
 use Rattle.tsb_step.specs.tsb_ring.Rings as rings
@@ -223,12 +224,45 @@ by_the_cycle s row p held h =
       | inr k ↦ absurd (false≢true (ap (λ (o : Option ℕ). has_reached_some (phase_read s p).timer o) (sym (never_floats s.plan (split_in_effect s.plan (runs s)) p held)) ∙ k))
     ]
 
+-- a coordinated phase is forced off where the local counter is at its instant, or in its permissive time
+at_instant_in : (plan : Plan) (t : ℕ) (selected : Option ℕ) (p : ℕ) → asks_hold plan selected p ≡ true → asks_force_off plan t selected p ≡ true →
+    (is_at_force_off plan t selected p ≡ true) ⊎ (is_in_permissive_time plan t selected p ≡ true)
+at_instant_in plan t selected p held h =
+    elim (or_cases (is_at_force_off plan t selected p)
+    (is_forced_late plan (running plan selected) (local plan t selected) p || is_in_permissive_time plan t selected p) h) [
+      | inl k ↦ inl k
+      | inr k ↦ inr (ap (λ (b : Bool). b || is_in_permissive_time plan t selected p)
+          (sym (never_forced_late plan (running plan selected) (local plan t selected) p held)) ∙ k)
+    ]
+
+-- where it takes two steps in a tick, at the second or at the first of them
 at_instant : (s : State) (p : ℕ) → hold s p ≡ true → forced s p ≡ true → (at_force_off s p ≡ true) ⊎ (in_permissive_time s p ≡ true)
 at_instant s p held h =
-    elim (or_cases (at_force_off s p) (is_forced_late s.plan (runs s) (local s.plan (s.now + 1) s.pattern) p || in_permissive_time s p) h) [
-      | inl k ↦ inl k
-      | inr k ↦ inr (ap (λ (b : Bool). b || in_permissive_time s p) (sym (never_forced_late s.plan (runs s) (local s.plan (s.now + 1) s.pattern) p held)) ∙ k)
+    elim (or_cases (asks_force_off s.plan there s.pattern p) (twice && asks_force_off s.plan (there - 1) s.pattern p) h) [
+      | inl now ↦ second (at_instant_in s.plan there s.pattern p held now)
+      | inr before ↦ (let both = and_parts twice (asks_force_off s.plan (there - 1) s.pattern p) before in
+          first both.0 (at_instant_in s.plan (there - 1) s.pattern p held both.1))
     ]
+  where
+    there : ℕ
+    there = clock s.plan s.pattern s.correction (s.now + 1)
+
+    twice : Bool
+    twice = skips s.plan s.pattern s.correction (s.now + 1)
+
+    second : (is_at_force_off s.plan there s.pattern p ≡ true) ⊎ (is_in_permissive_time s.plan there s.pattern p ≡ true) →
+        (at_force_off s p ≡ true) ⊎ (in_permissive_time s p ≡ true)
+    second (inl k) = inl (or_left (is_at_force_off s.plan there s.pattern p) (twice && is_at_force_off s.plan (there - 1) s.pattern p) k)
+    second (inr k) = inr (or_left (is_in_permissive_time s.plan there s.pattern p) (twice && is_in_permissive_time s.plan (there - 1) s.pattern p) k)
+
+    first : twice ≡ true → (is_at_force_off s.plan (there - 1) s.pattern p ≡ true) ⊎ (is_in_permissive_time s.plan (there - 1) s.pattern p ≡ true) →
+        (at_force_off s p ≡ true) ⊎ (in_permissive_time s p ≡ true)
+    first e (inl k) =
+        inl (or_right (is_at_force_off s.plan there s.pattern p) (twice && is_at_force_off s.plan (there - 1) s.pattern p)
+        (and_from twice (is_at_force_off s.plan (there - 1) s.pattern p) e k))
+    first e (inr k) =
+        inr (or_right (is_in_permissive_time s.plan there s.pattern p) (twice && is_in_permissive_time s.plan (there - 1) s.pattern p)
+        (and_from twice (is_in_permissive_time s.plan (there - 1) s.pattern p) e k))
 
 pub ends_by_force_off : (plan : Plan) (is : List Input) (row : Row) (p : ℕ) → IsConsistent plan → plan.phase_count ≤ 16 →
     AreTaken plan is → (replay plan is).trip ≡ None → EndsGreen plan is row p → hold (replay plan is) p ≡ true →

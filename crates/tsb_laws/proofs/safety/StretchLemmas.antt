@@ -85,6 +85,7 @@ committed_same s = go (commit.forgets_last_phases s.plan s.desk.edits)
       plan = desk.committed_plan s.plan s.desk;
       desk = desk.after_commit;
       pattern = s.pattern;
+      correction = s.correction;
       detectors = s.detectors;
       memories = s.memories;
       phases = s.phases;

@@ -1,5 +1,5 @@
 -- What runs, and what coordination asks of phases 1 to 8, is the same on the wide plan.
-use Rattle.std.proofs.Common.{◌≡◌, ℕ, ◌+◌, ◌-◌, ◌==◌, nat_le, Bool, true, false, ◌&&◌, ◌++◌, Option, Some, None, refl, sym, ◌∙◌, ap, ap₂, inl, inr, sum_by}
+use Rattle.std.proofs.Common.{◌≡◌, ℕ, ◌+◌, ◌-◌, ◌≤◌, ◌==◌, nat_le, Bool, true, false, ◌&&◌, ◌++◌, Option, Some, None, refl, sym, ◌∙◌, ap, ap₂, inl, inr, sum_by}
 use Rattle.std.proofs.Math.Path.{fun_ext}
 use Rattle.std.proofs.lemmas.Bool.{cases_Bool}
 use Rattle.tsb_step.specs.tsb_types.Lists.{or_else, run_from, up_to}
@@ -9,11 +9,13 @@ use Rattle.tsb_step.specs.tsb_plan.Running.{running, split_in_effect, sequence_i
 use Rattle.tsb_step.specs.tsb_rules.PatternRules.{is_on, has_phases, split_on, split_sum, side_sum, split_before, ring_sequence, split_end}
 use Rattle.tsb_step.specs.tsb_coord.Coordinated.{local_in, local, end_in, instant_from, reference, instant_by, force_off, is_at_force_off, asks_force_off, asks_recycle, asks_hold, asks_omit, sequence_now, serving_order}
 use Rattle.tsb_step.specs.tsb_objects.Instants.{is_coordinated_in, coordinated_in_ring, first_coordinated}
+use Rattle.tsb_step.specs.tsb_coord.Correction.{Correction, is_in_step, local_now, forces, lets_walk_again, selected_correction}
+use Rattle.tsb_step.proofs.tsb_coord.CorrectionLemmas.{forces_in_step, local_in_step}
 use Rattle.tsb_step.proofs.tsb_coord.LocalLemmas.{options_off}
 use Rattle.tsb_laws.specs.Widened.{IsNarrow, widened}
-use Rattle.tsb_laws.proofs.operation.OptionLemmas.{never_recycles}
+use Rattle.tsb_laws.proofs.operation.OptionLemmas.{never_recycles, in_step_at_once, begins_at_once}
 use Rattle.tsb_laws.proofs.versions.ListLemmas.{is_narrow, is_beyond, sum-up_to}
-use Rattle.tsb_laws.proofs.versions.PlanLemmas.{first-same, any-same, sum-same, beyond-narrow, not-enabled, enabled-narrow, split_time-same, split_mode-same, is_coordinated-same, not-coordinated, not-late, no-permissive_time, no-second_walk, zeros, sequence-same}
+use Rattle.tsb_laws.proofs.versions.PlanLemmas.{first-same, any-same, sum-same, beyond-narrow, not-enabled, enabled-narrow, split_time-same, split_mode-same, is_coordinated-same, not-coordinated, not-late, at-once, no-permissive_time, no-second_walk, zeros, sequence-same}
 
 -- ## What runs
 
@@ -155,8 +157,28 @@ local_in-same : (plan : Plan) (t : ℕ) (runs : Option ℕ) → local_in (widene
 local_in-same plan t None = refl
 local_in-same plan t (Some n) = refl
 
-pub local-same : (plan : Plan) (t : ℕ) (selected : Option ℕ) → local (widened plan) t selected ≡ local plan t selected
+local-same : (plan : Plan) (t : ℕ) (selected : Option ℕ) → local (widened plan) t selected ≡ local plan t selected
 local-same plan t selected = rw (running-same plan selected) (local_in-same plan t (running plan selected))
+
+-- ## The local counter as it goes, which is in step in both
+
+counter-in_step : (plan : Plan) (selected : Option ℕ) (c : Correction) (t : ℕ) → IsNarrow plan → is_in_step plan selected c t ≡ true
+counter-in_step plan selected c t narrow = in_step_at_once plan selected c t (at-once plan narrow)
+
+wide-in_step : (plan : Plan) (selected : Option ℕ) (c : Correction) (t : ℕ) → IsNarrow plan → is_in_step (widened plan) selected c t ≡ true
+wide-in_step plan selected c t narrow = in_step_at_once (widened plan) selected c t (at-once plan narrow)
+
+pub local_now-same : (plan : Plan) (selected : Option ℕ) (c : Correction) (t : ℕ) → IsNarrow plan →
+    local_now (widened plan) selected c t ≡ local_now plan selected c t
+local_now-same plan selected c t narrow =
+    local_in_step (widened plan) selected c t (wide-in_step plan selected c t narrow)
+    ∙ local-same plan t selected ∙ sym (local_in_step plan selected c t (counter-in_step plan selected c t narrow))
+
+-- whatever is selected, it begins in step
+pub selected_correction-same : (plan : Plan) (selected : Option ℕ) (now : ℕ) (l k : Option ℕ) → IsNarrow plan →
+    selected_correction (widened plan) selected now l ≡ selected_correction plan selected now k
+selected_correction-same plan selected now l k narrow =
+    begins_at_once (widened plan) selected now l (at-once plan narrow) ∙ sym (begins_at_once plan selected now k (at-once plan narrow))
 
 -- ## The orders
 
@@ -166,18 +188,31 @@ is_at_force_off-same plan t selected p narrow =
     rw (running-same plan selected, local_in-same plan t (running plan selected), force_off-same plan (running plan selected) p narrow) refl
 
 -- in neither is force-off late, nor is there a permissive time
-pub asks_force_off-same : (plan : Plan) (t : ℕ) (selected : Option ℕ) (p : ℕ) → IsNarrow plan →
+asks_force_off-same : (plan : Plan) (t : ℕ) (selected : Option ℕ) (p : ℕ) → IsNarrow plan →
     asks_force_off (widened plan) t selected p ≡ asks_force_off plan t selected p
 asks_force_off-same plan t selected p narrow =
     options_off (widened plan) t selected p (not-late plan narrow) (λ n. no-permissive_time plan n narrow)
     ∙ is_at_force_off-same plan t selected p narrow ∙ sym (options_off plan t selected p (not-late plan narrow) (λ n. no-permissive_time plan n narrow))
 
 -- in neither may a phase walk again
-pub asks_recycle-same : (plan : Plan) (t : ℕ) (selected : Option ℕ) (p : ℕ) → IsNarrow plan →
+asks_recycle-same : (plan : Plan) (t : ℕ) (selected : Option ℕ) (p : ℕ) → IsNarrow plan →
     asks_recycle (widened plan) t selected p ≡ asks_recycle plan t selected p
 asks_recycle-same plan t selected p narrow =
     never_recycles (widened plan) (running (widened plan) selected) (local (widened plan) t selected) p (no-second_walk plan p narrow)
     ∙ sym (never_recycles plan (running plan selected) (local plan t selected) p (no-second_walk plan p narrow))
+
+pub forces-same : (plan : Plan) (selected : Option ℕ) (c : Correction) (t p : ℕ) → IsNarrow plan → 1 ≤ t →
+    forces (widened plan) selected c t p ≡ forces plan selected c t p
+forces-same plan selected c t p narrow some =
+    forces_in_step (widened plan) selected c t p (wide-in_step plan selected c (t - 1) narrow) some
+    ∙ asks_force_off-same plan t selected p narrow ∙ sym (forces_in_step plan selected c t p (counter-in_step plan selected c (t - 1) narrow) some)
+
+pub lets_walk_again-same : (plan : Plan) (selected : Option ℕ) (c : Correction) (t p : ℕ) → IsNarrow plan →
+    lets_walk_again (widened plan) selected c t p ≡ lets_walk_again plan selected c t p
+lets_walk_again-same plan selected c t p narrow =
+    ap₂ (λ (a b : Bool). a && b)
+    (wide-in_step plan selected c (t - 1) narrow ∙ sym (counter-in_step plan selected c (t - 1) narrow))
+    (asks_recycle-same plan t selected p narrow)
 
 pub asks_hold-same : (plan : Plan) (selected : Option ℕ) (p : ℕ) → IsNarrow plan → is_narrow p ≡ true →
     asks_hold (widened plan) selected p ≡ asks_hold plan selected p

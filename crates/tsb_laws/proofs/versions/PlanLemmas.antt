@@ -6,9 +6,10 @@ use Rattle.std.proofs.lemmas.Bool.Decides.{nat_tests}
 use Rattle.tsb_step.specs.tsb_types.Lists.{first, run_from}
 use Rattle.tsb_step.specs.tsb_types.Sets.{names}
 use Rattle.tsb_step.proofs.tsb_types.SetLemmas.{names-above}
-use Rattle.tsb_step.specs.tsb_plan.declared.object.Object.TheVariants.{PhaseEnabled, PhaseRing, PhaseConcurrency, SplitTime, SplitMode, SplitCoordPhase, SequenceData, CoordForceMode, CoordMaximumMode, PatternPermissiveTime, PatternLeadLag, PhasePedestrianRecycle}
+use Rattle.tsb_step.specs.tsb_plan.declared.object.Object.TheVariants.{PhaseEnabled, PhaseRing, PhaseConcurrency, SplitTime, SplitMode, SplitCoordPhase, SequenceData, CoordForceMode, CoordMaximumMode, PatternPermissiveTime, PatternLeadLag, PhasePedestrianRecycle, CoordCorrectionMode, CoordCorrectionLimit}
+use Rattle.tsb_step.specs.tsb_plan.declared.plan.patterns.CorrectionMode.TheVariants.{AtOnce}
 use Rattle.tsb_step.specs.tsb_plan.Plan.{Plan, phases, is_enabled, is_concurrent, recycles_walk, sequence}
-use Rattle.tsb_step.specs.tsb_plan.Parts.{forces_late, floats, permissive_time, leads_and_lags, split_index, mode_of, split_time, split_mode, is_omitted, is_coordinated}
+use Rattle.tsb_step.specs.tsb_plan.Parts.{forces_late, floats, correction_mode, permissive_time, leads_and_lags, split_index, mode_of, split_time, split_mode, is_omitted, is_coordinated}
 use Rattle.tsb_step.specs.tsb_plan.Running.{maximum_by_mode}
 use Rattle.tsb_step.specs.tsb_ring.Rings.{Ring, Ring1, Ring2, in_ring}
 use Rattle.tsb_laws.specs.Widened.{IsNarrow, widened, widened_row}
@@ -142,6 +143,10 @@ not-apart plan n narrow = rw (narrow.placed PatternLeadLag n refl) refl
 -- no phase walks again within its green
 pub no-second_walk : (plan : Plan) (p : ℕ) → IsNarrow plan → recycles_walk plan p ≡ false
 no-second_walk plan p narrow = rw (narrow.placed PhasePedestrianRecycle p refl) refl
+
+-- the local counter comes into step at once
+pub at-once : (plan : Plan) → IsNarrow plan → correction_mode plan ≡ AtOnce
+at-once plan narrow = rw (narrow.placed CoordCorrectionMode 1 refl, narrow.placed CoordCorrectionLimit 1 refl) refl
 
 -- ## Sequences
 

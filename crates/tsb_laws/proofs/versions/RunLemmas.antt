@@ -17,7 +17,7 @@ use Rattle.tsb_laws.specs.Widened.{IsNarrow, is_of_version_1, narrowed, widened,
 use Rattle.tsb_laws.specs.Versions.{SaysTheSame, RestsBeyond}
 use Rattle.tsb_laws.proofs.versions.ListLemmas.{is_narrow}
 use Rattle.tsb_laws.proofs.versions.PlanLemmas.{not-enabled}
-use Rattle.tsb_laws.proofs.versions.CoordLemmas.{local-same}
+use Rattle.tsb_laws.proofs.versions.CoordLemmas.{local_now-same}
 use Rattle.tsb_laws.proofs.versions.TickLemmas.{IsNarrowState}
 use Rattle.tsb_laws.proofs.versions.RuleLemmas.{first_broken-same}
 use Rattle.tsb_laws.proofs.versions.DeskLemmas.{from-one, row_index-of, row_index-back, row_index-there, value-same, translated-row, translated-flat}
@@ -128,7 +128,7 @@ pub counters_agree : (narrow wide : Plan) (is : List Input) → IsNarrow narrow 
     local (replay wide (map widened_input is)) ≡ local (replay narrow is)
 counters_agree narrow wide is plan says within =
     ap (λ (s : State). local s) (states_agree narrow wide is plan says within)
-    ∙ local-same (replay narrow is).plan (replay narrow is).now (replay narrow is).pattern
+    ∙ local_now-same (replay narrow is).plan (replay narrow is).pattern (replay narrow is).correction (replay narrow is).now (narrow-run narrow is plan within).plan
 
 pub stages_agree : (narrow wide : Plan) (is : List Input) → IsNarrow narrow → SaysTheSame narrow wide → AreWithin is →
     stage (replay wide (map widened_input is)) ≡ stage (replay narrow is)

@@ -13,6 +13,8 @@ use Rattle.tsb_step.specs.tsb_transact.Desk.{Desk, with_edits}
 use Rattle.tsb_step.specs.tsb_transact.Commit as commit
 use Rattle.tsb_step.specs.tsb_transact.Calls as desk
 use Rattle.tsb_step.specs.tsb_ring.Rings as rings
+use Rattle.tsb_step.specs.tsb_coord.Coordinated.{selects}
+use Rattle.tsb_step.specs.tsb_coord.Correction.{Correction}
 use Rattle.tsb_step.specs.tsb_heads.declared.monitor.Trip.{Trip}
 use Rattle.tsb_step.specs.tsb_heads.Displays as heads
 use Rattle.tsb_step.specs.tsb_heads.Monitoring as monitor
@@ -20,9 +22,10 @@ use Rattle.tsb_step.specs.declared.inputs.Input.{Input}
 use Rattle.tsb_step.specs.declared.inputs.Input.TheVariants.{Tick, Pattern, Switch, Fault, Reset, Begin, Set, Verify, Commit, Abort}
 use Rattle.tsb_step.specs.State.{State, start, restarted}
 use Rattle.tsb_step.specs.Tick.{next}
-use Rattle.tsb_step.specs.Signs.{shown, display, field, watched, unless_tripped}
+use Rattle.tsb_step.specs.Signs.{shown, display, field, local, watched, unless_tripped}
 use Rattle.tsb_step.specs.Step.{ticked, with_lamp, found, committed, step}
 use Rattle.tsb_laws.specs.Widened.{IsNarrow, widened, widened_id, widened_input, IsOfTable, AreOfTable, IsLampWithin, IsWithin, widened_desk, widened_state}
+use Rattle.tsb_laws.proofs.versions.CoordLemmas.{selected_correction-same}
 use Rattle.tsb_laws.proofs.versions.HeadLemmas.{display-same, field-same, field-dark, judge-same}
 use Rattle.tsb_laws.proofs.versions.TickLemmas.{IsNarrowState, next-same, next-narrow}
 use Rattle.tsb_laws.proofs.versions.RuleLemmas.{first_broken-same}
@@ -124,9 +127,16 @@ committed-same s is =
     ap₂ (λ (q : Plan) b. record s { plan = q; desk = desk.after_commit; rings = if b then rings.forgotten s.rings else s.rings })
     (with_edits-same s.plan s.desk.edits is.edits) (changes_some-same is_structural s.plan s.desk.edits is.edits)
 
+pattern-same : (s : State) (n : ℕ) → IsNarrow s.plan → step (widened_state s) (Pattern n) ≡ widened_state (step s (Pattern n))
+unfolding step
+pattern-same s n narrow =
+    ap (λ (c : Correction). record (widened_state s) { pattern = selects n; correction = c; phases = λ p. unforced (s.phases p) })
+    (selected_correction-same s.plan (selects n) s.now (local (widened_state s)) (local s) narrow)
+
 pub step-same : (s : State) (i : Input) → IsNarrowState s → IsWithin i → step (widened_state s) (widened_input i) ≡ widened_state (step s i)
 unfolding step
 step-same s (Tick row) is low = ticked-same row s is
+step-same s (Pattern n) is low = pattern-same s n is.plan
 step-same s (Fault lamp) is low = with_lamp-same lamp s is low
 step-same s Reset is low = reset-same s
 step-same s (Set station id v) is low = ap (λ (d : Desk). record (widened_state s) { desk = d }) (set-same s id v is low)

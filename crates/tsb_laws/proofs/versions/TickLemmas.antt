@@ -1,5 +1,5 @@
 -- A tick makes the same of both benches.
-use Rattle.std.proofs.Common.{◌≡◌, ℕ, ◌+◌, ◌≤◌, Bool, true, false, ◌&&◌, List, ◌++◌, Option, Some, None, option_map, refl, sym, ◌∙◌, ap, ap₂, inl, inr}
+use Rattle.std.proofs.Common.{◌≡◌, ℕ, ◌+◌, ◌≤◌, Bool, true, false, ◌&&◌, List, ◌++◌, Option, Some, None, option_map, refl, sym, arith, ◌∙◌, ap, ap₂, inl, inr}
 use Rattle.std.proofs.Math.Path.{fun_ext}
 use Rattle.std.proofs.lemmas.Bool.{cases_Bool}
 use Rattle.tsb_step.specs.tsb_cells.declared.timer.Timer.{Timer}
@@ -27,7 +27,7 @@ use Rattle.tsb_step.proofs.tsb_phase.MoveLemmas.{stays_at_power_up}
 use Rattle.tsb_laws.specs.Widened.{IsNarrow, widened, widened_state, AreOfTable, IsLampWithin}
 use Rattle.tsb_laws.proofs.versions.ListLemmas.{is_narrow, IsSameOnNarrow, IsBeyondNarrow}
 use Rattle.tsb_laws.proofs.versions.PlanLemmas.{zeros, beyond-narrow}
-use Rattle.tsb_laws.proofs.versions.CoordLemmas.{running-same, asks_hold-same, asks_omit-same, asks_force_off-same, asks_recycle-same, serving_order-same}
+use Rattle.tsb_laws.proofs.versions.CoordLemmas.{running-same, asks_hold-same, asks_omit-same, forces-same, lets_walk_again-same, serving_order-same}
 use Rattle.tsb_laws.proofs.versions.PreemptLemmas as preempts
 use Rattle.tsb_laws.proofs.versions.CallLemmas as calls
 use Rattle.tsb_laws.proofs.versions.PhaseLemmas as phases
@@ -130,10 +130,10 @@ none-told s row narrow p out = ap (λ b. is_phase p && b) (none-beyond s row nar
 -- ## Phase timing
 
 forced-same : (s : State) → IsNarrow s.plan → forced (widened_state s) ≡ forced s
-forced-same s narrow = fun_ext (λ p. asks_force_off-same s.plan (s.now + 1) s.pattern p narrow)
+forced-same s narrow = fun_ext (λ p. forces-same s.plan s.pattern s.correction (s.now + 1) p narrow (omega arith))
 
 recycle-same : (s : State) → IsNarrow s.plan → recycle (widened_state s) ≡ recycle s
-recycle-same s narrow = fun_ext (λ p. asks_recycle-same s.plan (s.now + 1) s.pattern p narrow)
+recycle-same s narrow = fun_ext (λ p. lets_walk_again-same s.plan s.pattern s.correction (s.now + 1) p narrow)
 
 phases_given-same : (s : State) (row : Row) → IsNarrow s.plan →
     phases_given (widened_state s) row ≡ phases.wide_given (wide_hold s) (phases_given s row)

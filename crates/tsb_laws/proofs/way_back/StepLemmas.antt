@@ -1,5 +1,5 @@
 -- Every state of a run is one that the cells of the program can hold.
-use Rattle.std.proofs.Common.{◌≡◌, ℕ, ◌+◌, nat_le, Bool, true, false, ◌&&◌, if◌then◌else◌, List, [], ◌∷◌, Option, None, is_some, refl, sym, ap, subst, arith, ◌∙◌}
+use Rattle.std.proofs.Common.{◌≡◌, ℕ, ◌+◌, ◌≤◌, nat_le, Bool, true, false, ◌&&◌, if◌then◌else◌, List, [], ◌∷◌, Option, None, is_some, refl, sym, ap, subst, arith, ◌∙◌}
 use Rattle.tsb_step.specs.tsb_types.declared.lamp.Lamp.{Lamp}
 use Rattle.tsb_step.specs.tsb_types.declared.row.Row.{Row}
 use Rattle.tsb_step.specs.tsb_types.Sets.{is_phase, has_number}
@@ -28,7 +28,7 @@ use Rattle.tsb_step.specs.Cells.{clock_at, clock}
 use Rattle.tsb_step.specs.Good.{IsGood}
 use Rattle.tsb_step.specs.MonitorLaws.{IsUpTo, IsLamp, IsTrip}
 use Rattle.tsb_step.specs.Runs.{replay, AreTaken}
-use Rattle.tsb_step.specs.Signs.{field, watched}
+use Rattle.tsb_step.specs.Signs.{local, field, watched}
 use Rattle.tsb_step.specs.State.{State, Tripped, start, restarted}
 use Rattle.tsb_step.specs.Step.{step, verdict, ticked, with_lamp, reset, found}
 use Rattle.tsb_step.specs.Tables.{place_refusal}
@@ -42,6 +42,7 @@ use Rattle.tsb_step.proofs.tsb_phase.MoveLemmas.{stays_at_power_up}
 use Rattle.tsb_laws.specs.Runs.{IsHeld, IsTyped, AreTyped}
 use Rattle.tsb_laws.proofs.way_back.PlanLemmas.{bounded-with}
 use Rattle.tsb_laws.proofs.way_back.DeskLemmas.{sound-set}
+use Rattle.tsb_laws.proofs.way_back.CorrectionLemmas.{cycles-within, ahead-selected}
 use Rattle.tsb_laws.proofs.way_back.DetectLemmas.{detectors-after, detectors-begin}
 use Rattle.tsb_laws.proofs.way_back.CallLemmas.{IsSettled, memories-after, memories-begin}
 use Rattle.tsb_laws.proofs.way_back.PhaseLemmas.{RunsIn, runs-after, runs-begin, runs-unforced}
@@ -64,6 +65,7 @@ pub record IsTold (s : State) : Type 0 where
   pub plan : IsHeld s.plan
   pub desk : desk.IsInRange s.desk
   pub layers : IsIn (clock s) s
+  pub ahead : s.correction.ahead ≤ 2550
   pub lamp : IsLamp s.lamp
   pub trip : IsTrip s.now s.trip
 
@@ -132,14 +134,15 @@ by-clock : (c k : ℕ) (s : State) → c ≡ k → IsIn c s → IsIn k s
 by-clock c k s e was = subst (λ (n : ℕ). IsIn n s) e was
 
 -- what the monitor adds
-told-watched : (before after : State) → IsHeld after.plan → desk.IsInRange after.desk → IsIn after.now after → IsLamp after.lamp → IsTold (watched before after)
+told-watched : (before after : State) → IsHeld after.plan → desk.IsInRange after.desk → IsIn after.now after → after.correction.ahead ≤ 2550 → IsLamp after.lamp → IsTold (watched before after)
 unfolding watched
-told-watched before after held d layers lamp = record {
+told-watched before after held d layers ahead lamp = record {
   plan = held;
   desk = d;
   layers = by-clock after.now (clock_at after.now (tripped-at after.now (judge after.plan (field before) (field after)))) _
       (sym (clock-now after.now (judge after.plan (field before) (field after))))
       (in-with after.now after after.now after.plan after.desk after.pattern after.lamp (tripped-at after.now (judge after.plan (field before) (field after))) layers);
+  ahead = ahead;
   lamp = lamp;
   trip = judged-trip after.plan (field before) (field after) after.now held.phases;
 }
@@ -153,12 +156,13 @@ told-ticked s row good told = go (is_some s.trip) refl
       desk = told.desk;
       layers = by-clock (clock s) (clock_at (s.now + 1) s.trip) _ (clock-stands s.now (s.now + 1) s.trip e)
           (in-with (clock s) s (s.now + 1) s.plan s.desk s.pattern s.lamp s.trip told.layers);
+      ahead = told.ahead;
       lamp = told.lamp;
       trip = trip-stays s.now (s.now + 1) s.trip (omega arith) told.trip;
     }
     go false e =
         told-watched s (tick.next s row) told.plan told.desk
-        (next-in s row good told.plan (by-clock (clock s) s.now s (clock-runs s.now s.trip e) told.layers)) told.lamp
+        (next-in s row good told.plan (by-clock (clock s) s.now s (clock-runs s.now s.trip e) told.layers)) told.ahead told.lamp
 
 -- ## What the operator does
 
@@ -170,12 +174,13 @@ told-lit s lamp is told = go (is_some s.trip) refl
       plan = told.plan;
       desk = told.desk;
       layers = in-with (clock s) s s.now s.plan s.desk s.pattern lamp s.trip told.layers;
+      ahead = told.ahead;
       lamp = is;
       trip = told.trip;
     }
     go false e =
         told-watched s (record s { lamp = lamp }) told.plan told.desk
-        (in-with s.now s s.now s.plan s.desk s.pattern lamp s.trip (by-clock (clock s) s.now s (clock-runs s.now s.trip e) told.layers)) is
+        (in-with s.now s s.now s.plan s.desk s.pattern lamp s.trip (by-clock (clock s) s.now s (clock-runs s.now s.trip e) told.layers)) told.ahead is
 
 rings-begin : rings.IsInRange ring.power_up
 rings-begin = record { last = λ r. tt; commitment = λ r. tt; side = (omega arith, omega arith); crossing = tt }
@@ -192,6 +197,7 @@ told-restarted s told = record {
     rings = rings-begin;
     preempts = preempts-reset (clock s) s.now s.preempts told.layers.preempts;
   };
+  ahead = omega arith;
   lamp = tt;
   trip = tt;
 }
@@ -203,9 +209,9 @@ told-reset s told = go (is_some s.trip)
     go true = told-restarted s told
     go false = told
 
-told-pattern : (s : State) (n : ℕ) → IsTold s → IsTold (step s (inputs.Pattern n))
-unfolding step
-told-pattern s n told = record {
+told-pattern : (s : State) (n : ℕ) → verdict s (inputs.Pattern n) ≡ None → IsTold s → IsTold (step s (inputs.Pattern n))
+unfolding step verdict
+told-pattern s n allowed told = record {
   plan = told.plan;
   desk = told.desk;
   layers = record {
@@ -216,6 +222,7 @@ told-pattern s n told = record {
     rings = told.layers.rings;
     preempts = told.layers.preempts;
   };
+  ahead = ahead-selected s.plan n s.now (local s) allowed (cycles-within s.plan told.plan.bounded n);
   lamp = told.lamp;
   trip = told.trip;
 }
@@ -233,6 +240,7 @@ told-switch s n on allowed told = record {
     rings = told.layers.rings;
     preempts = preempts-switched s.plan (clock s) n on s.preempts allowed told.layers.preempts;
   };
+  ahead = told.ahead;
   lamp = told.lamp;
   trip = told.trip;
 }
@@ -244,6 +252,7 @@ told-desk s d is told = record {
   plan = told.plan;
   desk = is;
   layers = in-with (clock s) s s.now s.plan d s.pattern s.lamp s.trip told.layers;
+  ahead = told.ahead;
   lamp = told.lamp;
   trip = told.trip;
 }
@@ -298,6 +307,7 @@ told-committed s station allowed good told =
         rings = rings-forgotten s _ told.layers.rings;
         preempts = told.layers.preempts;
       };
+      ahead = told.ahead;
       lamp = told.lamp;
       trip = told.trip;
     }
@@ -307,7 +317,7 @@ told-committed s station allowed good told =
 pub told-step : (s : State) (i : Input) → verdict s i ≡ None → IsTyped i → IsGood s → IsTold s → IsTold (step s i)
 unfolding step
 told-step s (inputs.Tick row) allowed typed good told = told-ticked s row good told
-told-step s (inputs.Pattern n) allowed typed good told = told-pattern s n told
+told-step s (inputs.Pattern n) allowed typed good told = told-pattern s n allowed told
 told-step s (inputs.Switch n on) allowed typed good told = told-switch s n on allowed told
 told-step s (inputs.Fault lamp) allowed typed good told = told-lit s lamp typed told
 told-step s inputs.Reset allowed typed good told = told-reset s told
@@ -329,6 +339,7 @@ told-start plan held = record {
     rings = rings-begin;
     preempts = preempts-begin 0;
   };
+  ahead = omega arith;
   lamp = tt;
   trip = tt;
 }

@@ -11,6 +11,7 @@ use Rattle.tsb_step.specs.tsb_cells.Diff.{diff}
 use Rattle.tsb_step.specs.tsb_cells.DiffLaws.{IsChange}
 use Rattle.tsb_step.proofs.tsb_cells.ChangeLemmas.{tells_each_change}
 use Rattle.tsb_step.proofs.tsb_cells.TimerLemmas.{timer_at-timer_cell, timer_cell-timer_at, timer_cell-le, timer_cell-advanced, timer_at-next, IsWithin-timer_at}
+use Rattle.tsb_step.specs.tsb_types.declared.limits.TheConstants.{TICKS}
 use Rattle.tsb_step.specs.tsb_types.declared.row.Row.{Row}
 use Rattle.tsb_step.specs.tsb_plan.declared.object.TheConstants.{PLAN_CELLS}
 use Rattle.tsb_step.specs.tsb_plan.Plan.{Plan}
@@ -353,12 +354,19 @@ module _ (s after : State) (is : IsOfRun s) (also : IsOfRun after) (e : clock af
 
 after-tick : (plan : Plan) (is : List Input) (row : Row) → IsOfRun (replay plan is) → ((p : ℕ) → Rests ((step (replay plan is) (Tick row)).phases p)) →
     IsOfRun (ticked row (replay plan is))
-unfolding step
+unfolding step watched
 after-tick plan is row it rests = record {
   told = told-ticked (replay plan is) row it.good it.told;
   good = good_ticked (replay plan is) row it.good;
   rests = rests;
+  since = since_stays (is_some (replay plan is).trip);
 }
+  where
+    -- a tick leaves since when the local counter comes into step
+    since_stays : (b : Bool) → (if b then record (replay plan is) { now = (replay plan is).now + 1 }
+        else (if b then next (replay plan is) row else watched (replay plan is) (next (replay plan is) row))).correction.since ≤ TICKS
+    since_stays true = it.since
+    since_stays false = it.since
 
 pub waiting-not-written : (plan : Plan) (is : List Input) → IsRun plan is → (row : Row) (w : Place) → IsPlace w →
     HasNone (record_of (Tick row) (replay plan is) (step (replay plan is) (Tick row))).entries (cell_of w)

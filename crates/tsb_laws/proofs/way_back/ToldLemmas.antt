@@ -1,6 +1,7 @@
 -- What the cells of the states of a run tell, and what the records of a run give back.
-use Rattle.std.proofs.Common.{◌≡◌, ℕ, ◌≤◌, false, List, [], ◌∷◌, length, drop, Option, sym, ap, ap₂, subst, ◌∙◌}
+use Rattle.std.proofs.Common.{◌≡◌, ℕ, ◌≤◌, false, List, [], ◌∷◌, length, drop, Option, sym, ap, ap₂, subst, arith, ◌∙◌}
 use Rattle.tsb_step.specs.tsb_types.declared.interval.PedestrianInterval.TheVariants.{DontWalk}
+use Rattle.tsb_step.specs.tsb_types.declared.limits.TheConstants.{TICKS}
 use Rattle.tsb_step.specs.tsb_types.Intervals.{is_green}
 use Rattle.tsb_step.specs.tsb_plan.Plan.{Plan}
 use Rattle.tsb_step.specs.tsb_plan.PlanOf.{plan_cells}
@@ -16,7 +17,7 @@ use Rattle.tsb_step.proofs.tsb_phase.StateLemmas as phases
 use Rattle.tsb_step.specs.tsb_ring.Cells.{rings_cells}
 use Rattle.tsb_step.proofs.tsb_ring.ToldLemmas as rings
 use Rattle.tsb_step.specs.tsb_coord.Cells.{pattern_cells}
-use Rattle.tsb_step.specs.tsb_coord.Laws.{IsSelectable}
+use Rattle.tsb_step.specs.tsb_coord.Laws.{IsSelectable, IsCorrectable}
 use Rattle.tsb_step.proofs.tsb_coord.CellLemmas as coord
 use Rattle.tsb_step.specs.tsb_preempt.Cells.{preempts_cells, preempts_in}
 use Rattle.tsb_step.proofs.tsb_preempt.StateLemmas as preempts
@@ -44,6 +45,7 @@ use Rattle.tsb_step.proofs.RestLemmas.{rests_run}
 use Rattle.tsb_step.proofs.WayLemmas.{records_give_back}
 use Rattle.tsb_laws.specs.Runs.{IsHeld, AreTyped, IsRun}
 use Rattle.tsb_laws.specs.WayBack.{HasRows}
+use Rattle.tsb_laws.proofs.safety.LastTickLemmas.{run_early}
 use Rattle.tsb_laws.proofs.way_back.PlanLemmas.{plan-read}
 use Rattle.tsb_laws.proofs.way_back.PhaseLemmas.{RunsIn}
 use Rattle.tsb_laws.proofs.way_back.StepLemmas.{IsTold, told-run}
@@ -59,7 +61,7 @@ rows-of s = record {
     calls = memories_cells s.memories;
     phases = phases_cells (clock s) s.phases;
     rings = rings_cells s.rings;
-    pattern = pattern_cells s.pattern;
+    pattern = pattern_cells s.pattern s.correction;
     preempts = preempts_cells (clock s) s.preempts;
   };
   monitor = monitor_cells s.lamp s.trip;
@@ -69,7 +71,7 @@ pub cells-whole : (s : State) → cells_of s ≡ whole (rows-of s)
 unfolding cells_of
 cells-whole s =
     regrouped (plan_cells s.plan) (desk_cells s.desk) (detectors_cells (clock s) s.detectors) (memories_cells s.memories) (phases_cells (clock s) s.phases)
-    (rings_cells s.rings) (pattern_cells s.pattern) (preempts_cells (clock s) s.preempts) (monitor_cells s.lamp s.trip)
+    (rings_cells s.rings) (pattern_cells s.pattern s.correction) (preempts_cells (clock s) s.preempts) (monitor_cells s.lamp s.trip)
 
 -- ## Rows that the program can hold
 
@@ -99,12 +101,15 @@ pub record IsOfRun (s : State) : Type 0 where
   pub told : IsTold s
   pub good : IsGood s
   pub rests : (p : ℕ) → Rests (s.phases p)
+  pub since : s.correction.since ≤ TICKS
 
 pub of-run : (plan : Plan) (is : List Input) → IsHeld plan → AreTaken plan is → AreTyped is → IsOfRun (replay plan is)
 of-run plan is held taken typed = record {
   told = told-run plan is held taken typed;
   good = good_run plan is held.consistent taken;
   rests = λ p. rests_run plan is p;
+  since = (let since : (replay plan is).correction.since ≤ (replay plan is).now = (good_run plan is held.consistent taken).since in
+      let early = run_early plan is taken in omega (arith, since, early));
 }
 
 module _ (s : State) (is : IsOfRun s) where
@@ -117,6 +122,9 @@ module _ (s : State) (is : IsOfRun s) where
   selectable : IsSelectable s.pattern
   selectable = record { from_one = λ n e. (is.good.pattern n e).from_one; within = λ n e. (is.good.pattern n e).within }
 
+  correctable : IsCorrectable s.correction
+  correctable = record { since = is.since; ahead = is.told.ahead }
+
   trip-read : trip_in (monitor_cells s.lamp s.trip) ≡ s.trip
   trip-read = (monitor.state-read s.now s.lamp s.trip is.told.lamp is.told.trip).1
 
@@ -126,7 +134,7 @@ module _ (s : State) (is : IsOfRun s) where
     calls = (calls.calls-read s.memories is.told.layers.memories).by;
     phases = (phases.states-read (clock s) s.phases phases-ranged).by;
     rings = rings.states-by s.rings is.told.layers.rings;
-    pattern = coord.pattern_by s.pattern selectable;
+    pattern = coord.pattern_by s.pattern s.correction selectable correctable;
     preempts = preempts.states-by (clock s) s.preempts is.told.layers.preempts;
   }
 
@@ -158,7 +166,8 @@ module _ (s : State) (is : IsOfRun s) where
     now = s.now;
     plan = plan-read s.plan is.told.plan i;
     desk = (desk.states_are_read s.desk is.told.desk).0 i;
-    pattern = coord.pattern_read s.pattern selectable i;
+    pattern = (coord.pattern_read s.pattern s.correction selectable).pattern i;
+    correction = (coord.pattern_read s.pattern s.correction selectable).correction i;
     detectors = detectors-read i;
     memories = (calls.calls-read s.memories is.told.layers.memories).same i;
     phases = phases-read i;

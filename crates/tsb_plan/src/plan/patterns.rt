@@ -25,6 +25,20 @@ pub enum SplitMode {
     Omitted,
 }
 
+/// How the local counter comes into step once a pattern is selected while another ran (`coordCorrectionMode`; its
+/// numbers are the profile's).
+#[derive(Clone, Copy, PartialEq, Eq)]
+pub enum CorrectionMode {
+    /// At once: number 0.
+    AtOnce,
+    /// It waits before the instant of the coordinated phases: number 1.
+    Dwell,
+    /// It goes slower or faster, whichever is less: number 2.
+    ShortWay,
+    /// It goes slower: number 3.
+    AddOnly,
+}
+
 ghost use Rattle.std.specs.Prelude.{true};
 ghost use Rattle.tsb_plan.specs.declared.object.Object.TheVariants.{SplitTime};
 ghost use Rattle.tsb_plan.specs.Objects.{has_index};
@@ -46,7 +60,7 @@ fn places_before(sequence: Sequence, ring: Ring) -> u32
 }
 
 impl Plan {
-    ghost use Rattle.tsb_plan.specs.Parts.{forces_late, floats, cycle, is_used, offset, permissive_time, leads_and_lags, split_of, sequence_of, split_time, split_mode, is_omitted, is_coordinated};
+    ghost use Rattle.tsb_plan.specs.Parts.{forces_late, floats, correction_mode, correction_limit, cycle, is_used, offset, permissive_time, leads_and_lags, split_of, sequence_of, split_time, split_mode, is_omitted, is_coordinated};
     ghost use Rattle.tsb_plan.specs.PlanOf.{plan_of};
     ghost use Rattle.tsb_plan.specs.Plan.{sequence as sequence_places};
 
@@ -64,6 +78,34 @@ impl Plan {
         ensures { result ≡ floats (plan_of self.now) }
     {
         self.value(Object::CoordForceMode, 1) == 2
+    }
+
+    /// How the local counter comes into step once a pattern is selected while another ran (`coordCorrectionMode`,
+    /// profile). Without a limit (`coordCorrectionLimit` 0) the short way and add only are at once.
+    pub fn correction_mode(&self) -> CorrectionMode
+        ensures { result ≡ correction_mode (plan_of self.now) }
+    {
+        let number = self.value(Object::CoordCorrectionMode, 1);
+        if number == 1 {
+            return CorrectionMode::Dwell;
+        }
+        if self.correction_limit() == 0 {
+            return CorrectionMode::AtOnce;
+        }
+        match number {
+            2 => CorrectionMode::ShortWay,
+            3 => CorrectionMode::AddOnly,
+            _ => CorrectionMode::AtOnce,
+        }
+    }
+
+    /// By how much of it a cycle is made longer or shorter at most while the local counter comes into step
+    /// (`coordCorrectionLimit`, profile), in percent.
+    pub fn correction_limit(&self) -> u32
+        ensures value { result ≡ correction_limit (plan_of self.now) }
+        ensures range { result ≤ 50 }
+    {
+        self.value(Object::CoordCorrectionLimit, 1)
     }
 
     /// The cycle of the pattern, 0 where the pattern is not used (`patternCycleTime`), in tenths of a

@@ -8,7 +8,7 @@ pub returns-clause-awaited : goal.returns-clause-awaited
 returns-clause-awaited c plan is row q ok taken phase held dark = awaited plan is row q ok taken phase held dark
 
 pub returns-clause-instants : goal.returns-clause-instants
-returns-clause-instants c plan is k p ok taken running on = instants_come plan is k p ok taken running on
+returns-clause-instants c plan is k p ok taken running stepped on = instants_come plan is k p ok taken running stepped on
 
 pub returns-clause-forced : goal.returns-clause-forced
 returns-clause-forced c plan base later row p n ok few taken dark pressed most long = forced_may_end plan base later row p n ok few taken dark pressed most long

@@ -1,13 +1,15 @@
-use Rattle.std.proofs.Common.{◌≡◌, ℕ, ◌==◌, ◌*◌, Bool, false, ◌&&◌, ◌||◌, Some, None, refl, ap}
+use Rattle.std.proofs.Common.{◌≡◌, ℕ, ◌==◌, ◌*◌, Bool, true, false, ◌&&◌, ◌||◌, if◌then◌else◌, Some, None, refl, ap, ◌∙◌}
 use Rattle.std.proofs.Math.Path.{fun_ext}
+use Rattle.tsb_step.specs.tsb_plan.declared.object.Object.TheVariants.{CoordCorrectionMode}
+use Rattle.tsb_step.specs.tsb_plan.declared.plan.patterns.CorrectionMode.TheVariants.{AtOnce}
 use Rattle.tsb_step.specs.tsb_plan.Plan.{Plan, side_of, is_concurrent, recycles_walk}
-use Rattle.tsb_step.specs.tsb_plan.Parts.{forces_late, floats, permissive_time, leads_and_lags, split_of, sequence_of}
+use Rattle.tsb_step.specs.tsb_plan.Parts.{forces_late, floats, permissive_time, leads_and_lags, split_of, sequence_of, correction_limit, correction_mode_of, correction_mode}
 use Rattle.tsb_step.specs.tsb_plan.Running.{running, maximum_by_mode}
 use Rattle.tsb_step.specs.tsb_rules.PatternRules.{some_and, each_pattern, split_end, ends_with, coordinated_agree, coordinated_phases_agree}
 use Rattle.tsb_step.specs.tsb_coord.Coordinated.{local}
 use Rattle.tsb_step.proofs.tsb_coord.LocalLemmas.{options_off}
 use Rattle.tsb_laws.specs.Options.{HasNoOptions}
-use Rattle.tsb_laws.proofs.operation.OptionLemmas.{never_floats, latched_by_instant, never_in_patterns, freely_alone, never_recycles, times_end, counted_from_first}
+use Rattle.tsb_laws.proofs.operation.OptionLemmas.{never_floats, latched_by_instant, never_in_patterns, freely_alone, never_recycles, in_step_at_once, times_end, counted_from_first}
 use Rattle.tsb_laws.proofs.operation.options_off_change_nothing.Goals as goal
 
 never_late : (plan : Plan) → HasNoOptions plan → forces_late plan ≡ false
@@ -27,6 +29,16 @@ not_apart plan n none = ap (λ (value : ℕ). value == 1) (none.pattern_lead_lag
 
 no_second_walk : (plan : Plan) (p : ℕ) → HasNoOptions plan → recycles_walk plan p ≡ false
 no_second_walk plan p none = ap (λ (value : ℕ). value == 1) (none.phase_pedestrian_recycle p)
+
+step_at_once : (plan : Plan) → HasNoOptions plan → correction_mode plan ≡ AtOnce
+step_at_once plan none = go (correction_limit plan)
+  where
+    go : (limit : ℕ) → correction_mode_of limit (plan.value CoordCorrectionMode 1) ≡ AtOnce
+    go limit = ap (λ (n : ℕ). correction_mode_of limit n) none.coord_correction_mode ∙ either (limit == 0)
+      where
+        either : (b : Bool) → (if b then AtOnce else AtOnce) ≡ AtOnce
+        either true = refl
+        either false = refl
 
 ends_at_once : (plan : Plan) (n s t p q : ℕ) → HasNoOptions plan →
     ends_with plan (leads_and_lags plan n) s t p q
@@ -49,5 +61,6 @@ returns c plan none = record {
   ends = λ n s t p q. ends_at_once plan n s t p q none;
   coordinated = agree_at_once plan none;
   recycled = λ t selected p. never_recycles plan (running plan selected) (local plan t selected) p (no_second_walk plan p none);
+  stepped = λ selected c t. in_step_at_once plan selected c t (step_at_once plan none);
   permissive = times_end plan (λ n. no_time plan n none);
 }

@@ -19,11 +19,11 @@ opened-by : (c : goal.After-close_onto) → AreBy (clock_at c.args.tick (trip_in
 opened-by c = subst (AreBy (clock_at c.args.tick (trip_in (rows_of c.args.self.now).monitor))) (sym c.open.ensures.rows) c.requires.by.layers
 
 pub returns-clause-done : goal.returns-clause-done
-unfolding step
+unfolding step checked_plan plan_of
 returns-clause-done c =
     layers-done (inputs.Pattern c.args.n) c.args.tick (rows_of c.args.self.now) (layers.rows_of c.close_onto.new.self) c.close_onto.new.out.items refl c.requires.by
     (ap (state_of c.args.tick (beside (rows_of c.args.self.now))) c.close_onto.ensures.rows
-    ∙ c.set_pattern.ensures.state c.args.tick (beside (rows_of c.args.self.now))
+    ∙ c.set_pattern.ensures.state (beside (rows_of c.args.self.now)) refl
     ∙ ap (λ (r : Rows). with_pattern c.args.n (state_of c.args.tick (beside (rows_of c.args.self.now)) r)) c.open.ensures.rows)
     (subst (AreBy (clock_at c.args.tick (trip_in (rows_of c.args.self.now).monitor))) (sym c.close_onto.ensures.rows)
     (c.set_pattern.ensures.by (clock_at c.args.tick (trip_in (rows_of c.args.self.now).monitor)) (opened-by c)))

@@ -9,7 +9,7 @@ still : (c : Cabinet) (p : Passing) → IsShut c → IsShut (record c { passing 
 still c p shut = record { desk = shut.desk; controller = shut.controller; monitor = shut.monitor }
 
 pub set_pattern-requires : goal.set_pattern-requires
-set_pattern-requires c = record { shut = still c.args.self.now c.none-self.result c.requires.shut; by = c.requires.by; allowed = rw c.in-Pattern.is at c.requires.allowed; empty = c.requires.empty }
+set_pattern-requires c = record { shut = still c.args.self.now c.none-self.result c.requires.shut; by = c.requires.by; allowed = rw c.in-Pattern.is at c.requires.allowed; in_time = c.requires.limit; empty = c.requires.empty }
 
 pub returns-in-Pattern : goal.returns-in-Pattern
 returns-in-Pattern c =

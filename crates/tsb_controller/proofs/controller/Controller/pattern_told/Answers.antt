@@ -4,8 +4,8 @@ use Rattle.tsb_step.specs.tsb_types.Lists.{or_number}
 use Rattle.tsb_step.specs.tsb_plan.Parts.{cycle}
 use Rattle.tsb_step.specs.tsb_plan.Plan.{Plan}
 use Rattle.tsb_step.specs.tsb_plan.Running.{running}
-use Rattle.tsb_coord.specs.Cells.{pattern_in}
-use Rattle.tsb_coord.specs.Coordinated.{local}
+use Rattle.tsb_coord.specs.Cells.{pattern_in, correction_in}
+use Rattle.tsb_coord.specs.Correction.{local_now}
 use Rattle.tsb_step.specs.Status.{free_status, status}
 use Rattle.tsb_step.specs.Tick.{runs}
 use Rattle.tsb_controller.specs.Layer.{rows_of}
@@ -20,7 +20,7 @@ returns c b same =
     record {
       number = c.number_of.ensures ∙ ap (λ (o : Option ℕ). or_number o FREE) running_now;
       free = c.free_status.ensures ∙ ap₂ free_status running_now c.pattern.ensures;
-      local = c.local.ensures ∙ ap (λ (y : Plan). local y c.args.now (pattern_in rows.pattern)) (sym same);
+      local = c.local.ensures ∙ ap (λ (y : Plan). local_now y (pattern_in rows.pattern) (correction_in rows.pattern) c.args.now) (sym same);
       sync = c.sync.ensures ∙ ap (λ (y : Plan). option_map (λ n. c.args.now % cycle y n) c.running-runs.result) (sym same)
           ∙ ap (λ (o : Option ℕ). option_map (λ n. c.args.now % cycle b.plan n) o) running_now;
     }
