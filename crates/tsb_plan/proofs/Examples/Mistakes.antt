@@ -1,13 +1,16 @@
 -- Mistakes in the cells, the values and the indices of plans, each with an example that tells it from the definition.
-use Rattle.std.specs.Prelude.{◌≡◌, ℕ, ◌+◌, ◌-◌, ◌*◌, ◌==◌, true, if◌then◌else◌, None, Ok, refl}
+use Rattle.std.specs.Prelude.{◌≡◌, ℕ, ◌+◌, ◌-◌, ◌*◌, ◌==◌, true, if◌then◌else◌, List, [], ◌∷◌, map, None, Ok, refl}
 use Rattle.tsb_plan.specs.declared.object.Object.{Object}
-use Rattle.tsb_plan.specs.declared.object.Object.TheVariants.{PhaseWalk, SplitTime, SplitMode, PhasePedestrianRecycle}
+use Rattle.tsb_plan.specs.declared.object.Object.TheVariants.{PhaseWalk, SplitTime, SplitMode, CoordCorrectionMode, CoordCorrectionLimit}
 use Rattle.tsb_plan.specs.declared.object.ObjectId.{ObjectId}
 use Rattle.tsb_plan.specs.declared.object.TheConstants.{PLAN_CELLS}
+use Rattle.tsb_plan.specs.declared.plan.patterns.CorrectionMode.{CorrectionMode}
+use Rattle.tsb_plan.specs.declared.plan.patterns.CorrectionMode.TheVariants.{AtOnce, Dwell, ShortWay, AddOnly}
 use Rattle.tsb_plan.specs.declared.version.Version.{Version}
 use Rattle.tsb_plan.specs.declared.version.Version.TheVariants.{One}
 use Rattle.tsb_plan.specs.Objects.{objects, order, first_cell}
-use Rattle.tsb_plan.specs.Plan.{Plan, empty, with_value}
+use Rattle.tsb_plan.specs.Parts.{correction_limit, correction_mode}
+use Rattle.tsb_plan.specs.Plan.{Plan, empty, with_value, with_values}
 use Rattle.tsb_plan.specs.PlanOf.{got, put_refusal}
 use Rattle.tsb_plan.specs.Versions.{has_index_in, translated}
 
@@ -28,11 +31,11 @@ would_be_shared = refl
 abbrev pub cell_from_0 : Object → ℕ → ℕ
 cell_from_0 o i = first_cell o + i
 
-is_last : first_cell PhasePedestrianRecycle + (16 - 1) + 1 ≡ PLAN_CELLS
+is_last : first_cell CoordCorrectionLimit + (1 - 1) + 1 ≡ PLAN_CELLS
 unfolding first_cell objects
 is_last = refl
 
-would_be_outside : cell_from_0 PhasePedestrianRecycle 16 ≡ PLAN_CELLS
+would_be_outside : cell_from_0 CoordCorrectionLimit 1 ≡ PLAN_CELLS
 unfolding first_cell objects
 would_be_outside = refl
 
@@ -69,3 +72,31 @@ becomes_17 = refl
 
 would_stay_9 : kept_as_it_is One SplitTime 9 ≡ 9
 would_stay_9 = refl
+
+-- ## The local counter goes slower or faster without a limit as well: in steps of 0 ticks it would never be in step
+
+-- this mode and this limit
+abbrev pub correcting : ℕ → ℕ → Plan
+correcting mode limit = with_values empty ((CoordCorrectionMode, 1, mode) ∷ (CoordCorrectionLimit, 1, limit) ∷ [])
+
+-- modes 0 to 3 with that limit
+abbrev pub modes_with : ℕ → List CorrectionMode
+modes_with limit = map (λ mode. correction_mode (correcting mode limit)) (0 ∷ 1 ∷ 2 ∷ 3 ∷ [])
+
+abbrev pub mode_alone : Plan → CorrectionMode
+mode_alone plan =
+    if plan.value CoordCorrectionMode 1 == 2 then ShortWay
+    else (if plan.value CoordCorrectionMode 1 == 3 then AddOnly else AtOnce)
+
+with_a_limit : modes_with 20 ≡ AtOnce ∷ Dwell ∷ ShortWay ∷ AddOnly ∷ []
+with_a_limit = refl
+
+-- dwell needs none
+without_a_limit : modes_with 0 ≡ AtOnce ∷ Dwell ∷ AtOnce ∷ AtOnce ∷ []
+without_a_limit = refl
+
+is_no_limit : correction_limit (correcting 3 0) ≡ 0
+is_no_limit = refl
+
+would_add_nothing : mode_alone (correcting 3 0) ≡ AddOnly
+would_add_nothing = refl
