@@ -1,5 +1,6 @@
 use Rattle.std.proofs.Common.{◌≡◌, sym, ap, ◌∙◌}
 use Rattle.tsb_objects.specs.Checked.{checked_plan}
+use Rattle.tsb_objects.specs.tsb_plan.Parts.{correction_mode}
 use Rattle.tsb_objects.specs.tsb_plan.Plan.{Plan}
 use Rattle.tsb_coord.specs.Correction.{begun, ahead_from}
 use Rattle.tsb_coord.proofs.CorrectionLemmas.{ahead_found, begun_none, begun_some}
@@ -10,7 +11,7 @@ returns-then-ahead-eq0-clause-value c =
     let plan : Plan = checked_plan c.args.plan.now in
     let found : c.ahead_with-ahead.result ≡ ahead_from plan c.args.n c.args.now c.args.local.now =
     ahead_found plan c.args.n c.args.now c.in-Some.local c.cycle_of-cycle.result c.counter.result c.ahead_with-ahead.result c.correction_mode-mode.result
-    c.cycle_of-cycle.ensures.value c.counter.ensures.value c.counter.ensures.below c.correction_mode-mode.ensures c.ahead_with-ahead.ensures.value
+    c.cycle_of-cycle.ensures.value c.counter.ensures.value c.counter.ensures.below (c.correction_mode-mode.ensures ∙ ap correction_mode c.plan.ensures.plan) c.ahead_with-ahead.ensures.value
     ∙ ap (ahead_from plan c.args.n c.args.now) (sym c.in-Some.is) in
     sym (begun_none c.args.now c.ahead_with-ahead.result c.if-ahead-eq0.true) ∙ ap (begun c.args.now) found
 
@@ -19,6 +20,6 @@ returns-else-ahead-eq0-clause-value c =
     let plan : Plan = checked_plan c.args.plan.now in
     let found : c.ahead_with-ahead.result ≡ ahead_from plan c.args.n c.args.now c.args.local.now =
     ahead_found plan c.args.n c.args.now c.in-Some.local c.cycle_of-cycle.result c.counter.result c.ahead_with-ahead.result c.correction_mode-mode.result
-    c.cycle_of-cycle.ensures.value c.counter.ensures.value c.counter.ensures.below c.correction_mode-mode.ensures c.ahead_with-ahead.ensures.value
+    c.cycle_of-cycle.ensures.value c.counter.ensures.value c.counter.ensures.below (c.correction_mode-mode.ensures ∙ ap correction_mode c.plan.ensures.plan) c.ahead_with-ahead.ensures.value
     ∙ ap (ahead_from plan c.args.n c.args.now) (sym c.in-Some.is) in
     sym (begun_some c.args.now c.ahead_with-ahead.result c.if-ahead-eq0.false) ∙ ap (begun c.args.now) found
