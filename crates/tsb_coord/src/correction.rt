@@ -142,12 +142,16 @@ pub(crate) fn skips(plan: &Checked, n: Pattern, correction: Correction, t: u32) 
 }
 
 /// Whether the local counter of a pattern was in step before tick `t`; then it is in `t`, and stays so.
+#[inline(always)]
 pub(crate) fn was_in_step(plan: &Checked, n: Pattern, correction: Correction, t: u32) -> bool
     requires used { is_used (checked_plan plan.now) n ≡ true }
     requires since { correction.since ≤ TICKS }
     requires in_time { t ≤ TICKS }
     ensures { result ≡ (ahead_in (checked_plan plan.now) (Some n) correction (t - 1) == 0) }
 {
+    if correction.ahead == 0 {
+        return true;
+    }
     ahead_in(plan, n, correction, t.saturating_sub(1)) == 0
 }
 
