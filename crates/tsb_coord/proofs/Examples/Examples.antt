@@ -9,7 +9,8 @@ use Rattle.tsb_objects.specs.tsb_plan.Quad.{quad, with_rows}
 use Rattle.tsb_objects.specs.tsb_rules.PatternRules.{split_sum, side_sum, split_end, coordinated_count}
 use Rattle.tsb_objects.specs.tsb_rules.Rules.{first_broken, broken_by_rings, broken_by_phases, broken_by_parts, broken_by_extensions}
 use Rattle.tsb_coord.specs.Coordinated.{local, residue_of_difference, end_of, instant_from, force_off, asks_force_off, asks_hold, asks_omit, refusal, selects}
-use Rattle.tsb_coord.specs.Cells.{pattern_in, pattern_cells}
+use Rattle.tsb_coord.specs.Cells.{pattern_in, correction_in, pattern_cells}
+use Rattle.tsb_coord.specs.Correction.{Correction, in_step}
 
 -- ## The local counter
 
@@ -142,7 +143,14 @@ refusals = refl
 selections : selects 0 ∷ selects 2 ∷ [] ≡ None ∷ Some 2 ∷ []
 selections = refl
 
--- ## The cell
+-- ## The cells
 
-reads_back : map (λ o. pattern_in (pattern_cells o)) (None ∷ Some 16 ∷ []) ≡ None ∷ Some 16 ∷ []
+reads_back : map (λ o. pattern_in (pattern_cells o in_step)) (None ∷ Some 16 ∷ []) ≡ None ∷ Some 16 ∷ []
 reads_back = refl
+
+-- and how its local counter comes into step
+abbrev pub ahead_7 : Correction
+ahead_7 = record { since = 1000; ahead = 7 }
+
+also_reads_back : map (λ c. correction_in (pattern_cells (Some 16) c)) (in_step ∷ ahead_7 ∷ []) ≡ in_step ∷ ahead_7 ∷ []
+also_reads_back = refl
