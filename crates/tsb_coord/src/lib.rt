@@ -1,13 +1,13 @@
-//! Coordination: which pattern is selected and runs, the local counter, and what the pattern asks of the
-//! rings: hold, force-off and omit.
+//! Coordination: which pattern is selected and runs, the local counter, and what the pattern asks of the rings: hold,
+//! force-off, pedestrian recycle and omit.
 //!
 //! `Coord` keeps the number of the pattern that is selected, and how its local counter comes into step; all else is
 //! found from these, the plan and the number of the tick. The laws: in a plan that meets the rules a phase whose green
 //! ends at its force-off instant has cleared where its split ends, a coordinated phase at local 0, and one that is
-//! forced off in its permissive time by so much behind; late force-off and the permissive time are options; a local
-//! counter that is selected does not jump, and comes into step; and the cells encode what is read in them. Names are
-//! those of NTCIP 1202 (cycle, offset, splits, sequences, coordinated phases); the orders, the instants at which splits
-//! end, late force-off, the permissive time and how a counter comes into step are the profile's own.
+//! forced off in its permissive time by so much behind; late force-off and the permissive time are options; the local
+//! counter of a pattern that is selected does not jump, and comes into step; and the cells encode what is read in them.
+//! Names are those of NTCIP 1202 (cycle, offset, splits, sequences, coordinated phases); the orders, the instants at
+//! which splits end, late force-off, the permissive time and how a counter comes into step are the profile's own.
 #![tactic(auto)]
 
 pub mod coord;
