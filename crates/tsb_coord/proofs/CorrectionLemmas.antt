@@ -1,16 +1,15 @@
 -- How far the local counter is ahead from tick to tick: by less than a cycle, by a tick less or more at most, and by
 -- none for good once it is in step. So what is asked of the rings then is what the counter in step asks.
-use Rattle.std.proofs.Common.{zero, suc, ◌≡◌, ◌≢◌, ℕ, ◌+◌, ◌-◌, ◌*◌, ◌/◌, ◌%◌, ◌<◌, ◌≤◌, ◌==◌, ◌⊎◌, nat_le, min, max, Bool, true, false, ◌&&◌, ◌||◌, if◌then◌else◌, Option, Some, None, refl, sym, ap, subst, ◌∙◌, arith, inl, inr, le_trans}
+use Rattle.std.proofs.Common.{zero, suc, ◌≡◌, ◌≢◌, ℕ, ◌+◌, ◌-◌, ◌*◌, ◌/◌, ◌%◌, ◌<◌, ◌≤◌, ◌==◌, ◌⊎◌, min, max, Bool, true, false, ◌&&◌, ◌||◌, if◌then◌else◌, Option, Some, None, refl, sym, ap, subst, ◌∙◌, arith, inl, inr, le_trans}
 use Rattle.std.proofs.Math.Nat.{mod-lt, mod-eq_of_lt, mod-add-mod, mod-zero, mod_self, mod-le, add-mul-mod_self_right, mul-le-mul_right, div-add-mod', div-mul-le_self, div-zero, lt-div-mul-add}
 use Rattle.std.proofs.lemmas.Nat.{div-mul-add, mod-mul-add, div_below, le-div}
-use Rattle.std.proofs.lemmas.Bool.{cases_lt, cases_eq, ne_eqb, eq-eqb, eqb-true, eqb-false, le-leb}
+use Rattle.std.proofs.lemmas.Bool.{cases_lt, cases_eq, ne_eqb, eq-eqb, eqb-true, le-leb}
 use Rattle.std.proofs.lemmas.Bool.Decides.{nat_tests}
 use Rattle.tsb_objects.specs.tsb_plan.declared.plan.patterns.CorrectionMode.{CorrectionMode}
 use Rattle.tsb_objects.specs.tsb_plan.declared.plan.patterns.CorrectionMode.TheVariants.{AtOnce, Dwell, ShortWay, AddOnly}
 use Rattle.tsb_objects.specs.tsb_plan.Plan.{Plan}
 use Rattle.tsb_objects.specs.tsb_plan.Parts.{is_used, cycle, offset, correction_mode, correction_limit}
 use Rattle.tsb_objects.specs.tsb_plan.Running.{running}
-use Rattle.tsb_objects.specs.tsb_rules.Consistent.{IsWhole}
 use Rattle.tsb_objects.specs.tsb_rules.Rules.{first_broken}
 use Rattle.tsb_coord.specs.Coordinated.{counter, local, local_in, residue_of_difference, is_at_force_off, asks_force_off, asks_recycle, is_pattern, forces_off, recycles}
 use Rattle.tsb_coord.specs.Correction.{Correction, in_step, lost, gained, longest_wait, waited, way, slower, faster, is_slower_way, by_short_way, ahead_by, within_cycle, ahead_in, clock, local_now, skips_in, skips, forces, comes_to_force_off, is_in_step, lets_walk_again, ahead_with, ahead_from, begun, selected_correction}

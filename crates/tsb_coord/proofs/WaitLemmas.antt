@@ -1,7 +1,7 @@
--- How long the local counter takes to the next force-off instant, or end of a permissive time or of the time for a walk,
--- and that nothing is ordered anew until then. What is forced off late stays so between instants, as late force-off
--- begins and ends at them, and what is in its permissive time does between its instant and its end. What is left to an
--- instant is enough for a walk from that instant to the end of the time for a walk.
+-- How long the local counter takes to the next force-off instant, or end of a permissive time or of the time for a
+-- walk, and that nothing is ordered anew until then. What is forced off late stays so between instants, as late
+-- force-off begins and ends at them, and what is in its permissive time does between its instant and its end. What is
+-- left to an instant is enough for a walk from that instant to the end of the time for a walk.
 use Rattle.std.proofs.Common.{zero, suc, ◌≡◌, ◌≢◌, ℕ, ◌+◌, ◌-◌, ◌*◌, ◌%◌, ◌<◌, ◌≤◌, ◌==◌, ◌⊎◌, nat_le, nat_lt, min, Bool, true, false, not, ◌&&◌, ◌||◌, if◌then◌else◌, List, Option, Some, None, IfSome, refl, sym, ap, subst, ◌∙◌, arith, inl, inr}
 use Rattle.std.proofs.Math.Nat.{mod-eq_of_lt, mod-lt, mod-add-mod, mul-mod_left, add-mul-mod_self_right}
 use Rattle.std.proofs.lemmas.Bool.{cases_lt, cases_eq, ne_eqb, eq-eqb}

@@ -1,5 +1,5 @@
 //! Coordination over its cells.
-ghost use Rattle.std.specs.Prelude.{◌≡◌, ◌≢◌, ℕ, ◌+◌, ◌<◌, ◌≤◌, ◌^◌, ◌++◌, true, false, Some, None, IfSome, slice_index, length};
+ghost use Rattle.std.specs.Prelude.{◌≡◌, ℕ, ◌+◌, ◌<◌, ◌≤◌, ◌^◌, ◌++◌, true, false, Some, None, IfSome, length};
 ghost use Rattle.arrayvec.specs.ArrayVec.{array_vec_len};
 ghost use Rattle.tsb_objects.specs.tsb_types.declared.limits.TheConstants.{TICKS};
 ghost use Rattle.tsb_cells.specs.Diff.{diff, shifted};

@@ -45,9 +45,9 @@ pub fn late_force_off_is_an_option()
 {}
 
 /// The local counter comes into step. Where a pattern is selected while another one runs it goes on from where that of
-/// the old pattern stood, but with `coordCorrectionMode` 0. From each tick to the next it takes one step or none, or, by
-/// the short way, up to two. It is in step after as many ticks as its mode and limit need for it, and stays so: then it
-/// is the counter of the cycle and the offset, and from the next tick on what is forced off is so by that one.
+/// the old pattern stood, but with `coordCorrectionMode` 0. From each tick to the next it takes one step or none, or,
+/// by the short way, up to two. It is in step after as many ticks as its mode and limit need for it, and stays so: then
+/// it is the counter of the cycle and the offset, and from the next tick on what is forced off is so by that one.
 ///
 /// Needs: a plan that breaks no rule, with a limit of 50 percent at most, as in all plans in memory.
 /// Not said: that it is not in step sooner; that a commit in the meantime lets it go on from where it stands.

@@ -1,5 +1,5 @@
--- What the definitions give, by computing: on the built-in plan of eight phases, whose patterns 1 and 2 have a cycle of 80
--- seconds, offsets of 0 and 79, and 2 and 6 coordinated; and on a plan of four sides.
+-- What the definitions give, by computing: on the built-in plan of eight phases, whose patterns 1 and 2 have a cycle of
+-- 80 seconds, offsets of 0 and 79, and 2 and 6 coordinated; and on a plan of four sides.
 use Rattle.std.specs.Prelude.{◌≡◌, ℕ, List, [], ◌∷◌, Option, Some, None, filter, map, refl}
 use Rattle.tsb_objects.specs.tsb_types.declared.refusal.Refusal.TheVariants.{NoSuchPattern}
 use Rattle.tsb_objects.specs.tsb_types.Lists.{run_from}
@@ -89,8 +89,8 @@ short_instants : instants short 1
 unfolding quad run_from split_sum side_sum split_end force_off
 short_instants = refl
 
--- ## Four sides: phases 2, 4, 10 and 12 of ring 1, a side each, and 14 of ring 2 beside 12. Splits end after the sums of
--- all lower sides, also in a ring that has no phases there
+-- ## Four sides: phases 2, 4, 10 and 12 of ring 1, a side each, and 14 of ring 2 beside 12. Splits end after the sums
+-- of all lower sides, also in a ring that has no phases there
 
 unfoldable pub four : Plan
 four = with_values (with_rows empty ((SequenceData, 2 ∷ 4 ∷ 10 ∷ 12 ∷ []) ∷ [])) (

@@ -1,6 +1,6 @@
--- One-line mistakes that break the laws of force-off, each with an example in which the local counter is elsewhere once the
--- phase has cleared. In pattern 1 of the built-in plan of eight phases the local counter is the tick number, within 800;
--- phases 2 and 6 are coordinated, and their splits end at 400, that of phase 4 at 800.
+-- One-line mistakes that break the laws of force-off, each with an example in which the local counter is elsewhere once
+-- the phase has cleared. In pattern 1 of the built-in plan of eight phases the local counter is the tick number, within
+-- 800; phases 2 and 6 are coordinated, and their splits end at 400, that of phase 4 at 800.
 use Rattle.std.specs.Prelude.{◌≡◌, ℕ, ◌+◌, ◌-◌, ◌%◌, true, Some, refl}
 use Rattle.tsb_objects.specs.tsb_types.Lists.{run_from}
 use Rattle.tsb_objects.specs.tsb_plan.Plan.{Plan, yellow_change, red_clear}

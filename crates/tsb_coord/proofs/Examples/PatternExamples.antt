@@ -63,8 +63,8 @@ first_table_instants : instants second_table 1 ≡ quad_instants
 unfolding second_table quad run_from split_sum side_sum split_end force_off
 first_table_instants = refl
 
--- ## What split modes 0 to 5 of phase 3 do in pattern 1: none, minimum recall, maximum recall, pedestrian recall, maximum
--- and pedestrian recall, omit
+-- ## What split modes 0 to 5 of phase 3 do in pattern 1: none, minimum recall, maximum recall, pedestrian recall,
+-- maximum and pedestrian recall, omit
 
 abbrev pub by_mode : (Plan → Option ℕ → ℕ → Bool) → Option ℕ → List Bool
 by_mode word runs = map (λ mode. word (with_value quad SplitMode 3 mode) runs 3) (run_from 0 6)
