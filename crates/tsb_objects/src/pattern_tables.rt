@@ -256,7 +256,7 @@ pub(crate) fn waiting_at(words: &[u16; 16], n: Pattern) -> u32
 
 /// The set with the phase if `on`, for a set that does not have it yet: it only adds.
 #[inline(always)]
-pub(crate) fn joined(set: PhaseSet, p: Phase, on: bool) -> PhaseSet
+fn joined(set: PhaseSet, p: Phase, on: bool) -> PhaseSet
     requires { has set p ≡ false }
     ensures set { has result p ≡ on }
     ensures others { (q : ℕ) → q ≢ p → has result q ≡ has set q }

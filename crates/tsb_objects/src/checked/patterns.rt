@@ -10,7 +10,7 @@ ghost use Rattle.tsb_plan.specs.Running.{sequence_in_effect, is_coordinated_now,
 ghost use Rattle.tsb_types.specs.Sets.{has};
 
 use crate::checked::Checked;
-use crate::pattern_tables::{forced_in, instant_at, joined, permissive_end_at, waiting_at};
+use crate::pattern_tables::{forced_in, instant_at, permissive_end_at, waiting_at};
 use crate::recycle;
 use tsb_types::{Pattern, Phase, PhaseSet, Sequence};
 
@@ -168,10 +168,9 @@ impl Checked {
             (walk_and_clearance (checked_plan self.now) p) (Some local) (force_off (checked_plan self.now) (Some n) p)) }
     {
         let mut set = PhaseSet::empty();
-        for number in 1..17u8 {
-            let p = Phase::of(number);
-            let on = phases.contains(p) && self.has_time_to_walk(n, local, p);
-            set = joined(set, p, on);
+        let mut rest = phases;
+        while let Some(p) = rest.pop() {
+            set = set.with(p, self.has_time_to_walk(n, local, p));
         }
         set
     }
