@@ -174,8 +174,8 @@ a_tick_behind : next quad recycling none_moved 2 (in_part 200 DontWalk Off) ≡ 
 unfolding quad reduction_timer gap initial pedestrian_now
 a_tick_behind = refl
 
--- it is told of the tick in which it begins, and of no other part: in DontWalk, Walk and clearance at its end, and of no
--- phase that is Yellow or Red
+-- it is told of the tick in which it begins, and of no other part: in DontWalk, Walk and clearance at its end, and of
+-- no phase that is Yellow or Red
 abbrev pub told_of : List Phase
 told_of =
     in_part 150 DontWalk Off ∷ in_part 150 Walk (On 39) ∷ in_part 150 PedestrianClear (On 60)

@@ -1,7 +1,7 @@
 use Rattle.std.proofs.Common.{◌-◌, subst, arith}
 use Rattle.tsb_objects.specs.tsb_plan.Plan.{Plan}
 use Rattle.tsb_objects.specs.tsb_plan.PlanOf.{plan_of}
-use Rattle.tsb_phase.specs.Promises.{IsQuiet, KeepsReady, KeepsOver, KeepsRedRevertPassed, KeepsGapped, KeepsWalks}
+use Rattle.tsb_phase.specs.Promises.{IsQuiet, KeepsReady, KeepsOver, KeepsRedRevertPassed, KeepsGapped}
 use Rattle.tsb_phase.specs.Layer.{cells_of}
 use Rattle.tsb_phase.proofs.ReadLemmas.{later}
 use Rattle.tsb_phase.proofs.QuietLemmas.{ticked-still, ready-still, over-still, reverted-still, gapped-still, walks-still}
