@@ -27,7 +27,7 @@ def test_objects_are_those_of_the_source(
     monkeypatch.chdir(top)
     monkeypatch.syspath_prepend(str(top / "tools"))
     source = importlib.import_module("manual_table").objects()
-    assert set(source) == set(OBJECTS) and len(OBJECTS) == 66
+    assert set(source) == set(OBJECTS) and len(OBJECTS) == 68
     for name, (_, _, values, unit, structural) in source.items():
         found = OBJECTS[name]
         assert found.unit == unit and found.structural == (structural == "S")
