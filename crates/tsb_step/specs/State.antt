@@ -13,7 +13,8 @@ use Rattle.tsb_phase.specs.Phase as phase
 use Rattle.tsb_phase.specs.Phase.{Phase}
 use Rattle.tsb_ring.specs.Rings as rings
 use Rattle.tsb_coord.specs.Coordinated as coordination
-use Rattle.tsb_coord.specs.Correction.{Correction, in_step}
+use Rattle.tsb_coord.specs.declared.correction.Correction.{Correction}
+use Rattle.tsb_coord.specs.Correction.{in_step}
 use Rattle.tsb_preempt.specs.Preempts as preempts
 use Rattle.tsb_preempt.specs.Preempts.{Preempts}
 use Rattle.tsb_heads.specs.declared.monitor.Trip.{Trip}
