@@ -10,8 +10,9 @@ use Rattle.tsb_step.specs.tsb_plan.Running.{running}
 use Rattle.tsb_step.specs.tsb_rules.PatternRules.{some_and, each_pattern, split_end, ends_with, coordinated_agree, coordinated_phases_agree, permissive_times_end}
 use Rattle.tsb_step.specs.tsb_rules.Rules.{first_broken}
 use Rattle.tsb_step.specs.tsb_objects.Instants.{first_coordinated}
+use Rattle.tsb_step.specs.tsb_coord.declared.correction.Correction.{Correction}
 use Rattle.tsb_step.specs.tsb_coord.Coordinated.{local, instant_by, force_off, agree, asks_force_off, asks_recycle, is_pattern}
-use Rattle.tsb_step.specs.tsb_coord.Correction.{Correction, is_in_step}
+use Rattle.tsb_step.specs.tsb_coord.Correction.{is_in_step}
 use Rattle.tsb_step.specs.tsb_phase.Phase.{Given, GreenHeld}
 use Rattle.tsb_step.specs.tsb_phase.DynamicMaximum.{maximum_in_use}
 use Rattle.tsb_step.specs.tsb_phase.Green.{conflict_timer, acting_maximum, has_maxed_out, forced_latch}

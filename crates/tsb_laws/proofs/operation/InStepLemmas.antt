@@ -3,8 +3,9 @@ use Rattle.std.proofs.Common.{◌≡◌, ℕ, ◌+◌, ◌-◌, ◌<◌, ◌≤�
 use Rattle.std.proofs.lemmas.Bool.{and_parts, and_from, or_cases, or_left, or_right, eqb-true}
 use Rattle.tsb_step.specs.tsb_plan.Plan.{Plan}
 use Rattle.tsb_step.specs.tsb_plan.Running.{running}
+use Rattle.tsb_step.specs.tsb_coord.declared.correction.Correction.{Correction}
 use Rattle.tsb_step.specs.tsb_coord.Coordinated.{is_at_force_off, asks_force_off, asks_recycle}
-use Rattle.tsb_step.specs.tsb_coord.Correction.{Correction, ahead_in, clock, skips, forces, comes_to_force_off, is_in_step}
+use Rattle.tsb_step.specs.tsb_coord.Correction.{ahead_in, clock, skips, forces, comes_to_force_off, is_in_step}
 use Rattle.tsb_step.proofs.tsb_coord.CorrectionLemmas.{once_in_step, forces_in_step, comes_in_step}
 use Rattle.tsb_step.proofs.tsb_coord.LocalLemmas.{at_instant_asks}
 use Rattle.tsb_step.specs.State.{State}
@@ -20,11 +21,11 @@ in_step_later s t stepped later =
 
 pub forces_as : (s : State) (t p : ℕ) → IsInStep s → s.now < t → forces s.plan s.pattern s.correction t p ≡ asks_force_off s.plan t s.pattern p
 forces_as s t p stepped later =
-    forces_in_step s.plan s.pattern s.correction t p (in_step_later s (t - 1) stepped (omega (arith, later))) (omega (arith, later))
+    forces_in_step s.plan s.pattern s.correction t p (in_step_later s (t - 1) stepped (omega (arith, later)))
 
 pub comes_as : (s : State) (t p : ℕ) → IsInStep s → s.now < t → comes_to_force_off s.plan s.pattern s.correction t p ≡ is_at_force_off s.plan t s.pattern p
 comes_as s t p stepped later =
-    comes_in_step s.plan s.pattern s.correction t p (in_step_later s (t - 1) stepped (omega (arith, later))) (omega (arith, later))
+    comes_in_step s.plan s.pattern s.correction t p (in_step_later s (t - 1) stepped (omega (arith, later)))
 
 -- ## In step or not
 

@@ -16,7 +16,7 @@ use Rattle.tsb_step.specs.tsb_rules.PatternRules.{permissive_times_end}
 use Rattle.tsb_step.specs.tsb_rules.Rules.{first_broken}
 use Rattle.tsb_step.specs.tsb_objects.Instants.{is_coordinated_in, coordinated_in_ring, first_coordinated, recycles}
 use Rattle.tsb_step.specs.tsb_coord.Coordinated.{residue_of_difference, counter, reference, instant_by, force_off, is_same_from_both, is_pattern}
-use Rattle.tsb_step.specs.tsb_coord.Correction.{Correction, in_step, ahead_by, within_cycle, ahead_in, is_in_step, ahead_with, begun, selected_correction}
+use Rattle.tsb_step.specs.tsb_coord.Correction.{in_step, ahead_with, begun, selected_correction}
 use Rattle.tsb_step.proofs.tsb_coord.LocalLemmas.{IsFirst, first_passes, its_parts, ends_agree, IsReference, reference_is}
 use Rattle.tsb_step.specs.tsb_phase.Phase.{Given, GreenHeld}
 use Rattle.tsb_step.specs.tsb_phase.Green.{conflict_timer, has_reached_some, acting_maximum, has_maxed_out, forced_latch}
@@ -62,14 +62,7 @@ pub never_recycles : (plan : Plan) (runs local : Option ℕ) (p : ℕ) → recyc
 never_recycles plan None local p off = refl
 never_recycles plan (Some n) local p off = rw off refl
 
--- ## The local counter comes into step at once
-
-pub none_ahead_at_once : (plan : Plan) (runs : Option ℕ) (c : Correction) (t : ℕ) → correction_mode plan ≡ AtOnce → ahead_in plan runs c t ≡ 0
-none_ahead_at_once plan None c t mode = refl
-none_ahead_at_once plan (Some n) c t mode = ap (λ (m : CorrectionMode). ahead_by m plan n (within_cycle plan n c) (t - c.since)) mode
-
-pub in_step_at_once : (plan : Plan) (selected : Option ℕ) (c : Correction) (t : ℕ) → correction_mode plan ≡ AtOnce → is_in_step plan selected c t ≡ true
-in_step_at_once plan selected c t mode = ap (λ (ahead : ℕ). ahead == 0) (none_ahead_at_once plan (running plan selected) c t mode)
+-- ## What is selected is in step at once
 
 pub begins_at_once : (plan : Plan) (selected : Option ℕ) (now : ℕ) (l : Option ℕ) → correction_mode plan ≡ AtOnce →
     selected_correction plan selected now l ≡ in_step

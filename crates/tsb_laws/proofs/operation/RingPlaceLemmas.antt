@@ -7,8 +7,8 @@ use Rattle.tsb_step.specs.tsb_types.Intervals.{is_green, in_service}
 use Rattle.tsb_step.specs.tsb_types.Lists.{first, among, after, up_to, later, not_later}
 use Rattle.tsb_step.specs.tsb_plan.Plan.{Plan, phases, yellow_change, red_clear, red_revert}
 use Rattle.tsb_step.specs.tsb_rules.SequenceRules.{lists_once}
+use Rattle.tsb_step.specs.tsb_coord.declared.correction.Correction.{Correction}
 use Rattle.tsb_step.specs.tsb_coord.Coordinated.{serving_order}
-use Rattle.tsb_step.specs.tsb_coord.Correction.{Correction}
 use Rattle.tsb_step.specs.tsb_phase.Phase.{Phase}
 use Rattle.tsb_step.specs.tsb_ring.Rings as rings
 use Rattle.tsb_step.specs.tsb_ring.Rings.{Ring, number, in_ring}

@@ -7,9 +7,10 @@ use Rattle.tsb_step.specs.tsb_plan.Parts.{forces_late, floats, permissive_time, 
 use Rattle.tsb_step.specs.tsb_plan.Running.{running, maximum_by_mode}
 use Rattle.tsb_step.specs.tsb_rules.PatternRules.{some_and, each_pattern, split_end, ends_with, coordinated_agree, coordinated_phases_agree}
 use Rattle.tsb_step.specs.tsb_coord.Coordinated.{local}
+use Rattle.tsb_step.proofs.tsb_coord.CorrectionLemmas.{in_step_at_once}
 use Rattle.tsb_step.proofs.tsb_coord.LocalLemmas.{options_off}
 use Rattle.tsb_laws.specs.Options.{HasNoOptions}
-use Rattle.tsb_laws.proofs.operation.OptionLemmas.{never_floats, latched_by_instant, never_in_patterns, freely_alone, never_recycles, in_step_at_once, times_end, counted_from_first}
+use Rattle.tsb_laws.proofs.operation.OptionLemmas.{never_floats, latched_by_instant, never_in_patterns, freely_alone, never_recycles, times_end, counted_from_first}
 use Rattle.tsb_laws.proofs.operation.options_off_change_nothing.Goals as goal
 
 never_late : (plan : Plan) → HasNoOptions plan → forces_late plan ≡ false
