@@ -17,7 +17,8 @@ use Rattle.tsb_step.specs.tsb_plan.Running.{mode_in_effect, recalls_minimum, is_
 use Rattle.tsb_step.specs.tsb_rules.Consistent.{IsPhase}
 use Rattle.tsb_step.specs.tsb_rules.Rules.{first_broken, may_be_concurrent}
 use Rattle.tsb_step.specs.tsb_calls.Callable.{has_pedestrian_call, has_passing_call}
-use Rattle.tsb_step.specs.tsb_coord.Coordinated.{end_of, asks_force_off}
+use Rattle.tsb_step.specs.tsb_coord.Coordinated.{end_of}
+use Rattle.tsb_step.specs.tsb_coord.Correction.{forces}
 use Rattle.tsb_step.specs.tsb_ring.declared.want.Want.{Want}
 use Rattle.tsb_step.specs.tsb_ring.declared.want.Want.TheVariants.{Rest}
 use Rattle.tsb_step.specs.tsb_ring.Laws.{IsListed}
@@ -27,6 +28,7 @@ use Rattle.tsb_step.specs.declared.inputs.Input.{Input}
 use Rattle.tsb_step.specs.declared.inputs.Input.TheVariants.{Tick, Pattern}
 use Rattle.tsb_step.specs.State.{State, interval}
 use Rattle.tsb_step.specs.Tick.{service, runs, hold, forced, calls_given, set, callable, conflict, ready, rings_given}
+use Rattle.tsb_step.specs.Signs.{IsInStep}
 use Rattle.tsb_step.specs.Runs.{replay, AreTaken}
 use Rattle.tsb_step.specs.Laws.{IsConsistent}
 use Rattle.tsb_step.proofs.GivenLemmas.{enabled_is_listed}
@@ -123,6 +125,10 @@ runs_1 : runs (replay prompt started) ≡ Some 1
 unfolding opened prompt
 runs_1 = refl
 
+in_step_1 : IsInStep (replay prompt started)
+unfolding opened prompt
+in_step_1 = refl
+
 is_on : is_enabled (replay prompt started).plan 6 ≡ true
 unfolding opened prompt
 is_on = refl
@@ -135,16 +141,17 @@ record Running (plan : Plan) (is : List Input) (k p : ℕ) : Type 0 where
   consistent : IsConsistent plan
   taken : AreTaken plan is
   runs : runs (replay plan is) ≡ Some k
+  in_step : IsInStep (replay plan is)
   enabled : is_enabled (replay plan is).plan p ≡ true
 
 a_pattern : Running prompt started 1 6
-a_pattern = record { consistent = prompt_consistent; taken = taken; runs = runs_1; enabled = is_on }
+a_pattern = record { consistent = prompt_consistent; taken = taken; runs = runs_1; in_step = in_step_1; enabled = is_on }
 
 pressed : is_pressed_in_pattern 6 (replay prompt started) (Tick (vehicle 5)) ≡ true
 unfolding opened prompt
 pressed = refl
 
-comes_at_2 : asks_force_off (replay prompt started).plan 2 (replay prompt started).pattern 6 ≡ true
+comes_at_2 : forces (replay prompt started).plan (replay prompt started).pattern (replay prompt started).correction 2 6 ≡ true
 unfolding opened prompt
 comes_at_2 = refl
 
@@ -263,6 +270,10 @@ picked_runs : runs (replay prompt selected) ≡ Some 1
 unfolding opened prompt
 picked_runs = refl
 
+picked_in_step : IsInStep (replay prompt selected)
+unfolding opened prompt
+picked_in_step = refl
+
 picked_plan : (replay prompt selected).plan ≡ prompt
 unfolding opened
 picked_plan = refl
@@ -303,6 +314,7 @@ record Return (test : State → Input → Bool) (plan : Plan) (base later : List
   untripped : IsUntripped plan base later
   full : IsFullyConcurrent (replay plan base).plan
   runs : runs (replay plan base) ≡ Some k
+  in_step : IsInStep (replay plan base)
   ringed : in_ring (replay plan base).plan r c ≡ true
   times : TurnsInPattern (replay plan base).plan k j h
   out : HasGoneOn test plan base later
@@ -315,6 +327,7 @@ a_return = record {
   untripped = (picked_dark, dark);
   full = subst IsFullyConcurrent (sym picked_plan) goes_together;
   runs = picked_runs;
+  in_step = picked_in_step;
   ringed = picked_ring;
   times = subst (λ (x : Plan). TurnsInPattern x 1 510 5100) (sym picked_plan) turns_in_1;
   out = (tt, is_out_2);
@@ -332,6 +345,7 @@ a_wait = record {
   untripped = (picked_dark, dark);
   full = subst IsFullyConcurrent (sym picked_plan) goes_together;
   runs = picked_runs;
+  in_step = picked_in_step;
   ringed = picked_ring;
   times = subst (λ (x : Plan). TurnsInPattern x 1 510 5100) (sym picked_plan) turns_in_1;
   out = (tt, is_called_2);

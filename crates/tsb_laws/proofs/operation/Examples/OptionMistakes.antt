@@ -9,7 +9,9 @@ use Rattle.tsb_step.specs.tsb_plan.Running.{running, is_coordinated_now, split_g
 use Rattle.tsb_step.specs.tsb_plan.Two.{two}
 use Rattle.tsb_step.specs.tsb_rules.PatternRules.{each_pattern, ends_with, permissive_times_end}
 use Rattle.tsb_step.specs.tsb_objects.Instants.{is_behind, walk_and_clearance, is_left}
+use Rattle.tsb_step.specs.tsb_coord.declared.correction.Correction.{Correction}
 use Rattle.tsb_step.specs.tsb_coord.Coordinated.{local, end_of, force_off, agree, yields_to, instant_of, is_late, asks_force_off, asks_recycle}
+use Rattle.tsb_step.specs.tsb_coord.Correction.{by_short_way, is_in_step}
 use Rattle.tsb_step.specs.tsb_phase.Phase.{Given, GreenHeld}
 use Rattle.tsb_step.specs.tsb_phase.Green.{conflict_timer, has_maxed_out, forced_latch}
 use Rattle.tsb_step.proofs.Examples.Scenes.{opened}
@@ -23,6 +25,7 @@ two_has_none = record {
   pattern_permissive_time = λ n. refl;
   pattern_lead_lag = λ n. refl;
   phase_pedestrian_recycle = λ p. refl;
+  coord_correction_mode = refl;
 }
 
 quad_has_none : HasNoOptions quad
@@ -33,6 +36,7 @@ quad_has_none = record {
   pattern_permissive_time = λ n. refl;
   pattern_lead_lag = λ n. refl;
   phase_pedestrian_recycle = λ p. refl;
+  coord_correction_mode = refl;
 }
 
 -- ## Force-off that is late whatever the mode is
@@ -90,6 +94,25 @@ is_not_recycled = refl
 would_walk_again : recycles_always quad 660 (Some 1) 2 ≡ true
 unfolding opened
 would_walk_again = refl
+
+-- ## A local counter that takes the short way whatever the mode is
+
+-- 100 ticks ahead in tick 0
+abbrev far : Correction
+far = record { since = 0; ahead = 100 }
+
+-- with a limit of 20 percent
+abbrev steps_always : Plan → ℕ → Correction → ℕ → ℕ
+steps_always plan n c t = by_short_way (cycle plan n) 20 c.ahead (t - c.since)
+
+is_in_step_at_once : is_in_step quad (Some 1) far 12 ≡ true
+unfolding opened
+is_in_step_at_once = refl
+
+-- it stands still in 2 of 12 ticks
+would_lag : steps_always quad 1 far 12 ≡ 98
+unfolding opened
+would_lag = refl
 
 -- ## Instants that are counted from the begin of the cycle
 

@@ -14,7 +14,7 @@ use Rattle.tsb_step.specs.tsb_plan.Plan.{Plan, walk, pedestrian_clear, with_valu
 use Rattle.tsb_step.specs.tsb_plan.Quad.{quad}
 use Rattle.tsb_step.specs.tsb_plan.Running.{floating_time, pattern_maximum}
 use Rattle.tsb_step.specs.tsb_rules.Rules.{first_broken}
-use Rattle.tsb_step.specs.tsb_coord.Coordinated.{counter, force_off}
+use Rattle.tsb_step.specs.tsb_coord.Coordinated.{force_off}
 use Rattle.tsb_step.specs.tsb_phase.Phase.{held_of}
 use Rattle.tsb_step.specs.tsb_phase.DynamicMaximum.{maximum_in_use}
 use Rattle.tsb_step.specs.tsb_phase.Green.{conflict_timer, initial_has_passed}
@@ -30,7 +30,7 @@ use Rattle.tsb_laws.specs.Stretches.{IsUntripped}
 use Rattle.tsb_laws.specs.ServedCalls.{longest_initial}
 use Rattle.tsb_laws.specs.GreenEnds.{HasFloated}
 use Rattle.tsb_laws.specs.CoordinatedGreens.{is_pressed_in_pattern}
-use Rattle.tsb_laws.specs.PatternEnds.{LacksOnlyItsEnd, HasWaitedInPattern, HasMaxedInPattern, IsInPermissiveTime}
+use Rattle.tsb_laws.specs.PatternEnds.{LacksOnlyItsEnd, HasWaitedInPattern, HasMaxedInPattern, next_counter, IsInPermissiveTime}
 use Rattle.tsb_laws.proofs.safety.Examples.PlanFits.{Fits, values_fit, quad_fits, consistent}
 
 abbrev started : List Input
@@ -312,7 +312,7 @@ own_760 : force_off (replay permitting started).plan (Some 1) 6 ≡ Some 760
 unfolding opened permitting
 own_760 = refl
 
-comes_at_772 : counter (replay permitting started).plan 1 ((replay permitting started).now + 1) ≡ 772
+comes_at_772 : next_counter (replay permitting started) 1 ≡ 772
 unfolding opened permitting
 comes_at_772 = refl
 

@@ -18,7 +18,10 @@ use Rattle.tsb_step.specs.tsb_plan.Parts.{cycle, preempt_delay}
 use Rattle.tsb_step.specs.tsb_plan.Plan.{Plan, walk, pedestrian_clear, rests_in_walk, with_values}
 use Rattle.tsb_step.specs.tsb_plan.Quad.{quad}
 use Rattle.tsb_step.specs.tsb_rules.Rules.{first_broken}
+use Rattle.tsb_step.specs.tsb_coord.declared.correction.Correction.{Correction}
 use Rattle.tsb_step.specs.tsb_coord.Coordinated.{local, force_off, asks_force_off, walk_and_clearance, is_left}
+use Rattle.tsb_step.specs.tsb_coord.Correction.{in_step}
+use Rattle.tsb_step.proofs.tsb_coord.CorrectionLemmas.{always_in_step}
 use Rattle.tsb_step.specs.tsb_phase.Pedestrian.{pedestrian_now}
 use Rattle.tsb_step.specs.tsb_preempt.Preempts.{Preempts, is_preempt, delay_timer, still_spent, requests, requesting, if_may_begin, beginning, going_on, service_by}
 use Rattle.tsb_step.specs.tsb_preempt.Preempts as preempts
@@ -26,7 +29,7 @@ use Rattle.tsb_step.specs.tsb_preempt.Service.{Service, service_as_read, has_dwe
 use Rattle.tsb_step.specs.declared.inputs.Input.{Input}
 use Rattle.tsb_step.specs.declared.inputs.Input.TheVariants.{Tick, Pattern}
 use Rattle.tsb_step.specs.State.{State, interval, pedestrian_part}
-use Rattle.tsb_step.specs.Signs.{watched}
+use Rattle.tsb_step.specs.Signs.{watched, IsInStep}
 use Rattle.tsb_step.specs.Step.{verdict, step}
 use Rattle.tsb_step.specs.Tick.{preempts_given, new_service, service, runs, hold, forced, recycle, conflict, pedestrian_call, phases_given, phase_read, next}
 use Rattle.tsb_step.specs.Runs.{replay, AreTaken}
@@ -37,9 +40,10 @@ use Rattle.tsb_step.proofs.GoodLemmas.{good_run}
 use Rattle.tsb_step.proofs.TripLemmas.{faults_alone_trip}
 use Rattle.tsb_laws.specs.Stretches.{IsUntripped}
 use Rattle.tsb_laws.specs.CoordinatedGreens.{HasGoneOn}
-use Rattle.tsb_laws.specs.RecycledWalks.{WalksAgain, FitsBeforeForceOff, MayWalkAgain, is_unheld, is_unforced}
-use Rattle.tsb_laws.proofs.operation.CoordinatedRunLemmas.{pattern_stays}
-use Rattle.tsb_laws.proofs.operation.RecycleTimeLemmas.{recycled_so}
+use Rattle.tsb_laws.specs.RecycledWalks.{WalksAgain, MayWalkAgain, is_unheld, is_unforced}
+use Rattle.tsb_laws.proofs.operation.CoordinatedRunLemmas.{pattern_stays, correction_stays}
+use Rattle.tsb_laws.proofs.operation.InStepLemmas.{forces_as}
+use Rattle.tsb_laws.proofs.operation.RecycleTimeLemmas.{IsRecycled, recycled_so}
 use Rattle.tsb_laws.proofs.operation.RecycledRunLemmas.{calls_are_recycled}
 use Rattle.tsb_laws.proofs.safety.Examples.PlanFits.{Fits, values_fit, quad_fits, consistent}
 
@@ -91,8 +95,8 @@ may_recycle_2 : recycle (replay walking started) 2 ≡ true
 unfolding opened walking
 may_recycle_2 = refl
 
-both_fit : FitsBeforeForceOff (replay walking started) 2
-both_fit = (recycled_so (replay walking started) 2 (good_run walking started walking_consistent base_taken.0) may_recycle_2).fits
+recycled_2 : IsRecycled (replay walking started) 2
+recycled_2 = recycled_so (replay walking started) 2 (good_run walking started walking_consistent base_taken.0) may_recycle_2
 
 -- all but that is computed
 record Computed : Type 0 where
@@ -117,7 +121,8 @@ may_2 = record {
   called = computed.called;
   quiet = computed.quiet;
   unforced = ap (λ (b : Bool). b && conflict (replay walking started) (button 2) 2) computed.unforced;
-  fits = both_fit;
+  in_step = recycled_2.in_step;
+  fits = recycled_2.fits;
 }
 
 record ASecondWalk (plan : Plan) (is : List Input) (row : Row) (p : ℕ) : Type 0 where
@@ -133,7 +138,7 @@ a_second_walk = record { consistent = walking_consistent; few = few; taken = bas
 -- ## And 20 ticks later it is forced off
 
 -- so many ticks with no input on
-abbrev quiet_for : ℕ → List Input
+abbrev pub quiet_for : ℕ → List Input
 quiet_for zero = []
 quiet_for (suc k) = Tick all_off ∷ quiet_for k
 
@@ -205,16 +210,25 @@ record At (k : ℕ) : Type 0 where
   now_is : (replay walking (quiet_for k ++ base)).now ≡ k + 2
   plan_is : (replay walking (quiet_for k ++ base)).plan ≡ walking
   pattern_is : (replay walking (quiet_for k ++ base)).pattern ≡ Some 1
+  correction_is : (replay walking (quiet_for k ++ base)).correction ≡ in_step
   no_preempt : NoPreempt (replay walking (quiet_for k ++ base)).preempts
 
 at_base : At 0
 unfolding opened walking
-at_base = record { taken = base_taken; unlit = refl; now_is = refl; plan_is = refl; pattern_is = refl; no_preempt = record { switches = λ n. refl; served = refl } }
+at_base = record {
+  taken = base_taken;
+  unlit = refl;
+  now_is = refl;
+  plan_is = refl;
+  pattern_is = refl;
+  correction_is = refl;
+  no_preempt = record { switches = λ n. refl; served = refl };
+}
 
 run_dark : (k : ℕ) → At k → (replay walking (quiet_for k ++ base)).trip ≡ None
 run_dark k it = faults_alone_trip walking (quiet_for k ++ base) walking_consistent it.taken it.unlit
 
-tick_taken : (s : State) (row : Row) → s.now ≤ 1000 → verdict s (Tick row) ≡ None
+pub tick_taken : (s : State) (row : Row) → s.now ≤ 1000 → verdict s (Tick row) ≡ None
 unfolding verdict
 tick_taken s row low = go (nat_lt s.now 6000000) (grind (arith, nat_tests, low))
   where
@@ -229,6 +243,7 @@ at_next k low it = record {
   now_is = (let now = it.now_is in let one = one_later (replay walking (quiet_for k ++ base)) all_off in omega (arith, now, one));
   plan_is = plan_stays (replay walking (quiet_for k ++ base)) all_off ∙ it.plan_is;
   pattern_is = pattern_stays (replay walking (quiet_for k ++ base)) all_off ∙ it.pattern_is;
+  correction_is = correction_stays (replay walking (quiet_for k ++ base)) all_off ∙ it.correction_is;
   no_preempt = none_then (replay walking (quiet_for k ++ base)) (run_dark k it) it.no_preempt;
 }
 
@@ -252,9 +267,16 @@ unheld k it =
     (ap is_none (quiet_now (replay walking (quiet_for k ++ base)) it.no_preempt))
     (ap (λ (b : Bool). not (b && not (conflict (replay walking (quiet_for k ++ base)) all_off 2))) (ap (λ (x : Plan). rests_in_walk x 2) it.plan_is ∙ rests_not))
 
+steps_so : (k : ℕ) → At k → IsInStep (replay walking (quiet_for k ++ base))
+steps_so k it = always_in_step after.plan after.pattern after.correction after.now (ap (λ (c : Correction). c.ahead) it.correction_is)
+  where
+    after : State
+    after = replay walking (quiet_for k ++ base)
+
 forced_is : (k : ℕ) → At k → forced (replay walking (quiet_for k ++ base)) 2 ≡ asks_force_off walking (k + 3) (Some 1) 2
 forced_is k it =
-    ap (λ (x : Plan). asks_force_off x ((replay walking (quiet_for k ++ base)).now + 1) (replay walking (quiet_for k ++ base)).pattern 2) it.plan_is
+    forces_as (replay walking (quiet_for k ++ base)) ((replay walking (quiet_for k ++ base)).now + 1) 2 (steps_so k it) (omega arith)
+    ∙ ap (λ (x : Plan). asks_force_off x ((replay walking (quiet_for k ++ base)).now + 1) (replay walking (quiet_for k ++ base)).pattern 2) it.plan_is
     ∙ (ap (λ (o : Option ℕ). asks_force_off walking ((replay walking (quiet_for k ++ base)).now + 1) o 2) it.pattern_is
     ∙ ap (λ (t : ℕ). asks_force_off walking t (Some 1) 2) (let now = it.now_is in omega (arith, now)))
 
@@ -272,11 +294,15 @@ at_start = record { now_is = refl; plan_is = refl; pattern_is = refl; both = ref
 not_forced : (t : ℕ) → 2 ≤ t → t ≤ 21 → asks_force_off walking t (Some 1) 2 ≡ false
 not_forced t from to =
     sym (ap (λ (x : Plan). asks_force_off x t (replay walking started).pattern 2) at_start.plan_is ∙ ap (λ (o : Option ℕ). asks_force_off walking t o 2) at_start.pattern_is)
-    ∙ both_fit t (let now = at_start.now_is in omega (arith, now, from))
+    ∙ (sym (forces_as (replay walking started) t 2 recycled_2.in_step later)
+    ∙ recycled_2.fits t later
     (let now = at_start.now_is in
     let both = at_start.both in
     let same = ap (λ (x : Plan). walk x 2 + pedestrian_clear x 2) at_start.plan_is in
-    omega (arith, now, both, same, to))
+    omega (arith, now, both, same, to)))
+  where
+    later : (replay walking started).now < t
+    later = let now = at_start.now_is in omega (arith, now, from)
 
 unforced_for : (k : ℕ) → k ≤ 19 → HasGoneOn (is_unforced 2) walking base (quiet_for k)
 unforced_for zero low = tt

@@ -1,0 +1,219 @@
+-- Runs that meet the premises of the laws of the local counter in step, and mistakes that these laws refuse.
+use Rattle.std.proofs.Common.{◌≡◌, ◌≢◌, ℕ, zero, suc, ◌+◌, ◌-◌, ◌≤◌, ◌%◌, Bool, true, List, [], ◌∷◌, ◌++◌, Option, Some, None, refl, sym, ap, arith, ◌∙◌, inl}
+use Rattle.tsb_step.specs.tsb_types.Sets.{all_off}
+use Rattle.tsb_step.specs.tsb_plan.declared.object.Object.{Object}
+use Rattle.tsb_step.specs.tsb_plan.declared.object.Object.TheVariants.{PatternOffsetTime, CoordCorrectionMode, CoordCorrectionLimit}
+use Rattle.tsb_step.specs.tsb_plan.declared.plan.patterns.CorrectionMode.{CorrectionMode}
+use Rattle.tsb_step.specs.tsb_plan.declared.plan.patterns.CorrectionMode.TheVariants.{AtOnce, AddOnly}
+use Rattle.tsb_step.specs.tsb_plan.Objects.{greatest}
+use Rattle.tsb_step.specs.tsb_plan.Parts.{cycle, correction_mode, correction_limit}
+use Rattle.tsb_step.specs.tsb_plan.Plan.{Plan, with_values}
+use Rattle.tsb_step.specs.tsb_plan.Quad.{quad}
+use Rattle.tsb_step.specs.tsb_rules.Rules.{first_broken}
+use Rattle.tsb_step.specs.tsb_coord.declared.correction.Correction.{Correction}
+use Rattle.tsb_step.specs.tsb_coord.Coordinated.{counter, residue_of_difference, is_pattern}
+use Rattle.tsb_step.specs.tsb_coord.Coordinated as coordination
+use Rattle.tsb_step.specs.tsb_coord.Correction.{lost, ahead_in, is_in_step, begun}
+use Rattle.tsb_step.specs.declared.inputs.Input.{Input}
+use Rattle.tsb_step.specs.declared.inputs.Input.TheVariants.{Tick, Pattern}
+use Rattle.tsb_step.specs.State.{State}
+use Rattle.tsb_step.specs.Signs.{local, IsInStep}
+use Rattle.tsb_step.specs.Step.{step}
+use Rattle.tsb_step.specs.Runs.{replay, AreTaken}
+use Rattle.tsb_step.specs.Laws.{IsConsistent}
+use Rattle.tsb_step.proofs.ClearLemmas.{one_later, plan_stays}
+use Rattle.tsb_step.proofs.Examples.Scenes.{opened}
+use Rattle.tsb_laws.specs.CoordinatedGreens.{HasGoneOn}
+use Rattle.tsb_laws.specs.InStep.{selects_none, BeginsInStep, keeps_in_step}
+use Rattle.tsb_laws.proofs.operation.CoordinatedRunLemmas.{pattern_stays, correction_stays}
+use Rattle.tsb_laws.proofs.operation.Examples.RecycledWalkRuns.{quiet_for, tick_taken}
+use Rattle.tsb_laws.proofs.safety.Examples.PlanFits.{Fits, values_fit, quad_fits, consistent}
+
+-- ## Pattern 2 is selected in tick 1 while pattern 1 runs: 10 ticks ahead, it loses one in 3 ticks by add only
+
+-- the offset of pattern 1 is 0, and that of pattern 2 is 10 ticks
+abbrev adding_values : List (Object × ℕ × ℕ)
+adding_values = (CoordCorrectionMode, 1, 3) ∷ (CoordCorrectionLimit, 1, 50) ∷ (PatternOffsetTime, 2, 1) ∷ []
+
+unfoldable adding : Plan
+adding = with_values quad adding_values
+
+adding_fits : Fits greatest adding.value
+unfolding adding
+adding_fits = values_fit greatest adding_values quad refl (quad_fits greatest refl refl)
+
+adding_count : adding.phase_count ≡ 16
+unfolding quad adding
+adding_count = refl
+
+adding_breaks_none : first_broken adding ≡ None
+unfolding opened adding
+adding_breaks_none = refl
+
+adding_consistent : IsConsistent adding
+adding_consistent = consistent greatest adding adding_count adding_breaks_none adding_fits
+
+is_add_only : correction_mode adding ≡ AddOnly
+unfolding opened adding
+is_add_only = refl
+
+not_at_once : correction_mode adding ≢ AtOnce
+not_at_once at_once = apart (sym is_add_only ∙ at_once)
+  where
+    apart : AddOnly ≡ AtOnce → ⊥
+    apart same = absurd cc
+
+-- ## Selected in free operation
+
+-- pattern 2 in free operation, and a tick later
+free_then : BeginsInStep (replay adding [])
+unfolding opened
+free_then = inl refl
+
+record ASelection (plan : Plan) (is later : List Input) (n : ℕ) : Type 0 where
+  other : correction_mode (replay plan is).plan ≢ AtOnce
+  begins : BeginsInStep (replay plan is)
+  none : HasGoneOn selects_none plan (Pattern n ∷ is) later
+
+a_selection : ASelection adding [] (Tick all_off ∷ []) 2
+a_selection = record { other = not_at_once; begins = free_then; none = (tt, refl) }
+
+-- a pattern that begins at local 0
+abbrev from_zero : State → ℕ → Correction
+from_zero s n = begun s.now (residue_of_difference (cycle s.plan n) 0 (counter s.plan n s.now))
+
+would_be_ahead : ahead_in adding (Some 2) (from_zero (replay adding []) 2) 0 ≡ 10
+unfolding opened adding
+would_be_ahead = refl
+
+-- ## Selected while another runs
+
+abbrev started : List Input
+started = Tick all_off ∷ Pattern 1 ∷ []
+
+abbrev chosen : List Input
+chosen = Pattern 2 ∷ started
+
+chosen_taken : AreTaken adding chosen
+unfolding opened adding
+chosen_taken = (((tt, refl), refl), refl)
+
+-- it is selected at tick 1, at which the local counter is 1
+record AtSelection : Type 0 where
+  used : is_pattern (replay adding started).plan 2 ≡ true
+  plan_is : (replay adding started).plan ≡ adding
+  here : local (replay adding started) ≡ Some 1
+  goes_on : local (replay adding chosen) ≡ Some 1
+  jumps : coordination.local (replay adding started).plan (replay adding started).now (Some 2) ≡ Some 791
+  correction_is : (replay adding chosen).correction ≡ record { since = 1; ahead = 10 }
+  then_is : (replay adding chosen).plan ≡ adding
+  pattern_is : (replay adding chosen).pattern ≡ Some 2
+  now_is : (replay adding chosen).now ≡ 1
+
+at_selection : AtSelection
+unfolding opened adding
+at_selection = record {
+  used = refl;
+  plan_is = refl;
+  here = refl;
+  goes_on = refl;
+  jumps = refl;
+  correction_is = refl;
+  then_is = refl;
+  pattern_is = refl;
+  now_is = refl;
+}
+
+record AnotherSelection (plan : Plan) (is : List Input) (n l : ℕ) : Type 0 where
+  consistent : IsConsistent plan
+  taken : AreTaken plan is
+  known : is_pattern (replay plan is).plan n ≡ true
+  other : correction_mode (replay plan is).plan ≢ AtOnce
+  here : local (replay plan is) ≡ Some l
+
+another_selection : AnotherSelection adding started 2 1
+another_selection = record {
+  consistent = adding_consistent;
+  taken = chosen_taken.0;
+  known = at_selection.used;
+  other = λ e. not_at_once (sym (ap correction_mode at_selection.plan_is) ∙ e);
+  here = at_selection.here;
+}
+
+goes_on_from_1 : local (step (replay adding started) (Pattern 2)) ≡ Some 1
+goes_on_from_1 = at_selection.goes_on
+
+-- a counter that is in step at once whatever the mode is
+abbrev jumps : State → ℕ → Option ℕ
+jumps s n = coordination.local s.plan s.now (Some n)
+
+would_jump : jumps (replay adding started) 2 ≡ Some 791
+would_jump = at_selection.jumps
+
+-- ## 30 ticks later it has come into step
+
+record At (k : ℕ) : Type 0 where
+  taken : AreTaken adding (quiet_for k ++ chosen)
+  now_is : (replay adding (quiet_for k ++ chosen)).now ≡ k + 1
+  plan_is : (replay adding (quiet_for k ++ chosen)).plan ≡ adding
+  pattern_is : (replay adding (quiet_for k ++ chosen)).pattern ≡ Some 2
+  correction_is : (replay adding (quiet_for k ++ chosen)).correction ≡ record { since = 1; ahead = 10 }
+
+at_chosen : At 0
+at_chosen = record {
+  taken = chosen_taken;
+  now_is = at_selection.now_is;
+  plan_is = at_selection.then_is;
+  pattern_is = at_selection.pattern_is;
+  correction_is = at_selection.correction_is;
+}
+
+at_next : (k : ℕ) → k ≤ 900 → At k → At (suc k)
+at_next k low it = record {
+  taken = (it.taken, tick_taken (replay adding (quiet_for k ++ chosen)) all_off (let now = it.now_is in omega (arith, low, now)));
+  now_is = (let now = it.now_is in let one = one_later (replay adding (quiet_for k ++ chosen)) all_off in omega (arith, now, one));
+  plan_is = plan_stays (replay adding (quiet_for k ++ chosen)) all_off ∙ it.plan_is;
+  pattern_is = pattern_stays (replay adding (quiet_for k ++ chosen)) all_off ∙ it.pattern_is;
+  correction_is = correction_stays (replay adding (quiet_for k ++ chosen)) all_off ∙ it.correction_is;
+}
+
+run_at : (k : ℕ) → k ≤ 900 → At k
+run_at zero low = at_chosen
+run_at (suc k) low = at_next k (omega (arith, low)) (run_at k (omega (arith, low)))
+
+-- in the state of so many ticks later
+in_step_is : (k : ℕ) (it : At k) → is_in_step adding (Some 2) (record { since = 1; ahead = 10 }) (k + 1) ≡ true → IsInStep (replay adding (quiet_for k ++ chosen))
+in_step_is k it there =
+    ap (λ (x : Plan). is_in_step x after.pattern after.correction after.now) it.plan_is
+    ∙ (ap (λ (o : Option ℕ). is_in_step adding o after.correction after.now) it.pattern_is
+    ∙ (ap (λ (c : Correction). is_in_step adding (Some 2) c after.now) it.correction_is
+    ∙ (ap (λ (t : ℕ). is_in_step adding (Some 2) (record { since = 1; ahead = 10 }) t) it.now_is ∙ there)))
+  where
+    after : State
+    after = replay adding (quiet_for k ++ chosen)
+
+comes_into_step : is_in_step adding (Some 2) (record { since = 1; ahead = 10 }) 31 ≡ true
+unfolding opened adding
+comes_into_step = refl
+
+record AStep (plan : Plan) (is : List Input) (i : Input) : Type 0 where
+  consistent : IsConsistent plan
+  taken : AreTaken plan is
+  keeps : keeps_in_step i ≡ true
+  in_step : IsInStep (replay plan is)
+
+a_step : AStep adding (quiet_for 30 ++ chosen) (Tick all_off)
+a_step = record {
+  consistent = adding_consistent;
+  taken = (run_at 30 (omega arith)).taken;
+  keeps = refl;
+  in_step = in_step_is 30 (run_at 30 (omega arith)) comes_into_step;
+}
+
+-- a counter that goes on to lose by its limit, round the cycle
+abbrev loses_on : Plan → ℕ → Correction → ℕ → ℕ
+loses_on plan n c t = residue_of_difference (cycle plan n) c.ahead (lost (correction_limit plan) (t - c.since))
+
+would_fall_behind : loses_on adding 2 (record { since = 1; ahead = 10 }) 34 ≡ 799
+unfolding opened adding
+would_fall_behind = refl
