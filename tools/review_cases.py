@@ -37,6 +37,7 @@ class Case:
 LOST = "so a call of one can wait for ever while the other rests"
 IDLE_RECYCLE = "its pedestrian recycle has no effect, since no used pattern has it as a coordinated phase with a walk"
 WALKING_ON = "its walk begins again after each clearance in pattern 1, since it has pedestrian recall and pedestrian recycle"
+AT_ONCE = "unit: local counters come into step at once, since coordCorrectionMode is %d and coordCorrectionLimit is %d"
 CASES = [
     Case(1, {"vehicleDetectorCallPhase.1": 0, "splitMode.1": 0}, ["phase 1: no detector, button, recall or split mode calls it"],
          {"phaseSoftRecall.1": 1}),
@@ -212,6 +213,10 @@ CASES = [
     Case(46, {"phasePedestrianRecycle.6": 1, "splitMode.6": 4}, [f"phase 6: {WALKING_ON}"], {"splitMode.6": 2}),
     Case(46, {"phasePedestrianRecycle.6": 1, "splitMode.6": 3, "splitMode.2": 3}, [f"phase 6: {WALKING_ON}"],
          {"phasePedestrianRecycle.6": 0}),
+    Case(47, {"coordCorrectionMode.1": 2}, [AT_ONCE % (2, 0)], {"coordCorrectionLimit.1": 1}),
+    Case(47, {"coordCorrectionMode.1": 3}, [AT_ONCE % (3, 0)], {"coordCorrectionMode.1": 1}),
+    Case(47, {"coordCorrectionLimit.1": 50}, [AT_ONCE % (0, 50)], {"coordCorrectionMode.1": 3}),
+    Case(47, {"coordCorrectionLimit.1": 1}, [AT_ONCE % (0, 1)], {"coordCorrectionLimit.1": 0}),
 ]
 
 

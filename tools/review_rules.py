@@ -13,6 +13,8 @@ PREEMPTS = range(1, 5)
 OVERLAPS = range(1, 5)
 # What the modes of a split ask for.
 MINIMUM, MAXIMUM, WALK, BOTH, OMITTED = 1, 2, 3, 4, 5
+# Correction modes that need a limit.
+SHORT_WAY, ADD_ONLY = 2, 3
 SETTINGS = ["Delay", "Extend", "NoActivity", "MaxPresence", "ErraticCounts", "FailTime"]
 TIMES = ["Delay", "MinimumDuration", "MaximumPresence", "MinimumGreen", "MinimumWalk", "EnterPedClear", "TrackGreen"]
 
@@ -289,7 +291,7 @@ def actuation(plan: Plan) -> Iterator[tuple[int, str]]:
 
 
 def coordination(plan: Plan) -> Iterator[tuple[int, str]]:
-    """Advices A27 to A32, and A42 to A46."""
+    """Advices A27 to A32, and A42 to A47."""
     for n in plan.patterns:
         for p in plan.enabled:
             omitted = plan.mode(n, p) == OMITTED
@@ -334,6 +336,10 @@ def coordination(plan: Plan) -> Iterator[tuple[int, str]]:
         ends = {plan.split_end(n, p) for p in plan.enabled if plan.coordinated(n, p)}
         if plan.value("patternLeadLag", n) and len(ends) == 1:
             yield 44, f"pattern {n}: patternLeadLag has no effect, since the splits of its coordinated phases end at one time"
+    mode, limit = plan.value("coordCorrectionMode", 1), plan.value("coordCorrectionLimit", 1)
+    if (mode in (SHORT_WAY, ADD_ONLY) and not limit) or (limit and not mode):
+        yield 47, ("unit: local counters come into step at once, "
+                   f"since coordCorrectionMode is {mode} and coordCorrectionLimit is {limit}")
 
 
 def preempts(plan: Plan) -> Iterator[tuple[int, str]]:

@@ -42,7 +42,7 @@ KINDS = ["it stands twice", "is no whole number: seconds", "is no whole number: 
 REVIEWED, REFUSED = 0, 1
 # What `tsb check` says of a plan that breaks a rule begins so.
 RULE = "plan: rule "
-ADVICES = 46
+ADVICES = 47
 # Display lines have so many characters.
 DISPLAY = 53
 # Objects of phases, detectors and so on, with the number of their indices and values that bring advices about.
@@ -59,7 +59,7 @@ VALUES = {
     "phaseYellowChange": (8, [30, 35, 40]), "phaseRedClear": (8, [0, 1, 10, 15, 20, 55]), "phaseRedRevert": (8, [0, 10, 20]),
     "phaseDynamicMaxLimit": (8, [0, 30]), "phaseDynamicMaxStep": (8, [0, 50]), "unitRedRevert": (1, [0, 19, 20]), "unitMax2": (1, [0, 1]),
     "coordForceMode": (1, [0, 0, 1, 2]), "coordMaximumMode": (1, [0, 0, 1, 2]), "patternPermissiveTime": (2, [0, 1, 5, 9, 10, 11, 15, 25]),
-    "patternLeadLag": (2, [0, 1]),
+    "patternLeadLag": (2, [0, 1]), "coordCorrectionMode": (1, [0, 1, 2, 3]), "coordCorrectionLimit": (1, [0, 0, 1, 25, 50]),
     "vehicleDetectorCallPhase": (16, list(range(9))), "vehicleDetectorDelay": (16, [0, 5, 150, 200, 250, 251, 400]),
     "vehicleDetectorExtend": (16, [0, 5]), "vehicleDetectorMaxPresence": (16, [0, 5]), "pedestrianDetectorCallPhase": (8, list(range(9))),
     "patternOffsetTime": (2, [0, 10, 40, 45, 46, 79]), "splitMode": (8, [0, 1, 2, 3, 4, 5]),

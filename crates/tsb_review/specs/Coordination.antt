@@ -1,9 +1,11 @@
--- Advices on coordination: A27 to A32, and A42 to A46. Times are in tenths of a second.
-use Rattle.std.specs.Prelude.{ℕ, ◌+◌, ◌-◌, ◌*◌, ◌==◌, nat_lt, Bool, false, not, ◌&&◌, ◌||◌, Option, Some, None, is_some}
+-- Advices on coordination: A27 to A32, and A42 to A47. Times are in tenths of a second.
+use Rattle.std.specs.Prelude.{ℕ, ◌+◌, ◌-◌, ◌*◌, ◌==◌, nat_lt, Bool, true, false, not, ◌&&◌, ◌||◌, Option, Some, None, is_some}
 use Rattle.std.specs.List.{list_any}
 use Rattle.tsb_types.specs.Lists.{first, run_from}
-use Rattle.tsb_plan.specs.declared.object.Object.TheVariants.{PatternCycleTime, PatternOffsetTime, PatternSplitNumber, PatternSequenceNumber, PatternPermissiveTime, PatternLeadLag}
-use Rattle.tsb_plan.specs.Parts.{is_used, cycle, offset, permissive_time, leads_and_lags}
+use Rattle.tsb_plan.specs.declared.object.Object.TheVariants.{PatternCycleTime, PatternOffsetTime, PatternSplitNumber, PatternSequenceNumber, PatternPermissiveTime, PatternLeadLag, CoordCorrectionMode}
+use Rattle.tsb_plan.specs.declared.plan.patterns.CorrectionMode.{CorrectionMode}
+use Rattle.tsb_plan.specs.declared.plan.patterns.CorrectionMode.TheVariants.{AtOnce}
+use Rattle.tsb_plan.specs.Parts.{is_used, cycle, offset, permissive_time, leads_and_lags, correction_mode, correction_limit}
 use Rattle.tsb_plan.specs.Plan.{Plan, phases, is_enabled, minimum_green, has_soft_recall, recycles_walk}
 use Rattle.tsb_plan.specs.Running.{is_coordinated_now, is_omitted_now, is_on_pedestrian_recall, pattern_maximum}
 use Rattle.tsb_rules.specs.Rules.{has_walk, serves_pedestrians}
@@ -116,3 +118,17 @@ recycles_nothing plan p =
 abbrev pub walks_over_and_over : Plan → ℕ → ℕ → Bool
 walks_over_and_over plan n p =
     is_used plan n && (serves_pedestrians plan p && (may_recycle plan (Some n) p && is_on_pedestrian_recall plan (Some n) p))
+
+-- this mode brings local counters into step at once
+abbrev pub is_at_once : CorrectionMode → Bool
+is_at_once AtOnce = true
+is_at_once mode = false
+
+-- the plan has a mode by which local counters come into step, or a limit for it
+abbrev pub gives_correction : Plan → Bool
+gives_correction plan = nat_lt 0 (plan.value CoordCorrectionMode 1) || nat_lt 0 (correction_limit plan)
+
+-- A47: it has one of them, and local counters come into step at once all the same: by the short way or add only without
+-- a limit, or with a limit alone
+abbrev pub corrects_nothing : Plan → Bool
+corrects_nothing plan = gives_correction plan && is_at_once (correction_mode plan)

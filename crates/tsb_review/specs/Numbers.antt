@@ -1,11 +1,12 @@
 -- The numbers that the line of a finding shows, up to four, named `a` to `d`. Times are in tenths of a second.
 use Rattle.std.specs.Prelude.{ℕ, Option, Some, None}
 use Rattle.tsb_types.specs.Lists.{or_number}
-use Rattle.tsb_plan.specs.Parts.{call_phase, detector_delay, detector_extend, cycle, offset, permissive_time, minimum_duration, preempt_maximum_presence}
+use Rattle.tsb_plan.specs.Parts.{call_phase, detector_delay, detector_extend, cycle, offset, permissive_time, minimum_duration, preempt_maximum_presence, correction_limit}
+use Rattle.tsb_plan.specs.declared.object.Object.TheVariants.{CoordCorrectionMode}
 use Rattle.tsb_plan.specs.Plan.{Plan, walk, pedestrian_clear, minimum_green, maximum, passage, minimum_gap, time_before_reduction, red_revert}
 use Rattle.tsb_plan.specs.Running.{pattern_maximum}
 use Rattle.tsb_review.specs.declared.advice.Advice.{Advice}
-use Rattle.tsb_review.specs.declared.advice.Advice.TheVariants.{A4, A7, A8, A9, A10, A11, A12, A13, A14, A16, A18, A19, A20, A21, A25, A26, A27, A28, A30, A31, A32, A35, A39, A42, A43}
+use Rattle.tsb_review.specs.declared.advice.Advice.TheVariants.{A4, A7, A8, A9, A10, A11, A12, A13, A14, A16, A18, A19, A20, A21, A25, A26, A27, A28, A30, A31, A32, A35, A39, A42, A43, A47}
 use Rattle.tsb_review.specs.declared.finding.Finding.{Finding}
 use Rattle.tsb_review.specs.declared.numbers.Numbers.{Numbers}
 use Rattle.tsb_review.specs.declared.place.Place.{Place}
@@ -30,9 +31,11 @@ abbrev pub revert_of : Plan → Option ℕ → ℕ
 revert_of plan None = 0
 revert_of plan (Some p) = red_revert plan p
 
--- of the whole plan: the first phase of which it is so, and its red revert
+-- of the whole plan: the first phase of which it is so, and its red revert; or the mode and the limit by which local
+-- counters come into step
 abbrev pub of_unit : Plan → Advice → Numbers
 of_unit plan A16 = four (number_of (reverting plan)) (revert_of plan (reverting plan)) 0 0
+of_unit plan A47 = four (plan.value CoordCorrectionMode 1) (correction_limit plan) 0 0
 of_unit plan x = four 0 0 0 0
 
 -- of a phase: its number, and then times or phases

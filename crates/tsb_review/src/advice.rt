@@ -8,7 +8,7 @@ use crate::place::Shape;
 ///
 /// They stand in the order in which a review gives them: on service (A1 to A7), pedestrians (A8 to A14), clearance (A15
 /// and A16), actuation (A17 to A26), coordination (A27 to A32), preempts (A33 to A38), overlaps (A39 to A41), and
-/// options of coordination (A42 to A46).
+/// options of coordination (A42 to A47).
 #[derive(Clone, Copy)]
 pub enum Advice {
     /// An enabled phase is called by no detector, button, recall or split mode.
@@ -105,11 +105,13 @@ pub enum Advice {
     A45,
     /// A coordinated phase has pedestrian recycle and pedestrian recall, so its walk begins again after each clearance.
     A46,
+    /// A correction mode without a limit, or a limit without a mode: local counters come into step at once.
+    A47,
 }
 
 impl Advice {
     /// All advices, in order.
-    pub const ALL: [Advice; 46] = [
+    pub const ALL: [Advice; 47] = [
         Advice::A1,
         Advice::A2,
         Advice::A3,
@@ -156,6 +158,7 @@ impl Advice {
         Advice::A44,
         Advice::A45,
         Advice::A46,
+        Advice::A47,
     ];
 
     /// What the advice is given for.
@@ -193,7 +196,7 @@ impl Advice {
             | Advice::A43
             | Advice::A46 => Shape::Split,
             Advice::A5 => Shape::Ring,
-            Advice::A16 => Shape::Unit,
+            Advice::A16 | Advice::A47 => Shape::Unit,
             Advice::A30 | Advice::A31 | Advice::A32 | Advice::A44 => Shape::Pattern,
             Advice::A33 | Advice::A36 | Advice::A37 => Shape::PreemptPhase,
             Advice::A34 | Advice::A35 | Advice::A38 => Shape::Preempt,

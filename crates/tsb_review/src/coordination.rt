@@ -1,20 +1,21 @@
-//! Advices on coordination: A27 to A32, and A42 to A46. Times are in tenths of a second.
+//! Advices on coordination: A27 to A32, and A42 to A47. Times are in tenths of a second.
 #![tactic(auto, unfolding(tsb_plan::specs::PlanOf::plan_of))]
 
 ghost use Rattle.std.specs.Prelude.{◌≡◌, ◌==◌};
 ghost use Rattle.std.specs.List.{list_any};
 ghost use Rattle.tsb_plan.specs.Objects.{indices};
+ghost use Rattle.tsb_plan.specs.declared.object.Object.TheVariants.{CoordCorrectionMode};
 ghost use Rattle.tsb_plan.specs.Plan.{phases};
 ghost use Rattle.tsb_plan.specs.PlanOf.{plan_of};
 ghost use Rattle.tsb_review.specs.Splits.{passed_by};
-ghost use Rattle.tsb_review.specs.Coordination.{spare_time, has_tight_split, overrun, makes_late, recalls_omitted, yields_alike, is_same_before, first_same, is_repeated, has_long_offset, is_actuated, yields_once, is_under, has_short_maximum, is_permissive, yields_too_long, ends_apart_from, ends_apart, leads_for_nothing, is_coordinated_by_pattern, recycles_nothing, walks_over_and_over};
+ghost use Rattle.tsb_review.specs.Coordination.{spare_time, has_tight_split, overrun, makes_late, recalls_omitted, yields_alike, is_same_before, first_same, is_repeated, has_long_offset, is_actuated, yields_once, is_under, has_short_maximum, is_permissive, yields_too_long, ends_apart_from, ends_apart, leads_for_nothing, is_coordinated_by_pattern, recycles_nothing, walks_over_and_over, gives_correction, corrects_nothing};
 
 use crate::calls::{has_walk, is_recalled, is_recalled_in, serves_pedestrians};
 use crate::pedestrians::{overruns_split, pedestrian_time};
 use crate::service::has_soft_recall;
 use crate::sought::{Sought, some_phase};
 use crate::splits::{end_of, green_of_split, left_short, passed_by};
-use tsb_plan::{Object, Plan};
+use tsb_plan::{CorrectionMode, Object, Plan};
 use tsb_types::{Pattern, Phase};
 
 /// What a split has to leave over its least time.
@@ -242,4 +243,26 @@ pub(crate) fn walks_over_and_over(plan: &Plan, pattern: Pattern, phase: Phase) -
         && plan.recycles_walk(phase)
         && plan.is_coordinated_now(Some(pattern), phase)
         && plan.is_on_pedestrian_recall(Some(pattern), phase)
+}
+
+/// The number of the mode by which local counters come into step.
+pub(crate) fn correction_number(plan: &Plan) -> u32
+    ensures { result ≡ (plan_of plan.now).value CoordCorrectionMode 1 }
+{
+    plan.at(Object::CoordCorrectionMode, 1)
+}
+
+/// Whether the plan has a mode by which local counters come into step, or a limit for it.
+fn gives_correction(plan: &Plan) -> bool
+    ensures { result ≡ gives_correction (plan_of plan.now) }
+{
+    correction_number(plan) > 0 || plan.correction_limit() > 0
+}
+
+/// A47: whether it has one of them, and local counters come into step at once all the same: by the short way or add
+/// only without a limit, or with a limit alone.
+pub(crate) fn corrects_nothing(plan: &Plan) -> bool
+    ensures { result ≡ corrects_nothing (plan_of plan.now) }
+{
+    gives_correction(plan) && matches!(plan.correction_mode(), CorrectionMode::AtOnce)
 }

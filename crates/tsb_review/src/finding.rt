@@ -70,6 +70,7 @@ fn of_unit(plan: &Plan, advice: Advice) -> bool
 {
     match advice {
         Advice::A16 => clearance::has_short_revert(plan),
+        Advice::A47 => coordination::corrects_nothing(plan),
         _ => false,
     }
 }

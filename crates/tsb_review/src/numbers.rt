@@ -7,7 +7,7 @@ ghost use Rattle.tsb_review.specs.Numbers.{four, number_of, revert_of, of_unit, 
 
 use crate::advice::Advice;
 use crate::clearance::reverting;
-use crate::coordination::{first_same, passed_by_overrun, spare_time};
+use crate::coordination::{correction_number, first_same, passed_by_overrun, spare_time};
 use crate::finding::Finding;
 use crate::overlaps::{split_at, split_from};
 use crate::pedestrians::{passed_by_rest, pedestrian_time};
@@ -21,9 +21,10 @@ use tsb_types::{Detector, Overlap, Pattern, Phase, Preempt};
 /// not have is 0.
 #[derive(Clone, Copy)]
 pub struct Numbers {
-    /// The number of the place, or for a phase in a pattern that of the phase.
+    /// The number of the place, or for a phase in a pattern that of the phase, or for the whole plan that of a phase
+    /// or a mode.
     pub a: u32,
-    /// A time in tenths of a second, or the number of a phase or a pattern.
+    /// A time in tenths of a second, the number of a phase or a pattern, or a limit in percent.
     pub b: u32,
     /// A time in tenths of a second, or the number of a phase.
     pub c: u32,
@@ -112,7 +113,8 @@ fn at_place(plan: &Plan, advice: Advice, place: &Place) -> Numbers
     }
 }
 
-/// Of the whole plan: the first phase of which it is so, and its red revert.
+/// Of the whole plan: the first phase of which it is so, and its red revert; or the mode and the limit by which local
+/// counters come into step.
 fn of_unit(plan: &Plan, advice: Advice) -> Numbers
     ensures { result ≡ of_unit (plan_of plan.now) advice }
 {
@@ -121,6 +123,7 @@ fn of_unit(plan: &Plan, advice: Advice) -> Numbers
             let number = phase_or_zero(reverting(plan));
             four(number, revert_of(plan, reverting(plan)), 0, 0)
         }
+        Advice::A47 => four(correction_number(plan), plan.correction_limit(), 0, 0),
         _ => four(0, 0, 0, 0),
     }
 }

@@ -120,5 +120,8 @@ pub(crate) fn template(advice: Advice) -> &'static [u8]
         Advice::A46 => {
             b"A46 phase P: its walk begins again after each clearance in pattern S, since it has pedestrian recall and pedestrian recycle"
         }
+        Advice::A47 => {
+            b"A47 unit: local counters come into step at once, since coordCorrectionMode is P and coordCorrectionLimit is Q"
+        }
     }
 }
