@@ -31,8 +31,8 @@ KINDS = list(field_rules.MOST)
 
 # How the stored picture of the hour was drawn.
 HOUR_SECONDS, HOUR_TITLE = 1200, "An hour of made-up traffic on quad"
-# The pictures of the options of coordination: their names but for the value, plan and log, the option, two values of it,
-# and the seconds. Those of lead and lag are of two patterns.
+# The pictures of the options of coordination: their names but for the value, plan and log, the option, values of it, and
+# the seconds. Those of lead and lag are of two patterns.
 OPTIONS = [
     ("late_force_off", "late_force_off", "late_force_off", "coordForceMode", (0, 1), 330),
     ("floating_force_off", "coordination", "coordination", "coordForceMode", (0, 2), 300),
@@ -40,9 +40,12 @@ OPTIONS = [
     ("permissive_time", "coordination", "permissive_time", "patternPermissiveTime", (0, 5), 300),
     ("lead_and_lag", "coordination", "lead_and_lag", "pattern", (1, 2), 300),
     ("pedestrian_recycle", "pedestrian_recycle", "pedestrian_recycle", "phasePedestrianRecycle", (0, 1), 300),
+    ("coming_into_step", "coming_into_step", "coming_into_step", "coordCorrectionMode", (0, 1, 2, 3), 360),
 ]
 # The indices at which an option is set, where they are not 1 alone.
 INDICES = {"phasePedestrianRecycle": (2, 6)}
+# What is set beside an option, and the tick at which pattern 2 follows pattern 1.
+BESIDE = {"coordCorrectionMode": ("set 1 coordCorrectionLimit 1 20", 850)}
 SVG = "{http://www.w3.org/2000/svg}"
 
 
@@ -431,12 +434,16 @@ def hour(program, bench):
 
 
 def option_commands(option, value, seconds):
-    """The commands that run pattern 1 with a value of an option, or a pattern, for so many seconds."""
+    """The commands that run patterns with a value of an option, or a pattern, for so many seconds."""
     run = ["pattern 1", f"step {10 * seconds}"]
     if option == "pattern":
         run[0] = f"pattern {value}"
     else:
         edits = [f"set 1 {option} {index} {value}" for index in INDICES.get(option, (1,))]
+        if option in BESIDE:
+            edit, tick = BESIDE[option]
+            edits.append(edit)
+            run = ["pattern 1", f"step {tick}", "pattern 2", f"step {10 * seconds - tick}"]
         run = ["begin 1", *edits, "verify 1", "commit 1", *run]
     return "".join(f"{it}\n" for it in run).encode()
 
