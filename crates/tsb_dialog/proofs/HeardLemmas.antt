@@ -1,11 +1,11 @@
--- A line more, a byte more: what was said to the bytes that were read.
+-- A line more, a piece more: what was said to the bytes that were read.
 use Rattle.std.proofs.Common.{◌≡◌, ℕ, ◌+◌, suc, zero, List, [], ◌∷◌, ◌++◌, length, refl, sym, ap, ◌∙◌, append_assoc, subst, inl, inr, Ok, Err, arith}
 use Rattle.std.proofs.lemmas.List.{append-nil}
 use Rattle.std.specs.declared.option.Option.{Option}
 use Rattle.std.specs.declared.result.Result.{Result}
-use Rattle.tsb_lines.specs.Lines.{kept, without_return}
+use Rattle.tsb_lines.specs.Lines.{HasNoFeed, kept, without_return}
 use Rattle.tsb_lines.proofs.KeptLemmas.{kept-more}
-use Rattle.tsb_lines.proofs.LineLemmas.{feedless-more}
+use Rattle.tsb_lines.proofs.LineLemmas.{feedless-both}
 use Rattle.tsb_lines.specs.declared.writes.WriteError.{WriteError}
 use Rattle.tsb_dialog.specs.declared.answers.Flow.{Flow}
 use Rattle.tsb_dialog.specs.declared.answers.Flow.TheVariants.{On, Over}
@@ -22,16 +22,16 @@ pub heard-start : {S : Type 0} (most : ℕ) (says : Saying S) (from : S) (held :
 heard-start most says from held empty =
     record { lines = []; rest = []; whole = refl; ended = tt; unfinished = tt; kept = empty ∙ sym (kept-nothing most); count = refl; runs = (refl, refl) }
 
--- a byte more of the line
-heard-byte : {S : Type 0} (most : ℕ) (says : Saying S) (from : S) (bytes text : List ℕ) (n : ℕ) (now : S) (held new : List ℕ) (b : ℕ) → (b ≡ 10 → ⊥) → new ≡ kept most (held ++ b ∷ [])
-    → Heard most says from bytes text n now held → Heard most says from (bytes ++ b ∷ []) text n now new
-heard-byte most says from bytes text n now held new b other is h = record {
+-- more of the line
+heard-piece : {S : Type 0} (most : ℕ) (says : Saying S) (from : S) (bytes text : List ℕ) (n : ℕ) (now : S) (held new piece : List ℕ) → HasNoFeed piece → new ≡ kept most (held ++ piece)
+    → Heard most says from bytes text n now held → Heard most says from (bytes ++ piece) text n now new
+heard-piece most says from bytes text n now held new piece none is h = record {
   lines = h.lines;
-  rest = h.rest ++ b ∷ [];
-  whole = ap (λ (v : List ℕ). v ++ b ∷ []) h.whole ∙ append_assoc (fed h.lines) h.rest (b ∷ []);
+  rest = h.rest ++ piece;
+  whole = ap (λ (v : List ℕ). v ++ piece) h.whole ∙ append_assoc (fed h.lines) h.rest piece;
   ended = h.ended;
-  unfinished = feedless-more h.rest b h.unfinished other;
-  kept = is ∙ ap (λ (v : List ℕ). kept most (v ++ b ∷ [])) h.kept ∙ kept-more most h.rest b;
+  unfinished = feedless-both h.rest piece h.unfinished none;
+  kept = is ∙ ap (λ (v : List ℕ). kept most (v ++ piece)) h.kept ∙ kept-more most h.rest piece;
   count = h.count;
   runs = h.runs;
 }
@@ -62,46 +62,46 @@ over-line : {S : Type 0} (most : ℕ) (says : Saying S) (from : S) (bytes text :
 over-line most says from bytes text n now held answer left h told =
     record { front = bytes; more = []; whole = refl; before = text; number = n; now = now; held = held; heard = h; answer = answer; told = told; all = refl }
 
--- ## A byte
+-- ## A piece that ends no line, or ends one
 
--- a byte that ends no line
-pub fed-byte : {A S : Type 0} (most : ℕ) (stands : A → S → Type 0) (says : Saying S) (from now : S) (bytes text : List ℕ) (n : ℕ) (held new : List ℕ) (b : ℕ) (answers : A) (a : Option (List ℕ)) (waits : List ℕ)
-    → (b ≡ 10 → ⊥) → new ≡ kept most (held ++ b ∷ []) → stands answers now → Heard most says from bytes text n now held → Fed most stands says from (bytes ++ b ∷ []) text (Ok On) answers n new a a waits waits
-fed-byte most stands says from now bytes text n held new b answers a waits other is here h = (
+-- bytes without a line feed
+pub fed-piece : {A S : Type 0} (most : ℕ) (stands : A → S → Type 0) (says : Saying S) (from now : S) (bytes text : List ℕ) (n : ℕ) (held new piece : List ℕ) (answers : A) (a : Option (List ℕ)) (waits : List ℕ)
+    → HasNoFeed piece → new ≡ kept most (held ++ piece) → stands answers now → Heard most says from bytes text n now held → Fed most stands says from (bytes ++ piece) text (Ok On) answers n new a a waits waits
+fed-piece most stands says from now bytes text n held new piece answers a waits none is here h = (
   now,
   here,
   record {
     text = [];
     said = said-nothing a waits;
-    so = subst (λ (v : List ℕ). Heard most says from (bytes ++ b ∷ []) v n now new) (sym (append-nil text)) (heard-byte most says from bytes text n now held new b other is h);
+    so = subst (λ (v : List ℕ). Heard most says from (bytes ++ piece) v n now new) (sym (append-nil text)) (heard-piece most says from bytes text n now held new piece none is h);
   },
 )
 
--- a line feed, and the line before it was answered
-pub fed-line : {A S : Type 0} (flow : Flow) (most : ℕ) (stands : A → S → Type 0) (says : Saying S) (from now : S) (bytes text : List ℕ) (n : ℕ) (held line empty : List ℕ) (b : ℕ) (answers : A) (a c : Option (List ℕ)) (waited waits : List ℕ)
-    → b ≡ 10 → line ≡ without_return held → empty ≡ [] → Heard most says from bytes text n now held → Answered stands (says now n line) (Ok flow) answers a c waited waits
-    → Fed most stands says from (bytes ++ b ∷ []) text (Ok flow) answers (n + 1) empty a c waited waits
-fed-line {S = S} On most stands says from now bytes text n held line empty b answers a c waited waits feed is none h x =
+-- the rest of a line and its line feed, and the line was answered
+pub fed-line : {A S : Type 0} (flow : Flow) (most : ℕ) (stands : A → S → Type 0) (says : Saying S) (from now : S) (bytes text : List ℕ) (n : ℕ) (held rest new line empty : List ℕ) (answers : A) (a c : Option (List ℕ)) (waited waits : List ℕ)
+    → HasNoFeed rest → new ≡ kept most (held ++ rest) → line ≡ without_return new → empty ≡ [] → Heard most says from bytes text n now held → Answered stands (says now n line) (Ok flow) answers a c waited waits
+    → Fed most stands says from (bytes ++ (rest ++ 10 ∷ [])) text (Ok flow) answers (n + 1) empty a c waited waits
+fed-line {S = S} On most stands says from now bytes text n held rest new line empty answers a c waited waits none grown is clear h x =
     let left : S = x.0 in (
       left,
       x.1,
       record {
         text = x.2.text;
         said = x.2.said;
-        so = subst (λ (k : ℕ). Heard most says from (bytes ++ k ∷ []) (text ++ x.2.text) (n + 1) left empty) (sym feed)
-            (subst (λ (v : List ℕ). Heard most says from (bytes ++ 10 ∷ []) (text ++ x.2.text) (n + 1) left v) (sym none)
-            (heard-line most says from bytes text n now held x.2.text left h (subst (λ (v : List ℕ). says now n v x.2.text On left) is x.2.so)));
+        so = subst (λ (v : List ℕ). Heard most says from v (text ++ x.2.text) (n + 1) left empty) (append_assoc bytes rest (10 ∷ []))
+            (subst (λ (v : List ℕ). Heard most says from ((bytes ++ rest) ++ 10 ∷ []) (text ++ x.2.text) (n + 1) left v) (sym clear)
+            (heard-line most says from (bytes ++ rest) text n now new x.2.text left (heard-piece most says from bytes text n now held new rest none grown h) (subst (λ (v : List ℕ). says now n v x.2.text On left) is x.2.so)));
       },
     )
-fed-line {S = S} Over most stands says from now bytes text n held line empty b answers a c waited waits feed is none h x =
+fed-line {S = S} Over most stands says from now bytes text n held rest new line empty answers a c waited waits none grown is clear h x =
     let left : S = x.0 in (
       left,
       x.1,
       record {
         text = x.2.text;
         said = x.2.said;
-        so = subst (λ (k : ℕ). IsOver most says from (bytes ++ k ∷ []) (text ++ x.2.text) left) (sym feed)
-            (over-line most says from bytes text n now held x.2.text left h (subst (λ (v : List ℕ). says now n v x.2.text Over left) is x.2.so));
+        so = subst (λ (v : List ℕ). IsOver most says from v (text ++ x.2.text) left) (append_assoc bytes rest (10 ∷ []))
+            (over-line most says from (bytes ++ rest) text n now new x.2.text left (heard-piece most says from bytes text n now held new rest none grown h) (subst (λ (v : List ℕ). says now n v x.2.text Over left) is x.2.so));
       },
     )
 
@@ -121,21 +121,22 @@ said-line Over most says from bytes text n now held answer left h told = record 
   so = inr (left, over-line most says from bytes text n now held answer left h told);
 }
 
-pub fed-fault : {A S : Type 0} (most : ℕ) (stands : A → S → Type 0) (says : Saying S) (from now : S) (bytes text : List ℕ) (n m : ℕ) (held line keeps : List ℕ) (b : ℕ) (answers : A) (e : WriteError) (a c : Option (List ℕ)) (waited waits : List ℕ)
-    → b ≡ 10 → line ≡ without_return held → Heard most says from bytes text n now held → Answered stands (says now n line) (Err e) answers a c waited waits
-    → Fed most stands says from (bytes ++ b ∷ []) text (Err e) answers m keeps a c waited waits
-fed-fault {S = S} most stands says from now bytes text n m held line keeps b answers e a c waited waits feed is h x =
-    let rest : List ℕ = x.so.0 in
+pub fed-fault : {A S : Type 0} (most : ℕ) (stands : A → S → Type 0) (says : Saying S) (from now : S) (bytes text : List ℕ) (n m : ℕ) (held rest new line keeps : List ℕ) (answers : A) (e : WriteError) (a c : Option (List ℕ)) (waited waits : List ℕ)
+    → HasNoFeed rest → new ≡ kept most (held ++ rest) → line ≡ without_return new → Heard most says from bytes text n now held → Answered stands (says now n line) (Err e) answers a c waited waits
+    → Fed most stands says from (bytes ++ (rest ++ 10 ∷ [])) text (Err e) answers m keeps a c waited waits
+fed-fault {S = S} most stands says from now bytes text n m held rest new line keeps answers e a c waited waits none grown is h x =
+    let unsaid : List ℕ = x.so.0 in
     let flow : Flow = x.so.1 in
     let left : S = x.so.2 in
-    let told : says now n (without_return held) (x.text ++ rest) flow left = subst (λ (v : List ℕ). says now n v (x.text ++ rest) flow left) is x.so.3 in
+    let told : says now n (without_return new) (x.text ++ unsaid) flow left = subst (λ (v : List ℕ). says now n v (x.text ++ unsaid) flow left) is x.so.3 in
     record {
       text = x.text;
       said = x.said;
       so = (
-        rest,
-        subst (λ (k : ℕ). IsSaid most says from (bytes ++ k ∷ []) ((text ++ x.text) ++ rest)) (sym feed)
-            (subst (λ (v : List ℕ). IsSaid most says from (bytes ++ 10 ∷ []) v) (sym (append_assoc text x.text rest)) (said-line flow most says from bytes text n now held (x.text ++ rest) left h told)),
+        unsaid,
+        subst (λ (v : List ℕ). IsSaid most says from v ((text ++ x.text) ++ unsaid)) (append_assoc bytes rest (10 ∷ []))
+            (subst (λ (v : List ℕ). IsSaid most says from ((bytes ++ rest) ++ 10 ∷ []) v) (sym (append_assoc text x.text unsaid))
+            (said-line flow most says from (bytes ++ rest) text n now new (x.text ++ unsaid) left (heard-piece most says from bytes text n now held new rest none grown h) told)),
       );
     }
 

@@ -1,5 +1,6 @@
 //! Dialogs: lines in, answers out.
 ghost use Rattle.std.specs.Prelude.{◌≡◌, ◌∷◌, ◌++◌, ◌+◌, ◌<◌, ◌≤◌, [], ℕ, List, false, length, OnOk, true};
+ghost use Rattle.tsb_lines.specs.Lines.{HasNoFeed};
 ghost use Rattle.tsb_dialog.specs.Blame.{AfterCalls, Blames};
 ghost use Rattle.tsb_dialog.specs.Ended.{Ended};
 ghost use Rattle.tsb_dialog.specs.declared.dialog.TheConstants.{KEPT, LIMIT};
@@ -11,7 +12,7 @@ use crate::answers::{Answers, Flow};
 use crate::error::DialogError;
 use crate::pending::Pending;
 use std::io::{Read, Write};
-use tsb_lines::KeptLine;
+use tsb_lines::{KeptLine, cut_at_feed};
 use tsb_watched::{Watched, WriteError};
 
 /// The most bytes that a dialog may be given leave to read: 1 GiB.
@@ -46,29 +47,27 @@ impl Dialog {
         }
     }
 
-    /// Takes one more byte.
-    fn feed<A: Answers, W: Write>(
+    /// Takes the rest of a line, up to its line feed, and has the line answered.
+    fn feed_line<A: Answers, W: Write>(
         &mut self,
         answers: &mut A,
-        byte: u8,
+        rest: &[u8],
         writer: &mut Watched<W>,
     ) -> Result<Flow, WriteError>
-        requires { self.old.number < 4294967295 }
+        requires one { HasNoFeed rest.now }
+        requires number { self.old.number < 4294967295 }
         ensures fed { (from now : A.State) (bytes text : List ℕ) → A.stands answers.old now → Heard KEPT A.says from bytes text self.old.number now self.old.line
-            → Fed KEPT A.stands A.says from (bytes ++ byte ∷ []) text result answers.new self.new.number self.new.line
+            → Fed KEPT A.stands A.says from (bytes ++ (rest.now ++ 10 ∷ [])) text result answers.new self.new.number self.new.line
             (W.contents writer.old.device) (W.contents writer.new.device) self.old.pending self.new.pending }
         ensures number { self.new.number ≤ self.old.number + 1 }
         ensures blame { writer.old.failed ≡ false → AfterCalls result writer.new.failed }
     {
-        if byte == b'\n' {
-            let number = self.number;
-            self.number += 1;
-            let flow = answers.answer(number, self.line.ended(), &mut self.pending, writer)?;
-            self.line.clear();
-            return Ok(flow);
-        }
-        self.line.push(byte);
-        Ok(Flow::On)
+        self.line.extend(rest);
+        let number = self.number;
+        self.number += 1;
+        let flow = answers.answer(number, self.line.ended(), &mut self.pending, writer)?;
+        self.line.clear();
+        Ok(flow)
     }
 
     /// Takes these bytes, up to a line that ends the dialog.
@@ -85,12 +84,14 @@ impl Dialog {
         ensures number { self.new.number ≤ self.old.number + length bytes.now }
         ensures blame { writer.old.failed ≡ false → AfterCalls result writer.new.failed }
     {
-        for byte in bytes {
-            match self.feed(answers, *byte, writer)? {
-                Flow::On => {}
+        let mut left = bytes;
+        while let Some((rest, next)) = cut_at_feed(left) {
+            match self.feed_line(answers, rest, writer)? {
+                Flow::On => left = next,
                 Flow::Over => return Ok(Flow::Over),
             }
         }
+        self.line.extend(left);
         Ok(Flow::On)
     }
 

@@ -39,7 +39,7 @@ stand shown line = record { shown = shown; held = kept 55 line }
 
 -- a byte more of the line
 held-further : (shown : List Shown) (line : List ℕ) (b : ℕ) → with_held (stand shown line) b ≡ stand shown (line ++ b ∷ [])
-held-further shown line b = ap (λ (v : List ℕ). record { shown = shown; held = v }) (kept-more 55 line b)
+held-further shown line b = ap (λ (v : List ℕ). record { shown = shown; held = v }) (kept-more 55 line (b ∷ []))
 
 -- ## Display lines
 

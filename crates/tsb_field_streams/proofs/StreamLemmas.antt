@@ -169,7 +169,7 @@ byte-went g bytes b old new a c f other same number is = record {
   stand = f.stand;
   held = f.held ++ b ∷ [];
   read = subst (λ (n : ℕ). HasRead g (bytes ++ b ∷ []) n f.stand (f.held ++ b ∷ [])) (sym number) (read-byte g bytes old.number f.stand f.held b f.read other);
-  kept = is ∙ ap (λ (v : List ℕ). kept 1002 (v ++ b ∷ [])) f.kept ∙ kept-more 1002 f.held b;
+  kept = is ∙ ap (λ (v : List ℕ). kept 1002 (v ++ b ∷ [])) f.kept ∙ kept-more 1002 f.held (b ∷ []);
   stands = subst (λ (filter : Filter). StandsAt g f.stand filter) (sym same) f.stands;
   grown = f.grown;
 }

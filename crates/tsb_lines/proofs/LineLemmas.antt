@@ -1,4 +1,4 @@
-use Rattle.std.proofs.Common.{◌≡◌, ℕ, ◌+◌, ◌<◌, ◌≤◌, List, [], ◌∷◌, ◌++◌, length, refl, ap, ◌∙◌, arith, zero, suc, get_or, take, drop, inl, inr}
+use Rattle.std.proofs.Common.{◌≡◌, ℕ, ◌+◌, ◌-◌, ◌<◌, ◌≤◌, List, [], ◌∷◌, ◌++◌, length, refl, ap, ◌∙◌, arith, zero, suc, get_or, take, drop, take_all, length-drop, add-one, inl, inr}
 use Rattle.std.proofs.lemmas.Bool.Decides.{eqb_tells}
 use Rattle.tsb_lines.specs.Lines.{without_return, HasNoFeed, onto_first, split, ended, lines_of}
 
@@ -91,6 +91,32 @@ lines-alone held f = ap ended (split-alone held f)
 pub feedless-more : (held : List ℕ) (b : ℕ) → HasNoFeed held → (b ≡ 10 → ⊥) → HasNoFeed (held ++ b ∷ [])
 feedless-more [] b f n = (n, tt)
 feedless-more (c ∷ held) b f n = (f.0, feedless-more held b f.1 n)
+
+-- further bytes without one
+pub feedless-both : (held more : List ℕ) → HasNoFeed held → HasNoFeed more → HasNoFeed (held ++ more)
+feedless-both [] more f n = n
+feedless-both (b ∷ held) more f n = (f.0, feedless-both held more f.1 n)
+
+-- bytes of which none is one
+pub feedless-all : (xs : List ℕ) → Feedless xs (length xs) → HasNoFeed xs
+feedless-all [] f = tt
+feedless-all (b ∷ xs) f = (λ e. f 0 (omega arith) e, feedless-all xs (λ k lt. f (suc k) (omega (arith, lt))))
+
+-- and the first n of them
+pub feedless-front : (xs : List ℕ) (n : ℕ) → Feedless xs n → HasNoFeed (take n xs)
+feedless-front xs zero f = tt
+feedless-front [] (suc n) f = tt
+feedless-front (b ∷ xs) (suc n) f = (λ e. f 0 (omega arith) e, feedless-front xs n (λ k lt. f (suc k) (omega (arith, lt))))
+
+-- bytes are made up of those before a line feed, it and those behind it
+pub cut-joined : (xs : List ℕ) (n : ℕ) → n < length xs → get_or xs n 0 ≡ 10 → xs ≡ take n xs ++ 10 ∷ drop (suc n) xs
+cut-joined [] n lt e = absurd (omega (arith, lt))
+cut-joined (b ∷ xs) zero lt e = let z : b ≡ 10 = e in rw z refl
+cut-joined (b ∷ xs) (suc n) lt e = ap (λ (v : List ℕ). b ∷ v) (cut-joined xs n (omega (arith, lt)) e)
+
+-- behind the place n, as a slice has it
+pub behind : (xs : List ℕ) (n : ℕ) → n < length xs → take (length xs - (n + 1)) (drop (n + 1) xs) ≡ drop (suc n) xs
+behind xs n lt = rw (add-one n) (take_all (length xs - suc n) (drop (suc n) xs) (let l : length (drop (suc n) xs) ≡ length xs - suc n = length-drop (suc n) xs in omega (arith, l)))
 
 length-onto : (b : ℕ) (ls : List (List ℕ)) → length (onto_first b ls) ≤ suc (length ls)
 length-onto b [] = omega arith

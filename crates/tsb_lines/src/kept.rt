@@ -1,4 +1,4 @@
-//! The line that a reader of single bytes keeps until its end comes.
+//! The line that a reader keeps until its end comes.
 ghost use Rattle.std.specs.Prelude.{◌≡◌, ◌≢◌, [], ◌∷◌, ◌++◌};
 ghost use Rattle.tsb_lines.specs.Lines.{HasNoFeed, kept, without_return};
 
@@ -43,6 +43,16 @@ impl<const MOST: usize> KeptLine<MOST> {
         if !self.bytes.is_full() {
             self.bytes.push(byte);
         }
+    }
+
+    /// Takes bytes of which none is a line feed. Of a line that gets longer than `MOST` its first ones are kept.
+    pub fn extend(&mut self, bytes: &[u8])
+        requires { HasNoFeed bytes.now }
+        ensures kept { self.new ≡ kept MOST (self.old ++ bytes.now) }
+        ensures one { HasNoFeed (self.old ++ bytes.now) }
+    {
+        let room = self.bytes.remaining_capacity().min(bytes.len());
+        let _ = self.bytes.try_extend_from_slice(&bytes[..room]);
     }
 
     /// The bytes as they are, which is the last line of a text where no line feed ends it.

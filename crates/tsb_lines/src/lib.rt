@@ -13,6 +13,6 @@ pub mod writes;
 
 pub use digits::{digit, seven_digits};
 pub use kept::KeptLine;
-pub use lines::{is_skipped, next_line, without_return};
+pub use lines::{cut_at_feed, is_skipped, next_line, without_return};
 pub use words::{next_word, number};
 pub use writes::{WriteError, pass_on, write_text};

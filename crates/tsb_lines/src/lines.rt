@@ -1,6 +1,6 @@
 //! Lines of a text.
-ghost use Rattle.std.specs.Prelude.{◌≡◌, ◌∷◌, [], MatchOption};
-ghost use Rattle.tsb_lines.specs.Lines.{is_blank, is_comment, is_skipped, lines_of, split, without_return};
+ghost use Rattle.std.specs.Prelude.{◌≡◌, ◌∷◌, ◌++◌, [], MatchOption};
+ghost use Rattle.tsb_lines.specs.Lines.{HasNoFeed, is_blank, is_comment, is_skipped, lines_of, split, without_return};
 
 use memchr::memchr;
 
@@ -14,6 +14,17 @@ pub fn next_line(text: &[u8]) -> (&[u8], Option<&[u8]>)
     match memchr(b'\n', text) {
         None => (text, None),
         Some(end) => (without_return(&text[..end]), Some(&text[end + 1..])),
+    }
+}
+
+/// What stands before the first line feed of some bytes, and what follows it, or `None` where they have no line feed.
+pub fn cut_at_feed(bytes: &[u8]) -> Option<(&[u8], &[u8])>
+    ensures { MatchOption result (HasNoFeed bytes.now)
+        (λ cut. HasNoFeed cut.0.now × (bytes.now ≡ cut.0.now ++ 10 ∷ cut.1.now)) }
+{
+    match memchr(b'\n', bytes) {
+        None => None,
+        Some(end) => Some((&bytes[..end], &bytes[end + 1..])),
     }
 }
 

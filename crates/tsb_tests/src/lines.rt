@@ -1,6 +1,6 @@
 //! Lines of texts, words of lines, and numbers.
 
-use tsb_lines::{KeptLine, is_skipped, laws, next_line, next_word, number, without_return};
+use tsb_lines::{KeptLine, cut_at_feed, is_skipped, laws, next_line, next_word, number, without_return};
 
 /// Whether the text has these lines, one after the other, and no more.
 fn has_lines(text: &[u8], wanted: &[&[u8]]) -> bool {
@@ -26,6 +26,21 @@ fn lines_end_at_line_feeds(rt: HostRuntime) {
     laws::lines_make_up_the_text();
 }
 
+/// Whether the first line feed stands between these.
+fn is_cut(bytes: &[u8], before: &[u8], behind: &[u8]) -> bool {
+    match cut_at_feed(bytes) {
+        None => false,
+        Some((first, rest)) => first == before && rest == behind,
+    }
+}
+
+#[test]
+fn bytes_are_cut_at_the_first_line_feed(rt: HostRuntime) {
+    assert!(rt; is_cut(b"one\r\ntwo\nlast", b"one\r", b"two\nlast"));
+    assert!(rt; is_cut(b"\n", b"", b""));
+    assert!(rt; cut_at_feed(b"last\r").is_none());
+}
+
 /// Whether the line would be the first of these if it were the last of a text, and is the second where a line feed ends
 /// it.
 fn is_kept(line: &KeptLine<4>, last: &[u8], ended: &[u8]) -> bool {
@@ -45,7 +60,7 @@ fn is_kept_until_it_ends(line: &mut KeptLine<4>) -> bool {
     let is_empty = is_kept(line, b"", b"");
     push(line, b"ab\r");
     let is_short = is_kept(line, b"ab\r", b"ab");
-    push(line, b"\rc");
+    line.extend(b"\rc");
     let is_long = is_kept(line, b"ab\r\r", b"ab\r");
     line.clear();
     push(line, b"d");

@@ -1,12 +1,8 @@
-use Rattle.std.proofs.Common.{◌≡◌, ◌∙◌, ◌∷◌, ◌-◌, ◌+◌, ◌<◌, List, ℕ, ap, sym, arith, eq-eqb, length, take, drop, get_or, suc, length-drop, take_all, add-one}
+use Rattle.std.proofs.Common.{◌≡◌, ◌∙◌, ◌∷◌, List, ℕ, ap, sym, arith, eq-eqb, take, drop, get_or, suc}
 use Rattle.std.proofs.lemmas.Bool.{eqb-true}
 use Rattle.tsb_lines.specs.Lines.{lines_of, without_return}
-use Rattle.tsb_lines.proofs.LineLemmas.{lines-last, lines-first}
+use Rattle.tsb_lines.proofs.LineLemmas.{lines-last, lines-first, behind}
 use Rattle.tsb_lines.proofs.lines.next_line.Goals as goal
-
--- after the line feed at n, as a slice
-behind : (xs : List ℕ) (n : ℕ) → n < length xs → take (length xs - (n + 1)) (drop (n + 1) xs) ≡ drop (suc n) xs
-behind xs n lt = rw (add-one n) (take_all (length xs - suc n) (drop (suc n) xs) (let l : length (drop (suc n) xs) ≡ length xs - suc n = length-drop (suc n) xs in omega (arith, l)))
 
 pub returns-in-None : goal.returns-in-None
 returns-in-None c = lines-last c.args.text.now (λ k lt e. c.in-None.ensures k (omega arith) lt (eq-eqb (get_or c.args.text.now k 0) 10 e))
