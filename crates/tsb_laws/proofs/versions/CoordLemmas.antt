@@ -9,11 +9,12 @@ use Rattle.tsb_step.specs.tsb_plan.Running.{running, split_in_effect, sequence_i
 use Rattle.tsb_step.specs.tsb_rules.PatternRules.{is_on, has_phases, split_on, split_sum, side_sum, split_before, ring_sequence, split_end}
 use Rattle.tsb_step.specs.tsb_coord.Coordinated.{local_in, local, end_in, instant_from, reference, instant_by, force_off, is_at_force_off, asks_force_off, asks_recycle, asks_hold, asks_omit, sequence_now, serving_order}
 use Rattle.tsb_step.specs.tsb_objects.Instants.{is_coordinated_in, coordinated_in_ring, first_coordinated}
-use Rattle.tsb_step.specs.tsb_coord.Correction.{Correction, is_in_step, local_now, forces, lets_walk_again, selected_correction}
-use Rattle.tsb_step.proofs.tsb_coord.CorrectionLemmas.{forces_in_step, local_in_step}
+use Rattle.tsb_step.specs.tsb_coord.declared.correction.Correction.{Correction}
+use Rattle.tsb_step.specs.tsb_coord.Correction.{is_in_step, local_now, forces, lets_walk_again, selected_correction}
+use Rattle.tsb_step.proofs.tsb_coord.CorrectionLemmas.{forces_in_step, local_in_step, in_step_at_once}
 use Rattle.tsb_step.proofs.tsb_coord.LocalLemmas.{options_off}
 use Rattle.tsb_laws.specs.Widened.{IsNarrow, widened}
-use Rattle.tsb_laws.proofs.operation.OptionLemmas.{never_recycles, in_step_at_once, begins_at_once}
+use Rattle.tsb_laws.proofs.operation.OptionLemmas.{never_recycles, begins_at_once}
 use Rattle.tsb_laws.proofs.versions.ListLemmas.{is_narrow, is_beyond, sum-up_to}
 use Rattle.tsb_laws.proofs.versions.PlanLemmas.{first-same, any-same, sum-same, beyond-narrow, not-enabled, enabled-narrow, split_time-same, split_mode-same, is_coordinated-same, not-coordinated, not-late, at-once, no-permissive_time, no-second_walk, zeros, sequence-same}
 

@@ -14,7 +14,7 @@ use Rattle.tsb_step.specs.tsb_transact.Commit as commit
 use Rattle.tsb_step.specs.tsb_transact.Calls as desk
 use Rattle.tsb_step.specs.tsb_ring.Rings as rings
 use Rattle.tsb_step.specs.tsb_coord.Coordinated.{selects}
-use Rattle.tsb_step.specs.tsb_coord.Correction.{Correction}
+use Rattle.tsb_step.specs.tsb_coord.declared.correction.Correction.{Correction}
 use Rattle.tsb_step.specs.tsb_heads.declared.monitor.Trip.{Trip}
 use Rattle.tsb_step.specs.tsb_heads.Displays as heads
 use Rattle.tsb_step.specs.tsb_heads.Monitoring as monitor
