@@ -1,5 +1,5 @@
 -- What runs, and what coordination asks of phases 1 to 8, is the same on the wide plan.
-use Rattle.std.proofs.Common.{◌≡◌, ℕ, ◌+◌, ◌-◌, ◌≤◌, ◌==◌, nat_le, Bool, true, false, ◌&&◌, ◌++◌, Option, Some, None, refl, sym, ◌∙◌, ap, ap₂, inl, inr, sum_by}
+use Rattle.std.proofs.Common.{◌≡◌, ℕ, ◌+◌, ◌-◌, ◌==◌, nat_le, Bool, true, false, ◌&&◌, ◌++◌, Option, Some, None, refl, sym, ◌∙◌, ap, ap₂, inl, inr, sum_by}
 use Rattle.std.proofs.Math.Path.{fun_ext}
 use Rattle.std.proofs.lemmas.Bool.{cases_Bool}
 use Rattle.tsb_step.specs.tsb_types.Lists.{or_else, run_from, up_to}
@@ -202,11 +202,11 @@ asks_recycle-same plan t selected p narrow =
     never_recycles (widened plan) (running (widened plan) selected) (local (widened plan) t selected) p (no-second_walk plan p narrow)
     ∙ sym (never_recycles plan (running plan selected) (local plan t selected) p (no-second_walk plan p narrow))
 
-pub forces-same : (plan : Plan) (selected : Option ℕ) (c : Correction) (t p : ℕ) → IsNarrow plan → 1 ≤ t →
+pub forces-same : (plan : Plan) (selected : Option ℕ) (c : Correction) (t p : ℕ) → IsNarrow plan →
     forces (widened plan) selected c t p ≡ forces plan selected c t p
-forces-same plan selected c t p narrow some =
-    forces_in_step (widened plan) selected c t p (wide-in_step plan selected c (t - 1) narrow) some
-    ∙ asks_force_off-same plan t selected p narrow ∙ sym (forces_in_step plan selected c t p (counter-in_step plan selected c (t - 1) narrow) some)
+forces-same plan selected c t p narrow =
+    forces_in_step (widened plan) selected c t p (wide-in_step plan selected c (t - 1) narrow)
+    ∙ asks_force_off-same plan t selected p narrow ∙ sym (forces_in_step plan selected c t p (counter-in_step plan selected c (t - 1) narrow))
 
 pub lets_walk_again-same : (plan : Plan) (selected : Option ℕ) (c : Correction) (t p : ℕ) → IsNarrow plan →
     lets_walk_again (widened plan) selected c t p ≡ lets_walk_again plan selected c t p

@@ -1,5 +1,5 @@
 -- A tick makes the same of both benches.
-use Rattle.std.proofs.Common.{◌≡◌, ℕ, ◌+◌, ◌≤◌, Bool, true, false, ◌&&◌, List, ◌++◌, Option, Some, None, option_map, refl, sym, arith, ◌∙◌, ap, ap₂, inl, inr}
+use Rattle.std.proofs.Common.{◌≡◌, ℕ, ◌+◌, ◌≤◌, Bool, true, false, ◌&&◌, List, ◌++◌, Option, Some, None, option_map, refl, sym, ◌∙◌, ap, ap₂, inl, inr}
 use Rattle.std.proofs.Math.Path.{fun_ext}
 use Rattle.std.proofs.lemmas.Bool.{cases_Bool}
 use Rattle.tsb_step.specs.tsb_cells.declared.timer.Timer.{Timer}
@@ -130,7 +130,7 @@ none-told s row narrow p out = ap (λ b. is_phase p && b) (none-beyond s row nar
 -- ## Phase timing
 
 forced-same : (s : State) → IsNarrow s.plan → forced (widened_state s) ≡ forced s
-forced-same s narrow = fun_ext (λ p. forces-same s.plan s.pattern s.correction (s.now + 1) p narrow (omega arith))
+forced-same s narrow = fun_ext (λ p. forces-same s.plan s.pattern s.correction (s.now + 1) p narrow)
 
 recycle-same : (s : State) → IsNarrow s.plan → recycle (widened_state s) ≡ recycle s
 recycle-same s narrow = fun_ext (λ p. lets_walk_again-same s.plan s.pattern s.correction (s.now + 1) p narrow)

@@ -136,7 +136,7 @@ ends_now = record {
 
 forced_off : IsForcedOff (replay early selected) 1 2
 unfolding opened early
-forced_off = record { selected = refl; used = refl; coordinated = refl; forced = refl }
+forced_off = record { selected = refl; used = refl; coordinated = refl; in_step = refl; forced = refl }
 
 -- ## An omitted phase that an older commitment starts: 3 is called, and pattern 1, by which split mode 5 omits it, is selected
 -- while a crossing to it is under way
