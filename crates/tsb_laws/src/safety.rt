@@ -73,12 +73,14 @@ pub fn crossings_complete()
 
 /// A coordinated green ends only by its force-off. While a pattern runs and no preempt is in service, a tick ends a
 /// coordinated green only where its force-off instant is this tick, this tick is in the permissive time of the pattern
-/// behind that, or it was forced off in an earlier one of this green.
+/// behind that, or it was forced off in an earlier one of this green. Where the local counter takes two steps in a tick,
+/// both count.
 ///
 /// Needs: an untripped run; at most 16 phases.
 /// Not said: that the earlier tick was its instant too, where a commit has made the phase coordinated since.
-/// Mistake: a green that a gap ends (`is_held`, `would_time_out`).
-/// Witness: `a_coordination` of CoordinationRuns.
+/// Mistakes: a green that a gap ends (`is_held`, `would_time_out`); a force-off that a faster local counter passes,
+/// `where_it_comes_to` (`comes_there`, `would_pass_it`).
+/// Witness: `a_coordination` of CoordinationRuns, and with two steps in the tick `a_faster_one`.
 pub fn coordinated_end_by_force_off()
     ensures { CoordinatedEndByForceOff }
 {}

@@ -7,8 +7,9 @@ ghost use Rattle.tsb_laws.specs.WayBack.{CellsTellTheState, CheckedPlansAreHeld,
 /// Needs: a plan such as the program holds (`IsHeld`), and inputs whose numbers are of its types (`AreTyped`).
 /// Not said: that a run can be kept in memory.
 /// Mistakes: a clock that goes on while the controller has tripped, `clock_goes_on` (`reads_12`, `would_read_22`);
-/// cells without the commitments, `cells_without` (`would_be_equal`).
-/// Witness: `ran` of Witness, a run with a transaction, a fault and a trip.
+/// cells without the commitments, `cells_without` (`would_be_equal`); cells of the pattern without how its local
+/// counter comes into step, `pattern_alone` (`are_told`, `would_be_alike`).
+/// Witness: `ran` of Witness, a run with a transaction, a fault and a trip, and `comes_into_step`.
 pub fn cells_tell_the_state()
     ensures told { CellsTellTheState }
     ensures equal { EqualCellsAreEqualStates }

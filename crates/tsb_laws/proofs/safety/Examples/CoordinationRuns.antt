@@ -1,28 +1,32 @@
 -- Runs from power-up that meet all premises of a law at once: of coordinated greens, of omitted phases, of greens that clear in
 -- time, and of trips.
-use Rattle.std.proofs.Common.{◌≡◌, ◌≢◌, ℕ, ◌+◌, ◌≤◌, true, false, List, [], ◌∷◌, ◌++◌, Some, None, is_some, refl, sym, ap, arith, ◌∙◌}
+use Rattle.std.proofs.Common.{◌≡◌, ◌≢◌, ℕ, ◌+◌, ◌≤◌, Bool, true, false, List, [], ◌∷◌, ◌++◌, Some, None, is_some, refl, sym, ap, arith, ◌∙◌}
 use Rattle.tsb_step.specs.tsb_types.Sets.{all_off}
 use Rattle.tsb_step.specs.tsb_types.declared.interval.Interval.TheVariants.{Green, Yellow, Red}
 use Rattle.tsb_step.specs.tsb_types.declared.lamp.Lamp.TheVariants as lamps
 use Rattle.tsb_step.specs.tsb_types.declared.lamp.SignalColor.TheVariants as signals
 use Rattle.tsb_step.specs.tsb_types.declared.row.Row.{Row}
 use Rattle.tsb_step.specs.tsb_plan.declared.object.Object.{Object}
-use Rattle.tsb_step.specs.tsb_plan.declared.object.Object.TheVariants.{PhaseMinRecall, PhaseMinimumGreen, PhaseYellowChange, PatternOffsetTime, SplitMode}
+use Rattle.tsb_step.specs.tsb_plan.declared.object.Object.TheVariants.{PhaseMinRecall, PhaseMinimumGreen, PhaseYellowChange, PatternOffsetTime, SplitMode, CoordCorrectionMode, CoordCorrectionLimit}
 use Rattle.tsb_step.specs.tsb_plan.Objects.{greatest}
 use Rattle.tsb_step.specs.tsb_plan.Plan.{Plan, is_enabled, with_values}
 use Rattle.tsb_step.specs.tsb_plan.Quad.{quad}
 use Rattle.tsb_step.specs.tsb_rules.Rules.{first_broken}
+use Rattle.tsb_step.specs.tsb_coord.Coordinated.{force_off, is_at_force_off}
+use Rattle.tsb_step.specs.tsb_coord.Correction.{clock}
 use Rattle.tsb_step.specs.tsb_phase.ClearanceLaws.{clearance}
 use Rattle.tsb_step.specs.tsb_ring.Rings.{Ring1}
 use Rattle.tsb_step.specs.tsb_ring.Moves.{is_ended}
 use Rattle.tsb_step.specs.declared.inputs.Input.{Input}
 use Rattle.tsb_step.specs.declared.inputs.Input.TheVariants.{Tick, Pattern, Fault, Reset}
 use Rattle.tsb_step.specs.State.{State, interval}
-use Rattle.tsb_step.specs.Tick.{service, hold, forced, omitted, moves}
+use Rattle.tsb_step.specs.Signs.{local}
+use Rattle.tsb_step.specs.Tick.{service, hold, forced, at_force_off, omitted, moves}
 use Rattle.tsb_step.specs.Runs.{replay, AreTaken}
 use Rattle.tsb_step.specs.Laws.{IsConsistent, is_unlit}
 use Rattle.tsb_step.specs.ClearanceLaws.{EndsNow, IsForcedOff}
 use Rattle.tsb_step.proofs.Examples.Scenes.{opened, vehicle}
+use Rattle.tsb_laws.specs.Coordination.{in_permissive_time, was_forced_off}
 use Rattle.tsb_laws.specs.Stretches.{EndsGreen, StartsGreen}
 use Rattle.tsb_laws.proofs.safety.Examples.PlanFits.{Fits, values_fit, quad_fits, consistent}
 use Rattle.tsb_laws.proofs.safety.Examples.TickRuns.{dark_after}
@@ -137,6 +141,109 @@ ends_now = record {
 forced_off : IsForcedOff (replay early selected) 1 2
 unfolding opened early
 forced_off = record { selected = refl; used = refl; coordinated = refl; in_step = refl; forced = refl }
+
+-- ## A faster local counter: in tick 1 pattern 2 is selected, 700 ticks ahead, so that the short way is the faster one.
+-- In the next tick, in which 1 is called, it takes two steps, from 751 to 753
+
+abbrev faster_values : List (Object × ℕ × ℕ)
+faster_values = (CoordCorrectionMode, 1, 2) ∷ (CoordCorrectionLimit, 1, 50) ∷ (PatternOffsetTime, 2, 75) ∷ early_values
+
+unfoldable pub faster : Plan
+faster = with_values quad faster_values
+
+pub faster_fits : Fits greatest faster.value
+unfolding faster
+faster_fits = values_fit greatest faster_values quad refl (quad_fits greatest refl refl)
+
+pub faster_count : faster.phase_count ≡ 16
+unfolding quad faster
+faster_count = refl
+
+pub faster_sides : faster.side_count ≡ 4
+unfolding quad faster
+faster_sides = refl
+
+faster_breaks_none : first_broken faster ≡ None
+unfolding opened faster
+faster_breaks_none = refl
+
+pub faster_consistent : IsConsistent faster
+faster_consistent = consistent greatest faster faster_count faster_breaks_none faster_fits
+
+abbrev pub selected_again : List Input
+selected_again = Pattern 2 ∷ selected
+
+pub again_taken : AreTaken faster selected_again
+unfolding opened faster
+again_taken = (((tt, refl), refl), refl)
+
+again_dark : (replay faster selected_again).trip ≡ None
+unfolding opened faster
+again_dark = refl
+
+pub is_ahead : (replay faster selected_again).correction ≡ record { since = 1; ahead = 700 }
+unfolding opened faster
+is_ahead = refl
+
+was_751 : local (replay faster selected_again) ≡ Some 751
+unfolding opened faster
+was_751 = refl
+
+comes_to_753 : local (replay faster (Tick (vehicle 1) ∷ selected_again)) ≡ Some 753
+unfolding opened faster
+comes_to_753 = refl
+
+instant_752 : force_off faster (Some 2) 2 ≡ Some 752
+unfolding opened faster
+instant_752 = refl
+
+green_at_751 : interval (replay faster selected_again) 2 ≡ Green
+unfolding opened faster
+green_at_751 = refl
+
+yellow_at_753 : interval (replay faster (Tick (vehicle 1) ∷ selected_again)) 2 ≡ Yellow
+unfolding opened faster
+yellow_at_753 = refl
+
+held_again : hold (replay faster selected_again) 2 ≡ true
+unfolding opened faster
+held_again = refl
+
+none_in_service : service (replay faster selected_again) (vehicle 1) ≡ None
+unfolding opened faster
+none_in_service = refl
+
+a_faster_one : Coordination faster selected_again (vehicle 1) 2
+a_faster_one = record {
+  consistent = faster_consistent;
+  few = (let count = faster_count in omega (arith, count));
+  taken = again_taken;
+  untripped = again_dark;
+  ended = record { was_green = green_at_751; ends = λ h. (let bad : Yellow ≡ Green = sym yellow_at_753 ∙ h in absurd cc) };
+  held = held_again;
+  alone = none_in_service;
+}
+
+-- it was at the instant with the first of the two steps, and nothing else forced phase 2 off
+comes_there : at_force_off (replay faster selected_again) 2 ≡ true
+unfolding opened faster
+comes_there = refl
+
+not_behind : in_permissive_time (replay faster selected_again) 2 ≡ false
+unfolding opened faster
+not_behind = refl
+
+not_before : was_forced_off faster 2 selected_again ≡ false
+unfolding opened faster
+not_before = refl
+
+-- a force-off where the local counter comes to, and not on its way there
+abbrev where_it_comes_to : State → ℕ → Bool
+where_it_comes_to s p = is_at_force_off s.plan (clock s.plan s.pattern s.correction (s.now + 1)) s.pattern p
+
+would_pass_it : where_it_comes_to (replay faster selected_again) 2 ≡ false
+unfolding opened faster
+would_pass_it = refl
 
 -- ## An omitted phase that an older commitment starts: 3 is called, and pattern 1, by which split mode 5 omits it, is selected
 -- while a crossing to it is under way

@@ -1,10 +1,13 @@
 -- What the laws refuse: for each a mistake in the definitions, and by computing what comes of it. Beside each stands what
 -- the definitions as they are make of the same.
-use Rattle.std.specs.Prelude.{◌≡◌, ℕ, ◌+◌, ◌-◌, nat_le, false, List, [], ◌∷◌, Some, None, refl}
+use Rattle.std.specs.Prelude.{◌≡◌, ℕ, ◌+◌, ◌-◌, nat_le, false, List, [], ◌∷◌, Option, Some, None, refl}
 use Rattle.tsb_step.specs.tsb_cells.declared.timer.Timer.{Timer}
 use Rattle.tsb_step.specs.tsb_cells.declared.timer.Timer.TheVariants.{Off, On}
 use Rattle.tsb_step.specs.tsb_cells.Timer.{advanced, timer_cell, timer_at}
 use Rattle.tsb_step.specs.tsb_cells.Diff.{diff, apply_diff}
+use Rattle.tsb_step.specs.tsb_coord.declared.correction.Correction.{Correction}
+use Rattle.tsb_step.specs.tsb_coord.Cells.{pattern_cells}
+use Rattle.tsb_step.specs.tsb_coord.Correction.{in_step}
 use Rattle.tsb_step.specs.tsb_heads.declared.monitor.Trip.TheVariants.{Conflict}
 use Rattle.tsb_step.specs.tsb_history.declared.kinds.Kind.{Kind}
 use Rattle.tsb_step.specs.tsb_history.declared.kinds.Kind.TheVariants as kinds
@@ -47,6 +50,19 @@ is_another = refl
 
 was_none : power_up.commitment Ring1 ≡ None
 was_none = refl
+
+-- and cells of the pattern without how its local counter comes into step
+abbrev is_coming : Correction
+is_coming = record { since = 1; ahead = 700 }
+
+are_told : pattern_cells (Some 2) is_coming ≡ 2 ∷ 1 ∷ 700 ∷ []
+are_told = refl
+
+abbrev pattern_alone : Option ℕ → Correction → List ℕ
+pattern_alone selected c = or_number selected 0 ∷ []
+
+would_be_alike : pattern_alone (Some 2) is_coming ≡ pattern_alone (Some 2) in_step
+would_be_alike = refl
 
 -- ## Pasts are the run: a record with what cells hold after the input
 

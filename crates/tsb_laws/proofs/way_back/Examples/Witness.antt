@@ -22,6 +22,7 @@ use Rattle.tsb_step.proofs.Examples.Scenes.{opened}
 use Rattle.tsb_step.proofs.Examples.OtherRuns.{two_count, two_consistent}
 use Rattle.tsb_laws.specs.Runs.{IsHeld, IsRun}
 use Rattle.tsb_laws.specs.Timers.{timer_of, Change, Interval}
+use Rattle.tsb_laws.proofs.safety.Examples.CoordinationRuns.{faster, faster_fits, faster_count, faster_sides, faster_consistent, selected_again, again_taken}
 
 -- ## A plan that the program holds
 
@@ -92,3 +93,12 @@ was_off = refl
 runs_on : timer_of (Change 1) (replay two (Tick all_off ∷ [])) ≡ On 1
 unfolding opened two
 runs_on = refl
+
+-- ## A run after which a local counter comes into step: it is 700 ticks ahead (`is_ahead` of CoordinationRuns)
+
+pub comes_into_step : IsRun faster selected_again
+comes_into_step = record {
+  plan_held = record { consistent = faster_consistent; phases = faster_count; sides = faster_sides; bounded = faster_fits.bounded };
+  taken = again_taken;
+  typed = (tt, (tt, (tt, tt)));
+}
