@@ -1,4 +1,6 @@
 -- the display line, byte by byte: its letters and digits, its fields, and the whole
 pub mod Line
+-- the letters that a line has of heads
+pub mod Letters
 -- the names of crates below, for those above
 pub use Rattle.tsb_heads.specs as tsb_heads

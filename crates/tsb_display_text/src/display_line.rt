@@ -1,10 +1,12 @@
 //! The display line, field by field.
 ghost use Rattle.std.specs.Prelude.{◌≡◌, ◌+◌, ◌≤◌, ◌++◌, take, drop};
 ghost use Rattle.std.specs.Str.{IsUtf8};
+ghost use Rattle.tsb_heads.specs.Heads.{Heads};
 ghost use Rattle.tsb_heads.specs.Reading.{heads_of};
+ghost use Rattle.tsb_display_text.specs.Letters.{AreOf};
 ghost use Rattle.tsb_display_text.specs.Line.{line_of};
 
-use crate::letters::{overlap_letters, pedestrian_letters, vehicle_letters};
+use crate::letters::Letters;
 use crate::numbers::{local_digits, preempt_digit};
 use arrayvec::ArrayString;
 use tsb_heads::Display;
@@ -72,11 +74,25 @@ pub fn line_bytes(
     ensures line { result ≡ line_of now (heads_of heads.now) preempt local }
     ensures text { IsUtf8 result }
 {
+    bytes_of(now, &Letters::of(heads), preempt, local)
+}
+
+/// The bytes of the display line with these letters.
+#[inline(always)]
+pub(crate) fn bytes_of(
+    now: u32,
+    letters: &Letters,
+    preempt: Option<Preempt>,
+    local: Option<u32>,
+) -> LineBytes
+    ensures line { (heads : Heads) → AreOf letters.now heads → result ≡ line_of now heads preempt local }
+    ensures text { (heads : Heads) → AreOf letters.now heads → IsUtf8 result }
+{
     let mut bytes = [b' '; WIDTH];
     put(&mut bytes, TICK, &seven_digits(now));
-    put(&mut bytes, VEHICLES, &vehicle_letters(heads));
-    put(&mut bytes, PEDESTRIANS, &pedestrian_letters(heads));
-    put(&mut bytes, OVERLAPS, &overlap_letters(heads));
+    put(&mut bytes, VEHICLES, &letters.vehicles);
+    put(&mut bytes, PEDESTRIANS, &letters.pedestrians);
+    put(&mut bytes, OVERLAPS, &letters.overlaps);
     bytes[PREEMPT] = preempt_digit(preempt);
     put(&mut bytes, LOCAL, &local_digits(local));
     bytes

@@ -2,10 +2,35 @@
 ghost use Rattle.std.specs.Prelude.{◌≡◌, ℕ, ◌+◌, ◌<◌, ◌≤◌, get_or, length, if◌then◌else◌};
 ghost use Rattle.tsb_types.specs.Sets.{has, has_number};
 ghost use Rattle.tsb_heads.specs.Reading.{heads_of};
+ghost use Rattle.tsb_display_text.specs.Letters.{AreOf};
 ghost use Rattle.tsb_display_text.specs.Line.{vehicle_field, pedestrian_field, overlap_field};
 
 use tsb_heads::Display;
 use tsb_types::{NumberSet, PhaseSet};
+
+/// The letters of a display line.
+#[derive(Clone, Copy)]
+pub(crate) struct Letters {
+    /// Those of the vehicle heads of phases 1 to 16.
+    pub(crate) vehicles: [u8; 16],
+    /// Those of the pedestrian heads of phases 1 to 16.
+    pub(crate) pedestrians: [u8; 16],
+    /// Those of the heads of overlaps 1 to 4.
+    pub(crate) overlaps: [u8; 4],
+}
+
+impl Letters {
+    /// The letters of what the heads show.
+    pub(crate) fn of(heads: &Display) -> Letters
+        ensures { AreOf result (heads_of heads.now) }
+    {
+        Letters {
+            vehicles: vehicle_letters(heads),
+            pedestrians: pedestrian_letters(heads),
+            overlaps: overlap_letters(heads),
+        }
+    }
+}
 
 /// The letter of a head that is dark.
 const DARK: u8 = b'-';
@@ -39,7 +64,7 @@ fn with_letter<const N: usize>(letters: [u8; N], heads: NumberSet, letter: u8) -
 
 /// The letters of the vehicle heads of phases 1 to 16.
 #[inline(always)]
-pub(crate) fn vehicle_letters(heads: &Display) -> [u8; 16]
+fn vehicle_letters(heads: &Display) -> [u8; 16]
     ensures { result ≡ vehicle_field (heads_of heads.now).vehicle }
 {
     let dark = [DARK; 16];
@@ -51,7 +76,7 @@ pub(crate) fn vehicle_letters(heads: &Display) -> [u8; 16]
 
 /// The letters of the pedestrian heads of phases 1 to 16.
 #[inline(always)]
-pub(crate) fn pedestrian_letters(heads: &Display) -> [u8; 16]
+fn pedestrian_letters(heads: &Display) -> [u8; 16]
     ensures { result ≡ pedestrian_field (heads_of heads.now).pedestrian }
 {
     let dark = [DARK; 16];
@@ -62,7 +87,7 @@ pub(crate) fn pedestrian_letters(heads: &Display) -> [u8; 16]
 
 /// The letters of the heads of overlaps 1 to 4.
 #[inline(always)]
-pub(crate) fn overlap_letters(heads: &Display) -> [u8; 4]
+fn overlap_letters(heads: &Display) -> [u8; 4]
     ensures { result ≡ overlap_field (heads_of heads.now).overlap }
 {
     let dark = [DARK; 4];

@@ -2,11 +2,14 @@
 //! local counter.
 //!
 //! The line is the profile's own. `line` gives it as text and `line_bytes` as bytes; neither takes memory, and both
-//! give the same bytes. It is written once a tick, so its letters are found by sets of heads, a colour at a time.
+//! give the same bytes. It is written once a tick, so its letters are found by sets of heads, a colour at a time, and a
+//! `LineMaker` takes them from the line before where no head has changed.
 #![tactic(auto)]
 
 mod display_line;
 mod letters;
+mod maker;
 mod numbers;
 
 pub use display_line::{LineBytes, WIDTH, line, line_bytes};
+pub use maker::LineMaker;

@@ -12,7 +12,7 @@ ghost use Rattle.tsb_text.specs.Obeyed.{Done, Stands, besides_of, news_in};
 use std::io::Write;
 use tsb_bench::Input;
 use tsb_dialog::{Pending, Watched, WriteError};
-use tsb_display_text::LineBytes;
+use tsb_display_text::{LineBytes, LineMaker};
 use tsb_objects::Refusal;
 use tsb_text::{Course, line_bytes, say_refusal};
 use tsb_types::Row;
@@ -27,6 +27,7 @@ const SHOWN_END: usize = 48;
 /// display line that shows another head or preempt than the line before, and the last; and a refusal, behind `echo`.
 pub(crate) fn changes<W: Write>(
     course: &mut Course,
+    lines: &mut LineMaker,
     row: Row,
     ticks: u32,
     echo: &[u8],
@@ -38,13 +39,13 @@ pub(crate) fn changes<W: Write>(
     ensures mode { course.new.mode ≡ course.old.mode }
     ensures blame { writer.old.failed ≡ false → AfterCalls result writer.new.failed }
 {
-    let mut before = line_bytes(course.bench());
+    let mut before = line_bytes(lines, course.bench());
     let mut is_owed = false;
     for _i in 0..ticks {
         if let Err(refusal) = course.take(Input::Tick(row)) {
             return say_stop(&before, is_owed, &refusal, echo, pending, writer);
         }
-        let now = line_bytes(course.bench());
+        let now = line_bytes(lines, course.bench());
         is_owed = shows_same(&now, &before);
         say_tick(course, &now, !is_owed, pending, writer)?;
         before = now;

@@ -20,6 +20,7 @@ use std::io::{Read, Write};
 use tsb_bench::Bench;
 use tsb_command_text::Command;
 use tsb_dialog::{Answers, DialogError, Flow, Pending, Watched, WriteError, converse};
+use tsb_display_text::LineMaker;
 use tsb_live_lines::{LiveCommand, LiveReading, live_reading_of};
 use tsb_objects::{Checked, Refusal};
 use tsb_plan_line::{edits_line, plan_line};
@@ -42,6 +43,8 @@ struct LiveRun {
     alloc: Global,
     /// The bench, with what is kept of its inputs.
     course: Course,
+    /// What makes its display lines.
+    lines: LineMaker,
     /// The row last given. All inputs are off before the first.
     row: Row,
     /// Whether answers that are no display lines stand after their command.
@@ -132,7 +135,15 @@ impl LiveRun {
     {
         let echo = self.echo(line);
         let mut rows = Rows::Held(self.row);
-        let refusal = obey(&mut self.course, &mut rows, command, &echo, pending, writer)?;
+        let refusal = obey(
+            &mut self.course,
+            &mut self.lines,
+            &mut rows,
+            command,
+            &echo,
+            pending,
+            writer,
+        )?;
         Ok(fault_by(refusal))
     }
 
@@ -192,7 +203,15 @@ impl LiveRun {
         ensures blame { writer.old.failed ≡ false → AfterCalls result writer.new.failed }
     {
         let echo = self.echo(line);
-        let refusal = changes(&mut self.course, self.row, ticks, &echo, pending, writer)?;
+        let refusal = changes(
+            &mut self.course,
+            &mut self.lines,
+            self.row,
+            ticks,
+            &echo,
+            pending,
+            writer,
+        )?;
         Ok(fault_by(refusal))
     }
 
@@ -312,6 +331,7 @@ pub fn live<R: Read, W: Write>(
     let mut run = LiveRun {
         alloc,
         course: Course::new(alloc, bench, Mode::Keeping),
+        lines: LineMaker::new(),
         row: Row::all_off(),
         echoes: false,
         on_fault,

@@ -1,7 +1,7 @@
 //! Display lines, letter by letter.
 
 use std::process::Abort;
-use tsb_display_text::{line, line_bytes};
+use tsb_display_text::{LineMaker, line, line_bytes};
 use tsb_heads::Display;
 use tsb_objects::{Checked, Intervals, Pedestrians, PhaseSet, Plan, Preempt};
 
@@ -86,4 +86,33 @@ fn tells_flash(rt: HostRuntime) {
     let flashing = shown(&plan, 34, 0, 2, 0, true);
     let bytes = line_bytes(251, &flashing, Some(Preempt::of(1)), None);
     assert!(rt; bytes == *b"0000251 FFFFFFFF-------- ---------------- F--- 1 ----");
+}
+
+/// Whether the maker's line of a tick at which the heads show this is that which is made alone.
+fn makes_alike(
+    lines: &mut LineMaker,
+    tick: u32,
+    display: &Display,
+    preempt: Option<Preempt>,
+) -> bool {
+    lines.line_bytes(tick, display, preempt, Some(tick))
+        == line_bytes(tick, display, preempt, Some(tick))
+}
+
+/// Whether a maker tells heads that stay, heads that change, and again those before.
+fn makes_all(plan: &Checked) -> bool {
+    let mut lines = LineMaker::new();
+    let green = shown(plan, 34, 0, 2, 0, false);
+    let yellow = shown(plan, 0, 34, 0, 0, false);
+    let flash = shown(plan, 34, 0, 2, 0, true);
+    makes_alike(&mut lines, 1, &green, None)
+        && makes_alike(&mut lines, 2, &green, Some(Preempt::of(3)))
+        && makes_alike(&mut lines, 3, &yellow, None)
+        && makes_alike(&mut lines, 4, &green, None)
+        && makes_alike(&mut lines, 5, &flash, None)
+}
+
+#[test]
+fn lines_made_one_after_another_are_those_made_alone(rt: HostRuntime) {
+    assert!(rt; makes_all(&quad(&rt)));
 }

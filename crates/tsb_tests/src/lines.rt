@@ -1,6 +1,8 @@
 //! Lines of texts, words of lines, and numbers.
 
-use tsb_lines::{KeptLine, cut_at_feed, is_skipped, laws, next_line, next_word, number, without_return};
+use tsb_lines::{
+    KeptLine, cut_at_feed, is_skipped, laws, next_line, next_word, number, without_return,
+};
 
 /// Whether the text has these lines, one after the other, and no more.
 fn has_lines(text: &[u8], wanted: &[&[u8]]) -> bool {

@@ -20,13 +20,15 @@ use std::io::Write;
 use tsb_bench::{Answer, Bench, Cmd, Input};
 use tsb_command_text::Command;
 use tsb_dialog::{Pending, Watched, WriteError};
+use tsb_display_text::LineMaker;
 use tsb_objects::Refusal;
 
-/// Carries out a command, says its answer, and tells why it was refused, if it was. Ticks take their rows from `rows`;
-/// `echo` is said before an answer that is no display line. At an error the command may have been carried out, and a
+/// Carries out a command, says its answer, and tells why it was refused, if it was. Ticks take their rows from `rows`,
+/// and `lines` makes their display lines; `echo` is said before an answer that is no display line. At an error the command may have been carried out, and a
 /// first part of its answer was said.
 pub fn obey<W: Write>(
     course: &mut Course,
+    lines: &mut LineMaker,
     rows: &mut Rows,
     command: Command,
     echo: &[u8],
@@ -40,19 +42,20 @@ pub fn obey<W: Write>(
     ensures blame { writer.old.failed ≡ false → AfterCalls result writer.new.failed }
 {
     match task_of(command) {
-        Task::Ticks(ticks) => step(course, rows, ticks, echo, pending, writer),
+        Task::Ticks(ticks) => step(course, lines, rows, ticks, echo, pending, writer),
         Task::Show => {
-            pending.say(writer, &line_bytes(course.bench()))?;
+            pending.say(writer, &line_bytes(lines, course.bench()))?;
             Ok(None)
         }
         Task::Quit => Ok(None),
-        Task::Ask(command) => ask(course, command, echo, pending, writer),
+        Task::Ask(command) => ask(course, lines, command, echo, pending, writer),
     }
 }
 
 /// So many ticks, with a display line after each, up to one that is refused.
 fn step<W: Write>(
     course: &mut Course,
+    lines: &mut LineMaker,
     rows: &mut Rows,
     ticks: u32,
     echo: &[u8],
@@ -68,7 +71,7 @@ fn step<W: Write>(
     for _i in 0..ticks {
         let row = rows.row(next_tick(course.bench()));
         match course.take(Input::Tick(row)) {
-            Ok(()) => say_tick(course, pending, writer)?,
+            Ok(()) => say_tick(course, lines, pending, writer)?,
             Err(refusal) => return say_refusal(&refusal, echo, pending, writer),
         }
     }
@@ -85,6 +88,7 @@ fn next_tick(bench: &Bench) -> u32
 /// Says what a tick has told, and the display line after it.
 pub fn say_tick<W: Write>(
     course: &Course,
+    lines: &mut LineMaker,
     pending: &mut Pending,
     writer: &mut Watched<W>,
 ) -> Result<(), WriteError>
@@ -92,7 +96,7 @@ pub fn say_tick<W: Write>(
     ensures blame { writer.old.failed ≡ false → AfterCalls result writer.new.failed }
 {
     course.say_news(pending, writer)?;
-    pending.say(writer, &line_bytes(course.bench()))
+    pending.say(writer, &line_bytes(lines, course.bench()))
 }
 
 /// Says that something was refused, and tells why.
@@ -114,6 +118,7 @@ pub fn say_refusal<W: Write>(
 /// Asks the bench, says its answer, and tells why it refused an input, if it did.
 fn ask<W: Write>(
     course: &mut Course,
+    lines: &mut LineMaker,
     command: Cmd,
     echo: &[u8],
     pending: &mut Pending,
@@ -126,7 +131,7 @@ fn ask<W: Write>(
 {
     let answer = course.answer(command);
     say_before(course, &answer, echo, pending, writer)?;
-    say_answer(course.bench(), &command, &answer, pending, writer)?;
+    say_answer(course.bench(), lines, &command, &answer, pending, writer)?;
     Ok(refusal_in(&answer))
 }
 
@@ -154,6 +159,7 @@ fn say_before<W: Write>(
 /// Says the line of an answer of the bench to this command.
 fn say_answer<W: Write>(
     bench: &Bench,
+    lines: &mut LineMaker,
     command: &Cmd,
     answer: &Answer,
     pending: &mut Pending,
@@ -166,7 +172,7 @@ fn say_answer<W: Write>(
         Answer::Took => pending.say(writer, taken_line(command, bench)),
         Answer::Refused(refusal) => pending.say(writer, refused_line(refusal)),
         Answer::Undone(kind) => pending.say(writer, undone_line(kind)),
-        Answer::Moved => pending.say(writer, &line_bytes(bench)),
+        Answer::Moved => pending.say(writer, &line_bytes(lines, bench)),
         Answer::Nothing => pending.say(writer, b"nothing"),
         Answer::Changed(tick) => pending.say(writer, &when_line(tick)),
     }

@@ -6,7 +6,7 @@ ghost use Rattle.tsb_bench.specs.Held.{state_of};
 
 use arrayvec::{ArrayString, ArrayVec};
 use tsb_bench::{Bench, Cmd, Input, Kind};
-use tsb_display_text::LineBytes;
+use tsb_display_text::{LineBytes, LineMaker};
 use tsb_lines::seven_digits;
 use tsb_objects::{Preempt, Refusal, Rule, Station};
 use tsb_plan_text::rule_line;
@@ -26,11 +26,12 @@ pub fn line(bench: &Bench) -> ArrayString<64>
     )
 }
 
-/// The bytes of the display line, without a line feed. It takes no memory.
-pub fn line_bytes(bench: &Bench) -> LineBytes
+/// The bytes of the display line, without a line feed. Its letters are those of the line made before, where no head has
+/// changed. It takes no memory.
+pub fn line_bytes(lines: &mut LineMaker, bench: &Bench) -> LineBytes
     ensures { result ≡ display_line (state_of bench.now) }
 {
-    tsb_display_text::line_bytes(
+    lines.line_bytes(
         bench.now(),
         &bench.display(),
         preempt_in_service(bench),

@@ -15,6 +15,7 @@ use std::io::{Read, Write};
 use tsb_bench::Bench;
 use tsb_command_text::{Command, LINE, Reading, reading_of};
 use tsb_dialog::{Answers, DialogError, Flow, KEPT, Pending, Watched, WriteError, converse};
+use tsb_display_text::LineMaker;
 use tsb_log_text::Log;
 use tsb_objects::Checked;
 
@@ -28,6 +29,7 @@ const _: () = prove!(KEPT == LINE + 2);
 #[derive(Drop)]
 struct Machine<'a> {
     course: Course,
+    lines: LineMaker,
     rows: Rows<'a>,
 }
 
@@ -59,6 +61,7 @@ impl Answers for Machine<'_> {
                 let flow = flow_after(&command);
                 obey(
                     &mut self.course,
+                    &mut self.lines,
                     &mut self.rows,
                     command,
                     b"",
@@ -119,6 +122,10 @@ pub fn session<R: Read, W: Write>(
     };
     let course = Course::new(alloc, bench, Mode::Plain);
     let rows = Rows::OfLog { log, place: 0 };
-    let mut machine = Machine { course, rows };
+    let mut machine = Machine {
+        course,
+        lines: LineMaker::new(),
+        rows,
+    };
     as_session(converse(&mut machine, COMMANDS, reader, writer))
 }

@@ -1,19 +1,5 @@
-use Rattle.std.proofs.Common.{◌∙◌, ℕ, List, ap, set, subst, sym}
-use Rattle.std.specs.Str.{IsUtf8}
 use Rattle.tsb_heads.specs.Reading.{heads_of}
-use Rattle.tsb_display_text.proofs.LineLemmas.{placed, written, line-written, line-utf8}
 use Rattle.tsb_display_text.proofs.display_line.line_bytes.Goals as goal
 
-pub returns-clause-line : goal.returns-clause-line
-returns-clause-line c =
-    c.put-5.ensures ∙ ap (λ (bytes : List ℕ). placed 49 4 c.local_digits.result (set bytes 47 c.preempt_digit.result))
-    (c.put-4.ensures ∙ ap (placed 42 4 c.overlap_letters.result)
-    (c.put-3.ensures ∙ ap (placed 25 16 c.pedestrian_letters.result)
-    (c.put-2.ensures ∙ ap (placed 8 16 c.vehicle_letters.result) c.put.ensures)))
-    ∙ (λ i. written (c.seven_digits.ensures i) (c.vehicle_letters.ensures i) (c.pedestrian_letters.ensures i) (c.overlap_letters.ensures i) (c.preempt_digit.ensures.digit i) (c.local_digits.ensures i))
-    ∙ line-written c.args.now (heads_of c.args.heads.now) c.args.preempt c.args.local
-
 pub returns-clause-text : goal.returns-clause-text
-returns-clause-text c =
-    subst (λ (bytes : List ℕ). IsUtf8 bytes) (sym (returns-clause-line c))
-    (line-utf8 c.args.now (heads_of c.args.heads.now) c.args.preempt c.args.local c.preempt_digit.ensures.known)
+returns-clause-text c = c.bytes_of.ensures.text (heads_of c.args.heads.now) c.of.ensures

@@ -8,6 +8,6 @@ use Rattle.tsb_text.proofs.lines.line_bytes.Goals as goal
 
 pub returns : goal.returns
 returns c =
-    c.line_bytes.ensures.line
+    c.line_bytes.ensures
     ∙ line-same c.now.result (heads_of c.display.result) (display (state_of c.args.bench.now)) c.preempt_in_service.result c.local.result c.display.ensures.shown
     ∙ (λ i. line_of (c.now.ensures.now i) (display (state_of c.args.bench.now)) (c.preempt_in_service.ensures i) (c.local.ensures i))
