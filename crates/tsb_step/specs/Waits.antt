@@ -72,8 +72,8 @@ abbrev pub is_unwanted : State → ℕ → Bool
 is_unwanted s p = is_outside (wanted_by s.plan s.preempts.service) p
 
 -- what phase timing would be told again, if outputs, conflicts and orders stay: a green's passage timer is Off where an
--- output is on, its conflict timer is On where there is a conflict, and its forced latch stands where it was forced off.
--- No walk begins again in it: a walk that has not begun is not lacking
+-- output is on, its conflict timer is On where there is a conflict, and its forced latch stands where it was forced
+-- off. No walk begins again in it: a walk that has not begun is not lacking
 unfoldable pub phases_again : State → phase.Given
 phases_again s = record {
   output = λ p. not (is_on (s.phases p).passage);
