@@ -22,6 +22,7 @@ use Rattle.tsb_ring.specs.Rings as rings
 use Rattle.tsb_ring.specs.Cells.{rings_cells, rings_in}
 use Rattle.tsb_ring.proofs.ToldLemmas.{states-by as rings-by}
 use Rattle.tsb_coord.specs.Cells.{pattern_cells}
+use Rattle.tsb_coord.specs.Correction.{in_step}
 use Rattle.tsb_preempt.specs.Preempts as preempts
 use Rattle.tsb_preempt.specs.Cells.{preempts_cells, preempts_in, service_in}
 use Rattle.tsb_preempt.proofs.StateLemmas.{states-by as preempts-by}
@@ -48,7 +49,7 @@ on_side n = record {
   calls = memories_cells calls.at_power_up;
   phases = phases_cells 49 (λ p. phase.at_power_up);
   rings = rings_cells (record rings.power_up { side = n });
-  pattern = pattern_cells None;
+  pattern = pattern_cells None in_step;
   preempts = preempts_cells 49 preempts.at_power_up;
 }
 
@@ -102,7 +103,7 @@ can_be n from to = record {
     side = (from, to);
     crossing = tt;
   });
-  pattern = record { full = refl; pattern = omega arith };
+  pattern = record { full = refl; pattern = omega arith; since = omega arith; ahead = omega arith };
   preempts = preempts-by 49 preempts.at_power_up (record {
     each = λ n from to. record { delay = tt; spent = λ on. absurd cc };
     off = λ n out. record { switch = refl; delay = refl; spent = refl };

@@ -46,6 +46,7 @@ busy = record {
     edits = record { id = record { object = PhaseWalk; index = 2 }; value = 7 } ∷ [];
   };
   pattern = Some 2;
+  correction = record { since = 30; ahead = 7 };
   detectors = λ d. if d == 16 then record detector.at_power_up { alarm = Some Erratic; rises = 9 } else detector.at_power_up;
   memories = record { vehicle = λ p. p == 3; pedestrian = λ p. p == 2; count = λ p. if p == 16 then 5 else 0 };
   phases = λ p. if p == 16 then record phase.at_power_up { interval = Yellow; timer = On 12 } else phase.at_power_up;
@@ -64,7 +65,7 @@ unfolding opened busy
 how_many = refl
 
 first_cells : DESK ∷ DETECTORS ∷ CALLS ∷ PHASES ∷ RINGS ∷ COORD ∷ PREEMPTS ∷ MONITOR ∷ ALL_CELLS ∷ [] ≡
-    1280 ∷ 1412 ∷ 1466 ∷ 1484 ∷ 1605 ∷ 1611 ∷ 1612 ∷ 1622 ∷ 1629 ∷ []
+    1282 ∷ 1414 ∷ 1468 ∷ 1486 ∷ 1607 ∷ 1613 ∷ 1616 ∷ 1626 ∷ 1633 ∷ []
 first_cells = refl
 
 -- the plan: phaseEnabled of phase 8, and sequenceData at its index 20, which is phase 8
@@ -73,14 +74,19 @@ unfolding opened busy
 plan_cells_stand = refl
 
 -- the desk's owner, the last timer of the detectors, the last count, the first list of the phases
-ends_stand : slice_index (cells_of busy) 1280 ∷ slice_index (cells_of busy) 1483 ∷ slice_index (cells_of busy) 1485 ∷ [] ≡ 3 ∷ 5 ∷ 32768 ∷ []
+ends_stand : slice_index (cells_of busy) 1282 ∷ slice_index (cells_of busy) 1485 ∷ slice_index (cells_of busy) 1487 ∷ [] ≡ 3 ∷ 5 ∷ 32768 ∷ []
 unfolding opened busy
 ends_stand = refl
 
 -- the rings' side, the pattern, the preempt in service
-more_stand : slice_index (cells_of busy) 1609 ∷ slice_index (cells_of busy) 1611 ∷ slice_index (cells_of busy) 1618 ∷ [] ≡ 1 ∷ 2 ∷ 4 ∷ []
+more_stand : slice_index (cells_of busy) 1611 ∷ slice_index (cells_of busy) 1613 ∷ slice_index (cells_of busy) 1622 ∷ [] ≡ 1 ∷ 2 ∷ 4 ∷ []
 unfolding opened busy
 more_stand = refl
+
+-- since when the local counter comes into step, and how far it was ahead then
+its_counter_stands : slice_index (cells_of busy) 1614 ∷ slice_index (cells_of busy) 1615 ∷ [] ≡ 30 ∷ 7 ∷ []
+unfolding opened busy
+its_counter_stands = refl
 
 -- ## As they are read
 
@@ -90,6 +96,10 @@ again = state_in 50 (cells_of busy)
 pattern_again : again.pattern ≡ Some 2
 unfolding opened busy
 pattern_again = refl
+
+correction_again : again.correction ≡ busy.correction
+unfolding opened busy
+correction_again = refl
 
 edits_again : again.desk.edits ≡ busy.desk.edits
 unfolding opened busy

@@ -10,8 +10,8 @@ use Rattle.tsb_types.specs.declared.row.Row.{Row}
 use Rattle.tsb_types.specs.declared.stage.Stage.TheVariants.{Dwell}
 use Rattle.tsb_types.specs.Lists.{among, run_from}
 use Rattle.tsb_types.specs.Sets.{all_off, set_of_list}
-use Rattle.tsb_objects.specs.tsb_plan.declared.object.Object.TheVariants.{PhasePedestrianRecycle}
-use Rattle.tsb_objects.specs.tsb_plan.Plan.{with_value}
+use Rattle.tsb_objects.specs.tsb_plan.declared.object.Object.TheVariants.{PhasePedestrianRecycle, CoordCorrectionMode, CoordCorrectionLimit}
+use Rattle.tsb_objects.specs.tsb_plan.Plan.{with_value, with_values}
 use Rattle.tsb_objects.specs.tsb_plan.Quad.{quad}
 use Rattle.tsb_objects.specs.tsb_rules.PatternRules.{coordinated_count, side_sum, split_end, split_sum}
 use Rattle.tsb_objects.specs.tsb_rules.Rules.{broken_by_extensions, broken_by_parts, broken_by_phases, broken_by_rings, first_broken}
@@ -141,3 +141,10 @@ coordinated n = record resting { now = n; pattern = Some 1; memories = called (3
 -- and 2 may walk again within its green, as long as 100 ticks are left to its instant, which is at 760
 abbrev pub recycling : ℕ → State
 recycling n = record (coordinated n) { plan = with_value quad PhasePedestrianRecycle 2 1 }
+
+-- the local counter, 10 ticks behind a whole cycle ahead at tick n, takes two steps in each of the 10 ticks that follow
+abbrev pub hurrying : ℕ → State → State
+hurrying n s = record s {
+  plan = with_values s.plan ((CoordCorrectionMode, 1, 2) ∷ (CoordCorrectionLimit, 1, 50) ∷ []);
+  correction = record { since = n; ahead = 790 };
+}

@@ -19,7 +19,7 @@ use Rattle.tsb_step.specs.declared.status.RingPart.TheVariants as parts
 use Rattle.tsb_step.specs.Events.{view}
 use Rattle.tsb_step.specs.State.{State}
 use Rattle.tsb_step.specs.Status.{status}
-use Rattle.tsb_step.proofs.Examples.Scenes.{all_red, at_barrier, coordinated, dwelling, green, red, resting, short, these, walking}
+use Rattle.tsb_step.proofs.Examples.Scenes.{all_red, at_barrier, coordinated, dwelling, green, hurrying, red, resting, short, these, walking}
 use Rattle.tsb_step.proofs.Examples.WaitExamples as waiting
 use Rattle.tsb_step.proofs.Examples.WaitExamples.{calling, passing, tripped}
 
@@ -193,6 +193,19 @@ force_off_in = refl
 is_forced_now : ((status (coordinated 760)).ring Ring1).force_off_in ≡ Some 0
 unfolding opened
 is_forced_now = refl
+
+-- while it comes into step, from 50 on in two steps a tick, the local counter is told as it stands, and steps are told
+local_meanwhile : map (λ n. (status (hurrying 60 (coordinated n))).local) (60 ∷ 61 ∷ 70 ∷ 71 ∷ []) ≡ Some 50 ∷ Some 52 ∷ Some 70 ∷ Some 71 ∷ []
+unfolding opened
+local_meanwhile = refl
+
+force_off_in_steps : map (λ n. ((status (hurrying 60 (coordinated n))).ring Ring1).force_off_in) (60 ∷ 61 ∷ 70 ∷ []) ≡ Some 710 ∷ Some 708 ∷ Some 690 ∷ []
+unfolding opened
+force_off_in_steps = refl
+
+sync_meanwhile : (status (hurrying 60 (coordinated 60))).sync ≡ Some 60
+unfolding opened
+sync_meanwhile = refl
 
 -- ## Preempts
 

@@ -9,6 +9,7 @@ use Rattle.tsb_objects.specs.tsb_plan.declared.object.ObjectId.{ObjectId}
 use Rattle.tsb_objects.specs.tsb_plan.Plan.{with_value}
 use Rattle.tsb_objects.specs.tsb_plan.Quad.{quad}
 use Rattle.tsb_objects.specs.tsb_rules.declared.rules.Rule.TheVariants.{K5}
+use Rattle.tsb_coord.specs.Correction.{in_step}
 use Rattle.tsb_preempt.specs.Preempts as preempts
 use Rattle.tsb_ring.specs.Rings.{Ring1, Ring2}
 use Rattle.tsb_transact.specs.Desk.{closed}
@@ -19,7 +20,7 @@ use Rattle.tsb_step.specs.declared.inputs.Input.TheVariants.{Tick, Pattern, Swit
 use Rattle.tsb_step.specs.State.{State, start}
 use Rattle.tsb_step.specs.Step.{step, kind_of}
 use Rattle.tsb_machine.specs.tsb_history.declared.kinds.Kind.TheVariants as kinds
-use Rattle.tsb_step.proofs.Examples.Scenes.{opened, green, these, all_red, red, resting, dwelling, coordinated}
+use Rattle.tsb_step.proofs.Examples.Scenes.{opened, green, these, all_red, red, resting, dwelling, coordinated, hurrying}
 use Rattle.tsb_step.proofs.Examples.SignsExamples.{tripped, green_lamp}
 
 -- ## Operator
@@ -39,6 +40,21 @@ is_selected : map (λ n. (step resting (Pattern n)).pattern) (0 ∷ 2 ∷ []) �
 unfolding opened
 is_selected = refl
 
+-- at tick 60 the local counter is 60, and that of pattern 2 in step 70: so where it goes on it is 790 ahead. It is in
+-- step in free operation, and where the pattern that runs is selected again
+abbrev pub in_step_60 : State
+in_step_60 = hurrying 0 (coordinated 60)
+
+goes_on : map (λ n. (step in_step_60 (Pattern n)).correction) (0 ∷ 1 ∷ 2 ∷ []) ≡ in_step ∷ in_step ∷ record { since = 60; ahead = 790 } ∷ []
+unfolding opened
+goes_on = refl
+
+-- with correction mode 0, and from free operation, it is in step at once
+is_in_step : map (λ s. (step s (Pattern 2)).correction) (coordinated 60 ∷ resting ∷ record in_step_60 { pattern = None } ∷ [])
+    ≡ in_step ∷ in_step ∷ in_step ∷ []
+unfolding opened
+is_in_step = refl
+
 abbrev pub switched_on : State
 switched_on = step resting (Switch 2 true)
 
@@ -53,6 +69,7 @@ stopped = record tripped {
   plan = with_value quad PhaseMaximum1 2 30;
   desk = record closed { owner = Some 1; state = Transaction };
   pattern = Some 1;
+  correction = record { since = 40; ahead = 7 };
   preempts = record (dwelling 5).preempts { switch = λ n. n == 2; delay = λ n. On 7 };
   lamp = green_lamp 3;
 }

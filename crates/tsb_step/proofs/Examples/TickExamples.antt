@@ -14,7 +14,9 @@ use Rattle.tsb_ring.specs.Rings.{Ring1, Ring2}
 use Rattle.tsb_transact.specs.Desk.{closed}
 use Rattle.tsb_transact.specs.declared.desk_state.DeskState.TheVariants.{Transaction}
 use Rattle.tsb_step.specs.State.{State, start, interval, pedestrian_part}
-use Rattle.tsb_step.proofs.Examples.Scenes.{opened, after, vehicle, button, preempt, green, clearing, these, all_red, called, intervals, red, resting, short, walking, at_barrier, entering, coordinated, recycling}
+use Rattle.tsb_step.specs.Signs.{local}
+use Rattle.tsb_step.specs.Tick.{at_force_off}
+use Rattle.tsb_step.proofs.Examples.Scenes.{opened, after, vehicle, button, preempt, green, clearing, these, all_red, called, intervals, red, resting, short, walking, at_barrier, entering, coordinated, recycling, hurrying}
 
 -- ## From power-up
 
@@ -174,6 +176,33 @@ held_back = record (remembering 760) { phases = these (2 ∷ 6 ∷ []) (record (
 stays_forced : pedestrian_part (after held_back all_off) 2 ≡ DontWalk
 unfolding opened
 stays_forced = refl
+
+-- nor while the local counter comes into step, as it does from tick 89 on, and before a tick in which it is: the first
+-- such tick is 99
+no_walk_meanwhile : map (λ n. pedestrian_part (after (hurrying 89 (recycling n)) (button 2)) 2) (89 ∷ 98 ∷ 99 ∷ []) ≡ DontWalk ∷ DontWalk ∷ Walk ∷ []
+unfolding opened
+no_walk_meanwhile = refl
+
+-- ## A local counter that takes two steps
+
+-- it goes from 759 to 761 in tick 770, and to 763 in the next
+takes_two_steps : map (λ n. local (hurrying 769 (coordinated n))) (769 ∷ 770 ∷ 771 ∷ []) ≡ Some 759 ∷ Some 761 ∷ Some 763 ∷ []
+unfolding opened
+takes_two_steps = refl
+
+-- the first of two steps is at the instant of 2, and forces it off in that tick
+comes_to_760 : map (λ n. at_force_off (hurrying 769 (coordinated n)) 2) (769 ∷ 770 ∷ []) ≡ true ∷ false ∷ []
+unfolding opened
+comes_to_760 = refl
+
+ends_on_its_way : map (λ n. interval (after (hurrying 769 (coordinated n)) all_off) 2) (769 ∷ 770 ∷ []) ≡ Yellow ∷ Green ∷ []
+unfolding opened
+ends_on_its_way = refl
+
+-- a tick leaves how it comes into step
+keeps_correction : (after (hurrying 769 (coordinated 769)) all_off).correction ≡ record { since = 769; ahead = 790 }
+unfolding opened
+keeps_correction = refl
 
 -- ## Phase timing
 

@@ -395,7 +395,7 @@ paced_met n few =
 
 forced_off : IsForcedOff (paced_at 59) 1 2
 unfolding opened paced brisk two
-forced_off = record { selected = refl; used = refl; coordinated = refl; forced = refl }
+forced_off = record { selected = refl; used = refl; coordinated = refl; in_step = refl; forced = refl }
 
 -- both laws count from phase 2, the one that is coordinated
 counted : IsCountedFrom paced 1 2
