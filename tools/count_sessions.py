@@ -4,10 +4,10 @@
     tools/count_sessions.py --reference FOLDER FILE..
 
 FOLDER holds the independent reference (make_sessions.py says what that is). Two tables are printed: totals, and for
-each command, refusal, rule, watch, trip, stage, force-off, cause of an ending in a pattern and walk within a green in
-how many places and in how many sessions it occurs. Of a walk that pedestrian recycle does not begin it is told what
-keeps it back, once for as long as that does. Of the sessions that have options of coordination it is told of how many
-the answers are others with an option at 0.
+each command, refusal, rule, watch, trip, stage, force-off, cause of an ending in a pattern, walk within a green and way
+of a local counter into step in how many places and in how many sessions it occurs. Of a walk that pedestrian recycle
+does not begin it is told what keeps it back, once for as long as that does. Of the sessions that have options of
+coordination it is told of how many the answers are others with an option at 0.
 """
 import argparse
 import os
@@ -16,13 +16,16 @@ from collections import Counter
 
 import stored_cases
 from make_sessions import Reference
-from reference_events import (Tick, behind_instant, conflicting, coordinated_phases, cycle_of, force_off_cause,
-                              force_off_instant, has_gapped_out, has_maxed_out, has_maximum_recall,
+from reference_events import (Tick, behind_instant, cause_at, conflicting, coordinated_phases, cycle_of,
+                              force_off_cause, force_off_instant, has_gapped_out, has_maxed_out, has_maximum_recall,
                               has_pedestrian_recall, is_coordinated, is_ended_by_preempt, is_forced_off, is_pressed,
-                              runs_pattern)
+                              runs_pattern, steps, was_in_step)
 
 # The options that are 0 where a plan does not name them, and their values that stand in a plan text or in a command.
-OPTIONS = "coordForceMode coordMaximumMode patternPermissiveTime patternLeadLag phasePedestrianRecycle".split()
+OPTIONS = ("coordForceMode coordMaximumMode patternPermissiveTime patternLeadLag phasePedestrianRecycle "
+           "coordCorrectionMode coordCorrectionLimit").split()
+# The modes in which a local counter comes into step, by their numbers.
+AT_ONCE, DWELL, SHORT_WAY = range(3)
 
 
 def counting(bench, found):
@@ -38,10 +41,12 @@ def counting(bench, found):
                 found["refusal " + " ".join(refusal.split(" ")[:2])] += 1
             else:
                 count_change(found, given, before, self.states[-1])
+                count_ways(found, bench, given, before, self.states[-1])
                 if given[0] == "tick":
                     tick = Tick(bench, before, self.states[-1], given[1])
                     count_coordination(found, self, tick)
                     count_recycle(found, self, tick)
+                    count_steps(found, tick)
             return refusal
 
         def answer(self, command, out):
@@ -173,6 +178,10 @@ def count_force_offs(found, tick):
         is_new = tick.bench.local_of(tick.after) < force_off_instant(tick.bench, tick.before, phase)
         if is_new and cause not in ("at the instant", "by the length of the green"):
             found[f"force-offs {cause}, past the end of the cycle"] += 1
+        if cause and cause_at(tick, phase, steps(tick)[-1]) is None:
+            found["force-offs at the first of two steps alone"] += 1
+        if not was_in_step(tick):
+            found[f"force-offs {cause}, out of step"] += 1
         if is_apart(tick.bench, tick.before):
             kind = "coordinated" if is_coordinated(tick.before, phase) else "other"
             found[f"force-offs with lead and lag {cause}, {kind} phase of ring {ring_of(tick, phase)}"] += 1
@@ -222,6 +231,8 @@ def held_back_by(tick, phase):
     cause = force_off_cause(tick, phase)
     if cause or before.forced[phase] and conflicting(tick, phase):
         return f"a force-off {cause or 'that stands'}"
+    if not was_in_step(tick):
+        return "a counter that was not in step"
     times = walk_and_clearance(tick, phase)
     if times > time_left(tick, phase):
         return "a cycle that is shorter" if times >= cycle_of(before) else "the time that is left"
@@ -234,13 +245,61 @@ def walk_and_clearance(tick, phase):
 
 
 def time_left(tick, phase):
-    """How long it is to the instant of a phase of the pattern that runs."""
-    return -behind_instant(tick, phase) % cycle_of(tick.before)
+    """How long it is to the instant of a phase of the pattern that runs, once its counter is in step."""
+    return -behind_instant(tick, phase, steps(tick)[-1]) % cycle_of(tick.before)
 
 
 def ring_of(tick, phase):
     """The ring of a phase."""
     return tick.before.plan["phaseRing"][phase]
+
+
+def way_of(bench, state):
+    """How the local counter of the pattern that runs comes into step: a word."""
+    mode = bench.correction(state)[0]
+    if mode == SHORT_WAY:
+        return "faster" if 2 * (state.ahead % cycle_of(state)) > cycle_of(state) else "slower"
+    return {AT_ONCE: "at once", DWELL: "dwell"}.get(mode, "add only")
+
+
+def is_out_of_step(bench, state):
+    """Whether a pattern runs whose local counter is not in step."""
+    return runs_pattern(state) and bench.ahead_at(state, state.now) != 0
+
+
+def count_ways(found, bench, given, before, after):
+    """Counts the selections of one pattern while another one runs, and the commits, trips and preempts out of step."""
+    if given[0] == "pattern" and runs_pattern(before) and runs_pattern(after):
+        if bench.correction(before)[0] == AT_ONCE:
+            way = "at once"
+        else:
+            way = f"that goes on, {way_of(bench, after)}" if after.ahead else "in step already"
+        again = " again" if before.pattern == after.pattern else ""
+        found[f"selection{again} {way}"] += 1
+        found["selection again, out of step"] += is_out_of_step(bench, before) and before.pattern == after.pattern
+        if after.ahead and 2 * after.ahead == cycle_of(after):
+            found["selection that goes on, half a cycle ahead"] += 1
+    elif is_out_of_step(bench, before) and given[0] in ("commit", "pattern", "reset", "switch"):
+        found[f"{given[0]} out of step"] += 1
+        if given[0] == "commit" and bench.local_of(before) != bench.local_of(after):
+            found["commit out of step that moves a counter"] += 1
+    if is_out_of_step(bench, before) and after.trip and not before.trip:
+        found["trip out of step"] += 1
+
+
+def count_steps(found, tick):
+    """Counts how the local counter of a tick comes into step."""
+    before, after, bench = tick.before, tick.after, tick.bench
+    if not runs_pattern(before) or was_in_step(tick):
+        return
+    way = way_of(bench, before)
+    found[f"out of step, {way}, ticks"] += 1
+    found["out of step, tripped, ticks"] += before.trip is not None
+    found["out of step, a preempt in service, ticks"] += bool(after.service)
+    found["out of step, ticks of two steps"] += len(steps(tick)) == 2
+    moved = (bench.local_of(after) - bench.local_at(after, after.now - 1)) % cycle_of(before)
+    found[f"out of step, {way}, ticks that stand still"] += moved == 0
+    found[f"in step again, {way}"] += bench.ahead_at(after, after.now) == 0
 
 
 def without(case, option):

@@ -36,7 +36,7 @@ TITLES = {
     "aimed": "Sessions of what others seldom meet: each rule, refusals, stages, alarms, coincidences, the way back.",
     "tripped": "Sessions in which the monitor trips: in crossings, in each stage of preempts, in transactions, and back.",
     "options": "Sessions with the options of coordination: force modes, maximums, permissive times, lead and lag, "
-               "pedestrian recycle.",
+               "pedestrian recycle, coming into step.",
     "mangled": "Sessions of which the plan text, the log or the commands were mangled: bytes changed at random.",
 }
 

@@ -2,9 +2,11 @@
 
 A family is given a source of random numbers, a plan with short cycles (option_plans.py), and the table of its pattern
 1; it gives a log and commands. `options` makes the plan of a seed, gives the options values, and has the family of the
-seed make the rest. The families of pedestrian recycle are in recycle_families.py; option_kit.py has what both share.
+seed make the rest. The families of pedestrian recycle are in recycle_families.py, those in which counters come into
+step in correction_families.py; option_kit.py has what all share.
 """
-from option_kit import (FORCE, LEAD, MAXIMUM, PERMISSIVE, RECALLS, RECYCLE, a_time, an_edit, busy, change,
+from correction_families import CORRECTIONS
+from option_kit import (FORCE, LEAD, LIMIT, MAXIMUM, MODE, PERMISSIVE, RECALLS, RECYCLE, a_time, an_edit, busy, change,
                         changed_within, chosen, edits, numbers, some, steps, tick_at, watched)
 from option_plans import OMITTED, accepted, begins_at_an_instant, is_left_out
 from recycle_families import RECYCLES, walks_of_both_rings
@@ -183,7 +185,8 @@ def maximums_between(rng, plan, table):
 
 REFUSED = [(FORCE, 2, 0), (FORCE, 0, 1), (FORCE, 1, 3), (FORCE, 1, 4294967295), (MAXIMUM, 1, 3), (MAXIMUM, 2, 1),
            (PERMISSIVE, 17, 1), (PERMISSIVE, 0, 1), (PERMISSIVE, 1, 256), (LEAD, 1, 2), (LEAD, 17, 0),
-           (RECYCLE, 17, 1), (RECYCLE, 0, 0), (RECYCLE, 16, 2)]
+           (RECYCLE, 17, 1), (RECYCLE, 0, 0), (RECYCLE, 16, 2), (MODE, 1, 4), (MODE, 2, 0), (LIMIT, 1, 51),
+           (LIMIT, 0, 50)]
 
 
 def breaking(rng, plan, table):
@@ -236,7 +239,7 @@ def broken_plans(rng, plan, table):
 FAMILIES = [behind_instants, longer_than_splits, in_a_permissive_time, by_the_length, preempts_over_instants,
             lead_and_lag, changed_in_a_run, by_the_length, taken_off, maximums_in_patterns, other_patterns,
             in_a_permissive_time, left_out, by_the_length, calls_behind, lead_and_lag, at_an_instant, maximums_between,
-            by_the_length, in_a_permissive_time, refused_edits, broken_plans, *RECYCLES]
+            by_the_length, in_a_permissive_time, refused_edits, broken_plans, *RECYCLES, *CORRECTIONS]
 AIMS = {left_out: is_left_out, at_an_instant: begins_at_an_instant}
 
 
@@ -253,6 +256,7 @@ def options(reference, rng, seed):
     plan, table = accepted(reference, rng, AIMS.get(family), apart)
     plan.update(chosen(rng, seed, plan))
     log, commands = family(rng, plan, table)
-    if rng.random() < (0.1 if family in RECYCLES else 0.3) and family is not in_a_permissive_time:
+    is_aimed = family in (*RECYCLES, *CORRECTIONS)
+    if rng.random() < (0.1 if is_aimed else 0.3) and family is not in_a_permissive_time:
         commands = changed_within(rng, commands, edits(rng, plan))
     return plan, log, commands

@@ -6,6 +6,8 @@ from session_families import commit, row
 
 FORCE, MAXIMUM, PERMISSIVE, LEAD = "coordForceMode coordMaximumMode patternPermissiveTime patternLeadLag".split()
 RECYCLE = "phasePedestrianRecycle"
+MODE, LIMIT = "coordCorrectionMode", "coordCorrectionLimit"
+AT_ONCE, DWELL, SHORT_WAY, ADD_ONLY = range(4)
 RECALLS = "phaseMinRecall phaseMaxRecall phasePedRecall".split()
 
 
@@ -17,12 +19,19 @@ def a_time(rng, cycle, clearance=40):
     return min(rng.choice([1, 2, 3, far, far, cycle - 1]), cycle - 1)
 
 
+def a_limit(rng):
+    """A limit in percent of the cycle."""
+    return rng.choice([0, 1, 17, 17, 33, 50, 50, 50, rng.randint(2, 49)])
+
+
 def an_edit(rng, plan, number=None):
     """An edit of an option: its name, index and new value. That of lead and lag breaks a rule where it is needed."""
-    name = rng.choice([FORCE, FORCE, MAXIMUM, PERMISSIVE, PERMISSIVE, LEAD, RECYCLE])
+    name = rng.choice([FORCE, FORCE, MAXIMUM, PERMISSIVE, PERMISSIVE, LEAD, RECYCLE, MODE, LIMIT])
     number = number or rng.choice([1, 1, 2])
     if name in (FORCE, MAXIMUM):
         return name, 1, rng.randint(0, 2)
+    if name in (MODE, LIMIT):
+        return name, 1, rng.randint(AT_ONCE, ADD_ONLY) if name == MODE else a_limit(rng)
     if name == RECYCLE:
         return name, rng.choice(numbers(plan, "phaseWalk")), rng.randint(0, 1)
     if name == LEAD:
@@ -54,6 +63,8 @@ def chosen(rng, seed, plan):
     if rng.random() < 0.25:
         alone = rng.choice(list(values))
         values = {alone: values[alone]}
+    if rng.random() < 0.5:
+        values |= {MODE: {"1": rng.choice([DWELL, SHORT_WAY, SHORT_WAY, ADD_ONLY])}, LIMIT: {"1": a_limit(rng)}}
     return values
 
 

@@ -298,13 +298,26 @@ def has_maxed_out(tick: Tick, phase: int) -> bool:
     return stood is not None and most is not None and stood >= most
 
 
-def behind_instant(tick: Tick, phase: int) -> int:
-    """How many ticks ago the local counter was at the instant of the phase last."""
-    return (tick.bench.local_of(tick.after) - force_off_instant(tick.bench, tick.before, phase)) % cycle_of(tick.before)
+def was_in_step(tick: Tick) -> bool:
+    """Whether the local counter of the pattern that runs was in step in the tick before, by the plan in effect."""
+    return bool(tick.bench.ahead_at(tick.after, tick.after.now - 1) == 0)
 
 
-def late_ticks(tick: Tick, phase: int) -> int:
-    """In how many ticks from its instant on the force mode has a phase forced off that is not coordinated: those up to
+def steps(tick: Tick) -> list[int]:
+    """The local counter at each step that it takes in a tick: one, or two where it is faster, and where it stands if it
+    takes none."""
+    cycle, now = cycle_of(tick.before), tick.bench.local_of(tick.after)
+    taken = (now - tick.bench.local_at(tick.after, tick.after.now - 1)) % cycle
+    return [(now - 1) % cycle, now] if taken == 2 else [now]
+
+
+def behind_instant(tick: Tick, phase: int, local: int) -> int:
+    """How many steps ago the local counter was at the instant of the phase last."""
+    return (local - force_off_instant(tick.bench, tick.before, phase)) % cycle_of(tick.before)
+
+
+def late_steps(tick: Tick, phase: int) -> int:
+    """At how many steps from its instant on the force mode has a phase forced off that is not coordinated: those up to
     the instant of the coordinated phase of its ring, or else of the other ring."""
     if tick.before.plan["coordForceMode"][1] not in LATE:
         return 0
@@ -320,17 +333,23 @@ def has_floated(tick: Tick, phase: int) -> bool:
     return tick.before.plan["coordForceMode"][1] == FLOATING and one_more(tick.before.itime[phase]) >= time
 
 
-def force_off_cause(tick: Tick, phase: int) -> str | None:
-    """Why a phase is forced off in a tick in which a pattern runs, and none where it is not."""
-    behind = behind_instant(tick, phase)
+def cause_at(tick: Tick, phase: int, local: int) -> str | None:
+    """Why a phase is forced off in a tick at a step of the local counter, and none where it is not."""
+    behind = behind_instant(tick, phase, local)
     if behind == 0:
         return "at the instant"
     if is_coordinated(tick.before, phase):
         permissive = 10 * tick.before.plan["patternPermissiveTime"][tick.before.pattern]
         return "within the permissive time" if behind <= permissive else None
-    if behind < late_ticks(tick, phase):
+    if behind < late_steps(tick, phase):
         return "behind the instant"
     return "by the length of the green" if has_floated(tick, phase) else None
+
+
+def force_off_cause(tick: Tick, phase: int) -> str | None:
+    """Why a phase is forced off in a tick in which a pattern runs, at the first step at which it is, and none where it is
+    not."""
+    return next(filter(None, (cause_at(tick, phase, local) for local in steps(tick))), None)
 
 
 def is_forced_off(tick: Tick, phase: int) -> bool:

@@ -248,7 +248,7 @@ def green_part(bench: Any, state: State, phase: int) -> int:
 
 
 def force_off_in(bench: Any, state: State, phase: int) -> int | None:
-    """How long until the force-off instant of a phase, in a pattern."""
+    """How many steps of the local counter until the force-off instant of a phase, in a pattern."""
     if not runs_pattern(state):
         return None
     return (force_off_instant(bench, state, phase) - bench.local_of(state)) % cycle_of(state)
