@@ -115,7 +115,7 @@ fn has_end(plan: &Checked, phase: u8, wanted: Option<u32>) -> bool {
 fn is_due(plan: &Checked, wanted: &[(u32, u32)]) -> bool {
     let mut coord = Coord::new();
     coord.open();
-    if coord.set_pattern(1, plan).is_err() {
+    if coord.set_pattern(1, 0, plan).is_err() {
         return false;
     }
     let _changes = coord.close();

@@ -16,6 +16,8 @@ mod commands;
 #[cfg(test)]
 mod coordination;
 #[cfg(test)]
+mod correction;
+#[cfg(test)]
 mod desk;
 #[cfg(test)]
 mod devices;

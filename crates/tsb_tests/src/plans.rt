@@ -248,6 +248,30 @@ fn plans_tell_how_greens_of_patterns_end(rt: HostRuntime) {
     );
 }
 
+/// Whether the plan with this mode and this limit tells how local counters come into step: so.
+fn tells_correction(mode: u32, limit: u32, wanted: CorrectionMode) -> bool {
+    let values = [
+        (Object::CoordCorrectionMode, 1, mode),
+        (Object::CoordCorrectionLimit, 1, limit),
+    ];
+    match changed_quad(&values) {
+        Some(plan) => plan.correction_mode() == wanted && plan.correction_limit() == limit,
+        None => false,
+    }
+}
+
+/// The short way and add only need a limit, and dwell does not.
+#[test]
+fn plans_tell_how_counters_come_into_step(rt: HostRuntime) {
+    assert!(rt; tells_correction(0, 50, CorrectionMode::AtOnce));
+    assert!(rt; tells_correction(1, 0, CorrectionMode::Dwell));
+    assert!(rt; tells_correction(1, 17, CorrectionMode::Dwell));
+    assert!(rt; tells_correction(2, 0, CorrectionMode::AtOnce));
+    assert!(rt; tells_correction(2, 1, CorrectionMode::ShortWay));
+    assert!(rt; tells_correction(3, 0, CorrectionMode::AtOnce));
+    assert!(rt; tells_correction(3, 50, CorrectionMode::AddOnly));
+}
+
 /// Whether the plan tells of splits.
 fn tells_of_splits(plan: &Plan) -> bool {
     let split = Split::of(1);

@@ -358,6 +358,37 @@ tick 0000003
     assert!(rt; answers_on_quad(rt.alloc(), log, commands, answers));
 }
 
+/// A local counter that comes into step, worked by hand: in tick 3, local 13, pattern 1 follows pattern 2, and the
+/// counter is 10 ahead. It loses a tick in each three. A pattern that is not used is refused, and an undo of the
+/// selection gives pattern 2 back.
+#[test]
+fn counters_that_come_into_step_are_answered(rt: HostRuntime) {
+    let commands = b"begin 1\nset 1 coordCorrectionMode 1 4\nset 1 coordCorrectionLimit 1 51
+set 1 coordCorrectionMode 1 3\nset 1 coordCorrectionLimit 1 50\nverify 1\ncommit 1
+pattern 2\nstep 3\npattern 1\nshow\nstep 4\npattern 3\nstep 2\nundo\nundo\nundo\nundo\nundo\nundo\nundo\nshow\nstep 1\n"
+        .as_slice();
+    let answers = b"ok\nrefused E3 OutOfRange\nrefused E3 OutOfRange\nok\nok\nok\nok
+ok
+0000001 RGRRRGRR-------- -D-------------- G--- 0 0011
+0000002 RGRRRGRR-------- -D-------------- G--- 0 0012
+0000003 RGRRRGRR-------- -D-------------- G--- 0 0013
+ok
+0000003 RGRRRGRR-------- -D-------------- G--- 0 0013
+0000004 RGRRRGRR-------- -D-------------- G--- 0 0014
+0000005 RGRRRGRR-------- -D-------------- G--- 0 0015
+0000006 RGRRRGRR-------- -D-------------- G--- 0 0015
+0000007 RGRRRGRR-------- -D-------------- G--- 0 0016
+refused E9 NoSuchPattern
+0000008 RGRRRGRR-------- -D-------------- G--- 0 0017
+0000009 RGRRRGRR-------- -D-------------- G--- 0 0017
+undone tick\nundone tick\nundone tick\nundone tick\nundone tick\nundone tick\nundone pattern
+0000003 RGRRRGRR-------- -D-------------- G--- 0 0013
+0000004 RGRRRGRR-------- -D-------------- G--- 0 0014
+"
+        .as_slice();
+    assert!(rt; answers_on_quad(rt.alloc(), b"", commands, answers));
+}
+
 /// `step`, this many spaces, and `1`, with this after it.
 fn answers_spaced(alloc: Global, spaces: usize, end: &[u8], text: &[u8]) -> bool {
     let mut line = [b' '; 300];

@@ -45,7 +45,7 @@ const SMALLER: [(Object, u32, u32); 19] = [
 ];
 
 /// What version 1 has none of.
-const NEW: [Object; 9] = [
+const NEW: [Object; 11] = [
     Object::PhaseDynamicMaxLimit,
     Object::PhaseDynamicMaxStep,
     Object::OverlapType,
@@ -55,6 +55,8 @@ const NEW: [Object; 9] = [
     Object::PatternPermissiveTime,
     Object::PatternLeadLag,
     Object::PhasePedestrianRecycle,
+    Object::CoordCorrectionMode,
+    Object::CoordCorrectionLimit,
 ];
 
 /// Whether version 1 has the objects with these indices and greatest values.
@@ -128,12 +130,12 @@ fn finds(version: Version, name: &str, wanted: Option<Object>) -> bool {
 fn names_are() -> bool {
     is_named(Object::PhaseEnabled, "phaseEnabled")
         && is_named(Object::UnitMax2, "unitMax2")
-        && is_named(Object::PhasePedestrianRecycle, "phasePedestrianRecycle")
+        && is_named(Object::CoordCorrectionLimit, "coordCorrectionLimit")
 }
 
 /// Whether objects are found by their names, where the version has them.
 fn names_are_found() -> bool {
-    let (split, last) = (Object::SplitTime, Object::PhasePedestrianRecycle);
+    let (split, last) = (Object::SplitTime, Object::CoordCorrectionLimit);
     finds(Version::One, split.name(), Some(split))
         && finds(Version::Two, last.name(), Some(last))
         && finds(Version::One, "overlapType", None)
