@@ -1,4 +1,5 @@
 pub mod PlaceLemmas
 pub mod ByteLemmas
+pub mod QuietLemmas
 pub mod LawLemmas
 pub mod Examples

@@ -1,6 +1,6 @@
-ghost use Rattle.std.specs.Prelude.{◌≡◌, ◌+◌, ◌*◌, ◌<◌, ◌≤◌, ◌++◌, All, length, vec_len, vec_capacity};
-ghost use Rattle.tsb_history.specs.Bytes.{entry_bytes, record_bytes, two_at, four_at, IsRecordAt, start_at, change_at};
-ghost use Rattle.tsb_history.specs.History.{FitsEntry};
+ghost use Rattle.std.specs.Prelude.{◌≡◌, ◌+◌, ◌*◌, ◌<◌, ◌≤◌, ◌++◌, All, length, min, vec_len, vec_capacity};
+ghost use Rattle.tsb_history.specs.Bytes.{entry_bytes, record_bytes, two_at, four_at, IsLaid, IsRecordAt, start_at, change_at, changes_at};
+ghost use Rattle.tsb_history.specs.History.{FitsEntry, is_quiet, quiet_ticks};
 
 use crate::kinds::Kind;
 use crate::record::Record;
@@ -60,4 +60,38 @@ pub fn read_record(bytes: &[u8], end: usize) -> (Record<'_>, usize)
     let start = end - (6 * count + 3);
     let kind = Kind::of_code(bytes[end - 3]);
     (Record::of(kind, count, bytes, start), start)
+}
+
+// The bytes of the record of a quiet tick.
+pub const QUIET: usize = 3;
+
+// Whether the record that ends before a place is that of a quiet tick.
+#[inline(always)]
+fn is_quiet(bytes: &[u8], end: usize) -> bool
+    requires within { end ≤ length bytes.now }
+    requires whole { IsRecordAt bytes.now end }
+    ensures { result ≡ is_quiet (change_at bytes.now end) }
+{
+    match Kind::of_code(bytes[end - 3]) {
+        Kind::Tick => two(bytes, end - 2) == 0,
+        _ => false,
+    }
+}
+
+// How many of the `count` records that end before a place, the newest ones first, are those of quiet ticks; at most `most`.
+// Each has `QUIET` bytes.
+#[inline(always)]
+pub fn quiet_before(count: usize, bytes: &[u8], end: usize, most: usize) -> usize
+    requires within { end ≤ length bytes.now }
+    requires laid { IsLaid count bytes.now end }
+    ensures { result ≡ min most (quiet_ticks (changes_at count bytes.now end)) }
+{
+    let most = count.min(most);
+    let mut quiet = 0;
+    let mut at = end;
+    while quiet < most && is_quiet(bytes, at) {
+        quiet += 1;
+        at -= QUIET;
+    }
+    quiet
 }

@@ -1,8 +1,8 @@
-ghost use Rattle.std.specs.Prelude.{◌≡◌, ◌+◌, ◌<◌, ◌≤◌, ◌↔◌, ◌∷◌, [], All, Some, length, OnOk, OnErr, IfOk, IsTrue};
+ghost use Rattle.std.specs.Prelude.{◌≡◌, ◌+◌, ◌<◌, ◌≤◌, ◌↔◌, ◌∷◌, [], All, Some, drop, length, min, OnOk, OnErr, IfOk, IsTrue};
 ghost use Rattle.tsb_history.specs.Bytes.{bytes_of};
-ghost use Rattle.tsb_history.specs.History.{newest_at, newest_start, older, record_size, size_of, FitsRecord};
+ghost use Rattle.tsb_history.specs.History.{newest_at, newest_start, older, quiet_ticks, record_size, size_of, FitsRecord};
 
-use crate::bytes::{read_record, write_record};
+use crate::bytes::{QUIET, quiet_before, read_record, write_record};
 use crate::kinds::Kind;
 use crate::record::Record;
 use crate::walk::WalkBack;
@@ -93,6 +93,21 @@ impl History {
     {
         self.bytes.truncate(start);
         self.count -= 1;
+    }
+
+    /// Takes the newest records away as long as they are those of quiet ticks, in which no cell changed, but at most so
+    /// many, and says how many it took. It takes no memory, and gives none back: their bytes are room.
+    #[inline(always)]
+    pub fn pop_quiet(&mut self, most: usize) -> usize
+        ensures count { result ≡ min most (quiet_ticks self.old.records) }
+        ensures rest { self.new.records ≡ drop result self.old.records }
+        ensures room { size_of self.new.records + self.new.room ≡ size_of self.old.records + self.old.room }
+    {
+        let end = self.bytes.len();
+        let quiet = quiet_before(self.count, &self.bytes, end, most);
+        self.bytes.truncate(end - QUIET * quiet);
+        self.count -= quiet;
+        quiet
     }
 
     /// How many records there are. Each has at most 65,535 entries, with cells below 65,536 and old

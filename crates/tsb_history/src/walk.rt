@@ -1,8 +1,9 @@
-ghost use Rattle.std.specs.Prelude.{◌≡◌, ◌≤◌, length};
+ghost use Rattle.std.specs.Prelude.{◌≡◌, ◌≤◌, drop, length};
 ghost use Rattle.std.specs.Iterator.{YieldsFirst, item_count};
 ghost use Rattle.tsb_history.specs.Bytes.{IsLaid, changes_at};
+ghost use Rattle.tsb_history.specs.History.{quiet_ticks};
 
-use crate::bytes::read_record;
+use crate::bytes::{QUIET, quiet_before, read_record};
 use crate::record::Record;
 use std::marker::Model;
 
@@ -35,6 +36,19 @@ impl<'a> WalkBack<'a> {
         ensures { result ≡ changes_at count bytes.now end }
     {
         WalkBack { count, bytes, end }
+    }
+
+    /// Passes over the records that come next as long as they are those of quiet ticks, in which no cell changed, and says
+    /// how many it passed.
+    #[inline(always)]
+    pub fn skip_quiet(&mut self) -> usize
+        ensures count { result ≡ quiet_ticks self.old }
+        ensures rest { self.new ≡ drop result self.old }
+    {
+        let quiet = quiet_before(self.count, self.bytes, self.end, self.count);
+        self.end -= QUIET * quiet;
+        self.count -= quiet;
+        quiet
     }
 }
 
