@@ -59,13 +59,17 @@ impl Coordinating {
         Ok(1)
     }
 
-    /// A line `p`: the pattern that is selected; the refusal, and what changes.
+    /// A line `p`: a tick; the pattern that is selected in it; the refusal, and what changes.
     fn select(&mut self, numbers: Numbers, plan: &Checked) -> Result<u32, Fault> {
         let mut numbers = numbers;
+        let now = numbers.number()?;
+        if now > limits::TICKS {
+            return Err(Fault::Malformed);
+        }
         let pattern = numbers.number()?;
         let mut layer = self.layer;
         layer.open();
-        let answer = layer.set_pattern(pattern, 0, plan);
+        let answer = layer.set_pattern(pattern, now, plan);
         let changes = layer.close();
         self.layer = layer;
         numbers.tells_refusal(answer.err())?;
