@@ -1,9 +1,10 @@
-"""Plans at random with a pattern, in which all phases of one side and of different rings are concurrent.
+"""Plans at random with two patterns, in which all phases of one side and of different rings are concurrent.
 
 They aim at what makes a coordinated phase wait: walks and clearances that are longer than splits or than the cycle,
 splits of their least time, unequal clearances, maximum recalls, phases that are omitted, lead and lag. The options of
 coordination have each of their values; permissive times are below the cycle, with `patternLeadLag` the coordinated
-splits of the two rings may end apart, and in two plans of three each phase may walk again within its green.
+splits of the two rings may end apart, and in two plans of three each phase may walk again within its green. Pattern 2
+differs from pattern 1 by its offset alone.
 """
 import random
 from dataclasses import dataclass
@@ -140,7 +141,17 @@ def options(rng: random.Random, cycle: int, apart: bool, phases: list[int]) -> d
         "patternPermissiveTime": {1: rng.choice([0, rng.randrange(cycle)])},
         "patternLeadLag": {1: int(apart)},
         "phasePedestrianRecycle": dict.fromkeys(phases, int(rng.random() < 2 / 3)),
+        "coordCorrectionMode": {1: rng.randint(0, 3)},
+        "coordCorrectionLimit": {1: rng.choice([0, 1, 10, 25, 50, 50, rng.randint(1, 50)])},
     }
+
+
+def both(rows: dict[str, Values], offset: int) -> dict[str, Values]:
+    """The values of these objects, with those of pattern 1 for pattern 2 too, but for its offset."""
+    for name, row in rows.items():
+        if name.startswith("pattern"):
+            row[2] = offset if name == "patternOffsetTime" else row[1]
+    return rows
 
 
 def sequence(found: Layout, rng: random.Random | None = None) -> Values:
@@ -158,7 +169,7 @@ def sequence(found: Layout, rng: random.Random | None = None) -> Values:
 
 
 def plan(rng: random.Random, longest: int = 255) -> dict[str, Any] | None:
-    """A plan as its text has it, with pattern 1; or none where the cycle would be too long, or none is coordinated."""
+    """A plan as its text has it; or none where the cycle would be too long, or none is coordinated."""
     found = layout(rng)
     phases = sorted(found.rings)
     if not phases:
@@ -195,4 +206,5 @@ def plan(rng: random.Random, longest: int = 255) -> dict[str, Any] | None:
         "vehicleDetectorCallPhase": {d: rng.choice(phases) for d in range(1, 17)},
         "pedestrianDetectorCallPhase": {d: rng.choice(walkers) for d in range(1, 9)} if walkers else {},
     }
+    rows = both(rows, rng.randrange(cycle))
     return {"version": 2} | {name: {str(i): v for i, v in row.items()} for name, row in rows.items()}

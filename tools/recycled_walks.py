@@ -1,9 +1,9 @@
 """Tests of the laws of walks that begin within a green, on the runs at random of `test_coordination.py`.
 
 What is tested stands in `crates/tsb_laws/specs/RecycledWalks.antt`: a coordinated phase with pedestrian recycle walks
-again where it is forced off in none of the ticks that its walk and its pedestrian clearance take, and no other walk
-begins within a green; and such a walk is over in the tick in which its phase is next forced off. In these runs no
-preempt is in service, plan and pattern stay, and nothing trips.
+again where it is forced off in none of the ticks that its walk and its pedestrian clearance take, and where the local
+counter was in step, and no other walk begins within a green; and such a walk is over in the tick in which its phase is
+next forced off. In these runs no preempt is in service, plan and pattern stay, and nothing trips.
 """
 from dataclasses import dataclass, field
 from typing import Any
@@ -13,7 +13,7 @@ Row = tuple[tuple[bool, ...], ...]
 
 
 class ForceOffs:
-    """When the coordinated phases of pattern 1 are forced off."""
+    """When the coordinated phases of pattern 1 are forced off, once its local counter is in step."""
 
     def __init__(self, bench: Any, state: State):
         pattern = bench.Pattern(state.plan, state.lim, 1)
@@ -92,6 +92,7 @@ class Watch:
         time, left = 10 * (plan["phaseWalk"][p] + plan["phasePedestrianClear"][p]), self.offs.after(p, after.now)
         stands = before.forced[p] and (after.forced[p] or after.interval[p] != bench.G)
         may = plan["phasePedestrianRecycle"][p] and self.is_called(before, row, p) and left >= time and not stands
+        may = may and bench.ahead_at(before, before.now) == 0
         walks = after.ped[p] == bench.W
         if walks != bool(may):
             self.broken(p, after.now, "a walk that may not begin" if walks else "no walk, though one may begin")

@@ -4,14 +4,15 @@
     tools/test_coordination.py --reference FOLDER --seeds LO HI
 
 FOLDER holds the reference, which is no part of this repository (make_sessions.py says which files). Each seed is one
-run: a plan of coordinated_plans.py, some ticks in free operation, and then its pattern for 8 cycles, with detectors
-that change at random; in every second run buttons are on just where a walk takes all that is left to its force-off, or
-a tick more. What is tested stands in `crates/tsb_laws/specs/CoordinatedGreens.antt`: how long a coordinated phase is
-not Green, by the time that is proved and by the shorter one that is stated and not proved; and how long any phase that
-stays called is not Green, by the time that is proved. Each tick goes to `recycled_walks.py` too, which tests the laws
-of walks that begin within a green. It ends with status 1 where a run breaks a law, and tells the largest share of each
-time that a wait took, how often a coordinated phase was not Green for a whole cycle, and how many such walks there
-were.
+run: a plan of coordinated_plans.py, some ticks in free operation, some in pattern 2, and then pattern 1 for 8 cycles,
+with detectors that change at random; in every second run buttons are on just where a walk takes all that is left to its
+force-off, or a tick more. What is tested stands in `crates/tsb_laws/specs/CoordinatedGreens.antt`: how long a
+coordinated phase is not Green, by the time that is proved and by the shorter one that is stated and not proved; and how
+long any phase that stays called is not Green, by the time that is proved. A wait counts from where the local counter is
+in step. Each tick goes to `recycled_walks.py` too, which tests the laws of walks that begin within a green, and to
+`counters_in_step.py`, which tests those of local counters that come into step. It ends with status 1 where a run breaks
+a law, and tells the largest share of each time that a wait took, how often a coordinated phase was not Green for a whole
+cycle, and how many such walks and counters there were.
 """
 import argparse
 import importlib
@@ -24,6 +25,7 @@ from dataclasses import dataclass, field
 from typing import Any
 
 import coordinated_plans
+from counters_in_step import Counters
 from recycled_walks import Walks, Watch
 from served_calls import SIDES, is_called
 
@@ -63,6 +65,7 @@ class Waits:
     proved: Longest = field(default_factory=Longest)
     called: Longest = field(default_factory=Longest)
     walks: Walks = field(default_factory=Walks)
+    counters: Counters = field(default_factory=Counters)
 
 
 def reference(folder: str) -> Any:
@@ -138,13 +141,33 @@ def start(bench: Any, rng: random.Random) -> State:
             return bench.power_up(plan, bench.V2)
 
 
+def ticked(bench: Any, state: State, inputs: Iterator[tuple[tuple[bool, ...], ...]], ticks: int) -> State:
+    """The state so many ticks later."""
+    for _ in range(ticks):
+        state = bench.step(state, ("tick", next(inputs)))
+    return state
+
+
+def selected(bench: Any, seed: int, state: State, number: int, waits: Waits) -> State:
+    """The state with another pattern."""
+    after = bench.step(state, ("pattern", number))
+    waits.counters.select(bench, seed, state, after)
+    return after
+
+
+def begun(bench: Any, seed: int, rng: random.Random, waits: Waits) -> tuple[State, Iterator[Any]]:
+    """The state in which pattern 1 was selected, mostly while pattern 2 ran, and the rows from there on."""
+    state, inputs = start(bench, rng), rows(rng)
+    state = ticked(bench, state, inputs, rng.choice([0, rng.randint(1, 1000)]))
+    if rng.random() < 0.7:
+        state = ticked(bench, selected(bench, seed, state, 2, waits), inputs, rng.randint(1, 2000))
+    return selected(bench, seed, state, 1, waits), inputs
+
+
 def run(bench: Any, seed: int, waits: Waits) -> None:
     """Runs the pattern of a seed, and counts."""
     rng = random.Random(seed)
-    state, inputs = start(bench, rng), rows(rng)
-    for _ in range(rng.choice([0, rng.randint(1, 1000)])):
-        state = bench.step(state, ("tick", next(inputs)))
-    state = bench.step(state, ("pattern", 1))
+    state, inputs = begun(bench, seed, rng, waits)
     times = Times(state.plan)
     coordinated = [p for p in times.phases if state.plan["splitCoordPhase"][p]]
     others = [p for p in times.phases if p not in coordinated and state.plan["splitMode"][p] != OMITTED]
@@ -152,16 +175,18 @@ def run(bench: Any, seed: int, waits: Waits) -> None:
     waits.phases += len(coordinated)
     watch = Watch(bench, seed, state, waits.walks)
     for _ in range(CYCLES * 10 * state.plan["patternCycleTime"][1]):
+        is_in_step = bench.ahead_at(state, state.now) == 0
         for c in coordinated:
-            since[c] = 0 if state.interval[c] == bench.G else since[c] + 1
+            since[c] = 0 if state.interval[c] == bench.G or not is_in_step else since[c] + 1
             count(waits, seed, times, c, since[c])
         row = next(inputs)
         if seed % 2:
             row = row[0], (watch.is_at_limit(state),) * len(row[1]), row[2]
         after = bench.step(state, ("tick", row))
         watch.see(state, after, row)
+        waits.counters.see(bench, seed, state, after)
         for q in others:
-            since[q] = since[q] + 1 if is_called(bench, state, after, q) else 0
+            since[q] = since[q] + 1 if is_in_step and is_called(bench, state, after, q) else 0
             waits.called.see(seed, q, since[q], times.to_be_served(q))
         state = after
 
@@ -188,9 +213,10 @@ def main() -> int:
           f"of the time that is stated {waits.stated.told()}\n"
           f"of the time that is proved {waits.proved.told()}\n"
           f"other phases that stayed called, of the time that is proved: {waits.called.told()}\n"
-          f"{waits.walks.told()}")
+          f"{waits.walks.told()}\n"
+          f"{waits.counters.told()}")
     late = waits.stated.broken + waits.proved.broken + waits.called.broken
-    return 1 if late or waits.walks.broken else 0
+    return 1 if late or waits.walks.broken or waits.counters.broken else 0
 
 
 if __name__ == "__main__":
