@@ -1,12 +1,11 @@
 -- While the local counter is in step it stays so, and a phase is forced off where the cycle and the offset say so.
-use Rattle.std.proofs.Common.{◌≡◌, ℕ, ◌+◌, ◌-◌, ◌<◌, ◌≤◌, ◌==◌, Bool, true, false, ◌&&◌, ◌||◌, Option, refl, sym, ap, ap₂, subst, arith, ◌∙◌, inl, inr}
-use Rattle.std.proofs.lemmas.Bool.{and_parts, and_from, or_cases, or_left, or_right, eqb-true}
+use Rattle.std.proofs.Common.{◌≡◌, ℕ, ◌+◌, ◌-◌, ◌<◌, ◌≤◌, true, ◌&&◌, Option, sym, ap, arith, ◌∙◌, inl, inr}
+use Rattle.std.proofs.lemmas.Bool.{and_parts, and_from, or_cases, or_left, or_right}
 use Rattle.tsb_step.specs.tsb_plan.Plan.{Plan}
-use Rattle.tsb_step.specs.tsb_plan.Running.{running}
 use Rattle.tsb_step.specs.tsb_coord.declared.correction.Correction.{Correction}
 use Rattle.tsb_step.specs.tsb_coord.Coordinated.{is_at_force_off, asks_force_off, asks_recycle}
-use Rattle.tsb_step.specs.tsb_coord.Correction.{ahead_in, clock, skips, forces, comes_to_force_off, is_in_step}
-use Rattle.tsb_step.proofs.tsb_coord.CorrectionLemmas.{once_in_step, forces_in_step, comes_in_step}
+use Rattle.tsb_step.specs.tsb_coord.Correction.{clock, skips, forces, comes_to_force_off, is_in_step}
+use Rattle.tsb_step.proofs.tsb_coord.CorrectionLemmas.{stays_in_step, forces_in_step, comes_in_step}
 use Rattle.tsb_step.proofs.tsb_coord.LocalLemmas.{at_instant_asks}
 use Rattle.tsb_step.specs.State.{State}
 use Rattle.tsb_step.specs.Signs.{IsInStep}
@@ -15,9 +14,7 @@ use Rattle.tsb_step.specs.Tick.{recycle}
 -- ## In step
 
 pub in_step_later : (s : State) (t : ℕ) → IsInStep s → s.now ≤ t → is_in_step s.plan s.pattern s.correction t ≡ true
-in_step_later s t stepped later =
-    let none : ahead_in s.plan (running s.plan s.pattern) s.correction s.now ≡ 0 = eqb-true (ahead_in s.plan (running s.plan s.pattern) s.correction s.now) 0 stepped in
-    ap (λ (ahead : ℕ). ahead == 0) (once_in_step s.plan (running s.plan s.pattern) s.correction s.now t none later)
+in_step_later s t stepped later = stays_in_step s.plan s.pattern s.correction s.now t stepped later
 
 pub forces_as : (s : State) (t p : ℕ) → IsInStep s → s.now < t → forces s.plan s.pattern s.correction t p ≡ asks_force_off s.plan t s.pattern p
 forces_as s t p stepped later =

@@ -1,10 +1,8 @@
 -- A pattern that is selected in free operation or with correction mode 0 is in step, and stays so; with another mode it goes
 -- on from the local counter of the pattern that ran.
-use Rattle.std.proofs.Common.{◌≡◌, ◌≢◌, ℕ, ◌≤◌, ◌==◌, Bool, true, false, if◌then◌else◌, List, [], ◌∷◌, ◌++◌, Option, Some, None, is_some, refl, sym, ap, arith, ◌∙◌, inl, inr}
+use Rattle.std.proofs.Common.{◌≡◌, ◌≢◌, ℕ, ◌≤◌, ◌==◌, Bool, true, false, if◌then◌else◌, List, [], ◌∷◌, ◌++◌, Option, Some, None, is_some, refl, ap, arith, ◌∙◌, inl, inr}
 use Rattle.std.proofs.lemmas.Bool.{eqb-true, false≢true}
 use Rattle.tsb_step.specs.tsb_types.declared.lamp.Lamp.{Lamp}
-use Rattle.tsb_step.specs.tsb_plan.declared.plan.patterns.CorrectionMode.TheVariants.{AtOnce}
-use Rattle.tsb_step.specs.tsb_plan.Parts.{correction_mode}
 use Rattle.tsb_step.specs.tsb_plan.Plan.{Plan}
 use Rattle.tsb_step.specs.tsb_rules.Rules.{first_broken}
 use Rattle.tsb_step.specs.tsb_coord.declared.correction.Correction.{Correction}
@@ -23,7 +21,7 @@ use Rattle.tsb_step.specs.Laws.{IsConsistent}
 use Rattle.tsb_step.proofs.ClearLemmas.{stays_in_step}
 use Rattle.tsb_step.proofs.GoodLemmas.{good_run}
 use Rattle.tsb_laws.specs.CoordinatedGreens.{HasGoneOn}
-use Rattle.tsb_laws.specs.InStep.{selects_none, BeginsInStep, keeps_in_step, StaysInStep, GoesOnFrom}
+use Rattle.tsb_laws.specs.InStep.{selects_none, BeginsInStep, StaysInStep, GoesOnFrom}
 use Rattle.tsb_laws.proofs.operation.CoordinatedRunLemmas.{correction_stays}
 use Rattle.tsb_laws.proofs.operation.OptionLemmas.{begins_at_once}
 
