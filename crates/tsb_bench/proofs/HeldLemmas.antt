@@ -1,8 +1,11 @@
 -- What a bench keeps: once an input was taken, and once one was taken back.
-use Rattle.std.proofs.Common.{◌≡◌, ℕ, zero, suc, ◌-◌, ◌<◌, ◌≤◌, List, [], ◌∷◌, length, Option, Some, None, sym, ap, ap₂, subst, ◌∙◌, refl, arith}
+use Rattle.std.proofs.Common.{◌≡◌, ℕ, zero, suc, ◌+◌, ◌-◌, ◌<◌, ◌≤◌, Bool, true, false, ◌&&◌, if◌then◌else◌, List, [], ◌∷◌, length, drop, min, inl, inr, Option, Some, None, sym, ap, ap₂, subst, ◌∙◌, refl, arith}
 use Rattle.std.specs.Prelude.{Result, Ok, Err, OnOk, OnErr}
+use Rattle.std.proofs.lemmas.Bool.{cases_Bool, false≢true}
 use Rattle.std.proofs.lemmas.Bool.Decides.{nat_tests}
-use Rattle.tsb_history.specs.History.{Change, newest, newest_at, newest_start, newest_kind, older}
+use Rattle.tsb_history.specs.declared.kinds.Kind.{Kind}
+use Rattle.tsb_history.specs.declared.kinds.Kind.TheVariants as kinds
+use Rattle.tsb_history.specs.History.{Change, has_none, is_quiet, is_tick, newest, newest_at, newest_start, newest_kind, older, quiet_ticks}
 use Rattle.tsb_plan.specs.Objects.{AreInRange}
 use Rattle.tsb_transact.specs.Cells.{desk_in}
 use Rattle.tsb_transact.specs.Desk as desk
@@ -207,3 +210,116 @@ goes-back t h new (Err e) sound ahead other is none =
     let some : 0 < length h.records = sound-some h.tick h.rows h.records sound (omega arith) in
     let empty : length h.records ≡ 0 = ap length none in
     absurd (omega arith)
+
+-- ## Quiet ticks, taken back at once
+
+-- what a record is of a quiet tick: its kind, and that it has no entry
+pub record IsQuiet (r : Change) : Type 0 where
+  pub tick : r.kind ≡ kinds.Tick
+  pub none : r.entries ≡ []
+
+of-tick : (k : Kind) → is_tick k ≡ true → k ≡ kinds.Tick
+of-tick kinds.Tick is = refl
+of-tick kinds.Pattern is = absurd (false≢true is)
+of-tick kinds.Switch is = absurd (false≢true is)
+of-tick kinds.Fault is = absurd (false≢true is)
+of-tick kinds.Reset is = absurd (false≢true is)
+of-tick kinds.Begin is = absurd (false≢true is)
+of-tick kinds.Set is = absurd (false≢true is)
+of-tick kinds.Verify is = absurd (false≢true is)
+of-tick kinds.Commit is = absurd (false≢true is)
+of-tick kinds.Abort is = absurd (false≢true is)
+
+of-none : (es : List (ℕ × ℕ)) → has_none es ≡ true → es ≡ []
+of-none [] is = refl
+of-none (e ∷ es) is = absurd (false≢true is)
+
+both : (a b : Bool) → (a && b) ≡ true → (a ≡ true) × (b ≡ true)
+both true b is = (refl, is)
+both false b is = absurd (false≢true is)
+
+-- the first of them, where there is any
+pub quiet-first : (k : ℕ) (r : Change) (rs : List Change) → suc k ≤ quiet_ticks (r ∷ rs) → IsQuiet r × (k ≤ quiet_ticks rs)
+quiet-first k r rs most = elim (cases_Bool (is_quiet r)) [
+  | inl quiet ↦
+      let are = both (is_tick r.kind) (has_none r.entries) quiet in
+      let more : quiet_ticks (r ∷ rs) ≡ suc (quiet_ticks rs) = ap (λ (b : Bool). if b then suc (quiet_ticks rs) else 0) quiet in
+      (record { tick = of-tick r.kind are.0; none = of-none r.entries are.1 }, omega (arith, more, most))
+  | inr loud ↦ let none : quiet_ticks (r ∷ rs) ≡ 0 = ap (λ (b : Bool). if b then suc (quiet_ticks rs) else 0) loud in absurd (omega (arith, none, most))
+]
+
+-- without it the rows are the same, a tick before
+quiet-past : (now : ℕ) (a : All) (r : Change) (rs : List Change) → IsQuiet r → HasSoundPast (now - ticks_of r.kind) (all_put_back a r.entries) rs → HasSoundPast (now - 1) a rs
+quiet-past now a r rs quiet sound =
+    subst (λ (es : List (ℕ × ℕ)). HasSoundPast (now - 1) (all_put_back a es) rs) quiet.none (subst (λ (k : Kind). HasSoundPast (now - ticks_of k) (all_put_back a r.entries) rs) quiet.tick sound)
+
+quiet-undone : (now : ℕ) (a : All) (r : Change) → IsQuiet r → IsHeld now a → CanUndo now r → undone r (all_in now a) ≡ all_in (now - 1) a
+quiet-undone now a r quiet held can =
+    back-said now a r held can ∙ ap (λ (k : Kind). all_in (now - ticks_of k) (all_put_back a r.entries)) quiet.tick ∙ ap (λ (es : List (ℕ × ℕ)). all_in (now - 1) (all_put_back a es)) quiet.none
+
+-- k of them: there are as many ticks, what is left is sound, and what is sought before them is sought from there
+pub record AreQuiet (k now : ℕ) (a : All) (rs : List Change) : Type 0 where
+  pub within : k ≤ now
+  pub sound : HasSoundPast (now - k) a (drop k rs)
+  pub same : (t : ℕ) → t + k ≤ now → sought t (all_in (now - k) a) (drop k rs) ≡ sought t (all_in now a) rs
+
+pub are-quiet : (k now : ℕ) (a : All) (rs : List Change) → HasSoundPast now a rs → k ≤ quiet_ticks rs → AreQuiet k now a rs
+are-quiet zero now a rs sound most =
+    let still : now ≡ now - 0 = omega arith in
+    record {
+      within = omega arith;
+      sound = subst (λ (n : ℕ). HasSoundPast n a rs) still sound;
+      same = λ t before. ap (λ (n : ℕ). sought t (all_in n a) rs) (sym still);
+    }
+are-quiet (suc k) now a [] sound most = absurd (omega (arith, most))
+are-quiet (suc k) now a (r ∷ rs) sound most =
+    let first = quiet-first k r rs most in
+    let one : ticks_of r.kind ≡ 1 = ap ticks_of first.0.tick in
+    let some : ticks_of r.kind ≤ now = sound.1.tick in
+    let more : AreQuiet k (now - 1) a rs = are-quiet k (now - 1) a rs (quiet-past now a r rs first.0 sound.2) first.1 in
+    let there : (now - 1) - k ≡ now - suc k = omega arith in
+    record {
+      within = let rest = more.within in omega (arith, rest, one, some);
+      sound = subst (λ (n : ℕ). HasSoundPast n a (drop k rs)) there more.sound;
+      same = λ t before.
+          ap (λ (n : ℕ). sought t (all_in n a) (drop k rs)) (sym there)
+          ∙ more.same t (omega (arith, before, one, some))
+          ∙ ap (λ (s : State). sought t s rs) (sym (quiet-undone now a r first.0 sound.0 sound.1))
+          ∙ sym (sought-back controller t (all_in now a) (r ∷ rs) (λ e. let here : now ≡ t = e in omega (arith, here, before)));
+    }
+
+-- the bench after them: what is sought is sought from there
+pub record GoesBackQuietly (t k : ℕ) (h new : Held) : Type 0 where
+  pub sound : HasSoundPast new.tick new.rows new.records
+  pub ahead : t ≤ new.tick
+  pub same : sought t (state_of new) new.records ≡ sought t (state_of h) h.records
+  pub smaller : (k ≡ 0 → ⊥) → length new.records < length h.records
+
+shorter-behind : (k : ℕ) (rs : List Change) → suc k ≤ quiet_ticks rs → length (drop (suc k) rs) < length rs
+shorter-behind k [] most = absurd (omega (arith, most))
+shorter-behind k (r ∷ rs) most = let less : length (drop k rs) ≤ length rs = dropped k rs in omega (arith, less)
+  where
+    dropped : (k : ℕ) (rs : List Change) → length (drop k rs) ≤ length rs
+    dropped zero rs = omega arith
+    dropped (suc k) [] = omega arith
+    dropped (suc k) (r ∷ rs) = let less : length (drop k rs) ≤ length rs = dropped k rs in omega (arith, less)
+
+pub goes-back-quietly : (t k most : ℕ) (h new : Held) → HasSoundPast h.tick h.rows h.records → t ≤ h.tick → most ≡ h.tick - t → k ≡ min most (quiet_ticks h.records) → new.tick + k ≡ h.tick → new.rows ≡ h.rows → new.records ≡ drop k h.records
+    → GoesBackQuietly t k h new
+goes-back-quietly t k most h new sound ahead limit all tick rows left =
+    let are : AreQuiet k h.tick h.rows h.records = are-quiet k h.tick h.rows h.records sound (omega (arith, all)) in
+    let now_is : new.tick ≡ h.tick - k = omega (arith, tick) in
+    record {
+      sound = subst (λ (rs : List Change). HasSoundPast new.tick new.rows rs) (sym left)
+          (subst (λ (a : All). HasSoundPast new.tick a (drop k h.records)) (sym rows) (subst (λ (n : ℕ). HasSoundPast n h.rows (drop k h.records)) (sym now_is) are.sound));
+      ahead = omega (arith, ahead, limit, all, tick);
+      same = ap (λ (n : ℕ). sought t (all_in n new.rows) new.records) now_is
+          ∙ ap (λ (a : All). sought t (all_in (h.tick - k) a) new.records) rows
+          ∙ ap (λ (rs : List Change). sought t (all_in (h.tick - k) h.rows) rs) left
+          ∙ are.same t (omega (arith, ahead, limit, all));
+      smaller = λ some. subst (λ (rs : List Change). length rs < length h.records) (sym left) (fewer k some (omega (arith, all)));
+    }
+  where
+    fewer : (k : ℕ) → (k ≡ 0 → ⊥) → k ≤ quiet_ticks h.records → length (drop k h.records) < length h.records
+    fewer zero some most = absurd (some refl)
+    fewer (suc k) some most = shorter-behind k h.records most

@@ -1,5 +1,5 @@
 -- The room of a history: after one input, after one that is taken back, and over inputs that come one after the other.
-use Rattle.std.proofs.Common.{◌≡◌, ℕ, ◌+◌, ◌*◌, ◌<◌, ◌≤◌, List, [], ◌∷◌, length, ap, subst, arith}
+use Rattle.std.proofs.Common.{◌≡◌, ℕ, zero, suc, ◌+◌, ◌*◌, ◌<◌, ◌≤◌, List, [], ◌∷◌, drop, length, ap, subst, arith}
 use Rattle.std.proofs.Math.Nat.{suc-mul}
 use Rattle.std.specs.Prelude.{Result, Ok, Err, OnOk, OnErr}
 use Rattle.tsb_history.specs.History.{Change, record_size, size_of, older}
@@ -32,6 +32,19 @@ all-left old mid new m n same reserved pushed = omega arith
 older-fewer : (rs : List Change) → size_of (older rs) ≤ size_of rs
 older-fewer [] = omega arith
 older-fewer (r ∷ rs) = omega arith
+
+-- the records left take no more bytes
+size-dropped : (k : ℕ) (rs : List Change) → size_of (drop k rs) ≤ size_of rs
+size-dropped zero rs = omega arith
+size-dropped (suc k) [] = omega arith
+size-dropped (suc k) (r ∷ rs) = let rest : size_of (drop k rs) ≤ size_of rs = size-dropped k rs in omega (arith, rest)
+
+-- where k records were taken away there is more room
+pub more-behind : (k : ℕ) (old new : List Change) (was room : ℕ) → new ≡ drop k old → size_of new + room ≡ size_of old + was → was ≤ room
+more-behind k old new was room left same =
+    let fewer : size_of (drop k old) ≤ size_of old = size-dropped k old in
+    let is : size_of new ≡ size_of (drop k old) = ap size_of left in
+    omega (arith, fewer, is, same)
 
 -- so there is no less room without it
 pub more-left : (rs left : List Change) (old new : ℕ) → left ≡ older rs → size_of left + new ≡ size_of rs + old → old ≤ new

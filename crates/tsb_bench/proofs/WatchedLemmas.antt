@@ -1,7 +1,8 @@
 -- The search for the last change of a watched value, record by record.
-use Rattle.std.proofs.Common.{◌≡◌, ℕ, ◌-◌, List, [], ◌∷◌, Option, Some, None, sym, ap, subst, ◌∙◌, refl, inl, inr}
+use Rattle.std.proofs.Common.{◌≡◌, ℕ, zero, suc, ◌-◌, ◌≤◌, List, [], ◌∷◌, drop, arith, Option, Some, None, sym, ap, subst, ◌∙◌, refl, inl, inr}
 use Rattle.std.specs.Prelude.{option_map, ◌≢◌}
-use Rattle.tsb_history.specs.History.{Change}
+use Rattle.tsb_history.specs.declared.kinds.Kind.{Kind}
+use Rattle.tsb_history.specs.History.{Change, quiet_ticks}
 use Rattle.tsb_types.specs.declared.watch.Watch.{Watch}
 use Rattle.tsb_step.specs.Past.{pasts, ticks_of, undone}
 use Rattle.tsb_step.specs.State.{State}
@@ -13,7 +14,7 @@ use Rattle.tsb_bench.specs.declared.watched.Value.{Value}
 use Rattle.tsb_bench.specs.declared.watched.Value.TheVariants as values
 use Rattle.tsb_bench.specs.Held.{Held, state_of, IsHeld, HasSoundPast}
 use Rattle.tsb_bench.specs.Watched.{Holds, told}
-use Rattle.tsb_bench.proofs.HeldLemmas.{back-said}
+use Rattle.tsb_bench.proofs.HeldLemmas.{back-said, quiet-first}
 
 -- ## Values are told apart
 
@@ -112,6 +113,15 @@ module _ (h : Held) (w : Watch) (x : Watched) (tick : ℕ) (value : Value) (r : 
   -- a record of no cells changes nothing
   pub goes-past : r.entries ≡ [] → IsAt h w x (tick - ticks_of r.kind) value rs
   goes-past none = goes-on x (subst (λ (es : List (ℕ × ℕ)). Holds w (all_put_back at.rows es) x) (sym none) at.holds) at.tells
+
+-- records of quiet ticks change nothing but the tick number
+pub goes-quiet : (k : ℕ) (h : Held) (w : Watch) (x : Watched) (tick : ℕ) (value : Value) (left : List Change) → k ≤ quiet_ticks left → IsAt h w x tick value left → IsAt h w x (tick - k) value (drop k left)
+goes-quiet zero h w x tick value left most at = subst (λ (n : ℕ). IsAt h w x n value left) (omega arith) at
+goes-quiet (suc k) h w x tick value [] most at = absurd (omega (arith, most))
+goes-quiet (suc k) h w x tick value (r ∷ rs) most at =
+    let first = quiet-first k r rs most in
+    subst (λ (n : ℕ). IsAt h w x n value (drop k rs)) (omega arith)
+    (goes-quiet k h w x (tick - 1) value rs first.1 (subst (λ (d : Kind). IsAt h w x (tick - ticks_of d) value rs) first.0.tick (goes-past h w x tick value r rs at first.0.none)))
 
 -- no record is left
 pub none-left : (h : Held) (w : Watch) (x : Watched) (tick : ℕ) (value : Value) → IsAt h w x tick value [] → TellsLastChange w (pasts (state_of h) h.records) None

@@ -1,9 +1,9 @@
 //! The whole controller, which can be wound back.
 #![tactic(auto, unfolding(tsb_objects::specs::Checked::checked_plan, tsb_plan::specs::PlanOf::plan_of))]
 
-ghost use Rattle.std.specs.Prelude.{◌≡◌, ℕ, ◌+◌, ◌-◌, ◌<◌, ◌≤◌, [], ◌∷◌, length, None, Some, Err, option_map, OnOk, OnErr, IfOk, IfErr, MatchResult};
+ghost use Rattle.std.specs.Prelude.{◌≡◌, ℕ, ◌+◌, ◌-◌, ◌<◌, ◌≤◌, [], ◌∷◌, drop, length, min, None, Some, Err, option_map, OnOk, OnErr, IfOk, IfErr, MatchResult};
 ghost use Rattle.tsb_history.specs.declared.kinds.Kind.{Kind as KindValue};
-ghost use Rattle.tsb_history.specs.History.{newest_kind, record_size};
+ghost use Rattle.tsb_history.specs.History.{newest_kind, quiet_ticks, record_size};
 ghost use Rattle.tsb_objects.specs.Checked.{checked_plan};
 ghost use Rattle.tsb_plan.specs.PlanOf.{plan_of};
 ghost use Rattle.tsb_types.specs.declared.refusal.Refusal.TheVariants.{Memory};
@@ -303,9 +303,28 @@ impl Bench {
             return Err(Nothing);
         }
         while self.tick != tick {
-            let _ = self.undo();
+            if self.undo_quiet(self.tick - tick) == 0 {
+                let _ = self.undo();
+            }
         }
         Ok(())
+    }
+
+    /// Takes the newest inputs back as long as they are quiet ticks, in which nothing changed but the tick number, but at
+    /// most so many, and says how many they were. It takes no memory; the bytes of their records are room again.
+    #[inline(always)]
+    fn undo_quiet(&mut self, most: u32) -> u32
+        ensures count { result ≡ min most (quiet_ticks self.old.records) }
+        ensures tick { self.new.tick + result ≡ self.old.tick }
+        ensures rows { self.new.rows ≡ self.old.rows }
+        ensures records { self.new.records ≡ drop result self.old.records }
+        ensures room { self.old.room ≤ self.new.room }
+        ensures memory { memory self.new ≡ memory self.old }
+    {
+        let quiet = self.history.pop_quiet(most as usize) as u32;
+        self.cabinet.pass_none();
+        self.tick -= quiet;
+        quiet
     }
 
     /// Goes back by this many ticks, as `seek` does.
@@ -334,16 +353,20 @@ impl Bench {
         let mut watched = Watched::of(&self.cabinet, watch);
         let value = watched.value();
         let mut tick = self.tick;
-        for change in self.history.walk_back() {
-            if !change.is_empty() {
-                watched.undo(&change);
-                if !watched.value().is_same(&value) {
-                    return Some(tick);
+        let mut records = self.history.walk_back();
+        loop {
+            tick -= records.skip_quiet() as u32;
+            match records.next() {
+                None => return None,
+                Some(change) => {
+                    watched.undo(&change);
+                    if !watched.value().is_same(&value) {
+                        return Some(tick);
+                    }
+                    tick -= ticks_of(change.kind());
                 }
             }
-            tick -= ticks_of(change.kind());
         }
-        None
     }
 
     /// A bench that is in the same state and has the same history, in memory of its own. `Memory` is its only refusal.

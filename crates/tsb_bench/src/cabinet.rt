@@ -152,6 +152,18 @@ impl Cabinet {
         tick
     }
 
+    /// Passes no tick over any more, until one is worked out.
+    #[inline(always)]
+    #[tactic(auto, using(crate::proofs::PassingLemmas::may_none))]
+    pub(crate) fn pass_none(&mut self)
+        requires { IsShut self.old }
+        ensures rows { rows_of self.new ≡ rows_of self.old }
+        ensures shut { IsShut self.new }
+        ensures passing { (tick : ℕ) → MayPass tick self.new }
+    {
+        self.passing = Passing::none();
+    }
+
     /// Puts back what a record holds.
     #[inline(always)]
     #[tactic(auto, using(crate::proofs::PassingLemmas::may_none))]

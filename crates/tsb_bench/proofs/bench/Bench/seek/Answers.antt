@@ -1,26 +1,40 @@
-use Rattle.std.proofs.Common.{◌≡◌, ◌∙◌, sym, ap, subst, rules, arith}
+use Rattle.std.proofs.Common.{◌≡◌, ◌≤◌, ◌-◌, ◌∙◌, ℕ, sym, ap, subst, rules, arith}
 use Rattle.tsb_machine.proofs.PastLemmas.{sought-here, sought-least}
 use Rattle.tsb_step.specs.Past.{Whole, controller, sought, IsLeastBack}
 use Rattle.tsb_bench.specs.Held.{Held, state_of, whole, HasSoundPast}
-use Rattle.tsb_bench.proofs.HeldLemmas.{GoesBack, goes-back}
+use Rattle.tsb_bench.proofs.HeldLemmas.{GoesBack, GoesBackQuietly, goes-back, goes-back-quietly}
 use Rattle.tsb_bench.proofs.bench.Bench.seek.Goals as goal
 
-back : (c : goal.After-undo) → GoesBack c.args.tick c.loop-self.self c.undo.new.self
-back c =
-    goes-back c.args.tick c.loop-self.self c.undo.new.self c.undo.result
-    (subst (λ (h : Held). HasSoundPast h.tick h.rows h.records) c.self-in-loop-self.view_is c.self-in-loop-self.invariant.1) c.loop-self.invariant.ahead
-    (λ e. c.loop-self-test.true (ap (λ (h : Held). h.tick) c.self-in-loop-self.view_is ∙ e)) c.undo.ensures.ok c.undo.ensures.nothing
-
-pub loop-self-smaller : goal.loop-self-smaller
-loop-self-smaller c = (back c).smaller
-
 pub loop-self-preserved : goal.loop-self-preserved
-loop-self-preserved c = record {
-  ahead = (back c).ahead;
-  room = omega (arith, c.undo.ensures.room, c.loop-self.invariant.room);
-  memory = c.undo.ensures.memory ∙ c.loop-self.invariant.memory;
-  same = (back c).same ∙ c.loop-self.invariant.same;
-}
+loop-self-preserved c =
+    let quiet : GoesBackQuietly c.args.tick c.undo_quiet-in-loop-self.result c.loop-self.self c.undo_quiet-in-loop-self.new.self =
+    goes-back-quietly c.args.tick c.undo_quiet-in-loop-self.result (c.undo_quiet.inside.tick - c.args.tick) c.loop-self.self c.undo_quiet-in-loop-self.new.self
+    (subst (λ (h : Held). HasSoundPast h.tick h.rows h.records) c.self-in-loop-self.view_is c.self-in-loop-self.invariant.1) c.loop-self.invariant.ahead
+    (ap (λ (h : Held). h.tick - c.args.tick) c.undo_quiet.view_is) c.undo_quiet-in-loop-self.ensures.count c.undo_quiet-in-loop-self.ensures.tick c.undo_quiet-in-loop-self.ensures.rows c.undo_quiet-in-loop-self.ensures.records in
+    record {
+      ahead = quiet.ahead;
+      room = omega (arith, c.undo_quiet-in-loop-self.ensures.room, c.loop-self.invariant.room);
+      memory = c.undo_quiet-in-loop-self.ensures.memory ∙ c.loop-self.invariant.memory;
+      same = quiet.same ∙ c.loop-self.invariant.same;
+    }
+
+pub loop-self-preserved-then-undo_quiet-eq0 : goal.loop-self-preserved-then-undo_quiet-eq0
+loop-self-preserved-then-undo_quiet-eq0 c =
+    let quiet : GoesBackQuietly c.args.tick c.undo_quiet-in-loop-self.result c.loop-self.self c.undo_quiet-in-loop-self.new.self =
+    goes-back-quietly c.args.tick c.undo_quiet-in-loop-self.result (c.undo_quiet.inside.tick - c.args.tick) c.loop-self.self c.undo_quiet-in-loop-self.new.self
+    (subst (λ (h : Held). HasSoundPast h.tick h.rows h.records) c.self-in-loop-self.view_is c.self-in-loop-self.invariant.1) c.loop-self.invariant.ahead
+    (ap (λ (h : Held). h.tick - c.args.tick) c.undo_quiet.view_is) c.undo_quiet-in-loop-self.ensures.count c.undo_quiet-in-loop-self.ensures.tick c.undo_quiet-in-loop-self.ensures.rows c.undo_quiet-in-loop-self.ensures.records in
+    let back : GoesBack c.args.tick c.undo_quiet-in-loop-self.new.self c.undo.new.self =
+    goes-back c.args.tick c.undo_quiet-in-loop-self.new.self c.undo.new.self c.undo.result
+    quiet.sound quiet.ahead
+    (λ e. let none = c.if-undo_quiet-eq0.true in let tick = c.undo_quiet-in-loop-self.ensures.tick in
+    let there : c.self-in-loop-self.inside.tick ≡ c.loop-self.self.tick = ap (λ (h : Held). h.tick) c.self-in-loop-self.view_is in c.loop-self-test.true (omega (arith, e, none, tick, there))) c.undo.ensures.ok c.undo.ensures.nothing in
+    record {
+      ahead = back.ahead;
+      room = omega (arith, c.undo.ensures.room, c.undo_quiet-in-loop-self.ensures.room, c.loop-self.invariant.room);
+      memory = c.undo.ensures.memory ∙ c.undo_quiet-in-loop-self.ensures.memory ∙ c.loop-self.invariant.memory;
+      same = back.same ∙ quiet.same ∙ c.loop-self.invariant.same;
+    }
 
 pub returns-clause-ok : goal.returns-clause-ok
 returns-clause-ok c =
