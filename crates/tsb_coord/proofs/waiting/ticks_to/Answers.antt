@@ -1,6 +1,6 @@
 use Rattle.std.proofs.Common.{ℕ, ◌+◌, ◌-◌, ◌%◌, ◌<◌, Option, Some, inl, inr, ap, ◌∙◌, rules, arith}
 use Rattle.tsb_coord.specs.Coordinated.{agree}
-use Rattle.tsb_coord.proofs.WaitLemmas.{not_yet, met_later, met_next}
+use Rattle.tsb_coord.proofs.SpanLemmas.{not_yet, met_later, met_next}
 use Rattle.tsb_coord.proofs.waiting.ticks_to.Goals as goal
 
 pub returns-else-local-instant-2-clause-quiet : goal.returns-else-local-instant-2-clause-quiet

@@ -1,6 +1,6 @@
 use Rattle.std.proofs.Common.{ℕ, ◌+◌, ◌-◌, ◌%◌, ◌<◌, ◌≤◌, Option, Some, inr, ap, ◌∙◌, rules, arith}
 use Rattle.tsb_coord.specs.Coordinated.{agree}
-use Rattle.tsb_coord.proofs.WaitLemmas.{not_before, not_again, met_later, met_next}
+use Rattle.tsb_coord.proofs.SpanLemmas.{not_before, not_again, met_later, met_next}
 use Rattle.tsb_coord.proofs.waiting.ticks_to_end.Goals as goal
 
 pub returns-then-local-end-clause-quiet : goal.returns-then-local-end-clause-quiet

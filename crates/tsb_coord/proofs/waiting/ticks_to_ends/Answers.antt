@@ -5,7 +5,7 @@ use Rattle.tsb_objects.specs.tsb_plan.Parts.{cycle}
 use Rattle.tsb_objects.specs.tsb_plan.Plan.{Plan}
 use Rattle.tsb_coord.specs.Coordinated.{permissive_end, recycle_end, agree}
 use Rattle.tsb_coord.specs.Due.{IsEnded}
-use Rattle.tsb_coord.proofs.WaitLemmas.{least_of}
+use Rattle.tsb_coord.proofs.SpanLemmas.{least_of}
 use Rattle.tsb_coord.proofs.waiting.ticks_to_ends.Goals as goal
 
 pub loop-number-preserved : goal.loop-number-preserved

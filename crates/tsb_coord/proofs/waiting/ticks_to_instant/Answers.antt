@@ -3,7 +3,7 @@ use Rattle.std.proofs.lemmas.Bool.{cases_lt}
 use Rattle.tsb_objects.specs.Checked.{checked_plan}
 use Rattle.tsb_coord.specs.Coordinated.{force_off, agree}
 use Rattle.tsb_coord.specs.Due.{IsMet}
-use Rattle.tsb_coord.proofs.WaitLemmas.{met_least}
+use Rattle.tsb_coord.proofs.SpanLemmas.{met_least}
 use Rattle.tsb_coord.proofs.waiting.ticks_to_instant.Goals as goal
 
 pub loop-number-preserved : goal.loop-number-preserved

@@ -3,7 +3,7 @@ use Rattle.tsb_objects.specs.Checked.{checked_plan}
 use Rattle.tsb_objects.specs.tsb_plan.Parts.{cycle}
 use Rattle.tsb_coord.specs.Coordinated.{force_off, permissive_end, recycle_end}
 use Rattle.tsb_coord.specs.Due.{IsMet, IsEnded}
-use Rattle.tsb_coord.proofs.WaitLemmas.{next_of_both}
+use Rattle.tsb_coord.proofs.SpanLemmas.{next_of_both}
 use Rattle.tsb_coord.proofs.waiting.ticks_to_next.Goals as goal
 
 pub returns-clause-met : goal.returns-clause-met
