@@ -164,7 +164,7 @@ would_be_forced_off : forces walking (Some 2) ahead_600 1449 2 ≡ true
 unfolding walking by_short_way quad run_from split_sum side_sum split_end force_off
 would_be_forced_off = refl
 
--- ## It waits where the old pattern would: the way is counted from the counter in step, at 200, and not from 400
+-- ## The way to where it waits is counted from the counter in step, at 200, and not from 400: it waits 200 ticks late
 
 abbrev pub way_in_step : Plan → ℕ → Correction → ℕ → ℕ
 way_in_step plan n c point = residue_of_difference (cycle plan n) point (counter plan n c.since)
