@@ -426,14 +426,14 @@ fn runs_back(bench: &mut Bench, ticks: u32, local: u32) -> bool {
 
 /// Whether the newest record is of a selection and has these entries alone: cells, and what was in them before.
 fn records(bench: &Bench, entries: [(u16, u32); 3]) -> bool {
-    for record in bench.history().walk_back() {
-        return record.kind() == Kind::Pattern
-            && record.len() == 3
-            && record.entry(0) == Some(entries[0])
-            && record.entry(1) == Some(entries[1])
-            && record.entry(2) == Some(entries[2]);
-    }
-    false
+    let Some((record, _)) = bench.history().last() else {
+        return false;
+    };
+    record.kind() == Kind::Pattern
+        && record.len() == 3
+        && record.entry(0) == Some(entries[0])
+        && record.entry(1) == Some(entries[1])
+        && record.entry(2) == Some(entries[2])
 }
 
 /// Whether the selection of pattern 1 in tick 100, 10 ahead, writes the pattern, the tick and the ticks ahead.
