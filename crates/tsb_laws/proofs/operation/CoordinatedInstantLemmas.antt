@@ -7,7 +7,8 @@ use Rattle.tsb_step.specs.tsb_rules.Rules.{first_broken}
 use Rattle.tsb_step.specs.tsb_rules.Consistent.{IsWhole}
 use Rattle.tsb_step.specs.tsb_coord.Coordinated.{counter, local_in, instant_from, reference, instant_by, force_off, agree}
 use Rattle.tsb_step.proofs.tsb_coord.LocalLemmas.{counter_moves_on}
-use Rattle.tsb_step.proofs.tsb_coord.WaitLemmas.{met_within, HasInstant, has_instant}
+use Rattle.tsb_step.proofs.tsb_coord.SpanLemmas.{met_within}
+use Rattle.tsb_step.proofs.tsb_coord.WaitLemmas.{HasInstant, has_instant}
 use Rattle.tsb_step.specs.declared.inputs.Input.{Input}
 use Rattle.tsb_step.specs.State.{State}
 use Rattle.tsb_step.specs.Signs.{IsInStep}
