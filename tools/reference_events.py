@@ -347,7 +347,7 @@ def cause_at(tick: Tick, phase: int, local: int) -> str | None:
 
 
 def force_off_cause(tick: Tick, phase: int) -> str | None:
-    """Why a phase is forced off in a tick in which a pattern runs, at the first step at which it is, and none where it is
+    """Why a phase is forced off in a tick in which a pattern runs, at the first step at which it is: none where it is
     not."""
     return next(filter(None, (cause_at(tick, phase, local) for local in steps(tick))), None)
 

@@ -11,8 +11,8 @@ coordinated phase is not Green, by the time that is proved and by the shorter on
 long any phase that stays called is not Green, by the time that is proved. A wait counts from where the local counter is
 in step. Each tick goes to `recycled_walks.py` too, which tests the laws of walks that begin within a green, and to
 `counters_in_step.py`, which tests those of local counters that come into step. It ends with status 1 where a run breaks
-a law, and tells the largest share of each time that a wait took, how often a coordinated phase was not Green for a whole
-cycle, and how many such walks and counters there were.
+a law, and tells the largest share of each time that a wait took, how often a coordinated phase was not Green for a
+whole cycle, and how many such walks and counters there were.
 """
 import argparse
 import importlib

@@ -112,7 +112,7 @@ fn counters_jump_without_a_mode(rt: HostRuntime) {
 }
 
 /// It is 10 ahead of pattern 1. By 50 percent it loses a tick in each three, and is in step in tick 130; by 17 percent
-/// it loses 17 of 117, the first in tick 107 and the tenth in tick 169, as 7 and 69 are the first that give 119 and 1173.
+/// it loses 17 of 117, the first in tick 107 and the tenth in tick 169: 17 times 7 and 69 are 119 and 1173.
 #[test]
 fn slower_counters_stand_still(rt: HostRuntime) {
     let by_50 = [
@@ -224,8 +224,8 @@ fn counters_dwell_before_the_instant(rt: HostRuntime) {
     assert!(rt; counts(quad_by(DWELL, 1, 79), FIRST, &by_1));
 }
 
-/// Pattern 1 is at 759 in tick 759: pattern 2 that is selected there waits from there on, and one that is selected a tick
-/// later goes round first.
+/// Pattern 1 is at 759 in tick 759. Where pattern 2 is selected there it waits from there on; a tick later it goes round
+/// first.
 #[test]
 fn counters_dwell_where_they_are_selected(rt: HostRuntime) {
     let there = [(759, 759), (760, 759), (1549, 759), (1550, 760)];
@@ -297,8 +297,8 @@ fn selections_begin_anew(rt: HostRuntime) {
     assert!(rt; leaves_what_is_refused(&plan));
 }
 
-/// Whether a selection writes its pattern, its tick and how far the counter is ahead, and its undo gives them back: here
-/// pattern 2 is selected in tick 100, 790 ahead, and pattern 1 in tick 100 behind it, in step.
+/// Whether a selection writes its pattern, its tick and how far the counter is ahead: here pattern 2 is selected in tick
+/// 100, 790 ahead, and pattern 1 in tick 100 behind it, in step.
 fn writes_three_cells(plan: &Checked) -> bool {
     let mut coord = Coord::new();
     coord.open();
@@ -330,8 +330,8 @@ fn selections_are_kept_in_three_cells(rt: HostRuntime) {
     assert!(rt; writes_three_cells(&plan));
 }
 
-/// Pattern 2 is selected at 751. It takes two steps in each tick, and in tick 756 the first of them is 760: phases 2 and
-/// 6 are forced off then, as by one that is there. It is in step in tick 761, and up to the next tick each is due.
+/// Pattern 2 is selected at 751. It takes two steps in each tick, and in tick 756 the first of them is 760: phases 2
+/// and 6 are forced off then, as by one that is there. It is in step in tick 761, and up to the next tick each is due.
 #[test]
 fn forces_off_at_the_first_of_two_steps(rt: HostRuntime) {
     let wanted = [
@@ -353,8 +353,8 @@ fn forces_off_at_the_first_of_two_steps(rt: HostRuntime) {
     );
 }
 
-/// Pattern 1 is selected in tick 99 at 109, so that phases 3 and 7 are forced off in tick 100, at 110. Selected in tick 98
-/// at 108, the counter stands at 110 in tick 101, and they are forced off in both ticks.
+/// Pattern 1 is selected in tick 99 at 109, so that phases 3 and 7 are forced off in tick 100, at 110. Selected in tick
+/// 98 at 108, the counter stands at 110 in tick 101, and they are forced off in both ticks.
 #[test]
 fn forces_off_where_it_stands_still(rt: HostRuntime) {
     let once = [
