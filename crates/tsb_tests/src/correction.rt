@@ -224,8 +224,8 @@ fn counters_dwell_before_the_instant(rt: HostRuntime) {
     assert!(rt; counts(quad_by(DWELL, 1, 79), FIRST, &by_1));
 }
 
-/// Pattern 1 is at 759 in tick 759. Where pattern 2 is selected there it waits from there on; a tick later it goes round
-/// first.
+/// Pattern 1 is at 759 in tick 759. Where pattern 2 is selected there it waits from there on. A tick later it goes
+/// round first.
 #[test]
 fn counters_dwell_where_they_are_selected(rt: HostRuntime) {
     let there = [(759, 759), (760, 759), (1549, 759), (1550, 760)];
@@ -297,8 +297,8 @@ fn selections_begin_anew(rt: HostRuntime) {
     assert!(rt; leaves_what_is_refused(&plan));
 }
 
-/// Whether a selection writes its pattern, its tick and how far the counter is ahead: here pattern 2 is selected in tick
-/// 100, 790 ahead, and pattern 1 in tick 100 behind it, in step.
+/// Whether a selection writes its pattern, its tick and how far the counter is ahead: here pattern 2 is selected in
+/// tick 100, 790 ahead, and pattern 1 in tick 100 behind it, in step.
 fn writes_three_cells(plan: &Checked) -> bool {
     let mut coord = Coord::new();
     coord.open();
