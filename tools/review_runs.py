@@ -50,8 +50,8 @@ RECYCLING_MAIN: Change = {"phasePedestrianRecycle.2": 1, "phasePedestrianClear.2
 # The other street is coordinated.
 OTHERS_COORDINATED: Change = {"splitCoordPhase.2": 0, "splitCoordPhase.6": 0, "splitCoordPhase.4": 1, "splitCoordPhase.8": 1}
 # A second pattern, as the first but for its offset, and add only.
-ADD_ONLY: Change = {"patternCycleTime.2": 90, "patternOffsetTime.2": 15, "patternSplitNumber.2": 1, "patternSequenceNumber.2": 1,
-                    "coordCorrectionMode.1": 3}
+ADD_ONLY: Change = {"patternCycleTime.2": 90, "patternOffsetTime.2": 15, "patternSplitNumber.2": 1,
+                    "patternSequenceNumber.2": 1, "coordCorrectionMode.1": 3}
 # Someone presses button 4 in the first cycle, and cars stay on detectors 1 and 3.
 CROSSING = row(100, 1, 3, button=4) + row(103, 1, 3)
 
@@ -142,9 +142,9 @@ RUNS = [
         ["pattern 1", "step 211", "when ped 2", "step 1", "when ped 2"], ["ok", "tick 0000211", "tick 0000212"]),
     Run(46, False, changed(CLEAN, RECYCLING_MAIN), row(50, button=2) + row(53),
         ["pattern 1", "step 399", "when ped 2"], ["ok", "tick 0000211"]),
-    # Pattern 2 is selected at tick 200, with the local counter at 650. In step it is at 50, so it is 600 ticks ahead, and
-    # the instant of phase 2 comes at tick 1000. With a limit of 50 percent it goes on, and is at the instant, 850, once it
-    # has lost 99 of 299 ticks.
+    # Pattern 2 is selected at tick 200, with the local counter at 650. In step it is at 50, so it is 600 ticks ahead,
+    # and the instant of phase 2 comes at tick 1000. With a limit of 50 percent it goes on, and is at the instant, 850,
+    # once it has lost 99 of 299 ticks.
     Run(47, True, changed(CLEAN, ADD_ONLY), "",
         ["pattern 1", "step 200", "pattern 2", "step 799", "when interval 2", "step 1", "when interval 2"],
         ["ok", "ok", "tick 0000101", "tick 0001000"]),

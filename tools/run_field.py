@@ -31,8 +31,8 @@ KINDS = list(field_rules.MOST)
 
 # How the stored picture of the hour was drawn.
 HOUR_SECONDS, HOUR_TITLE = 1200, "An hour of made-up traffic on quad"
-# The pictures of the options of coordination: their names but for the value, plan and log, the option, values of it, and
-# the seconds. Those of lead and lag are of two patterns.
+# The pictures of the options of coordination: their names but for the value, plan and log, the option, values of it,
+# and the seconds. Those of lead and lag are of two patterns.
 OPTIONS = [
     ("late_force_off", "late_force_off", "late_force_off", "coordForceMode", (0, 1), 330),
     ("floating_force_off", "coordination", "coordination", "coordForceMode", (0, 2), 300),
