@@ -291,7 +291,7 @@ def actuation(plan: Plan) -> Iterator[tuple[int, str]]:
 
 
 def coordination(plan: Plan) -> Iterator[tuple[int, str]]:
-    """Advices A27 to A32, and A42 to A47."""
+    """Advices A27 to A29, A42, A43, A45 and A46."""
     for n in plan.patterns:
         for p in plan.enabled:
             omitted = plan.mode(n, p) == OMITTED
@@ -321,6 +321,10 @@ def coordination(plan: Plan) -> Iterator[tuple[int, str]]:
         if plan.recycles(p) and not (plan.walks(p) and any(plan.coordinated(n, p) for n in plan.patterns)):
             yield 45, (f"phase {p}: its pedestrian recycle has no effect, "
                        "since no used pattern has it as a coordinated phase with a walk")
+
+
+def patterns(plan: Plan) -> Iterator[tuple[int, str]]:
+    """Advices A30 to A32, and A44."""
     kinds = ["CycleTime", "OffsetTime", "SplitNumber", "SequenceNumber", "PermissiveTime", "LeadLag"]
     for n in plan.patterns:
         cycle, offset = plan.value("patternCycleTime", n), plan.value("patternOffsetTime", n)
@@ -336,6 +340,10 @@ def coordination(plan: Plan) -> Iterator[tuple[int, str]]:
         ends = {plan.split_end(n, p) for p in plan.enabled if plan.coordinated(n, p)}
         if plan.value("patternLeadLag", n) and len(ends) == 1:
             yield 44, f"pattern {n}: patternLeadLag has no effect, since the splits of its coordinated phases end at one time"
+
+
+def correction(plan: Plan) -> Iterator[tuple[int, str]]:
+    """Advice A47."""
     mode, limit = plan.value("coordCorrectionMode", 1), plan.value("coordCorrectionLimit", 1)
     if (mode in (SHORT_WAY, ADD_ONLY) and not limit) or (limit and not mode):
         yield 47, ("unit: local counters come into step at once, "
@@ -384,7 +392,7 @@ def overlaps(plan: Plan) -> Iterator[tuple[int, str]]:
             yield 41, f"overlap {o}: no phase of it follows another in a ring, so it shows what its phases show"
 
 
-PARTS = [service, pedestrians, clearance, actuation, coordination, preempts, overlaps]
+PARTS = [service, pedestrians, clearance, actuation, coordination, patterns, correction, preempts, overlaps]
 
 
 def review(text: Table) -> list[str]:
