@@ -264,8 +264,8 @@ impl Bench {
 
     /// Takes the newest input back, and gives its kind. The whole controller is then as it was before that input.
     ///
-    /// `Nothing` says that no input is left, and nothing has changed. It takes no memory; the bytes of the record are room
-    /// again.
+    /// `Nothing` says that no input is left, and nothing has changed. It takes no memory; the bytes of the record are
+    /// room again.
     pub fn undo(&mut self) -> Result<Kind, Nothing>
         ensures kind { IfOk result (λ k. newest_kind self.old.records ≡ Some k) }
         ensures ok { OnOk result (whole self.new ≡ earlier (whole self.old) 1) }
@@ -310,8 +310,9 @@ impl Bench {
         Ok(())
     }
 
-    /// Takes the newest inputs back as long as they are quiet ticks, in which nothing changed but the tick number, but at
-    /// most so many, and says how many they were. It takes no memory; the bytes of their records are room again.
+    /// Takes the newest inputs back as long as they are quiet ticks, in which nothing changed but the tick number. It
+    /// takes so many at most, and says how many they were. It takes no memory; the bytes of their records are room
+    /// again.
     #[inline(always)]
     fn undo_quiet(&mut self, most: u32) -> u32
         ensures count { result ≡ min most (quiet_ticks self.old.records) }

@@ -24,8 +24,8 @@ use tsb_display_text::LineMaker;
 use tsb_objects::Refusal;
 
 /// Carries out a command, says its answer, and tells why it was refused, if it was. Ticks take their rows from `rows`,
-/// and `lines` makes their display lines; `echo` is said before an answer that is no display line. At an error the command may have been carried out, and a
-/// first part of its answer was said.
+/// and `lines` makes their display lines; `echo` is said before an answer that is no display line. At an error the
+/// command may have been carried out, and a first part of its answer was said.
 pub fn obey<W: Write>(
     course: &mut Course,
     lines: &mut LineMaker,
