@@ -88,15 +88,15 @@ fn tells_flash(rt: HostRuntime) {
     assert!(rt; bytes == *b"0000251 FFFFFFFF-------- ---------------- F--- 1 ----");
 }
 
-/// Whether the maker's line of a tick at which the heads show this is that which is made alone.
-fn makes_alike(
+/// Whether the maker's line of a tick at which the heads show this is the one that is wanted.
+fn makes(
     lines: &mut LineMaker,
     tick: u32,
     display: &Display,
     preempt: Option<Preempt>,
+    wanted: &[u8],
 ) -> bool {
-    lines.line_bytes(tick, display, preempt, Some(tick))
-        == line_bytes(tick, display, preempt, Some(tick))
+    lines.line_bytes(tick, display, preempt, None).as_slice() == wanted
 }
 
 /// Whether a maker tells heads that stay, heads that change, and again those before.
@@ -105,14 +105,40 @@ fn makes_all(plan: &Checked) -> bool {
     let green = shown(plan, 34, 0, 2, 0, false);
     let yellow = shown(plan, 0, 34, 0, 0, false);
     let flash = shown(plan, 34, 0, 2, 0, true);
-    makes_alike(&mut lines, 1, &green, None)
-        && makes_alike(&mut lines, 2, &green, Some(Preempt::of(3)))
-        && makes_alike(&mut lines, 3, &yellow, None)
-        && makes_alike(&mut lines, 4, &green, None)
-        && makes_alike(&mut lines, 5, &flash, None)
+    makes(
+        &mut lines,
+        1,
+        &green,
+        None,
+        b"0000001 RGRRRGRR-------- -W-------------- G--- 0 ----",
+    ) && makes(
+        &mut lines,
+        2,
+        &green,
+        Some(Preempt::of(3)),
+        b"0000002 RGRRRGRR-------- -W-------------- G--- 3 ----",
+    ) && makes(
+        &mut lines,
+        3,
+        &yellow,
+        None,
+        b"0000003 RYRRRYRR-------- -D-------------- Y--- 0 ----",
+    ) && makes(
+        &mut lines,
+        4,
+        &green,
+        None,
+        b"0000004 RGRRRGRR-------- -W-------------- G--- 0 ----",
+    ) && makes(
+        &mut lines,
+        5,
+        &flash,
+        None,
+        b"0000005 FFFFFFFF-------- ---------------- F--- 0 ----",
+    )
 }
 
 #[test]
-fn lines_made_one_after_another_are_those_made_alone(rt: HostRuntime) {
+fn lines_made_one_after_another_tell_their_heads(rt: HostRuntime) {
     assert!(rt; makes_all(&quad(&rt)));
 }

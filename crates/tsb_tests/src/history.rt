@@ -120,6 +120,53 @@ fn takes_back(rt: HostRuntime) -> Result<(), Fail> {
     Ok(())
 }
 
+/// Records of quiet ticks before and behind a reset and a tick that changed a cell, the newest last.
+fn with_quiet_ticks(alloc: Global) -> Result<History, AllocError> {
+    let mut history = History::new(alloc);
+    push(&mut history, Kind::Tick, &[])?;
+    push(&mut history, Kind::Reset, &[])?;
+    push(&mut history, Kind::Tick, &[])?;
+    push(&mut history, Kind::Tick, &[(0, 0)])?;
+    for _i in 0..3 {
+        push(&mut history, Kind::Tick, &[])?;
+    }
+    Ok(history)
+}
+
+/// Whether quiet ticks are taken away up to the number that is given, and up to the record of another input.
+fn are_taken_at_once(history: &mut History) -> bool {
+    history.pop_quiet(0) == 0
+        && history.pop_quiet(2) == 2
+        && history.len() == 5
+        && history.pop_quiet(9) == 1
+        && history.pop_quiet(9) == 0
+        && popped(history) == Some(Kind::Tick)
+        && history.pop_quiet(9) == 1
+        && popped(history) == Some(Kind::Reset)
+        && history.pop_quiet(1) == 1
+        && history.pop_quiet(1) == 0
+        && history.is_empty()
+}
+
+/// How many quiet ticks a walk passes, the kind of the record behind them, and how many it passes behind that.
+fn passed(history: &History) -> (usize, Option<Kind>, usize) {
+    let mut records = history.walk_back();
+    let newest = records.skip_quiet();
+    let behind = match records.next() {
+        Some(record) => Some(record.kind()),
+        None => None,
+    };
+    (newest, behind, records.skip_quiet())
+}
+
+#[test]
+fn takes_quiet_ticks_at_once(rt: HostRuntime) -> Result<(), Fail> {
+    let mut history = with_quiet_ticks(rt.alloc())?;
+    assert!(rt; passed(&history) == (3, Some(Kind::Tick), 1));
+    assert!(rt; are_taken_at_once(&mut history));
+    Ok(())
+}
+
 /// Whether a copy of the history has the same records, and so many.
 fn is_copied(alloc: Global, history: &History, count: usize) -> bool {
     match history.clone_in(alloc) {
