@@ -6,8 +6,8 @@
 -- one that runs; and a commit can move an instant away each time before the local counter comes to it. So over these no
 -- time bounds how long a coordinated phase waits.
 --
--- Where a law has a cycle among its times, the local counter is in step as its stretch begins: while it comes into step a
--- cycle takes longer or shorter.
+-- Where a law has a cycle among its times, the local counter is in step as its stretch begins: while it comes into step
+-- a cycle takes longer or shorter.
 use Rattle.std.specs.Prelude.{◌≡◌, ◌≢◌, ℕ, ◌+◌, ◌-◌, ◌*◌, ◌<◌, ◌≤◌, ◌==◌, Bool, true, false, not, ◌&&◌, if◌then◌else◌, max, sum_by, count_by, List, [], ◌∷◌, ◌++◌, Some, None, is_some, is_none, ◌⊎◌}
 use Rattle.tsb_step.specs.tsb_types.declared.row.Row.{Row}
 use Rattle.tsb_step.specs.tsb_types.declared.interval.Interval.TheVariants.{Green}

@@ -1,5 +1,5 @@
--- When the local counter is in step with the cycle and the offset, and that a pattern that is selected goes on from where it
--- stands. The laws here are the contracts of functions in src/operation.rt, and proved there.
+-- When the local counter is in step with the cycle and the offset, and that a pattern that is selected goes on from
+-- where it stands. The laws here are the contracts of functions in src/operation.rt, and proved there.
 use Rattle.std.specs.Prelude.{◌≡◌, ◌≢◌, ℕ, ◌%◌, Bool, true, false, List, ◌∷◌, ◌++◌, Some, None, ◌⊎◌}
 use Rattle.tsb_step.specs.tsb_plan.declared.plan.patterns.CorrectionMode.TheVariants.{AtOnce}
 use Rattle.tsb_step.specs.tsb_plan.Parts.{cycle, correction_mode}
@@ -19,7 +19,7 @@ use Rattle.tsb_laws.specs.CoordinatedGreens.{HasGoneOn}
 
 -- With correction mode 0 the local counter is in step in every state (`InStepAtOnce` of tsb_step).
 
--- no other input selects a pattern
+-- the input selects no pattern
 abbrev pub selects_none : State → Input → Bool
 selects_none s (Pattern n) = false
 selects_none s i = true
@@ -28,8 +28,8 @@ selects_none s i = true
 abbrev pub BeginsInStep : State → Type 0
 BeginsInStep s = (runs s ≡ None) ⊎ (correction_mode s.plan ≡ AtOnce)
 
--- A pattern that was selected in free operation is in step, in whatever mode, and so is one that was selected with mode 0:
--- until another is selected, and whatever is committed meanwhile.
+-- A pattern that was selected in free operation is in step, in whatever mode, and so is one that was selected with mode
+-- 0: until another is selected, and whatever is committed meanwhile.
 abbrev pub SelectedInStep : Type 0
 SelectedInStep = (plan : Plan) (is later : List Input) (n : ℕ) → BeginsInStep (replay plan is) →
     HasGoneOn selects_none plan (Pattern n ∷ is) later → IsInStep (replay plan (later ++ (Pattern n ∷ is)))

@@ -261,7 +261,7 @@ pub fn called_phases_are_served()
 /// Witness: `an_awaited` of CoordinatedRuns.
 ///
 /// `instants`: A force-off comes in each cycle. While a pattern runs and its local counter is in step, this is at the
-/// force-off instant of each enabled phase within a cycle, if plan and pattern stay as they are.
+/// force-off instant of each enabled phase within a cycle. So it is if plan and pattern stay as they are.
 ///
 /// Not said: anything of a local counter that comes into step, by which a cycle takes longer or shorter.
 /// Mistake: an instant that is not taken within the cycle, `past_the_cycle` (`would_never_come`).
@@ -344,8 +344,8 @@ pub fn options_off_change_nothing()
 {}
 
 /// `selected`: A pattern that is selected in free operation is in step. Its local counter is that of the cycle and the
-/// offset after each input from then on, also where `coordCorrectionMode` is not 0, until another pattern is selected;
-/// and so it is with one that is selected while the mode is 0. Commits do not change that.
+/// offset after each input from then on, also where `coordCorrectionMode` is not 0. That ends where another pattern is
+/// selected. So it is too with one that is selected while the mode is 0. Commits do not change that.
 ///
 /// Mistake: a pattern that begins at local 0, `from_zero` (`would_be_ahead`).
 /// Witness: `a_selection` of InStepRuns.
@@ -374,9 +374,9 @@ pub fn selections_go_on()
 {}
 
 /// `ready`: A green that is late may end. With `coordForceMode` 1 or 2, a phase that is not coordinated is ready in
-/// each tick from its force-off instant up to that of the coordinated phase that it yields to, also past the end of the
-/// cycle, and as the local counter stands while it comes into step. That is so wherever it is Green with a conflict,
-/// its initial time has passed and its pedestrian part is DontWalk; so it needs no gap and no next cycle.
+/// each tick from its force-off instant up to that of the coordinated phase that it yields to. So it is also past the
+/// end of the cycle, and while the local counter comes into step. That is so wherever it is Green with a conflict, its
+/// initial time has passed and its pedestrian part is DontWalk; so it needs no gap and no next cycle.
 ///
 /// Needs: no preempt in service; at most 16 phases.
 /// Not said: that it ends then, as it may wait for the other ring at the barrier (`coordination_goes_on`).
@@ -449,8 +449,8 @@ pub fn maximums_end_greens_in_patterns()
 {}
 
 /// `ready`: A call within the permissive time is served as one before the instant. A coordinated phase is ready in each
-/// tick in which the local counter is at most `patternPermissiveTime` behind its force-off instant, also past the end
-/// of the cycle, and as it stands while it comes into step. That is so wherever it is Green with a conflict, its
+/// tick in which the local counter is at most `patternPermissiveTime` behind its force-off instant. So it is also past
+/// the end of the cycle, and while the counter comes into step. That is so wherever it is Green with a conflict, its
 /// initial time has passed and its pedestrian part is DontWalk.
 ///
 /// Needs: a permissive time that is not 0; no preempt in service; at most 16 phases.
@@ -472,11 +472,11 @@ pub fn permissive_times_let_calls_in()
     ensures in_time { PermittedGreensMayEnd }
 {}
 
-/// A pedestrian call begins a walk within a green, where there is time for it. A coordinated phase of the pattern that
-/// runs, with `phasePedestrianRecycle`, which was Green in DontWalk and has a pedestrian call, is in Walk after the
-/// tick, and its button is forgotten. That is so while the local counter is in step, where it is forced off in none of
-/// the ticks that its walk and its pedestrian clearance take, and where no force-off stands for a conflict that it
-/// still has. No other walk begins within a green.
+/// A pedestrian call begins a walk within a green, where there is time for it. It is of a coordinated phase of the
+/// pattern that runs, with `phasePedestrianRecycle`, which was Green in DontWalk. This is in Walk after the tick, and
+/// its button is forgotten. That is so while the local counter is in step, where it is forced off in none of the ticks
+/// that its walk and its pedestrian clearance take. Nor may a force-off stand for a conflict that it still has. No
+/// other walk begins within a green.
 ///
 /// Needs: no preempt in service; an untripped run; at most 16 phases.
 /// Not said: anything of a walk that begins with a green.

@@ -73,8 +73,8 @@ pub fn crossings_complete()
 
 /// A coordinated green ends only by its force-off. While a pattern runs and no preempt is in service, a tick ends a
 /// coordinated green only where its force-off instant is this tick, this tick is in the permissive time of the pattern
-/// behind that, or it was forced off in an earlier one of this green. Where the local counter takes two steps in a tick,
-/// both count.
+/// behind that, or it was forced off in an earlier one of this green. Where the local counter takes two steps in a
+/// tick, both count.
 ///
 /// Needs: an untripped run; at most 16 phases.
 /// Not said: that the earlier tick was its instant too, where a commit has made the phase coordinated since.
