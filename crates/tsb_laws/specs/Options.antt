@@ -12,7 +12,7 @@ use Rattle.tsb_step.specs.tsb_rules.Rules.{first_broken}
 use Rattle.tsb_step.specs.tsb_objects.Instants.{first_coordinated}
 use Rattle.tsb_step.specs.tsb_coord.declared.correction.Correction.{Correction}
 use Rattle.tsb_step.specs.tsb_coord.Coordinated.{local, instant_by, force_off, agree, asks_force_off, asks_recycle, is_pattern}
-use Rattle.tsb_step.specs.tsb_coord.Correction.{is_in_step}
+use Rattle.tsb_step.specs.tsb_coord.Correction.{in_step, local_now, forces, is_in_step, selected_correction}
 use Rattle.tsb_step.specs.tsb_phase.Phase.{Given, GreenHeld}
 use Rattle.tsb_step.specs.tsb_phase.DynamicMaximum.{maximum_in_use}
 use Rattle.tsb_step.specs.tsb_phase.Green.{conflict_timer, acting_maximum, has_maxed_out, forced_latch}
@@ -53,6 +53,11 @@ pub record OptionsOff (plan : Plan) : Type 0 where
   pub recycled : (t : ℕ) (selected : Option ℕ) (p : ℕ) → asks_recycle plan t selected p ≡ false
   -- the local counter is in step at once, whatever is selected
   pub stepped : (selected : Option ℕ) (c : Correction) (t : ℕ) → is_in_step plan selected c t ≡ true
+  -- so it begins in step behind each selection, wherever that of the old pattern stood
+  pub begun : (selected : Option ℕ) (now : ℕ) (l : Option ℕ) → selected_correction plan selected now l ≡ in_step
+  -- it is that of the cycle and the offset, and what is forced off in a tick is what this asks for
+  pub counting : (selected : Option ℕ) (c : Correction) (t : ℕ) → local_now plan selected c t ≡ local plan t selected
+  pub forcing : (selected : Option ℕ) (c : Correction) (t p : ℕ) → forces plan selected c t p ≡ asks_force_off plan t selected p
   -- K23 asks for nothing
   pub permissive : permissive_times_end plan ≡ true
 

@@ -326,8 +326,9 @@ pub fn phases_are_served_in_patterns()
 /// instant, and in no other tick; and no green is forced off for its length. Where `coordMaximumMode` is 0, maximums
 /// end greens in free operation alone. Where no pattern leads and lags, K20 asks that coordinated splits end at one
 /// time, and instants are as counted from the first coordinated phase. Where no phase has pedestrian recycle, none may
-/// walk again within its green. Where `coordCorrectionMode` is 0, the local counter is in step at once. K23 then asks
-/// for nothing. So it is in every tick, for each phase, and whatever pattern is selected.
+/// walk again within its green. Where `coordCorrectionMode` is 0, the local counter is in step at once. It is so behind
+/// each selection, and it alone says what is forced off. Where no pattern has a permissive time, K23 asks for nothing.
+/// So it is in every tick, for each phase, and whatever pattern is selected.
 ///
 /// Needs: for what instants are counted from, a plan that breaks no rule and a pattern that is used.
 /// Mistakes: force-off that is late whatever the mode is, `late_always` (`is_not_asked`, `would_ask`); that floats,
@@ -336,7 +337,8 @@ pub fn phases_are_served_in_patterns()
 /// `would_be_out`); a K20 that lets splits end apart (`ends_at_another_time`, `would_agree`); instants from the begin
 /// of the cycle, `from_the_begin` (`is_counted`, `would_be_later`); a second walk in each coordinated green,
 /// `recycles_always` (`is_not_recycled`, `would_walk_again`); a local counter that takes the short way whatever the
-/// mode is, `steps_always` (`is_in_step_at_once`, `would_lag`); a K23 that asks for a time, `asks_for_time`
+/// mode is, `steps_always` (`is_in_step_at_once`, `would_lag`); a selection that goes on from the old counter whatever
+/// the mode is, `goes_on_always` (`begins_in_step`, `would_begin_ahead`); a K23 that asks for a time, `asks_for_time`
 /// (`ends_in_time`, `would_refuse`).
 /// Witness: `two_has_none`, `quad_has_none` of OptionMistakes, the built-in plans.
 pub fn options_off_change_nothing()

@@ -1,5 +1,5 @@
 -- The built-in plans have no options, and mistakes that the law of options refuses.
-use Rattle.std.proofs.Common.{◌≡◌, ℕ, ◌-◌, nat_lt, Bool, true, false, not, ◌&&◌, ◌||◌, Option, Some, None, is_some, is_none, refl}
+use Rattle.std.proofs.Common.{◌≡◌, ℕ, ◌-◌, ◌%◌, nat_lt, Bool, true, false, not, ◌&&◌, ◌||◌, Option, Some, None, is_some, is_none, refl}
 use Rattle.tsb_step.specs.tsb_cells.declared.timer.Timer.TheVariants.{Off, On}
 use Rattle.tsb_step.specs.tsb_cells.Timer.{has_reached}
 use Rattle.tsb_step.specs.tsb_plan.Parts.{cycle, permissive_time}
@@ -10,8 +10,8 @@ use Rattle.tsb_step.specs.tsb_plan.Two.{two}
 use Rattle.tsb_step.specs.tsb_rules.PatternRules.{each_pattern, ends_with, permissive_times_end}
 use Rattle.tsb_step.specs.tsb_objects.Instants.{is_behind, walk_and_clearance, is_left}
 use Rattle.tsb_step.specs.tsb_coord.declared.correction.Correction.{Correction}
-use Rattle.tsb_step.specs.tsb_coord.Coordinated.{local, end_of, force_off, agree, yields_to, instant_of, is_late, asks_force_off, asks_recycle}
-use Rattle.tsb_step.specs.tsb_coord.Correction.{by_short_way, is_in_step}
+use Rattle.tsb_step.specs.tsb_coord.Coordinated.{counter, local, residue_of_difference, end_of, force_off, agree, yields_to, instant_of, is_late, asks_force_off, asks_recycle}
+use Rattle.tsb_step.specs.tsb_coord.Correction.{in_step, by_short_way, is_in_step, begun, selected_correction}
 use Rattle.tsb_step.specs.tsb_phase.Phase.{Given, GreenHeld}
 use Rattle.tsb_step.specs.tsb_phase.Green.{conflict_timer, has_maxed_out, forced_latch}
 use Rattle.tsb_step.proofs.Examples.Scenes.{opened}
@@ -113,6 +113,20 @@ is_in_step_at_once = refl
 would_lag : steps_always quad 1 far 12 ≡ 98
 unfolding opened
 would_lag = refl
+
+-- ## A selection that goes on from the old local counter whatever the mode is
+
+abbrev goes_on_always : Plan → ℕ → ℕ → ℕ → Correction
+goes_on_always plan n now l = begun now (residue_of_difference (cycle plan n) (l % cycle plan n) (counter plan n now))
+
+-- pattern 1 is selected in tick 12, in which that of the old pattern is 112
+begins_in_step : selected_correction quad (Some 1) 12 (Some 112) ≡ in_step
+unfolding opened
+begins_in_step = refl
+
+would_begin_ahead : goes_on_always quad 1 12 112 ≡ record { since = 12; ahead = 100 }
+unfolding opened
+would_begin_ahead = refl
 
 -- ## Instants that are counted from the begin of the cycle
 

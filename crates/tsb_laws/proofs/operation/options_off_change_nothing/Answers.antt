@@ -1,4 +1,4 @@
-use Rattle.std.proofs.Common.{◌≡◌, ℕ, ◌==◌, ◌*◌, Bool, true, false, ◌&&◌, ◌||◌, if◌then◌else◌, Some, None, refl, ap, ◌∙◌}
+use Rattle.std.proofs.Common.{◌≡◌, ℕ, ◌==◌, ◌-◌, ◌*◌, Bool, true, false, ◌&&◌, ◌||◌, if◌then◌else◌, Some, None, refl, ap, ◌∙◌}
 use Rattle.std.proofs.Math.Path.{fun_ext}
 use Rattle.tsb_step.specs.tsb_plan.declared.object.Object.TheVariants.{CoordCorrectionMode}
 use Rattle.tsb_step.specs.tsb_plan.declared.plan.patterns.CorrectionMode.TheVariants.{AtOnce}
@@ -7,10 +7,10 @@ use Rattle.tsb_step.specs.tsb_plan.Parts.{forces_late, floats, permissive_time, 
 use Rattle.tsb_step.specs.tsb_plan.Running.{running, maximum_by_mode}
 use Rattle.tsb_step.specs.tsb_rules.PatternRules.{some_and, each_pattern, split_end, ends_with, coordinated_agree, coordinated_phases_agree}
 use Rattle.tsb_step.specs.tsb_coord.Coordinated.{local}
-use Rattle.tsb_step.proofs.tsb_coord.CorrectionLemmas.{in_step_at_once}
+use Rattle.tsb_step.proofs.tsb_coord.CorrectionLemmas.{in_step_at_once, local_in_step, forces_in_step}
 use Rattle.tsb_step.proofs.tsb_coord.LocalLemmas.{options_off}
 use Rattle.tsb_laws.specs.Options.{HasNoOptions}
-use Rattle.tsb_laws.proofs.operation.OptionLemmas.{never_floats, latched_by_instant, never_in_patterns, freely_alone, never_recycles, times_end, counted_from_first}
+use Rattle.tsb_laws.proofs.operation.OptionLemmas.{never_floats, latched_by_instant, never_in_patterns, freely_alone, never_recycles, begins_at_once, times_end, counted_from_first}
 use Rattle.tsb_laws.proofs.operation.options_off_change_nothing.Goals as goal
 
 never_late : (plan : Plan) → HasNoOptions plan → forces_late plan ≡ false
@@ -63,5 +63,8 @@ returns c plan none = record {
   coordinated = agree_at_once plan none;
   recycled = λ t selected p. never_recycles plan (running plan selected) (local plan t selected) p (no_second_walk plan p none);
   stepped = λ selected c t. in_step_at_once plan selected c t (step_at_once plan none);
+  begun = λ selected now l. begins_at_once plan selected now l (step_at_once plan none);
+  counting = λ selected c t. local_in_step plan selected c t (in_step_at_once plan selected c t (step_at_once plan none));
+  forcing = λ selected c t p. forces_in_step plan selected c t p (in_step_at_once plan selected c (t - 1) (step_at_once plan none));
   permissive = times_end plan (λ n. no_time plan n none);
 }
