@@ -63,5 +63,6 @@ pub mod CalledStartLemmas
 pub mod LateGreenLemmas
 pub mod OptionLemmas
 pub mod SelectionLemmas
+pub mod ComingLemmas
 pub mod PatternPressLemmas
 pub mod PatternEndLemmas

@@ -1,18 +1,19 @@
 -- When the local counter is in step with the cycle and the offset, and that a pattern that is selected goes on from
 -- where it stands. The laws here are the contracts of functions in src/operation.rt, and proved there.
-use Rattle.std.specs.Prelude.{◌≡◌, ◌≢◌, ℕ, ◌%◌, Bool, true, false, List, ◌∷◌, ◌++◌, Some, None, ◌⊎◌}
+use Rattle.std.specs.Prelude.{◌≡◌, ◌≢◌, ℕ, ◌-◌, ◌≤◌, ◌%◌, Bool, true, false, List, ◌∷◌, ◌++◌, Some, None, ◌⊎◌}
 use Rattle.tsb_step.specs.tsb_plan.declared.plan.patterns.CorrectionMode.TheVariants.{AtOnce}
-use Rattle.tsb_step.specs.tsb_plan.Parts.{cycle, correction_mode}
+use Rattle.tsb_step.specs.tsb_plan.Parts.{cycle, correction_mode, correction_limit}
 use Rattle.tsb_step.specs.tsb_plan.Plan.{Plan}
 use Rattle.tsb_step.specs.tsb_coord.Coordinated.{is_pattern}
+use Rattle.tsb_step.specs.tsb_coord.Laws.{IsLongEnough}
 use Rattle.tsb_step.specs.declared.inputs.Input.{Input}
 use Rattle.tsb_step.specs.declared.inputs.Input.TheVariants.{Pattern, Commit}
 use Rattle.tsb_step.specs.State.{State}
 use Rattle.tsb_step.specs.Tick.{runs}
 use Rattle.tsb_step.specs.Signs.{local, IsInStep}
 use Rattle.tsb_step.specs.Step.{step}
-use Rattle.tsb_step.specs.Runs.{replay}
-use Rattle.tsb_step.specs.Laws.{OfEveryRun}
+use Rattle.tsb_step.specs.Runs.{replay, AreTaken}
+use Rattle.tsb_step.specs.Laws.{IsConsistent, OfEveryRun}
 use Rattle.tsb_laws.specs.CoordinatedGreens.{HasGoneOn}
 
 -- ## In step
@@ -47,6 +48,24 @@ StaysInStep s = (i : Input) → keeps_in_step i ≡ true → IsInStep s → IsIn
 -- Once it is in step it stays so, by whatever mode it came there.
 abbrev pub OnceInStep : Type 0
 OnceInStep = OfEveryRun StaysInStep
+
+-- from s, in which pattern n has just been selected, to this state so many ticks have passed as its mode and its limit
+-- need, from as far ahead as it began
+abbrev pub HasHadTime : State → ℕ → State → Type 0
+HasHadTime s n after = IsLongEnough (correction_mode s.plan) s.plan n s.correction (after.now - s.now)
+
+-- A used pattern was selected, whatever ran before it; no later input selected a pattern or committed, and its counter
+-- has had its time.
+pub record HasComeSince (plan : Plan) (is later : List Input) (n : ℕ) : Type 0 where
+  pub used : is_pattern (replay plan (Pattern n ∷ is)).plan n ≡ true
+  pub limited : correction_limit (replay plan (Pattern n ∷ is)).plan ≤ 50
+  pub kept : HasGoneOn (λ s i. keeps_in_step i) plan (Pattern n ∷ is) later
+  pub long : HasHadTime (replay plan (Pattern n ∷ is)) n (replay plan (later ++ (Pattern n ∷ is)))
+
+-- Then it is in step.
+abbrev pub ComeIntoStep : Type 0
+ComeIntoStep = (plan : Plan) (is later : List Input) (n : ℕ) → IsConsistent plan → AreTaken plan (later ++ (Pattern n ∷ is)) →
+    HasComeSince plan is later n → IsInStep (replay plan (later ++ (Pattern n ∷ is)))
 
 -- ## Where a pattern is selected
 

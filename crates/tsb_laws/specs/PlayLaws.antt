@@ -37,7 +37,7 @@ use Rattle.tsb_laws.specs.CrossingGreens.{IsCalm}
 use Rattle.tsb_laws.specs.Crossings.{BeginsCrossing, TakesAtMost, CompletesWithin}
 use Rattle.tsb_laws.specs.GreenEnds.{HasFloated, EndsForAReason}
 use Rattle.tsb_laws.specs.Intergreens.{AreApart, HasCleared, WalksBefore, HasWalked}
-use Rattle.tsb_laws.specs.InStep.{selects_none, BeginsInStep, StaysInStep, GoesOnFrom}
+use Rattle.tsb_laws.specs.InStep.{selects_none, BeginsInStep, StaysInStep, HasComeSince, GoesOnFrom}
 use Rattle.tsb_laws.specs.KeptCalls.{restarts, RunsOn, Remembers, HasTurnedGreen, HasBegunWalk}
 use Rattle.tsb_laws.specs.LateGreens.{IsInLateSpan, IsLateGreen}
 use Rattle.tsb_laws.specs.PatternEnds.{LacksOnlyItsEnd, HasWaitedInPattern, HasMaxedInPattern, IsInPermissiveTime}
@@ -317,6 +317,11 @@ abbrev pub IsSelectedInStep : Plan → List Input → Type 0
 IsSelectedInStep plan is = (older later : List Input) (n : ℕ) → is ≡ later ++ (Pattern n ∷ older) → BeginsInStep (replay plan older) →
     HasGoneOn selects_none plan (Pattern n ∷ older) later → IsInStep (replay plan is)
 
+-- one that was selected is in step once its mode and its limit have had the time that they need
+abbrev pub ComesIntoStep : Plan → List Input → Type 0
+ComesIntoStep plan is = (older later : List Input) (n : ℕ) → is ≡ later ++ (Pattern n ∷ older) → HasComeSince plan older later n →
+    IsInStep (replay plan is)
+
 -- a green that is late, and that nothing else keeps, is ready in the next tick
 abbrev pub ReadiesLateGreens : State → Type 0
 ReadiesLateGreens s = (row : Row) (p : ℕ) → IsLateGreen s row p → ready s row p ≡ true
@@ -422,6 +427,7 @@ pub record KeepsLaws (plan : Plan) (is : List Input) (s : State) : Type 0 where
   pub coordination_goes_on_ends : Untripped MakesWay plan is
   pub counters_are_in_step_selected : IsSelectedInStep plan is
   pub counters_are_in_step_stays : StaysInStep s
+  pub counters_are_in_step_comes : ComesIntoStep plan is
   pub selections_go_on : GoesOnFrom s
   pub late_greens_are_ready : ReadiesLateGreens s
   pub late_greens_are_ready_in_time : ReadiesLateGreensInTime plan is

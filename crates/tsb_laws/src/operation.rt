@@ -3,7 +3,7 @@
 ghost use Rattle.tsb_laws.specs.KeptCalls.{CallsAreRemembered, PedestrianCallsStand, VehicleCallsStand};
 ghost use Rattle.tsb_laws.specs.CrossingGreens.{CommittedRingsClear};
 ghost use Rattle.tsb_laws.specs.GreenEnds.{GreensEndForAReason};
-ghost use Rattle.tsb_laws.specs.InStep.{OnceInStep, SelectedInStep, SelectionsGoOn};
+ghost use Rattle.tsb_laws.specs.InStep.{ComeIntoStep, OnceInStep, SelectedInStep, SelectionsGoOn};
 ghost use Rattle.tsb_laws.specs.LateGreens.{LateGreensAreReady, LateGreensMayEnd};
 ghost use Rattle.tsb_laws.specs.Options.{OptionsOffChangeNothing};
 ghost use Rattle.tsb_laws.specs.OverlapPhases.{OverlapsGoWithPhases};
@@ -355,12 +355,24 @@ pub fn options_off_change_nothing()
 /// `stays`: Once in step the local counter stays so. That is over each input but a selection and a commit, by whatever
 /// mode it came into step, also in a controller that has tripped.
 ///
-/// Not said: when it comes into step, which tsb_coord says.
+/// Not said: when it comes into step, which `comes` says.
 /// Mistake: a counter that goes on to lose by its limit, `loses_on` (`comes_into_step`, `would_fall_behind`).
 /// Witness: `a_step` of InStepRuns.
+///
+/// `comes`: A selected pattern comes into step. Whatever ran before it, its local counter is in step once mode and
+/// limit have had the ticks that they need (`IsLongEnough` of tsb_coord). These are counted from the selection, and for
+/// a counter as far ahead as it was there. Faults, resets and trips do not change that.
+///
+/// Needs: a pattern that is used; a limit of 50 at most, as each plan that is read has; no pattern selected and nothing
+/// committed meanwhile.
+/// Not said: that no fewer ticks are enough.
+/// Mistake: a counter that goes on as it began and loses nothing, `loses_nothing` (`comes_into_step`,
+/// `would_stay_ahead`).
+/// Witness: `a_way_into_step` of InStepRuns, with mode 3.
 pub fn counters_are_in_step()
     ensures selected { SelectedInStep }
     ensures stays { OnceInStep }
+    ensures comes { ComeIntoStep }
 {}
 
 /// A pattern that is selected goes on from the local counter of the one that ran. Where `coordCorrectionMode` is not 0
@@ -474,11 +486,11 @@ pub fn permissive_times_let_calls_in()
     ensures in_time { PermittedGreensMayEnd }
 {}
 
-/// A pedestrian call begins a walk within a green, where there is time for it. It is of a coordinated phase of the
-/// pattern that runs, with `phasePedestrianRecycle`, which was Green in DontWalk. This is in Walk after the tick, and
-/// its button is forgotten. That is so while the local counter is in step, where it is forced off in none of the ticks
-/// that its walk and its pedestrian clearance take. Nor may a force-off stand for a conflict that it still has. No
-/// other walk begins within a green.
+/// A pedestrian call begins a walk within a green, where there is time for it. The phase is a coordinated one of the
+/// pattern that runs, with `phasePedestrianRecycle`, was Green in DontWalk and has a pedestrian call. It is in Walk
+/// after the tick, and its button is forgotten. That is so while the local counter is in step, where it is forced off
+/// in none of the ticks that its walk and its pedestrian clearance take. Nor may a force-off stand for a conflict that
+/// it still has. No other walk begins within a green.
 ///
 /// Needs: no preempt in service; an untripped run; at most 16 phases.
 /// Not said: anything of a walk that begins with a green.

@@ -105,7 +105,7 @@ once_so s i h stepped = stepped
 -- ## From where the local counter stands
 
 -- a pattern of 1 to 16 is one that is selected
-is_selected : (plan : Plan) (n : ℕ) → is_pattern plan n ≡ true → selects n ≡ Some n
+pub is_selected : (plan : Plan) (n : ℕ) → is_pattern plan n ≡ true → selects n ≡ Some n
 is_selected plan n known = go (n == 0) refl
   where
     go : (b : Bool) → (n == 0) ≡ b → (if b then None else Some n) ≡ Some n

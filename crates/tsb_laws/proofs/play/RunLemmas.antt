@@ -46,6 +46,7 @@ use Rattle.tsb_laws.proofs.operation.CoordinatedCallLemmas.{awaited}
 use Rattle.tsb_laws.proofs.operation.CoordinatedInstantLemmas.{instants_come}
 use Rattle.tsb_laws.proofs.operation.CoordinatedRunLemmas.{forced_may_end}
 use Rattle.tsb_laws.proofs.operation.SelectionLemmas.{selected_in_step, once_so, selections_go_on}
+use Rattle.tsb_laws.proofs.operation.ComingLemmas.{come_into_step}
 use Rattle.tsb_laws.proofs.operation.CoordinatedBarrierLemmas.{makes_way_or_kept}
 use Rattle.tsb_laws.proofs.operation.LateGreenLemmas.{late_is_ready, late_may_end}
 use Rattle.tsb_laws.proofs.operation.PatternEndLemmas.{floating_is_ready, floating_may_end, maximum_is_ready, maximum_may_end, permitted_is_ready, permitted_may_end}
@@ -141,6 +142,7 @@ module _ (plan : Plan) (held : IsHeld plan) where
         makes_way_or_kept plan is row r p ok (few plan held) taken dark quiet full own green fit pressed;
     counters_are_in_step_selected = λ older later n e begins gone. rw e (selected_in_step plan older later n begins gone);
     counters_are_in_step_stays = once_so (replay plan is);
+    counters_are_in_step_comes = λ older later n e come. rw e (come_into_step plan older later n ok (rw e at taken) come);
     selections_go_on = selections_go_on plan is ok taken;
     late_greens_are_ready = λ row p it. late_is_ready plan is row p ok (few plan held) taken it;
     late_greens_are_ready_in_time = λ base later row p n e dark pressed span initial walks long.

@@ -1,5 +1,5 @@
 -- Runs that meet the premises of the laws of the local counter in step, and mistakes that these laws refuse.
-use Rattle.std.proofs.Common.{◌≡◌, ◌≢◌, ℕ, zero, suc, ◌+◌, ◌-◌, ◌≤◌, true, List, [], ◌∷◌, ◌++◌, Option, Some, None, refl, sym, ap, arith, ◌∙◌, inl}
+use Rattle.std.proofs.Common.{◌≡◌, ◌≢◌, ℕ, zero, suc, ◌+◌, ◌-◌, ◌%◌, ◌≤◌, true, List, [], ◌∷◌, ◌++◌, Option, Some, None, refl, sym, ap, subst, arith, ◌∙◌, inl}
 use Rattle.tsb_step.specs.tsb_types.Sets.{all_off}
 use Rattle.tsb_step.specs.tsb_plan.declared.object.Object.{Object}
 use Rattle.tsb_step.specs.tsb_plan.declared.object.Object.TheVariants.{PatternOffsetTime, CoordCorrectionMode, CoordCorrectionLimit}
@@ -13,6 +13,7 @@ use Rattle.tsb_step.specs.tsb_coord.declared.correction.Correction.{Correction}
 use Rattle.tsb_step.specs.tsb_coord.Coordinated.{counter, residue_of_difference, is_pattern}
 use Rattle.tsb_step.specs.tsb_coord.Coordinated as coordination
 use Rattle.tsb_step.specs.tsb_coord.Correction.{lost, ahead_in, is_in_step, begun}
+use Rattle.tsb_step.specs.tsb_coord.Laws.{IsLongEnough}
 use Rattle.tsb_step.specs.declared.inputs.Input.{Input}
 use Rattle.tsb_step.specs.declared.inputs.Input.TheVariants.{Tick, Pattern}
 use Rattle.tsb_step.specs.State.{State}
@@ -23,7 +24,7 @@ use Rattle.tsb_step.specs.Laws.{IsConsistent}
 use Rattle.tsb_step.proofs.ClearLemmas.{one_later, plan_stays}
 use Rattle.tsb_step.proofs.Examples.Scenes.{opened}
 use Rattle.tsb_laws.specs.CoordinatedGreens.{HasGoneOn}
-use Rattle.tsb_laws.specs.InStep.{selects_none, BeginsInStep, keeps_in_step}
+use Rattle.tsb_laws.specs.InStep.{selects_none, BeginsInStep, keeps_in_step, HasComeSince}
 use Rattle.tsb_laws.proofs.operation.CoordinatedRunLemmas.{pattern_stays, correction_stays}
 use Rattle.tsb_laws.proofs.operation.Examples.RecycledWalkRuns.{quiet_for, tick_taken}
 use Rattle.tsb_laws.proofs.safety.Examples.PlanFits.{Fits, values_fit, quad_fits, consistent}
@@ -216,3 +217,49 @@ loses_on plan n c t = residue_of_difference (cycle plan n) c.ahead (lost (correc
 would_fall_behind : loses_on adding 2 (record { since = 1; ahead = 10 }) 34 ≡ 799
 unfolding opened adding
 would_fall_behind = refl
+
+-- ## On its way into step
+
+-- its counter has lost all in 30 ticks, by a third of a tick in each
+limit_is : correction_limit adding ≡ 50
+unfolding opened adding
+limit_is = refl
+
+only_ticks : (k : ℕ) → HasGoneOn (λ s i. keeps_in_step i) adding chosen (quiet_for k)
+only_ticks zero = tt
+only_ticks (suc k) = (only_ticks k, refl)
+
+had_time : (plan : Plan) (c : Correction) (now begin : ℕ) → plan ≡ adding → c ≡ record { since = 1; ahead = 10 } → now ≡ 31 → begin ≡ 1 →
+    IsLongEnough (correction_mode plan) plan 2 c (now - begin)
+had_time plan c now begin e f g h = rw e (rw f (rw g (rw h (rw is_add_only all))))
+  where
+    all : IsLongEnough AddOnly adding 2 (record { since = 1; ahead = 10 }) (31 - 1)
+    all = rw limit_is (omega arith)
+
+record AWay (plan : Plan) (is later : List Input) (n : ℕ) : Type 0 where
+  consistent : IsConsistent plan
+  taken : AreTaken plan (later ++ (Pattern n ∷ is))
+  other : correction_mode (replay plan (Pattern n ∷ is)).plan ≢ AtOnce
+  come : HasComeSince plan is later n
+
+a_way_into_step : AWay adding started (quiet_for 30) 2
+a_way_into_step = record {
+  consistent = adding_consistent;
+  taken = (run_at 30 (omega arith)).taken;
+  other = λ e. not_at_once (sym (ap correction_mode at_selection.then_is) ∙ e);
+  come = record {
+    used = ap (λ (p : Plan). is_pattern p 2) (at_selection.then_is ∙ sym at_selection.plan_is) ∙ at_selection.used;
+    limited = subst (λ (p : Plan). correction_limit p ≤ 50) (sym at_selection.then_is) (rw limit_is (omega arith));
+    kept = only_ticks 30;
+    long = had_time (replay adding chosen).plan (replay adding chosen).correction (replay adding (quiet_for 30 ++ chosen)).now (replay adding chosen).now
+        at_selection.then_is at_selection.correction_is (run_at 30 (omega arith)).now_is at_selection.now_is;
+  };
+}
+
+-- a counter that goes on as it began, and loses nothing
+abbrev loses_nothing : Plan → ℕ → Correction → ℕ → ℕ
+loses_nothing plan n c t = c.ahead % cycle plan n
+
+would_stay_ahead : loses_nothing adding 2 (record { since = 1; ahead = 10 }) 31 ≡ 10
+unfolding opened adding
+would_stay_ahead = refl
