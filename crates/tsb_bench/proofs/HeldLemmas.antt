@@ -293,16 +293,12 @@ pub record GoesBackQuietly (t k : ℕ) (h new : Held) : Type 0 where
   pub sound : HasSoundPast new.tick new.rows new.records
   pub ahead : t ≤ new.tick
   pub same : sought t (state_of new) new.records ≡ sought t (state_of h) h.records
-  pub smaller : (k ≡ 0 → ⊥) → length new.records < length h.records
+  pub fewer : length new.records ≤ length h.records
 
-shorter-behind : (k : ℕ) (rs : List Change) → suc k ≤ quiet_ticks rs → length (drop (suc k) rs) < length rs
-shorter-behind k [] most = absurd (omega (arith, most))
-shorter-behind k (r ∷ rs) most = let less : length (drop k rs) ≤ length rs = dropped k rs in omega (arith, less)
-  where
-    dropped : (k : ℕ) (rs : List Change) → length (drop k rs) ≤ length rs
-    dropped zero rs = omega arith
-    dropped (suc k) [] = omega arith
-    dropped (suc k) (r ∷ rs) = let less : length (drop k rs) ≤ length rs = dropped k rs in omega (arith, less)
+length-dropped : (k : ℕ) (rs : List Change) → length (drop k rs) ≤ length rs
+length-dropped zero rs = omega arith
+length-dropped (suc k) [] = omega arith
+length-dropped (suc k) (r ∷ rs) = let less : length (drop k rs) ≤ length rs = length-dropped k rs in omega (arith, less)
 
 pub goes-back-quietly : (t k most : ℕ) (h new : Held) → HasSoundPast h.tick h.rows h.records → t ≤ h.tick → most ≡ h.tick - t → k ≡ min most (quiet_ticks h.records) → new.tick + k ≡ h.tick → new.rows ≡ h.rows → new.records ≡ drop k h.records
     → GoesBackQuietly t k h new
@@ -317,9 +313,5 @@ goes-back-quietly t k most h new sound ahead limit all tick rows left =
           ∙ ap (λ (a : All). sought t (all_in (h.tick - k) a) new.records) rows
           ∙ ap (λ (rs : List Change). sought t (all_in (h.tick - k) h.rows) rs) left
           ∙ are.same t (omega (arith, ahead, limit, all));
-      smaller = λ some. subst (λ (rs : List Change). length rs < length h.records) (sym left) (fewer k some (omega (arith, all)));
+      fewer = subst (λ (rs : List Change). length rs ≤ length h.records) (sym left) (length-dropped k h.records);
     }
-  where
-    fewer : (k : ℕ) → (k ≡ 0 → ⊥) → k ≤ quiet_ticks h.records → length (drop k h.records) < length h.records
-    fewer zero some most = absurd (some refl)
-    fewer (suc k) some most = shorter-behind k h.records most

@@ -303,7 +303,8 @@ impl Bench {
             return Err(Nothing);
         }
         while self.tick != tick {
-            if self.undo_quiet(self.tick - tick) == 0 {
+            let _ = self.undo_quiet(self.tick - tick);
+            if self.tick != tick {
                 let _ = self.undo();
             }
         }

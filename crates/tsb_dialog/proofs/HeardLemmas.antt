@@ -140,6 +140,15 @@ fed-fault {S = S} most stands says from now bytes text n m held rest new line ke
       );
     }
 
+-- a line that begins there, whatever was answered
+pub fed-whole : {A S : Type 0} (r : Result Flow WriteError) (most : ℕ) (stands : A → S → Type 0) (says : Saying S) (from now : S) (bytes text : List ℕ) (n : ℕ) (held rest new line : List ℕ) (answers : A) (a c : Option (List ℕ)) (waited waits : List ℕ)
+    → HasNoFeed rest → held ≡ [] → new ≡ kept most rest → line ≡ without_return new → Heard most says from bytes text n now held → Answered stands (says now n line) r answers a c waited waits
+    → Fed most stands says from (bytes ++ (rest ++ 10 ∷ [])) text r answers (n + 1) held a c waited waits
+fed-whole (Ok flow) most stands says from now bytes text n held rest new line answers a c waited waits none empty grown is h x =
+    fed-line flow most stands says from now bytes text n held rest new line held answers a c waited waits none (grown ∙ ap (λ (v : List ℕ). kept most (v ++ rest)) (sym empty)) is empty h x
+fed-whole (Err e) most stands says from now bytes text n held rest new line answers a c waited waits none empty grown is h x =
+    fed-fault most stands says from now bytes text n (n + 1) held rest new line held answers e a c waited waits none (grown ∙ ap (λ (v : List ℕ). kept most (v ++ rest)) (sym empty)) is h x
+
 -- ## Bytes
 
 -- what is over stays so, whatever bytes come after

@@ -12,7 +12,7 @@ use crate::answers::{Answers, Flow};
 use crate::error::DialogError;
 use crate::pending::Pending;
 use std::io::{Read, Write};
-use tsb_lines::{KeptLine, cut_at_feed};
+use tsb_lines::{KeptLine, cut_at_feed, without_return};
 use tsb_watched::{Watched, WriteError};
 
 /// The most bytes that a dialog may be given leave to read: 1 GiB.
@@ -47,7 +47,8 @@ impl Dialog {
         }
     }
 
-    /// Takes the rest of a line, up to its line feed, and has the line answered.
+    /// Takes the rest of a line, up to its line feed, and has the line answered. A line of which nothing is kept yet is
+    /// answered as it stands there.
     fn feed_line<A: Answers, W: Write>(
         &mut self,
         answers: &mut A,
@@ -62,9 +63,13 @@ impl Dialog {
         ensures number { self.new.number ≤ self.old.number + 1 }
         ensures blame { writer.old.failed ≡ false → AfterCalls result writer.new.failed }
     {
-        self.line.extend(rest);
         let number = self.number;
         self.number += 1;
+        if self.line.last().is_empty() {
+            let line = without_return(&rest[..rest.len().min(KEPT)]);
+            return answers.answer(number, line, &mut self.pending, writer);
+        }
+        self.line.extend(rest);
         let flow = answers.answer(number, self.line.ended(), &mut self.pending, writer)?;
         self.line.clear();
         Ok(flow)

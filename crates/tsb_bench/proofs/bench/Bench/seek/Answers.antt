@@ -18,23 +18,27 @@ loop-self-preserved c =
       same = quiet.same ∙ c.loop-self.invariant.same;
     }
 
-pub loop-self-preserved-then-undo_quiet-eq0 : goal.loop-self-preserved-then-undo_quiet-eq0
-loop-self-preserved-then-undo_quiet-eq0 c =
-    let quiet : GoesBackQuietly c.args.tick c.undo_quiet-in-loop-self.result c.loop-self.self c.undo_quiet-in-loop-self.new.self =
+quietly : (c : goal.After-undo) → GoesBackQuietly c.args.tick c.undo_quiet-in-loop-self.result c.loop-self.self c.undo_quiet-in-loop-self.new.self
+quietly c =
     goes-back-quietly c.args.tick c.undo_quiet-in-loop-self.result (c.undo_quiet.inside.tick - c.args.tick) c.loop-self.self c.undo_quiet-in-loop-self.new.self
     (subst (λ (h : Held). HasSoundPast h.tick h.rows h.records) c.self-in-loop-self.view_is c.self-in-loop-self.invariant.1) c.loop-self.invariant.ahead
-    (ap (λ (h : Held). h.tick - c.args.tick) c.undo_quiet.view_is) c.undo_quiet-in-loop-self.ensures.count c.undo_quiet-in-loop-self.ensures.tick c.undo_quiet-in-loop-self.ensures.rows c.undo_quiet-in-loop-self.ensures.records in
-    let back : GoesBack c.args.tick c.undo_quiet-in-loop-self.new.self c.undo.new.self =
-    goes-back c.args.tick c.undo_quiet-in-loop-self.new.self c.undo.new.self c.undo.result
-    quiet.sound quiet.ahead
-    (λ e. let none = c.if-undo_quiet-eq0.true in let tick = c.undo_quiet-in-loop-self.ensures.tick in
-    let there : c.self-in-loop-self.inside.tick ≡ c.loop-self.self.tick = ap (λ (h : Held). h.tick) c.self-in-loop-self.view_is in c.loop-self-test.true (omega (arith, e, none, tick, there))) c.undo.ensures.ok c.undo.ensures.nothing in
-    record {
-      ahead = back.ahead;
-      room = omega (arith, c.undo.ensures.room, c.undo_quiet-in-loop-self.ensures.room, c.loop-self.invariant.room);
-      memory = c.undo.ensures.memory ∙ c.undo_quiet-in-loop-self.ensures.memory ∙ c.loop-self.invariant.memory;
-      same = back.same ∙ quiet.same ∙ c.loop-self.invariant.same;
-    }
+    (ap (λ (h : Held). h.tick - c.args.tick) c.undo_quiet.view_is) c.undo_quiet-in-loop-self.ensures.count c.undo_quiet-in-loop-self.ensures.tick c.undo_quiet-in-loop-self.ensures.rows c.undo_quiet-in-loop-self.ensures.records
+
+back : (c : goal.After-undo) → GoesBack c.args.tick c.undo_quiet-in-loop-self.new.self c.undo.new.self
+back c =
+    goes-back c.args.tick c.undo_quiet-in-loop-self.new.self c.undo.new.self c.undo.result (quietly c).sound (quietly c).ahead
+    (λ e. c.if-self-tick-2.true (ap (λ (h : Held). h.tick) c.self-in-loop-self-2.view_is ∙ e)) c.undo.ensures.ok c.undo.ensures.nothing
+
+pub loop-self-smaller-then-self-tick-2 : goal.loop-self-smaller-then-self-tick-2
+loop-self-smaller-then-self-tick-2 c = let less = (back c).smaller in let fewer = (quietly c).fewer in omega (arith, less, fewer)
+
+pub loop-self-preserved-then-self-tick-2 : goal.loop-self-preserved-then-self-tick-2
+loop-self-preserved-then-self-tick-2 c = record {
+  ahead = (back c).ahead;
+  room = omega (arith, c.undo.ensures.room, c.undo_quiet-in-loop-self.ensures.room, c.loop-self.invariant.room);
+  memory = c.undo.ensures.memory ∙ c.undo_quiet-in-loop-self.ensures.memory ∙ c.loop-self.invariant.memory;
+  same = (back c).same ∙ (quietly c).same ∙ c.loop-self.invariant.same;
+}
 
 pub returns-clause-ok : goal.returns-clause-ok
 returns-clause-ok c =
