@@ -123,10 +123,11 @@ abbrev pub ForcesInStep : Plan → Type 0
 ForcesInStep plan = (selected : Option ℕ) (c : Correction) (t p : ℕ) → is_in_step plan selected c (t - 1) ≡ true →
     forces plan selected c t p ≡ asks_force_off plan t selected p
 
--- so many ticks are enough for a slower counter, and for a faster one
+-- so many ticks are enough for a slower counter
 abbrev pub HasLostAll : Plan → Correction → ℕ → Type 0
 HasLostAll plan c ticks = c.ahead * (100 + correction_limit plan) ≤ ticks * correction_limit plan
 
+-- and for a faster one
 abbrev pub HasGainedAll : Plan → ℕ → Correction → ℕ → Type 0
 HasGainedAll plan n c ticks = (cycle plan n - c.ahead) * (100 - correction_limit plan) ≤ ticks * correction_limit plan
 

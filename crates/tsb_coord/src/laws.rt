@@ -44,17 +44,19 @@ pub fn late_force_off_is_an_option()
     ensures yields { (plan : Plan) → EndsWhereItYields plan }
 {}
 
-/// The local counter comes into step. Where a pattern is selected while another one runs it goes on from where that of
-/// the old pattern stood, but with `coordCorrectionMode` 0. From each tick to the next it takes one step or none, or,
-/// by the short way, up to two. It is in step after as many ticks as its mode and limit need for it, and stays so: then
-/// it is the counter of the cycle and the offset, and from the next tick on what is forced off is so by that one.
+/// The local counter comes into step. Where a pattern is selected while another one runs, it goes on from where that of
+/// the old pattern stood. It does not with `coordCorrectionMode` 0, nor with a limit of 0 in modes 2 and 3. From each
+/// tick to the next it takes one step or none, or, by the short way, up to two. It is in step after as many ticks as
+/// its mode and its limit need, and stays so. Then it is the counter of the cycle and the offset, and from the next
+/// tick on it alone says what is forced off.
 ///
-/// Needs: a plan that breaks no rule, with a limit of 50 percent at most, as in all plans in memory.
+/// Needs: a plan that breaks no rule, with a limit of 50 percent at most, as in all plans in memory; a counter that is
+/// ahead by less than a cycle, as each selection leaves it.
 /// Not said: that it is not in step sooner; that a commit in the meantime lets it go on from where it stands.
 /// Mistakes: a counter that is in step at once in each mode, `at_once` (`would_jump`); one that gains without end,
 /// `gains_on` (`would_leave_step`); one that loses in each tick the limit of one tick, without a rest, `lost_in_each`
 /// (`would_never_arrive`).
-/// Witness: `goes_on`, `waits_once`, `is_slower_in_step`, `is_faster_in_step` of CorrectionExamples.
+/// Witness: `goes_on`, `waits_once`, `takes_two_steps`, `is_slower_in_step`, `is_faster_in_step` of CorrectionExamples.
 pub fn counters_come_into_step()
     ensures goes_on { OfConsistentPlans GoesOn }
     ensures steps { OfConsistentPlans TakesFewSteps }

@@ -142,8 +142,8 @@ would_pass_it : map (λ t. forces_at_second by_short_way (Some 2) ahead_600 t 2)
 unfolding by_short_way quad run_from split_sum side_sum split_end force_off
 would_pass_it = refl
 
--- ## A phase walks again while the counter is faster: at tick 1368 it is at 659, and walk and clearance last up to 1468.
--- The instant comes at 1449
+-- ## A phase walks again while the counter is faster: at tick 1368 it is at 659, and walk and clearance last up to
+-- 1468. The instant comes at 1449
 
 abbrev pub walks_meanwhile : Plan → Option ℕ → Correction → ℕ → ℕ → Bool
 walks_meanwhile plan selected c t p = asks_recycle plan (clock plan selected c t) selected p
