@@ -83,6 +83,9 @@ KINDS = {
     "tsb maximum buttons": Kind(
         lambda: _buttons("maximum"), ("heavy",), pattern=1, presses=True
     ),
+    "tsb recall buttons": Kind(
+        lambda: _buttons("recall"), ("heavy",), pattern=1, presses=True
+    ),
     "tsb walks": Kind(
         lambda: crossroads.with_pedestrians(crossroads.plan()), ("medium",), walks=True
     ),

@@ -19,14 +19,17 @@ Objects = Mapping[str, Mapping[int, int]]
 Commands = Mapping[int, str]
 
 # The options of each setting. A maximum of "maximum" is about the green of its split,
-# but that of phases 3 and 7 is what their cars need: walks of 4 and 8 begin sooner.
+# but that of phases 3 and 7 is what their cars need: walks of 4 and 8 begin sooner. With
+# "recall" 3 and 7 are called besides, so that both of these walks begin together.
 LATE: Objects = {"coordForceMode": {1: 1}}
 MAXIMUMS = {1: 13, 2: 45, 3: 8, 4: 25, 5: 13, 6: 45, 7: 8, 8: 25}
+MAXIMUM: Objects = {"coordMaximumMode": {1: 2}, "phaseMaximum2": MAXIMUMS}
 SETTINGS: Mapping[str, Objects] = {
     "none": {},
     "late": LATE,
     "permissive": {**LATE, "patternPermissiveTime": {1: 40}},
-    "maximum": {"coordMaximumMode": {1: 2}, "phaseMaximum2": MAXIMUMS},
+    "maximum": MAXIMUM,
+    "recall": {**MAXIMUM, "phaseMinRecall": dict.fromkeys((2, 3, 6, 7), 1)},
 }
 # With SUMO: a level, the kind of SUMO's controller beside it if there is one, and the
 # kinds of the bench by their setting.
@@ -39,6 +42,7 @@ BUTTONS = {
     "none": "tsb buttons",
     "late": "tsb late buttons",
     "maximum": "tsb maximum buttons",
+    "recall": "tsb recall buttons",
 }
 LOOPS = [
     ("light", "sumo pattern", PATTERN),
