@@ -2,8 +2,8 @@
 """What the gate would refuse without proving anything, found in seconds: run it at the top before submitting.
 
 It reports files that are not in the layout of `rt fmt` (run on a copy), must-fail edits whose old text is not in its
-file exactly once, lines of documents that are over 120 characters, and names and paths that documents cite and the
-repository does not have.
+file exactly once, lines of documents that are over 120 characters, public definitions without a comment, and names and
+paths that documents cite and the repository does not have.
 """
 import pathlib
 import shutil
@@ -12,6 +12,7 @@ import sys
 import tempfile
 
 import cited_names
+import definitions_index
 
 
 def out_of_layout(root):
@@ -70,6 +71,7 @@ def main():
     for path in [*root.glob("*.md"), *root.glob("docs/*.md"), *root.glob("examples/*.md"),
                  *root.glob("crates/*/README.md")]:
         found += too_long(path)
+    found += definitions_index.uncommented()
     found += cited_names.missing()
     print("\n".join(found) if found else "ready")
     return 1 if found else 0
