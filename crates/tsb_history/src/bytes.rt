@@ -27,8 +27,9 @@ fn write_entry(bytes: &mut Vec<u8>, cell: u16, old: u32)
     ensures len { vec_len bytes.new ≡ vec_len bytes.old + 6 }
     ensures capacity { vec_capacity bytes.old ≤ vec_capacity bytes.new }
 {
-    let _ = bytes.extend_from_slice(&cell.to_le_bytes());
-    let _ = bytes.extend_from_slice(&old.to_le_bytes());
+    let [c0, c1] = cell.to_le_bytes();
+    let [o0, o1, o2, o3] = old.to_le_bytes();
+    let _ = bytes.extend_from_slice(&[c0, c1, o0, o1, o2, o3]);
 }
 
 // Writes a record at the end, where there is room for it.
@@ -43,9 +44,8 @@ pub fn write_record(bytes: &mut Vec<u8>, kind: Kind, entries: &[(u16, u32)])
         let (cell, old) = entries[i];
         write_entry(bytes, cell, old);
     }
-    let _ = bytes.push(kind.code());
-    let count = entries.len() as u16;
-    let _ = bytes.extend_from_slice(&count.to_le_bytes());
+    let [low, high] = (entries.len() as u16).to_le_bytes();
+    let _ = bytes.extend_from_slice(&[kind.code(), low, high]);
 }
 
 // The record that ends before a place, and where it begins.
