@@ -25,27 +25,39 @@ use crate::visit::{held, number_in};
 use tsb_cells::Timer;
 use tsb_objects::{PedestrianInterval, Phase, Plan};
 
+/// The tick up to which a timer that is On, as its cell tells, has not reached a limit.
+#[inline(always)]
+fn until_on(cell: u32, limit: u32) -> u32
+    requires on { 1 ≤ cell }
+    ensures { (t : ℕ) → cell ≤ t + 1 → t < result → has_reached (timer_at t cell) limit ≡ false }
+{
+    (cell - 1).saturating_add(limit)
+}
+
 /// The tick up to which the timer of a cell has not reached a limit.
 #[inline(always)]
 fn until(cell: u32, limit: u32) -> u32
-    ensures before { (t : ℕ) → cell ≤ t + 1 → t < result → has_reached (timer_at t cell) limit ≡ false }
-    ensures from { (t : ℕ) → cell ≤ t + 1 → result ≤ t → t < 2 ^ 32 - 1 → has_reached (timer_at t cell) limit ≡ true }
+    ensures { (t : ℕ) → cell ≤ t + 1 → t < result → has_reached (timer_at t cell) limit ≡ false }
 {
     if cell == 0 {
         u32::MAX
     } else {
-        (cell - 1).saturating_add(limit)
+        until_on(cell, limit)
     }
 }
 
-/// The tick up to which the timer of a cell has reached a limit exactly when it has at tick `now`.
+/// The tick up to which the timer of a cell has reached a limit exactly when it has at tick `now`. One comparison tells
+/// that it is Off or has reached it, so that a loop over all phases takes several of them at a time.
 #[inline(always)]
 fn turn(now: u32, cell: u32, limit: u32) -> u32
     requires fits { now + 1 < 2 ^ 32 }
     ensures { (t : ℕ) → cell ≤ now + 1 → now ≤ t → t < result → has_reached (timer_at t cell) limit ≡ has_reached (timer_at now cell) limit }
 {
-    let at = until(cell, limit);
-    if at <= now { u32::MAX } else { at }
+    if cell <= (now + 1).saturating_sub(limit) {
+        u32::MAX
+    } else {
+        until_on(cell, limit)
+    }
 }
 
 /// The tick up to which the timer of a cell has reached a limit, if there is one, exactly when it has at tick `now`.

@@ -13,10 +13,19 @@ ghost use Rattle.tsb_phase.specs.Rows.{IsVisit, IsFresh, IsToldAs, told};
 use crate::conditions::Conditions;
 use crate::phases::Phases;
 use crate::rows::{GREENS, RED_CLEARS, RED_REVERTS, YELLOWS};
-use crate::visit::{has_passed, visit_green, visit_red_clear, visit_yellow};
-use tsb_cells::Timer;
+use crate::visit::{visit_green, visit_red_clear, visit_yellow};
 use tsb_cells::lists::phases;
 use tsb_objects::{Checked, Phase, PhaseSet, Timing};
+
+/// Whether the timer of a cell is Off or has reached the limit at tick `now`. Both are always tested: so a loop over all
+/// phases has no branch, and takes several of them at a time.
+#[inline(always)]
+fn is_off_or_past(now: u32, cell: u32, limit: u32) -> bool
+    requires { now + 1 < 2 ^ 32 }
+    ensures { result ≡ has_passed (timer_at now cell) limit }
+{
+    (cell == 0) | (limit <= (now + 1).saturating_sub(cell))
+}
 
 impl Phases {
     ghost use Rattle.tsb_phase.specs.Layer.{cells_of, kept_of, is_open, KeepsLists};
@@ -73,8 +82,9 @@ impl Phases {
         let mut reverted = PhaseSet::empty();
         for number in 1..17u8 {
             let p = Phase::of(number);
-            let timer = Timer::at(now, self.cell(RED_REVERTS, p));
-            reverted = reverted.joined(p, has_passed(timer, plan.plan().red_revert(p)));
+            let cell = self.cell(RED_REVERTS, p);
+            let time = plan.plan().red_revert(p);
+            reverted = reverted.joined(p, is_off_or_past(now, cell, time));
         }
         reverted
     }

@@ -8,4 +8,4 @@ use Rattle.tsb_phase.proofs.due.due_clearance.Goals as goal
 pub returns : goal.returns
 returns c = λ t by soon.
     part-clear (plan_of c.args.plan.now) (given_of c.args.conditions.now) c.args.p (phase_of t c.args.was.now) c.requires
-    (not-at-limit (timer_at t c.args.was.now.pedestrian_timer) c.clearance_time-time.result _ c.clearance_time-time.ensures (c.until.ensures.before t by.pedestrian_timer soon))
+    (not-at-limit (timer_at t c.args.was.now.pedestrian_timer) c.clearance_time-time.result _ c.clearance_time-time.ensures (c.until.ensures t by.pedestrian_timer soon))

@@ -14,4 +14,4 @@ returns-then-is_resting_in_walk c = λ t by soon.
 pub returns : goal.returns
 returns c = λ t by soon.
     part-walk (plan_of c.args.plan.now) (given_of c.args.conditions.now) c.args.p (phase_of t c.args.was.now) c.requires
-    (not-at-limit (timer_at t c.args.was.now.pedestrian_timer) c.walk_time-time.result _ c.walk_time-time.ensures (c.until.ensures.before t by.pedestrian_timer soon))
+    (not-at-limit (timer_at t c.args.was.now.pedestrian_timer) c.walk_time-time.result _ c.walk_time-time.ensures (c.until.ensures t by.pedestrian_timer soon))
