@@ -64,8 +64,8 @@ impl Phases {
     ghost use Rattle.tsb_phase.specs.Layer.{cells_of};
 
     /// Why a green that tick `now` ends does so, where no preempt ends it: the first of gap, maximum and force-off that
-    /// applies, and of a coordinated phase the force-off alone. It is asked of phases as they were before the tick, with
-    /// what the tick gives them. `None` where none applies.
+    /// applies, and of a coordinated phase the force-off alone. It is asked of phases as they were before the tick,
+    /// with what the tick gives them. `None` where none applies.
     pub fn cause(
         &self,
         p: Phase,

@@ -1,5 +1,5 @@
--- Why greens end, by computing, and a mistake that leaves a cause out. The plan is that of Examples, and for force-offs the
--- built-in plan of eight phases.
+-- Why greens end, by computing, and a mistake that leaves a cause out. The plan is that of Examples, and for force-offs
+-- the built-in plan of eight phases.
 use Rattle.std.specs.Prelude.{◌≡◌, ℕ, ◌==◌, true, Option, Some, None, if◌then◌else◌, refl}
 use Rattle.tsb_cells.specs.declared.timer.Timer.TheVariants.{Off, On}
 use Rattle.tsb_objects.specs.tsb_types.Lists.{run_from}

@@ -1,7 +1,7 @@
--- One-line mistakes that break the laws of the gap, of the initial time and of clearance, each with an example in which it
--- shows. The plan is that of Examples: a passage time of 30, a minimum gap of 10, 70 to reduce; a minimum green of 50, a
--- maximum initial of 200. For clearance it is the built-in plan of eight phases: a yellow change of 30, a red clearance of
--- 10.
+-- One-line mistakes that break the laws of the gap, of the initial time and of clearance, each with an example in which
+-- it shows. The plan is that of Examples: a passage time of 30, a minimum gap of 10, 70 to reduce; a minimum green of
+-- 50, a maximum initial of 200. For clearance it is the built-in plan of eight phases: a yellow change of 30, a red
+-- clearance of 10.
 use Rattle.std.specs.Prelude.{◌≡◌, ℕ, ◌+◌, ◌-◌, ◌*◌, ◌/◌, ◌==◌, nat_lt, Bool, true, false, ◌&&◌, if◌then◌else◌, min, max, [], ◌∷◌, map, refl}
 use Rattle.tsb_cells.specs.declared.timer.Timer.{Timer}
 use Rattle.tsb_cells.specs.declared.timer.Timer.TheVariants.{Off, On}

@@ -1,5 +1,5 @@
--- One-line mistakes that break the laws of moves, of the timers that are told of greens and of phases that are over, each
--- with an example in which it shows.
+-- One-line mistakes that break the laws of moves, of the timers that are told of greens and of phases that are over,
+-- each with an example in which it shows.
 use Rattle.std.specs.Prelude.{◌≡◌, ℕ, ◌+◌, Bool, true, false, refl}
 use Rattle.tsb_cells.specs.declared.timer.Timer.{Timer}
 use Rattle.tsb_cells.specs.declared.timer.Timer.TheVariants.{Off, On}
