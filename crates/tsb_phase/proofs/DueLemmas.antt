@@ -1,5 +1,5 @@
 -- Ticks that find the rows of phases as an earlier one did, and leave them so.
-use Rattle.std.proofs.Common.{◌≡◌, ◌≢◌, ℕ, ◌+◌, ◌-◌, ◌*◌, ◌<◌, ◌≤◌, min, nat_le, List, slice_index, Bool, true, false, ◌&&◌, ◌||◌, if◌then◌else◌, Option, Some, None, is_some, is_none, refl, sym, ap, ap₂, subst, ◌∙◌, inl, inr, arith}
+use Rattle.std.proofs.Common.{◌≡◌, ◌≢◌, ℕ, ◌+◌, ◌-◌, ◌*◌, ◌/◌, ◌==◌, ◌<◌, ◌≤◌, min, nat_le, nat_lt, List, slice_index, Bool, true, false, ◌&&◌, ◌||◌, if◌then◌else◌, Option, Some, None, is_some, is_none, refl, sym, ap, ap₂, subst, ◌∙◌, inl, inr, arith}
 use Rattle.std.proofs.lemmas.Bool.{cond-true}
 use Rattle.std.proofs.lemmas.Bool.Decides.{nat_tests, eqb_tells}
 use Rattle.tsb_cells.specs.declared.timer.Timer.{Timer}
@@ -11,7 +11,7 @@ use Rattle.tsb_objects.specs.tsb_types.declared.interval.Interval.TheVariants.{R
 use Rattle.tsb_objects.specs.tsb_types.declared.interval.PedestrianInterval.{PedestrianInterval}
 use Rattle.tsb_objects.specs.tsb_types.declared.interval.PedestrianInterval.TheVariants.{DontWalk, Walk, PedestrianClear}
 use Rattle.tsb_objects.specs.tsb_types.Intervals.{is_green, is_dont_walk, in_service}
-use Rattle.tsb_objects.specs.tsb_plan.Plan.{Plan, yellow_change, red_clear, red_revert, time_before_reduction, disables_simultaneous_gap}
+use Rattle.tsb_objects.specs.tsb_plan.Plan.{Plan, yellow_change, red_clear, red_revert, time_before_reduction, disables_simultaneous_gap, passage, minimum_gap, time_to_reduce}
 use Rattle.tsb_objects.specs.tsb_plan.Running.{floating_time}
 use Rattle.tsb_phase.specs.declared.phase_row.PhaseRow.{PhaseRow}
 use Rattle.tsb_phase.specs.Phase.{Phase, Given, none_moved, held_of}
@@ -105,6 +105,37 @@ runs-on now t cell after plan p =
       | inl zero ↦ rw zero.0 (omega arith)
       | inr on ↦ rw on.0 (gap_falls_on plan p (now + 1 - cell) (t + 1 - cell) (omega (arith, after)))
     ]
+
+-- a gap that has been reduced for all its time falls no further
+gap-rests : (plan : Plan) (p r s : ℕ) → time_to_reduce plan p ≤ r → time_to_reduce plan p ≤ s → gap plan p (On r) ≡ gap plan p (On s)
+unfolding gap
+gap-rests plan p r s all more =
+    let same : min r (time_to_reduce plan p) ≡ min s (time_to_reduce plan p) = omega (arith, all, more) in
+    ap (λ (n : ℕ). if time_to_reduce plan p == 0 then minimum_gap plan p else passage plan p - (passage plan p - minimum_gap plan p) * n / time_to_reduce plan p) same
+
+-- by what is found of the two times
+pub reduced-for-all : (n l m : ℕ) → l ≡ m → nat_lt n l ≡ false → m ≤ n
+reduced-for-all n l m e h = subst (λ (k : ℕ). k ≤ n) e (grind (arith, nat_tests, h))
+
+-- and one whose reduction timer is Off, or has been On for all that time
+pub gap-stays : (plan : Plan) (p now t cell : ℕ) → now ≤ t → (1 ≤ cell → time_to_reduce plan p ≤ now + 1 - cell) →
+    gap plan p (timer_at t cell) ≡ gap plan p (timer_at now cell)
+gap-stays plan p now t cell after all =
+    elim (eqb_tells cell 0) [
+      | inl zero ↦ rw zero.0 refl
+      | inr on ↦
+          (let some : 1 ≤ cell = (let apart : cell ≢ 0 = on.1 in omega (arith, apart)) in
+          let reduced = all some in
+          rw on.0 (gap-rests plan p (t + 1 - cell) (now + 1 - cell) (omega (arith, reduced, after)) reduced))
+    ]
+
+-- the passage timer has not reached the gap before the tick at which it reaches that of tick `now`, if the gap rests
+pub resting-same : (plan : Plan) (p : ℕ) (r : PhaseRow) (now t limit : ℕ) (x : Timer) → x ≡ timer_at now r.reduction → limit ≡ gap plan p x →
+    gap plan p (timer_at t r.reduction) ≡ gap plan p (timer_at now r.reduction) →
+    has_reached (timer_at t r.passage) limit ≡ has_reached (timer_at now r.passage) limit → has_expired plan p r t ≡ has_expired plan p r now
+resting-same plan p r now t limit x e f rests h =
+    let found : limit ≡ gap plan p (timer_at now r.reduction) = f ∙ ap (gap plan p) e in
+    ap (λ (n : ℕ). has_reached (timer_at t r.passage) n) (rests ∙ sym found) ∙ h ∙ ap (λ (n : ℕ). has_reached (timer_at now r.passage) n) found
 
 -- whether it has, as it is found at tick `now`
 pub expired-found : (plan : Plan) (p : ℕ) (r : PhaseRow) (now limit : ℕ) (x : Timer) (b : Bool) → x ≡ timer_at now r.reduction →

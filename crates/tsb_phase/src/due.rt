@@ -4,7 +4,7 @@ ghost use Rattle.tsb_cells.specs.Timer.{timer_at, has_reached};
 ghost use Rattle.tsb_objects.specs.tsb_types.declared.interval.Interval.TheVariants.{RedClear};
 ghost use Rattle.tsb_objects.specs.tsb_types.declared.interval.PedestrianInterval.TheVariants.{Walk, PedestrianClear};
 ghost use Rattle.tsb_objects.specs.tsb_plan.PlanOf.{plan_of};
-ghost use Rattle.tsb_phase.specs.Green.{has_reached_some};
+ghost use Rattle.tsb_phase.specs.Green.{initial, gap, has_reached_some};
 ghost use Rattle.tsb_phase.specs.Phase.{Given};
 ghost use Rattle.tsb_phase.specs.Pedestrian.{ended_by, pedestrian_now};
 ghost use Rattle.tsb_phase.specs.Promises.{given_of};
@@ -13,7 +13,10 @@ ghost use Rattle.tsb_phase.specs.Due.{least_of, has_expired, IsKept, IsStill, St
 
 use crate::conditions::Conditions;
 use crate::dynamic::acting_maximum;
-use crate::green::{count, floating_time, has_reached, run_green};
+use crate::green::{
+    conflict_cell, count, floating_time, forced_latch, gapped_latch, has_reached, passage_cell,
+    reduction_cell,
+};
 use crate::pedestrian::{
     clearance_time, ended_by, is_resting_in_walk, may_walk_again, pedestrian_of, walk_time,
 };
@@ -113,29 +116,52 @@ fn due_pedestrian(plan: &Plan, conditions: &Conditions, p: Phase, was: &PhaseRow
     }
 }
 
-/// The least time that the green lasts: the initial time, shorter under a preempt that ends it.
-fn least_of(plan: &Plan, conditions: &Conditions, p: Phase) -> u32
-    ensures { result ≡ least_of (plan_of plan.now) (given_of conditions.now) p (ended_by (given_of conditions.now) p) }
+/// The tick up to which a green has lasted its initial time, and its least time, exactly when it has at tick `now`. The
+/// least time is the initial time, shorter under a preempt that ends the green.
+#[inline(always)]
+fn due_initial(now: u32, plan: &Plan, conditions: &Conditions, p: Phase, cell: u32) -> u32
+    requires fits { now + 1 < 2 ^ 32 }
+    requires within { cell ≤ now + 1 }
+    ensures initial { (t : ℕ) → now ≤ t → t < result → has_reached (timer_at t cell) (initial (plan_of plan.now) p ((given_of conditions.now).count p))
+        ≡ has_reached (timer_at now cell) (initial (plan_of plan.now) p ((given_of conditions.now).count p)) }
+    ensures least { (t : ℕ) → now ≤ t → t < result → has_reached (timer_at t cell) (least_of (plan_of plan.now) (given_of conditions.now) p (ended_by (given_of conditions.now) p))
+        ≡ has_reached (timer_at now cell) (least_of (plan_of plan.now) (given_of conditions.now) p (ended_by (given_of conditions.now) p)) }
 {
-    let initial = initial(plan, p, count(conditions, p));
+    let time = initial(plan, p, count(conditions, p));
+    let passed = turn(now, cell, time);
     match ended_by(conditions, p) {
-        None => initial,
-        Some(n) => initial.min(plan.preempt_minimum_green(n)),
+        None => passed,
+        Some(n) => {
+            let least = time.min(plan.preempt_minimum_green(n));
+            passed.min(turn(now, cell, least))
+        }
     }
 }
 
 /// Whether tick `now` leaves the timers and latches of a green as they were.
+#[inline(always)]
 fn is_kept(now: u32, plan: &Plan, conditions: &Conditions, p: Phase, was: &PhaseRow) -> bool
     requires fits { now + 1 < 2 ^ 32 }
     requires by { IsRowBy now was.now }
     ensures { result ≡ true → IsKept (plan_of plan.now) (given_of conditions.now) p was.now now }
 {
-    let run = run_green(now, plan, conditions, p, held(now, was));
-    run.passage == was.passage
-        && run.conflict == was.conflict
-        && run.reduction == was.reduction
-        && run.gapped == was.gapped
-        && run.forced == was.forced
+    let held = held(now, was);
+    passage_cell(now, conditions, p, held) == was.passage
+        && conflict_cell(now, conditions, p, held) == was.conflict
+        && reduction_cell(now, plan, conditions, p, held) == was.reduction
+        && gapped_latch(now, plan, conditions, p, held) == was.gapped
+        && forced_latch(now, plan, conditions, p, held) == was.forced
+}
+
+/// Whether the gap falls further after tick `now`, by the cell of its reduction timer.
+#[inline(always)]
+fn is_falling(now: u32, plan: &Plan, p: Phase, cell: u32) -> bool
+    requires fits { now + 1 < 2 ^ 32 }
+    requires within { cell ≤ now + 1 }
+    ensures on { result ≡ true → 1 ≤ cell }
+    ensures rests { result ≡ false → (t : ℕ) → now ≤ t → gap (plan_of plan.now) p (timer_at t cell) ≡ gap (plan_of plan.now) p (timer_at now cell) }
+{
+    cell != 0 && now + 1 - cell < plan.time_to_reduce(p)
 }
 
 /// The tick up to which the gap of a green has expired exactly when it has at tick `now`.
@@ -149,7 +175,7 @@ fn turn_gap(now: u32, plan: &Plan, p: Phase, was: &PhaseRow) -> u32
     if has_reached(now, was.passage, limit) {
         return u32::MAX;
     }
-    if was.reduction == 0 || was.passage == 0 {
+    if was.passage == 0 || !is_falling(now, plan, p, was.reduction) {
         return until(was.passage, limit);
     }
     let ticks = ticks_to_gap(plan, p, now + 1 - was.passage, now + 1 - was.reduction);
@@ -166,10 +192,7 @@ fn due_kept(now: u32, plan: &Plan, conditions: &Conditions, p: Phase, was: &Phas
     ensures { (t : ℕ) → now < t → t < result → IsStill (plan_of plan.now) (given_of conditions.now) p was.now now t }
 {
     let part = due_pedestrian(plan, conditions, p, was);
-    let limit = least_of(plan, conditions, p);
-    let least = turn(now, was.timer, limit);
-    let time = initial(plan, p, count(conditions, p));
-    let passed = turn(now, was.timer, time);
+    let initial = due_initial(now, plan, conditions, p, was.timer);
     let gap = turn_gap(now, plan, p, was);
     let time = plan.time_before_reduction(p);
     let before = turn(now, was.conflict, time);
@@ -180,7 +203,7 @@ fn due_kept(now: u32, plan: &Plan, conditions: &Conditions, p: Phase, was: &Phas
     let floating = turn_some(now, was.timer, split);
     let time = plan.red_revert(p);
     let revert = turn(now, was.red_revert, time);
-    part.min(least.min(passed))
+    part.min(initial)
         .min(gap.min(before))
         .min(most.min(floating))
         .min(revert)

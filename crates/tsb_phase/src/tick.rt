@@ -17,8 +17,8 @@ use crate::visit::{visit_green, visit_red_clear, visit_yellow};
 use tsb_cells::lists::phases;
 use tsb_objects::{Checked, Phase, PhaseSet, Timing};
 
-/// Whether the timer of a cell is Off or has reached the limit at tick `now`. Both are always tested: so a loop over all
-/// phases has no branch, and takes several of them at a time.
+/// Whether the timer of a cell is Off or has reached the limit at tick `now`. Both are always tested: so a loop over
+/// all phases has no branch, and takes several of them at a time.
 #[inline(always)]
 fn is_off_or_past(now: u32, cell: u32, limit: u32) -> bool
     requires { now + 1 < 2 ^ 32 }

@@ -3,7 +3,7 @@ use Rattle.tsb_cells.specs.Timer.{timer_at}
 use Rattle.tsb_objects.specs.tsb_plan.Plan.{Plan}
 use Rattle.tsb_objects.specs.tsb_plan.PlanOf.{plan_of}
 use Rattle.tsb_phase.specs.declared.phase_row.PhaseRow.{PhaseRow}
-use Rattle.tsb_phase.specs.Green.{initial, acting_maximum}
+use Rattle.tsb_phase.specs.Green.{acting_maximum}
 use Rattle.tsb_phase.specs.Phase.{Given}
 use Rattle.tsb_phase.specs.Promises.{given_of}
 use Rattle.tsb_phase.specs.Cells.{IsRowBy}
@@ -21,8 +21,8 @@ returns c = λ t after soon.
     green-still plan given c.args.p was now t c.requires.green (later now t was (omega (arith, after)) by) c.requires.kept
     (c.due_pedestrian-part.ensures t (later now t was (omega (arith, after)) by) (omega (arith, soon)))
     (c.due_pedestrian-part.ensures now by (omega (arith, after, soon)))
-    (at-limit (timer_at t was.timer) (timer_at now was.timer) c.least_of-limit.result _ c.least_of-limit.ensures (c.turn-least.ensures t by.timer (omega (arith, after)) (omega (arith, soon))))
-    (at-limit (timer_at t was.timer) (timer_at now was.timer) c.initial-time.result _ (c.initial-time.ensures ∙ ap (λ (n : ℕ). initial plan c.args.p n) c.count.ensures.value) (c.turn-passed.ensures t by.timer (omega (arith, after)) (omega (arith, soon))))
+    (c.due_initial-initial.ensures.least t (omega (arith, after)) (omega (arith, soon)))
+    (c.due_initial-initial.ensures.initial t (omega (arith, after)) (omega (arith, soon)))
     (c.turn_gap-gap.ensures t (omega (arith, after)) (omega (arith, soon)))
     (at-limit (timer_at t was.conflict) (timer_at now was.conflict) c.time_before_reduction-time.result _ c.time_before_reduction-time.ensures (c.turn-before.ensures t by.conflict (omega (arith, after)) (omega (arith, soon))))
     (at-some-limit (timer_at t was.conflict) (timer_at now was.conflict) c.acting_maximum-maximum.result _ (c.acting_maximum-maximum.ensures ∙ ap (λ (o : Option ℕ). acting_maximum plan given.runs c.args.p o) c.number_in-running.ensures)

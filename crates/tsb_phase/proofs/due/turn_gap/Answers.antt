@@ -18,6 +18,7 @@ returns c = λ t after soon.
     let was : PhaseRow = c.args.was.now in
     let by = c.requires.by in
     let added = c.saturating_add.ensures in
-    on-unexpired plan c.args.p was c.args.now t (omega arith) (omega arith) by.passage by.reduction after
+    let falls = c.is_falling.ensures.on c.if-not-is_falling.false in
+    on-unexpired plan c.args.p was c.args.now t (omega arith) falls by.passage by.reduction after
     (c.ticks_to_gap-ticks.ensures (t - c.args.now) (omega (arith, soon, added, after)))
     ∙ sym (expired-found plan c.args.p was c.args.now _ _ _ c.at-reduction.ensures c.gap-limit.ensures c.has_reached.ensures ∙ c.if-has_reached.false)

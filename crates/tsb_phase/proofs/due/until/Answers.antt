@@ -1,4 +1,3 @@
-use Rattle.std.proofs.Common.{arith}
 use Rattle.tsb_phase.proofs.DueLemmas.{off-not}
 use Rattle.tsb_phase.proofs.due.until.Goals as goal
 
