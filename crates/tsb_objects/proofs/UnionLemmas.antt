@@ -2,12 +2,11 @@
 use Rattle.std.proofs.Common.{zero, suc, ◌≡◌, ◌≢◌, ℕ, ◌+◌, ◌-◌, ◌*◌, ◌/◌, ◌%◌, ◌^◌, ◌<◌, ◌≤◌, ◌==◌, ◌&&◌, ◌||◌, Bool, true, false, List, get_or, slice_index, refl, arith, sym, ◌∙◌, ap, ap₂, inl, inr, subst, bit_or}
 use Rattle.std.specs.Int.{bit_at}
 use Rattle.std.proofs.lemmas.Bool.{cases_lt, cases_eq}
-use Rattle.std.proofs.lemmas.Nat.Bits.{bit_at_cat_low, bit_at_cat_high}
+use Rattle.std.proofs.lemmas.Nat.Bits.{bit_at_cat_low, bit_at_cat_high, bit_at_above}
 use Rattle.tsb_types.specs.Lists.{some_passes, run_from}
-use Rattle.tsb_types.specs.declared.number_set.NumberSet.{NumberSet}
-use Rattle.tsb_types.specs.Sets.{names, has_number, set_of_list}
+use Rattle.tsb_types.specs.Sets.{names}
 use Rattle.tsb_types.proofs.BitLemmas.{names-or}
-use Rattle.tsb_types.proofs.SetLemmas.{names-above, names-zero, same_names}
+use Rattle.tsb_types.proofs.SetLemmas.{names-zero}
 use Rattle.tsb_objects.specs.declared.unions.Unions.{Unions}
 use Rattle.tsb_objects.specs.Unions.{AreUnions}
 use Rattle.tsb_objects.proofs.PassLemmas.{pass-none, pass-same, pass-more, pass-parts, pass-later}
@@ -30,24 +29,27 @@ names-high list (suc i) from =
     let next : 8 + suc i ≡ suc (8 + i) = omega arith in
     rw next (ap (λ (b : ℕ). b == 1) (sym (ap (λ (k : ℕ). bit_at (list / 256) k) place) ∙ sym high ∙ ap (λ (x : ℕ). bit_at x (8 + i)) whole))
 
--- a list of numbers to 8 names no other
-pub names-within : (list n : ℕ) → list < 256 → names list n ≡ true → n ≤ 8
-names-within list n small named =
-    elim (cases_lt 8 n) [
-      | inl above ↦ absurd (differ (sym (names-above 8 n list (omega arith) above) ∙ named))
-      | inr within ↦ within
-    ]
-  where
-    differ : false ≡ true → ⊥
-    differ e = cc
+-- a list of the first d numbers with number d + 1 besides: it names that one, and else what it named
+pub names-more : (d list : ℕ) → list < 2 ^ d → names (2 ^ d + list) (suc d) ≡ true
+names-more d list fits =
+    let whole : 1 * 2 ^ d + list ≡ 2 ^ d + list = omega arith in
+    let lowest : d - d ≡ 0 = omega arith in
+    let high : bit_at (1 * 2 ^ d + list) d ≡ bit_at 1 (d - d) = bit_at_cat_high 1 d list d fits (omega arith) in
+    ap (λ (b : ℕ). b == 1) (ap (λ (x : ℕ). bit_at x d) (sym whole) ∙ high ∙ ap (bit_at 1) lowest)
 
--- what a list names without one of its numbers is a lesser list
-pub less-without : (set others : NumberSet) (list rest : ℕ) → set ≡ set_of_list list → others.word < set.word → rest < 65536 → others.word < 65536 →
-    ((n : ℕ) → names rest n ≡ has_number others n) → rest < list
-less-without set others list rest whole less fits also same =
-    let one : rest ≡ others.word = same_names 16 rest others.word (omega arith) (omega arith) (λ n from within. same n) in
-    let all : set.word ≡ list = ap (λ (s : NumberSet). s.word) whole in
-    omega (arith, one, all, less)
+pub names-before : (d list n : ℕ) → list < 2 ^ d → n ≢ suc d → names list n ≡ names (2 ^ d + list) n
+names-before d list zero fits apart = refl
+names-before d list (suc i) fits apart =
+    let whole : 1 * 2 ^ d + list ≡ 2 ^ d + list = omega arith in
+    ap (λ (b : ℕ). b == 1)
+    (elim (cases_lt i d) [
+      | inl below ↦ sym (ap (λ (x : ℕ). bit_at x i) (sym whole) ∙ bit_at_cat_low 1 d list i below)
+      | inr above ↦
+          let other : i ≢ d = λ same. apart (ap suc same) in
+          let behind : 1 ≤ i - d = omega (arith, above, other) in
+          bit_at_above list d i fits above
+          ∙ sym (ap (λ (x : ℕ). bit_at x i) (sym whole) ∙ bit_at_cat_high 1 d list i fits above ∙ bit_at_above 1 1 (i - d) (omega arith) behind)
+    ])
 
 -- the words of the two bytes of a list together are the union of all that it names
 pub union-of : (test : ℕ → ℕ → Bool) (unions : Unions) → AreUnions test unions → (list p : ℕ) → list < 65536 → 1 ≤ p → p ≤ 16 →

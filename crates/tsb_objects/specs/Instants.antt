@@ -55,6 +55,11 @@ first_coordinated plan n = first (is_coordinated_now plan (Some n)) (phases plan
 abbrev pub reference : Plan → ℕ → Option ℕ
 reference plan n = or_else (coordinated_in_ring plan n 1) (first_coordinated plan n)
 
+-- when within the cycle of pattern n the split of a phase ends; none where there is no phase
+abbrev pub end_within : Plan → ℕ → Option ℕ → Option ℕ
+end_within plan n None = None
+end_within plan n (Some c) = Some (end_of plan n c % cycle plan n)
+
 -- counted from coordinated phase c, in tenths of a second; none where the pattern has no coordinated phase
 abbrev pub instant_by : Plan → ℕ → Option ℕ → ℕ → Option ℕ
 instant_by plan n None p = None

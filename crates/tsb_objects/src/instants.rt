@@ -1,11 +1,11 @@
 //! Force-off instants, on the local counter. Times are in tenths of a second.
 #![tactic(auto, unfolding(tsb_plan::specs::PlanOf::plan_of))]
 
-ghost use Rattle.std.specs.Prelude.{◌≡◌, ◌≤◌, ◌<◌, ◌*◌, ◌+◌, ◌%◌, true, Some, None, IfSome};
+ghost use Rattle.std.specs.Prelude.{◌≡◌, ℕ, ◌≤◌, ◌<◌, ◌*◌, ◌+◌, ◌%◌, true, Some, None, IfSome};
 ghost use Rattle.tsb_plan.specs.Parts.{cycle, is_used};
 ghost use Rattle.tsb_plan.specs.Plan.{yellow_change, red_clear};
 ghost use Rattle.tsb_plan.specs.PlanOf.{plan_of};
-ghost use Rattle.tsb_objects.specs.Instants.{end_of, instant_from, is_coordinated_in, coordinated_in_ring, first_coordinated, reference, force_off};
+ghost use Rattle.tsb_objects.specs.Instants.{end_of, end_within, instant_from, is_coordinated_in, coordinated_in_ring, first_coordinated, reference, force_off};
 
 use tsb_plan::Plan;
 use tsb_rules::split_end;
@@ -42,16 +42,26 @@ fn end_of(plan: &Plan, n: Pattern, p: Phase) -> u32
     }
 }
 
-/// The force-off instant of a phase, counted from the end of the split of the coordinated phase `c`.
-fn instant_from(plan: &Plan, n: Pattern, c: Phase, p: Phase) -> u32
+/// When within the cycle of a pattern the split of a phase ends.
+fn end_in_cycle(plan: &Plan, n: Pattern, p: Phase) -> u32
     requires used { is_used (plan_of plan.now) n ≡ true }
-    ensures value { result ≡ instant_from (plan_of plan.now) n c p }
-    ensures below { result < cycle (plan_of plan.now) n }
+    ensures value { result ≡ end_of (plan_of plan.now) n p % cycle (plan_of plan.now) n }
+    ensures range { result < 2550 }
+{
+    end_of(plan, n, p) % cycle_of(plan, n)
+}
+
+/// The force-off instant of a phase, counted from the end of the split of a coordinated phase within the cycle.
+fn instant_from(plan: &Plan, n: Pattern, from: u32, p: Phase) -> u32
+    requires used { is_used (plan_of plan.now) n ≡ true }
+    requires range { from < 2550 }
+    ensures value { (c : ℕ) → from ≡ end_of (plan_of plan.now) n c % cycle (plan_of plan.now) n →
+        result ≡ instant_from (plan_of plan.now) n c p }
     ensures range { result < 2550 }
 {
     let cycle = cycle_of(plan, n);
-    let end = end_of(plan, n, p) % cycle;
-    let before = (end_of(plan, n, c) % cycle + clearance(plan, p)) % cycle;
+    let end = end_in_cycle(plan, n, p);
+    let before = (from + clearance(plan, p)) % cycle;
     (end + (cycle - before)) % cycle
 }
 
@@ -92,18 +102,33 @@ pub(crate) fn reference(plan: &Plan, n: Pattern) -> Option<Phase>
     }
 }
 
-/// The force-off instant of a phase in a pattern that is used.
-#[tactic(auto, unfolding(crate::specs::Instants::force_off))]
-pub(crate) fn instant(plan: &Plan, n: Pattern, p: Phase) -> Option<u32>
+/// What the instants of a pattern that is used are counted from: the end of the split of a coordinated phase, within
+/// the cycle. None where it has no such phase.
+pub(crate) fn counted_from(plan: &Plan, n: Pattern) -> Option<u32>
     requires used { is_used (plan_of plan.now) n ≡ true }
+    ensures value { result ≡ end_within (plan_of plan.now) n (reference (plan_of plan.now) n) }
+    ensures range { IfSome result (λ i. i < 2550) }
+{
+    match reference(plan, n) {
+        None => None,
+        Some(c) => Some(end_in_cycle(plan, n, c)),
+    }
+}
+
+/// The force-off instant of a phase in a pattern that is used, by what the pattern's are counted from.
+#[tactic(auto, unfolding(crate::specs::Instants::force_off))]
+pub(crate) fn instant(plan: &Plan, n: Pattern, from: &Option<u32>, p: Phase) -> Option<u32>
+    requires used { is_used (plan_of plan.now) n ≡ true }
+    requires from { from.now ≡ end_within (plan_of plan.now) n (reference (plan_of plan.now) n) }
+    requires range { IfSome from.now (λ i. i < 2550) }
     ensures value { result ≡ force_off (plan_of plan.now) (Some n) p }
     ensures range { IfSome result (λ i. i < 2550) }
 {
     if !plan.is_enabled(p) {
         return None;
     }
-    match reference(plan, n) {
+    match from {
         None => None,
-        Some(c) => Some(instant_from(plan, n, c, p)),
+        Some(from) => Some(instant_from(plan, n, *from, p)),
     }
 }

@@ -6,8 +6,10 @@ ghost use Rattle.std.specs.Prelude.{◌≡◌, ◌≤◌, ◌<◌, true, Some, I
 ghost use Rattle.tsb_plan.specs.Parts.{is_used};
 ghost use Rattle.tsb_plan.specs.PlanOf.{plan_of};
 ghost use Rattle.tsb_objects.specs.Instants.{yields_to, late_end, yields_for};
+ghost use Rattle.tsb_objects.specs.PatternTables.{AreInstants};
 
-use crate::instants::{coordinated_in_ring, instant, reference};
+use crate::instants::{coordinated_in_ring, reference};
+use crate::pattern_tables::instant_at;
 use tsb_plan::Plan;
 use tsb_types::{Pattern, Phase};
 
@@ -21,10 +23,11 @@ fn yields_to(plan: &Plan, n: Pattern, p: Phase) -> Option<Phase>
     }
 }
 
-/// The instant at which late force-off of a phase ends, in a pattern that is used; `None` where it has no late
-/// force-off.
-pub(crate) fn late_end(plan: &Plan, n: Pattern, p: Phase) -> Option<u32>
+/// The instant at which late force-off of a phase ends, in a pattern that is used, by the words of all instants; `None`
+/// where it has no late force-off.
+pub(crate) fn late_end(plan: &Plan, instants: &[u16; 256], n: Pattern, p: Phase) -> Option<u32>
     requires used { is_used (plan_of plan.now) n ≡ true }
+    requires told { AreInstants (plan_of plan.now) instants.now }
     ensures value { result ≡ late_end (plan_of plan.now) (Some n) p }
     ensures range { IfSome result (λ i. i < 2550) }
 {
@@ -33,7 +36,7 @@ pub(crate) fn late_end(plan: &Plan, n: Pattern, p: Phase) -> Option<u32>
     }
     match yields_to(plan, n, p) {
         None => None,
-        Some(c) => instant(plan, n, c),
+        Some(c) => instant_at(instants, n, c),
     }
 }
 

@@ -1,14 +1,15 @@
 //! What a plan says of all its phases while a pattern runs, and in free operation.
 #![tactic(auto, unfolding(tsb_plan::specs::PlanOf::plan_of))]
 
-ghost use Rattle.std.specs.Prelude.{◌≡◌, ◌≢◌, ℕ, ◌+◌, ◌-◌, ◌*◌, ◌<◌, ◌≤◌, true, false, Some, IfSome, length, slice_index};
+ghost use Rattle.std.specs.Prelude.{◌≡◌, ◌≢◌, ℕ, ◌+◌, ◌-◌, ◌*◌, ◌<◌, ◌≤◌, true, false, None, Some, IfSome, is_some, length, slice_index};
 ghost use Rattle.tsb_objects.specs.PatternTables.{is_so, AreInEffect, AreInstants, AreEnds, AreWaitingPoints, ArePatternTables, instant_in, late_until, end_behind, permissive_end_in};
-ghost use Rattle.tsb_objects.specs.Instants.{force_off, late_end, is_from_to, yields_for, reference, instant_of, tick_before, waiting_point};
+ghost use Rattle.tsb_objects.specs.Instants.{force_off, late_end, is_from_to, yields_for, end_within, reference, instant_of, tick_before, waiting_point};
 ghost use Rattle.tsb_plan.specs.Parts.{cycle, is_used, unless_zero};
 ghost use Rattle.tsb_plan.specs.PlanOf.{plan_of};
-ghost use Rattle.tsb_types.specs.Sets.{has};
+ghost use Rattle.tsb_plan.specs.Running.{split_in_effect};
+ghost use Rattle.tsb_types.specs.Sets.{has, names};
 
-use crate::instants::{instant, reference};
+use crate::instants::{counted_from, instant, reference};
 use crate::late_ends::{late_end, yields_for};
 use tsb_plan::Plan;
 use tsb_types::{Pattern, Phase, PhaseSet};
@@ -67,7 +68,7 @@ impl PatternTables {
             pedestrian_recycle: in_effect(plan, Asked::PedestrianRecycle),
             instants: words,
             ends: ends(plan, &words),
-            waiting_points: waiting_points(plan),
+            waiting_points: waiting_points(plan, &words),
         }
     }
 }
@@ -110,41 +111,93 @@ fn phases_so(plan: &Plan, k: usize, asked: Asked) -> PhaseSet
     set
 }
 
+/// Whether a split table is in effect while the pattern of word `k` runs.
+fn has_split(plan: &Plan, k: usize) -> bool
+    requires { k < 17 }
+    ensures { result ≡ is_some (split_in_effect (plan_of plan.now) (unless_zero k)) }
+{
+    match runs_at(k) {
+        None => false,
+        Some(n) => plan.split_of(n).is_some(),
+    }
+}
+
+/// The phases of which it is so while the pattern of word `k` runs, as a list: without a split table those of free
+/// operation, which are handed in.
+fn list_so(plan: &Plan, k: usize, asked: Asked, free: u16) -> u16
+    requires word { k < 17 }
+    requires free { (p : ℕ) → 1 ≤ p → p ≤ 16 → names free p ≡ is_so asked (plan_of plan.now) None p }
+    ensures { (p : ℕ) → 1 ≤ p → p ≤ 16 → names result p ≡ is_so asked (plan_of plan.now) (unless_zero k) p }
+{
+    if has_split(plan, k) {
+        phases_so(plan, k, asked).list()
+    } else {
+        free
+    }
+}
+
 /// The phases of which it is so, in free operation and in each pattern.
 fn in_effect(plan: &Plan, asked: Asked) -> [u16; 17]
     ensures full { length result ≡ 17 }
     ensures told { AreInEffect (plan_of plan.now) asked result }
 {
+    let free = phases_so(plan, 0, asked).list();
     let mut words = [0; 17];
     for k in 0..17 {
-        words[k] = phases_so(plan, k, asked).list();
+        words[k] = list_so(plan, k, asked, free);
     }
     words
 }
 
-/// The force-off instant of a phase in a pattern, as a word. It has no meaning for a pattern that is not used.
-fn instant_word(plan: &Plan, n: Pattern, p: Phase) -> u16
-    ensures { is_used (plan_of plan.now) n ≡ true → instant_in result ≡ force_off (plan_of plan.now) (Some n) p }
+/// The force-off instant of a phase in a pattern that is used, as a word, by what the pattern's are counted from.
+fn instant_word(plan: &Plan, n: Pattern, from: &Option<u32>, p: Phase) -> u16
+    requires used { is_used (plan_of plan.now) n ≡ true }
+    requires from { from.now ≡ end_within (plan_of plan.now) n (reference (plan_of plan.now) n) }
+    requires range { IfSome from.now (λ i. i < 2550) }
+    ensures { instant_in result ≡ force_off (plan_of plan.now) (Some n) p }
 {
-    if !plan.is_used(n) {
-        return NEVER;
-    }
-    match instant(plan, n, p) {
+    match instant(plan, n, from, p) {
         Some(at) => at as u16,
         None => NEVER,
     }
 }
 
-/// The force-off instants of all phases in each pattern.
+/// How many words come before those of a pattern, in an array with 16 for each pattern.
+#[inline(always)]
+fn words_before(n: Pattern) -> usize
+    ensures same { result ≡ 16 * (n - 1) }
+    ensures within { result ≤ 240 }
+{
+    16 * (usize::from(n.number()) - 1)
+}
+
+/// Puts the force-off instants of all phases in a pattern that is used among those of each pattern.
+fn put_instants(plan: &Plan, n: Pattern, words: &mut [u16; 256])
+    requires used { is_used (plan_of plan.now) n ≡ true }
+    ensures full { length words.new ≡ 256 }
+    ensures told { (p : ℕ) → 1 ≤ p → p ≤ 16 →
+        instant_in (slice_index words.new (16 * (n - 1) + (p - 1))) ≡ force_off (plan_of plan.now) (Some n) p }
+    ensures others { (m p : ℕ) → m ≢ n → 1 ≤ m → 1 ≤ p → p ≤ 16 →
+        slice_index words.new (16 * (m - 1) + (p - 1)) ≡ slice_index words.old (16 * (m - 1) + (p - 1)) }
+{
+    let from = counted_from(plan, n);
+    let before = words_before(n);
+    for number in 1..17u8 {
+        words[before + (usize::from(number) - 1)] = instant_word(plan, n, &from, Phase::of(number));
+    }
+}
+
+/// The force-off instants of all phases in each pattern. They have no meaning for a pattern that is not used.
 fn instants(plan: &Plan) -> [u16; 256]
     ensures full { length result ≡ 256 }
     ensures told { AreInstants (plan_of plan.now) result }
 {
     let mut words = [NEVER; 256];
-    for k in 0..256usize {
-        let pattern = Pattern::of((k / 16) as u8 + 1);
-        let phase = Phase::of((k % 16) as u8 + 1);
-        words[k] = instant_word(plan, pattern, phase);
+    for number in 1..17u8 {
+        let n = Pattern::of(number);
+        if plan.is_used(n) {
+            put_instants(plan, n, &mut words);
+        }
     }
     words
 }
@@ -163,45 +216,67 @@ fn late_until(cycle: u32, at: u32, late: &Option<u32>) -> u32
     }
 }
 
-/// The tick of the local counter behind the last one at which a phase is forced off in a pattern, by the word of its
-/// instant, counted on past the cycle; 0 where it has none. It has no meaning for a pattern that is not used.
-fn end_word(plan: &Plan, n: Pattern, p: Phase, at: u16) -> u16
-    requires below { is_used (plan_of plan.now) n ≡ true → IfSome (instant_in at) (λ i. i < 2550) }
-    ensures { is_used (plan_of plan.now) n ≡ true →
-        result ≡ end_behind (cycle (plan_of plan.now) n) (instant_in at) (late_end (plan_of plan.now) (Some n) p)
-        (yields_for (plan_of plan.now) n p) }
+/// The tick of the local counter behind the last one at which a phase is forced off in a pattern that is used, by the
+/// words of all instants, counted on past the cycle; 0 where it has none.
+fn end_word(plan: &Plan, instants: &[u16; 256], n: Pattern, p: Phase) -> u16
+    requires used { is_used (plan_of plan.now) n ≡ true }
+    requires told { AreInstants (plan_of plan.now) instants.now }
+    ensures { result ≡ end_behind (cycle (plan_of plan.now) n) (force_off (plan_of plan.now) (Some n) p)
+        (late_end (plan_of plan.now) (Some n) p) (yields_for (plan_of plan.now) n p) }
 {
-    if at == NEVER || !plan.is_used(n) {
-        return 0;
+    match instant_at(instants, n, p) {
+        None => 0,
+        Some(at) => {
+            let late = late_until(plan.cycle(n), at, &late_end(plan, instants, n, p));
+            (at + yields_for(plan, n, p) + 1).max(late) as u16
+        }
     }
-    let at = u32::from(at);
-    let late = late_until(plan.cycle(n), at, &late_end(plan, n, p));
-    (at + yields_for(plan, n, p) + 1).max(late) as u16
 }
 
-/// The ticks behind the last ones at which phases are forced off in each pattern, by the words of their instants.
+/// Puts the ticks behind the last ones at which phases are forced off in a pattern that is used among those of each
+/// pattern, by the words of all instants.
+fn put_ends(plan: &Plan, instants: &[u16; 256], n: Pattern, words: &mut [u16; 256])
+    requires used { is_used (plan_of plan.now) n ≡ true }
+    requires told { AreInstants (plan_of plan.now) instants.now }
+    ensures full { length words.new ≡ 256 }
+    ensures told { (p : ℕ) → 1 ≤ p → p ≤ 16 →
+        slice_index words.new (16 * (n - 1) + (p - 1)) ≡ end_behind (cycle (plan_of plan.now) n)
+        (force_off (plan_of plan.now) (Some n) p) (late_end (plan_of plan.now) (Some n) p) (yields_for (plan_of plan.now) n p) }
+    ensures others { (m p : ℕ) → m ≢ n → 1 ≤ m → 1 ≤ p → p ≤ 16 →
+        slice_index words.new (16 * (m - 1) + (p - 1)) ≡ slice_index words.old (16 * (m - 1) + (p - 1)) }
+{
+    let before = words_before(n);
+    for number in 1..17u8 {
+        words[before + (usize::from(number) - 1)] = end_word(plan, instants, n, Phase::of(number));
+    }
+}
+
+/// The ticks behind the last ones at which phases are forced off in each pattern, by the words of their instants. They
+/// have no meaning for a pattern that is not used.
 fn ends(plan: &Plan, instants: &[u16; 256]) -> [u16; 256]
     requires told { AreInstants (plan_of plan.now) instants.now }
     ensures full { length result ≡ 256 }
     ensures told { AreEnds (plan_of plan.now) result }
 {
     let mut words = [0; 256];
-    for k in 0..256usize {
-        let pattern = Pattern::of((k / 16) as u8 + 1);
-        let phase = Phase::of((k % 16) as u8 + 1);
-        words[k] = end_word(plan, pattern, phase, instants[k]);
+    for number in 1..17u8 {
+        let n = Pattern::of(number);
+        if plan.is_used(n) {
+            put_ends(plan, instants, n, &mut words);
+        }
     }
     words
 }
 
-/// Where each pattern waits while its local counter comes into step.
-fn waiting_points(plan: &Plan) -> [u16; 16]
+/// Where each pattern waits while its local counter comes into step, by the words of all instants.
+fn waiting_points(plan: &Plan, instants: &[u16; 256]) -> [u16; 16]
+    requires told { AreInstants (plan_of plan.now) instants.now }
     ensures full { length result ≡ 16 }
     ensures told { AreWaitingPoints (plan_of plan.now) result }
 {
     let mut words = [0; 16];
     for k in 0..16usize {
-        words[k] = waiting_word(plan, Pattern::of(k as u8 + 1));
+        words[k] = waiting_word(plan, instants, Pattern::of(k as u8 + 1));
     }
     words
 }
@@ -220,8 +295,9 @@ fn tick_before(cycle: u32, instant: &Option<u32>) -> u32
     }
 }
 
-/// Where a pattern waits, as a word. It has no meaning for a pattern that is not used.
-fn waiting_word(plan: &Plan, n: Pattern) -> u16
+/// Where a pattern waits, as a word, by the words of all instants. It has no meaning for a pattern that is not used.
+fn waiting_word(plan: &Plan, instants: &[u16; 256], n: Pattern) -> u16
+    requires told { AreInstants (plan_of plan.now) instants.now }
     ensures { is_used (plan_of plan.now) n ≡ true → result ≡ waiting_point (plan_of plan.now) n }
 {
     if !plan.is_used(n) {
@@ -229,7 +305,7 @@ fn waiting_word(plan: &Plan, n: Pattern) -> u16
     }
     match reference(plan, n) {
         None => 0,
-        Some(c) => tick_before(plan.cycle(n), &instant(plan, n, c)) as u16,
+        Some(c) => tick_before(plan.cycle(n), &instant_at(instants, n, c)) as u16,
     }
 }
 

@@ -56,7 +56,7 @@ pub(crate) fn of_eight(unions: &[u16; 256], numbers: NumberSet) -> PhaseSet
 }
 
 /// For each set of numbers from 1 to 8, as a list, the phases in the set of one of them, as a list: number 1 stands for
-/// the set after the first `before`.
+/// the set after the first `before`. With each number the words so far are made once more, with its set besides.
 pub(crate) fn unions_of_eight(sets: &[u16; 16], before: usize) -> [u16; 256]
     requires { before ≤ 8 }
     ensures full { length result ≡ 256 }
@@ -64,13 +64,13 @@ pub(crate) fn unions_of_eight(sets: &[u16; 16], before: usize) -> [u16; 256]
         names (slice_index result k) p ≡ some_passes (λ n. names k n && names (slice_index sets.now (before + (n - 1))) p) (run_from 1 8) }
 {
     let mut unions = [0; 256];
-    for k in 0..SETS {
-        let numbers = NumberSet::from_list(k);
-        if let Some(least) = numbers.first() {
-            let others = numbers.with(least, false).list();
-            let set = sets[before + (usize::from(least) - 1)];
-            unions[usize::from(k)] = unions[usize::from(others)] | set;
+    let mut made = 1usize;
+    for place in 0..8usize {
+        let set = sets[before + place];
+        for k in 0..made {
+            unions[made + k] = unions[k] | set;
         }
+        made *= 2;
     }
     unions
 }

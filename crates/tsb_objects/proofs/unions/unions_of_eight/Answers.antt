@@ -1,83 +1,53 @@
-use Rattle.std.proofs.Common.{◌≡◌, ◌≢◌, ℕ, ◌+◌, ◌-◌, ◌<◌, ◌≤◌, ◌&&◌, Bool, true, List, get_or, length, slice_set, bit_or, arith, refl, sym, ◌∙◌, ap}
+use Rattle.std.proofs.Common.{suc, ◌≡◌, ◌≢◌, ℕ, ◌+◌, ◌-◌, ◌^◌, ◌<◌, ◌≤◌, ◌&&◌, Bool, List, get_or, slice_set, bit_or, arith, refl, subst, ◌∙◌, ap}
 use Rattle.std.proofs.lemmas.List.{get_or-replicate, get_or-set_same, get_or-set_other, length-set}
+use Rattle.std.proofs.Math.Pow.{pow_mono}
 use Rattle.tsb_types.specs.Lists.{some_passes, run_from}
 use Rattle.tsb_types.specs.Sets.{names}
-use Rattle.tsb_objects.proofs.UnionLemmas.{names-within, less-without, union-more, union-none, told-next}
+use Rattle.tsb_types.proofs.SetLemmas.{names-above, names-zero}
+use Rattle.tsb_objects.proofs.UnionLemmas.{names-more, names-before, union-more, union-none, told-next}
 use Rattle.tsb_objects.proofs.unions.unions_of_eight.Goals as goal
-use Rattle.tsb_objects.proofs.unions.unions_of_eight.Goals.{in-Some, in_default}
 
-pub loop-k-init : goal.loop-k-init
-loop-k-init c = record {
+pub loop-place-init : goal.loop-place-init
+loop-place-init c = record {
   full = refl;
-  told = λ j p below. absurd (omega (arith, below));
-  rest = λ j above below. get_or-replicate 256 j 0 0 below;
+  made = refl;
+  told = λ j p below.
+      let none : j ≡ 0 = omega (arith, below) in
+      union-none j _ (λ n q. names (get_or c.args.sets.now (c.args.before + (n - 1)) 0) q) (λ n. rw none (names-zero n)) (get_or-replicate 256 j 0 0 (omega (arith, below))) p;
 }
-
-pub bounds-sets-before : goal.bounds-sets-before
-bounds-sets-before c =
-    let least : ℕ = c.in-Some.least in
-    let small : c.loop-k.k < 256 = omega (arith, c.loop-k-test.true) in
-    let within : least ≤ 8 = names-within c.loop-k.k least small (sym (c.from_list-numbers.ensures.named least) ∙ c.in-Some.ensures.had) in
-    omega (arith, within, c.from.ensures, c.in-Some.ensures.from_one, c.requires)
-
-pub bounds-unions-from : goal.bounds-unions-from
-bounds-unions-from c =
-    let less : c.list-others.result < c.loop-k.k =
-    less-without c.from_list-numbers.result c.with.result c.loop-k.k c.list-others.result c.from_list-numbers.ensures.same
-    (c.with.ensures.smaller refl c.in-Some.ensures.had) (omega arith) (omega arith) c.list-others.ensures in
-    omega (arith, less, c.from-in-Some.ensures, c.loop-k-test.true)
 
 pub loop-k-preserved : goal.loop-k-preserved
 loop-k-preserved c =
     let held = c.loop-k.invariant in
+    let d : ℕ = c.loop-place.place in
     let k : ℕ = c.loop-k.k in
-    let small : k < 256 = omega (arith, c.loop-k-test.true) in
+    let made : ℕ = c.loop-place.made in
+    let few : k < made = omega (arith, c.loop-k-test.true) in
+    let fits : k < 2 ^ d = subst (λ (m : ℕ). k < m) held.made few in
+    let most : 2 ^ d ≤ 2 ^ 7 = pow_mono {j = 7} (omega (arith, held.place)) in
+    let small : made + k < 256 = omega (arith, held.made, few, most) in
     let words : List ℕ = c.loop-k.unions in
-    let after : List ℕ = c.match-first.unions in
-    let sets : List ℕ = c.args.sets.now in
-    let set_of : ℕ → ℕ = λ n. get_or sets (c.args.before + (n - 1)) 0 in
+    let set : ℕ = get_or c.args.sets.now (c.args.before + d) 0 in
+    let word : ℕ = bit_or (get_or words k 0) set in
+    let after : List ℕ = slice_set words (made + k) word in
+    let set_of : ℕ → ℕ = λ n. get_or c.args.sets.now (c.args.before + (n - 1)) 0 in
     let union : ℕ → ℕ → Bool = λ j p. some_passes (λ n. names j n && names (set_of n) p) (run_from 1 8) in
-    let named : (n : ℕ) → names k n ≡ names c.from_list-numbers.result.word n = λ n. sym (c.from_list-numbers.ensures.named n) in
-    elim c.match-first.branch [
-      | in-Some w ↦
-          let least : ℕ = w.in-Some.least in
-          let had : names k least ≡ true = named least ∙ w.in-Some.ensures.had in
-          let others : ℕ = w.list-others.result in
-          let less : others < k =
-          less-without c.from_list-numbers.result w.with.result k others c.from_list-numbers.ensures.same
-          (w.with.ensures.smaller refl w.in-Some.ensures.had) (omega arith) (omega arith) w.list-others.ensures in
-          let made : ℕ → ℕ → ℕ → List ℕ = λ at from n. slice_set words at (bit_or (get_or words from 0) (set_of n)) in
-          let after_is : after ≡ made k others least =
-          w.unions-is
-          ∙ ap (λ (at : ℕ). made at w.from-in-Some.result w.from.result) w.from-in-Some-2.ensures
-          ∙ ap (λ (from : ℕ). made k from w.from.result) w.from-in-Some.ensures
-          ∙ ap (λ (n : ℕ). made k others n) w.from.ensures in
-          let there : (j : ℕ) → j ≢ k → get_or after j 0 ≡ get_or words j 0 =
-          λ j apart. ap (λ (xs : List ℕ). get_or xs j 0) after_is ∙ get_or-set_other words k j (bit_or (get_or words others 0) (set_of least)) 0 apart in
-          let here : get_or after k 0 ≡ bit_or (get_or words others 0) (set_of least) =
-          ap (λ (xs : List ℕ). get_or xs k 0) after_is
-          ∙ get_or-set_same words k (bit_or (get_or words others 0) (set_of least)) 0 (omega (arith, held.full, small)) in
-          record {
-            full = ap length after_is ∙ length-set words k (bit_or (get_or words others 0) (set_of least)) ∙ held.full;
-            told =
-                told-next union words after k held.told
-                (λ p. ap (λ (word : ℕ). names word p) here
-                ∙ union-more k others least (get_or words others 0) (set_of least) (λ n. names (set_of n) p) w.in-Some.ensures.from_one
-                (names-within k least small had) had (w.list-others.ensures least ∙ w.with.ensures.set)
-                (λ n apart. w.list-others.ensures n ∙ w.with.ensures.others n apart ∙ sym (named n)) p refl (held.told others p less))
-                there;
-            rest = λ j above below. there j (omega (arith, above)) ∙ held.rest j (omega (arith, above)) below;
-          }
-      | in_default w ↦
-          let after_is : after ≡ words = w.unions-is in
-          let there : (j : ℕ) → get_or after j 0 ≡ get_or words j 0 = λ j. ap (λ (xs : List ℕ). get_or xs j 0) after_is in
-          record {
-            full = ap length after_is ∙ held.full;
-            told =
-                told-next union words after k held.told
-                (union-none k (get_or after k 0) (λ n p. names (set_of n) p) (λ n. named n ∙ w.in_default.ensures.none refl n)
-                (there k ∙ held.rest k (omega arith) small))
-                (λ j apart. there j);
-            rest = λ j above below. there j ∙ held.rest j (omega (arith, above)) below;
-          }
-    ]
+    let list_is : made + k ≡ 2 ^ d + k = ap (λ (m : ℕ). m + k) held.made in
+    let number : d ≡ suc d - 1 = omega arith in
+    let set_is : set ≡ set_of (suc d) = ap (λ (m : ℕ). get_or c.args.sets.now (c.args.before + m) 0) number in
+    let here : get_or after (made + k) 0 ≡ word = get_or-set_same words (made + k) word 0 (omega (arith, held.full, small)) in
+    let there : (j : ℕ) → j ≢ made + k → get_or after j 0 ≡ get_or words j 0 = λ j apart. get_or-set_other words (made + k) j word 0 apart in
+    record {
+      full = length-set words (made + k) word ∙ held.full;
+      made = held.made;
+      place = held.place;
+      set = held.set;
+      told = λ j p below.
+          told-next union words after (made + k) held.told
+          (λ q. ap (λ (x : ℕ). names x q) here
+          ∙ union-more (made + k) k (suc d) (get_or words k 0) set (λ n. names (set_of n) q) (omega arith) (omega (arith, held.place))
+          (rw list_is (names-more d k fits)) (names-above d (suc d) k fits (omega arith))
+          (λ n apart. rw list_is (names-before d k n fits apart)) q (ap (λ (x : ℕ). names x q) set_is)
+          (held.told k q (omega (arith, few))))
+          there j p (omega (arith, below));
+    }
