@@ -98,7 +98,18 @@ fn is_so(plan: &Plan, k: usize, asked: Asked, phase: Phase) -> bool
     }
 }
 
+/// The set with the phase if `on`, for a set that does not have it yet: it only adds.
+#[inline(always)]
+fn joined(set: PhaseSet, p: Phase, on: bool) -> PhaseSet
+    requires { has set p ≡ false }
+    ensures set { has result p ≡ on }
+    ensures others { (q : ℕ) → q ≢ p → has result q ≡ has set q }
+{
+    if on { set.with(p, true) } else { set }
+}
+
 /// The phases of which it is so while the pattern of word `k` runs.
+#[inline(always)]
 fn phases_so(plan: &Plan, k: usize, asked: Asked) -> PhaseSet
     requires { k < 17 }
     ensures { (p : ℕ) → 1 ≤ p → p ≤ 16 → has result p ≡ is_so asked (plan_of plan.now) (unless_zero k) p }
@@ -106,7 +117,7 @@ fn phases_so(plan: &Plan, k: usize, asked: Asked) -> PhaseSet
     let mut set = PhaseSet::empty();
     for number in 1..17 {
         let phase = Phase::of(number);
-        set = set.with(phase, is_so(plan, k, asked, phase));
+        set = joined(set, phase, is_so(plan, k, asked, phase));
     }
     set
 }
@@ -124,6 +135,7 @@ fn has_split(plan: &Plan, k: usize) -> bool
 
 /// The phases of which it is so while the pattern of word `k` runs, as a list: without a split table those of free
 /// operation, which are handed in.
+#[inline(always)]
 fn list_so(plan: &Plan, k: usize, asked: Asked, free: u16) -> u16
     requires word { k < 17 }
     requires free { (p : ℕ) → 1 ≤ p → p ≤ 16 → names free p ≡ is_so asked (plan_of plan.now) None p }
@@ -136,7 +148,9 @@ fn list_so(plan: &Plan, k: usize, asked: Asked, free: u16) -> u16
     }
 }
 
-/// The phases of which it is so, in free operation and in each pattern.
+/// The phases of which it is so, in free operation and in each pattern. It is inlined, so that what is asked is
+/// settled before its loops.
+#[inline(always)]
 fn in_effect(plan: &Plan, asked: Asked) -> [u16; 17]
     ensures full { length result ≡ 17 }
     ensures told { AreInEffect (plan_of plan.now) asked result }
@@ -314,7 +328,7 @@ fn waiting_word(plan: &Plan, instants: &[u16; 256], n: Pattern) -> u16
 pub(crate) fn instant_at(words: &[u16; 256], n: Pattern, p: Phase) -> Option<u32>
     ensures { result ≡ instant_in (slice_index words.now (16 * (n - 1) + (p - 1))) }
 {
-    let at = words[16 * (usize::from(n.number()) - 1) + (usize::from(p.number()) - 1)];
+    let at = words[words_before(n) + (usize::from(p.number()) - 1)];
     if at == NEVER {
         None
     } else {
@@ -328,16 +342,6 @@ pub(crate) fn waiting_at(words: &[u16; 16], n: Pattern) -> u32
     ensures { result ≡ slice_index words.now (n - 1) }
 {
     u32::from(words[usize::from(n.number()) - 1])
-}
-
-/// The set with the phase if `on`, for a set that does not have it yet: it only adds.
-#[inline(always)]
-fn joined(set: PhaseSet, p: Phase, on: bool) -> PhaseSet
-    requires { has set p ≡ false }
-    ensures set { has result p ≡ on }
-    ensures others { (q : ℕ) → q ≢ p → has result q ≡ has set q }
-{
-    if on { set.with(p, true) } else { set }
 }
 
 /// The tick of the local counter behind the permissive time of a coordinated phase, from the words of all instants and
@@ -354,7 +358,7 @@ pub(crate) fn permissive_end_at(
     ensures { result ≡ permissive_end_in cycle (slice_index instants.now (16 * (n - 1) + (p - 1)))
         (slice_index ends.now (16 * (n - 1) + (p - 1))) }
 {
-    let place = 16 * (usize::from(n.number()) - 1) + (usize::from(p.number()) - 1);
+    let place = words_before(n) + (usize::from(p.number()) - 1);
     let at = u32::from(instants[place]);
     let end = u32::from(ends[place]);
     if at + 1 < end {
@@ -379,7 +383,7 @@ pub(crate) fn forced_in(
         has result p ≡ is_from_to cycle local (slice_index instants.now (16 * (n - 1) + (p - 1)))
         (slice_index ends.now (16 * (n - 1) + (p - 1))) }
 {
-    let first = 16 * (usize::from(n.number()) - 1);
+    let first = words_before(n);
     let from_last = u64::from(local) + u64::from(cycle);
     let mut set = PhaseSet::empty();
     for number in 1..17u8 {

@@ -55,7 +55,7 @@ fn numbers_at(plan: &Plan, object: Object, wanted: u32) -> NumberSet
 {
     let mut set = NumberSet::empty();
     for number in 1..object.indices() + 1 {
-        set = set.with(number as u8, plan.at(object, number) == wanted);
+        set = set.joined(number as u8, plan.at(object, number) == wanted);
     }
     set
 }
@@ -75,7 +75,7 @@ pub(crate) fn numbers_with(plan: &Plan, object: Object) -> NumberSet
 {
     let mut set = NumberSet::empty();
     for number in 1..object.indices() + 1 {
-        set = set.with(number as u8, plan.at(object, number) != 0);
+        set = set.joined(number as u8, plan.at(object, number) != 0);
     }
     set
 }
