@@ -1,17 +1,19 @@
 -- What rows say at whatever tick they are read; that a phase which a tick left as it was has not moved; and what a tick
 -- tells, as sets.
 use Rattle.std.proofs.Common.{zero, suc, ◌≡◌, ℕ, ◌+◌, ◌-◌, ◌≤◌, Bool, true, false, ◌&&◌, if◌then◌else◌, List, Option, Some, None, is_some, is_none, option_map, refl, sym, ap, ◌∙◌, inl, inr, arith, subst, slice_index}
-use Rattle.std.proofs.lemmas.Bool.{cases_Bool, true≢false}
+use Rattle.std.proofs.lemmas.Bool.{cases_Bool, and_parts, true≢false}
 use Rattle.tsb_cells.specs.declared.timer.Timer.TheVariants.{Off, On}
 use Rattle.tsb_cells.specs.Timer.{timer_at}
 use Rattle.tsb_cells.proofs.TimerLemmas.{timer_at-on}
 use Rattle.tsb_step.specs.tsb_types.declared.flow.Timing.{Timing}
 use Rattle.tsb_step.specs.tsb_types.declared.interval.Interval.{Interval}
 use Rattle.tsb_step.specs.tsb_types.declared.interval.Interval.TheVariants.{Red, Green, Yellow, RedClear}
+use Rattle.tsb_step.specs.tsb_types.declared.interval.PedestrianInterval.{PedestrianInterval}
+use Rattle.tsb_step.specs.tsb_types.declared.interval.PedestrianInterval.TheVariants.{DontWalk, Walk, PedestrianClear}
 use Rattle.tsb_step.specs.tsb_types.declared.phase_set.PhaseSet.{PhaseSet}
 use Rattle.tsb_step.specs.tsb_types.declared.stage.Stage.{Stage}
 use Rattle.tsb_step.specs.tsb_types.Clip.{Agree}
-use Rattle.tsb_step.specs.tsb_types.Intervals.{is_green}
+use Rattle.tsb_step.specs.tsb_types.Intervals.{is_green, is_dont_walk}
 use Rattle.tsb_step.specs.tsb_types.Sets.{has, is_phase, list_of, set_of_list}
 use Rattle.tsb_step.proofs.tsb_types.ClipLemmas.{among_16}
 use Rattle.tsb_step.proofs.tsb_types.SetLemmas.{names-list_of}
@@ -22,8 +24,9 @@ use Rattle.tsb_detect.specs.Detector.{Detector, is_detector}
 use Rattle.tsb_phase.specs.Cells as phase_cells
 use Rattle.tsb_phase.specs.Cells.{phase_in, row_in}
 use Rattle.tsb_phase.specs.Next as phase_next
-use Rattle.tsb_phase.specs.Next.{interval_after}
+use Rattle.tsb_phase.specs.Next.{interval_after, new_pedestrian}
 use Rattle.tsb_phase.specs.Pedestrian as pedestrian
+use Rattle.tsb_phase.specs.Pedestrian.{may_walk_again, pedestrian_after, pedestrian_now}
 use Rattle.tsb_phase.specs.Phase as phase
 use Rattle.tsb_phase.specs.Phase.{Phase, as_read}
 use Rattle.tsb_phase.specs.Promises.{read_in}
@@ -120,6 +123,13 @@ no-clear plan m p w Green on finished e = true≢false (sym finished)
 no-clear plan m p w Yellow on finished e = let no : Red ≡ Yellow = rw on at e in absurd cc
 no-clear plan m p w RedClear on finished e = let no : Red ≡ RedClear = rw on at e in absurd cc
 
+-- a walk that begins within a green changes its part
+no-walk : (plan : Plan) (given : phase.Given) (p : ℕ) (w : Phase) (part : PedestrianInterval) → is_dont_walk part ≡ true → may_walk_again given p w ≡ true →
+    pedestrian_after plan given p w part ≡ part → ⊥
+no-walk plan given p w DontWalk none again e = let no : Walk ≡ DontWalk = rw again at e in absurd cc
+no-walk plan given p w Walk none again e = true≢false (sym none)
+no-walk plan given p w PedestrianClear none again e = true≢false (sym none)
+
 module _ (now : ℕ) (plan : Plan) (cells : List ℕ) (given : phase.Given) (m : phase.Moved) (p : ℕ) (one : 1 ≤ now) (by : phase_cells.IsBy (now - 1) cells)
     (same : phase_in now cells p ≡ phase_next.next plan given m p (phase_in (now - 1) cells p)) where
   abbrev pub was : Phase
@@ -156,6 +166,20 @@ module _ (now : ℕ) (plan : Plan) (cells : List ℕ) (given : phase.Given) (m :
   unfolding is_over
   clears-off overs = elim (cases_Bool (m.clears p)) [
     | inl on ↦ absurd (no-clear plan m p (as_read was) was.interval on (overs on) after-same)
+    | inr off ↦ off
+  ]
+
+  part-same : new_pedestrian plan given m p (as_read was) ≡ was.pedestrian
+  part-same = sym (ap (λ (x : Phase). x.pedestrian) same) ∙ part-at now (now - 1) cells p
+
+  pub walks-off : m.ends p ≡ false → pedestrian.walks_again given p (as_read was) ≡ false
+  unfolding pedestrian_now
+  walks-off stays = elim (cases_Bool (pedestrian.walks_again given p (as_read was))) [
+    | inl on ↦
+        (let both = and_parts (is_dont_walk was.pedestrian) (may_walk_again given p (as_read was)) on in
+        let green : is_green was.interval ≡ true = (and_parts (is_green was.interval) _ both.1).0 in
+        let after : pedestrian_after plan given p (as_read was) was.pedestrian ≡ was.pedestrian = rw (starts-off, stays, green) at part-same in
+        absurd (no-walk plan given p (as_read was) was.pedestrian both.0 both.1 after))
     | inr off ↦ off
   ]
 

@@ -6,6 +6,7 @@ mod PlacedLemmas
 mod MovesLemmas
 mod TickLemmas
 mod LaterLemmas
+mod KeptLemmas
 mod PassLemmas
 mod StillLemmas
 mod SameLemmas

@@ -28,15 +28,13 @@ use Rattle.tsb_calls.specs.Callable as called_words
 use Rattle.tsb_calls.specs.Cells.{memories_in}
 use Rattle.tsb_calls.specs.Looks as calls_looks
 use Rattle.tsb_calls.specs.Memories as memories_words
-use Rattle.tsb_calls.specs.Memories.{Memories, as_set, has_output}
+use Rattle.tsb_calls.specs.Memories.{as_set, has_output}
 use Rattle.tsb_calls.specs.Promises as calls
 use Rattle.tsb_calls.specs.Settled as settled
-use Rattle.tsb_calls.proofs.LookLemmas.{look-alike}
 use Rattle.tsb_phase.specs.Cells.{phase_in}
 use Rattle.tsb_phase.specs.Laws as phase_laws
 use Rattle.tsb_phase.specs.Laws.{IsToldTheSame, MoveAlike}
 use Rattle.tsb_phase.specs.Next as phase_next
-use Rattle.tsb_phase.specs.Next.{new_interval}
 use Rattle.tsb_phase.specs.Phase as phase
 use Rattle.tsb_phase.specs.Phase.{none_moved}
 use Rattle.tsb_phase.specs.Promises as phases
@@ -49,7 +47,6 @@ use Rattle.tsb_ring.specs.Moves as ring_moves
 use Rattle.tsb_ring.specs.Moves.{is_ended, is_cleared, is_started}
 use Rattle.tsb_ring.specs.Next as rings_next
 use Rattle.tsb_ring.specs.Rings.{number}
-use Rattle.tsb_ring.proofs.MoveLemmas.{ends_ready, clears_over}
 use Rattle.tsb_coord.specs.Cells.{pattern_in, correction_in}
 use Rattle.tsb_coord.specs.Coordinated as coordination
 use Rattle.tsb_coord.specs.Correction.{forces, lets_walk_again}
@@ -64,17 +61,17 @@ use Rattle.tsb_transact.specs.Desk.{Desk}
 use Rattle.tsb_step.specs.State.{State, interval, pedestrian_part}
 use Rattle.tsb_step.specs.Tick as tick
 use Rattle.tsb_step.specs.Tick.{preempts_given, calls_given, phases_given, rings_given, new_detectors, callable, ready, over, reverted, gapped, walks_again, runs, hold, omitted, forced, recycle, service, service_ended, target, moves, moved, done, next}
-use Rattle.tsb_step.proofs.ClipLemmas.{clipped_holds}
 use Rattle.tsb_controller.specs.Found.{observed}
 use Rattle.tsb_controller.specs.Passing.{ArePhasesStill, AreOthersStill}
 use Rattle.tsb_controller.specs.Promises.{IsTicked}
 use Rattle.tsb_controller.specs.Rows.{Rows, AreBy, untripped, state_of}
 use Rattle.tsb_controller.proofs.PlacedLemmas.{IsPlaced}
-use Rattle.tsb_controller.proofs.TickLemmas.{green-set, timer-read, called-green, alike-own, stays}
+use Rattle.tsb_controller.proofs.TickLemmas.{green-set, timer-read, called-green, stays}
 use Rattle.tsb_controller.proofs.CarryLemmas.{same-interval}
 use Rattle.tsb_phase.proofs.StateLemmas.{outside as at-rest}
 use Rattle.tsb_controller.proofs.ChangeLemmas.{rows-stay}
-use Rattle.tsb_controller.proofs.LaterLemmas.{part-at, output-at, actuated-at, output_in, actuated_in, number_of, number-at, wanted-at, not-ended, starts-off, ends-off, clears-off, set-has, timing_of}
+use Rattle.tsb_controller.proofs.KeptLemmas as kept
+use Rattle.tsb_controller.proofs.LaterLemmas.{part-at, output-at, actuated-at, output_in, actuated_in, number_of, number-at, wanted-at, not-ended, set-has, timing_of}
 
 -- ## Two ticks
 --
@@ -96,7 +93,7 @@ module _ (now t : ℕ) (plan : Plan) (desk : Desk) (lamp : Option Lamp) (row : R
   t_is = omega arith
 
   here : state_of now (untripped plan desk lamp) r ≡ next s row
-  here = still desk lamp
+  here = kept.here now plan desk lamp row r one by still
 
   by_before : AreBy (t - 1) r
   by_before = rows-stay (now - 1) (t - 1) r (omega arith) by
@@ -126,7 +123,7 @@ module _ (now t : ℕ) (plan : Plan) (desk : Desk) (lamp : Option Lamp) (row : R
       (fun_ext (λ d. called-green u (call_phase plan d)))
 
   detectors_now : detector_in now r.detectors ≡ new_detectors s row
-  detectors_now = ap (λ (x : State). x.detectors) here
+  detectors_now = kept.detectors_now now plan desk lamp row r one by still
 
   -- ### Preempts
 
@@ -142,7 +139,7 @@ module _ (now t : ℕ) (plan : Plan) (desk : Desk) (lamp : Option Lamp) (row : R
       (o.preempts t behind sooner)
 
   preempts_now : preempts_in now r.preempts ≡ preempts_words.next plan (preempts_given s row) (preempts_in (now - 1) r.preempts)
-  preempts_now = ap (λ (x : State). x.preempts) here
+  preempts_now = kept.preempts_now now plan desk lamp row r one by still
 
   -- what is asked by a service is the same
   same-by : {A : Type 0} (f : Option Service → A) → f (preempts_in t r.preempts).service ≡ f (preempts_in now r.preempts).service →
@@ -161,9 +158,7 @@ module _ (now t : ℕ) (plan : Plan) (desk : Desk) (lamp : Option Lamp) (row : R
   target_same = same-by (wanted_by plan) (wanted-at t now plan r.preempts)
 
   ended_now : service_ended s row ≡ false
-  ended_now =
-      ap (λ (x : Preempts). is_some (service_as_read (preempts_in (now - 1) r.preempts).service) && is_none x.service) (sym preempts_now)
-      ∙ not-ended (now - 1) now r.preempts
+  ended_now = kept.ended_now now plan desk lamp row r one by still
 
   ended_then : service_ended u row ≡ false
   ended_then =
@@ -241,23 +236,11 @@ module _ (now t : ℕ) (plan : Plan) (desk : Desk) (lamp : Option Lamp) (row : R
 
   -- ### What tick `now` told, by what was seen
 
-  calls_alike : calls_looks.AgreeOnPhases (calls.given_of (observed row a.sensed)) (calls_given s row)
-  calls_alike = record {
-    output = λ d from to. a.seen.outputs_are now d from to ∙ ap (λ (f : ℕ → Detector). (f d).output) detectors_now;
-    actuated = λ d from to. a.seen.actuated_are now d from to ∙ ap (λ (f : ℕ → Detector). (f d).actuated) detectors_now;
-    button = λ d from to. refl;
-    interval = λ p from to. a.seen.shown (now - 1) p from to;
-    pedestrian_part = λ p from to. a.seen.walking (now - 1) p from to;
-    runs = a.seen.ordered.runs;
-    omitted = λ p from to. a.seen.ordered.omit p from to ∙ sym (clipped-agrees (omitted s) p from to);
-    service_ended = a.seen.standing.ended ∙ sym ended_now;
-  }
-
   look : calls_looks.LookAlike plan (calls.given_of (observed row a.sensed)) (calls_given s row)
-  look = look-alike plan (calls.given_of (observed row a.sensed)) (calls_given s row) placed.count calls_alike
+  look = kept.look now plan desk lamp row r one by still placed a.sensed a.seen
 
   as_sets : calls_looks.AreAlike (as_set plan (calls.given_of (observed row a.sensed)) s.memories) (tick.set s row)
-  as_sets = look.sets s.memories s.memories (alike-own s.memories)
+  as_sets = kept.as_sets now plan desk lamp row r one by still placed a.sensed a.seen
 
   called_alike : calls_looks.AreCalledAlike plan (calls.given_of (observed row a.sensed)) (calls_given s row)
       (as_set plan (calls.given_of (observed row a.sensed)) s.memories) (tick.set s row)
@@ -387,31 +370,11 @@ module _ (now t : ℕ) (plan : Plan) (desk : Desk) (lamp : Option Lamp) (row : R
 
   -- ### Phases
 
-  phase_now : (p : ℕ) → phase_in now r.phases p ≡ phase_next.next plan (phases_given s row) (moved s row) p (phase_in (now - 1) r.phases p)
-  phase_now p = ap (λ (x : State). x.phases p) here
-
-  starts_none : (p : ℕ) → is_started (moves s row) p ≡ false
-  starts_none p = starts-off now plan r.phases (phases_given s row) (moved s row) p one by.phases (phase_now p)
-
-  ends_none : (p : ℕ) → is_ended (moves s row) p ≡ false
-  unfolding moves rings_given
-  ends_none p = ends-off now plan r.phases (phases_given s row) (moved s row) p one by.phases (phase_now p) greens
-    where
-      greens : is_ended (moves s row) p ≡ true → is_green (interval s p) ≡ true
-      greens on = (ends_ready plan (rings_in r.rings) (rings_given s row) p on).0
-
-  clears_none : (p : ℕ) → is_cleared (moves s row) p ≡ false
-  unfolding moves rings_given
-  clears_none p = clears-off now plan r.phases (phases_given s row) (moved s row) p one by.phases (phase_now p) overs
-    where
-      overs : is_cleared (moves s row) p ≡ true → over s p ≡ true
-      overs on = clipped_holds (over s) p (clears_over plan (rings_in r.rings) (rings_given s row) p on)
-
   none-moves : (p : ℕ) → MoveAlike none_moved (moved u row) p
   none-moves p = record {
-    ends = sym (ap (λ (x : Moves). is_ended x p) moves_same ∙ ends_none p);
-    clears = sym (ap (λ (x : Moves). is_cleared x p) moves_same ∙ clears_none p);
-    starts = sym (ap (λ (x : Moves). is_started x p) moves_same ∙ starts_none p);
+    ends = sym (ap (λ (x : Moves). is_ended x p) moves_same ∙ kept.ends_none now plan desk lamp row r one by still p);
+    clears = sym (ap (λ (x : Moves). is_cleared x p) moves_same ∙ kept.clears_none now plan desk lamp row r one by still p);
+    starts = sym (ap (λ (x : Moves). is_started x p) moves_same ∙ kept.starts_none now plan desk lamp row r one by still p);
   }
 
   phases_then : phase_in t r.phases ≡ (λ p. phase_next.next plan (phases_given u row) (moved u row) p (phase_in (t - 1) r.phases p))

@@ -13,7 +13,6 @@ ghost use Rattle.tsb_controller.specs.Passing.{wanted_in, IsSeen, ArePhasesStill
 
 use crate::controller::Controller;
 use crate::values::Sensed;
-use tsb_cells::Reversible;
 use tsb_detect::Greens;
 use tsb_objects::limits::TICKS;
 use tsb_objects::{Checked, PhaseSet, Plan, Preempt, Row, Stage};
@@ -85,21 +84,20 @@ impl Controller {
         }
     }
 
-    /// The tick up to which phases stay as tick `now` left them, and report the same.
+    /// The tick up to which phases stay as tick `now` left them, and report the same. The tick set no memory and
+    /// counted no vehicle, so that calls are found from those that stand.
     #[inline(never)]
     fn phases_due(&self, now: u32, row: &Row, plan: &Checked) -> u32
-        requires closed { IsClosed self.now }
         requires begun { 1 ≤ now }
         requires in_time { now ≤ last_tick }
         requires by { AreBy (now - 1) (rows_of self.now) }
+        requires still { IsTicked now row.now (checked_plan plan.now) (rows_of self.now) (rows_of self.now) }
         ensures later { now < result }
         ensures still { ArePhasesStill now row.now (checked_plan plan.now) (rows_of self.now) result }
     {
         let seen = self.seen(now, plan);
-        let mut calls = self.calls;
-        calls.open();
-        let called = calls.tick(&seen.observed(row), plan);
-        let conditions = seen.conditions(&called, calls.vehicles());
+        let called = self.calls.called(&seen.observed(row), plan);
+        let conditions = seen.conditions(&called, self.calls.vehicles());
         self.phases.due(now, &conditions, plan)
     }
 
