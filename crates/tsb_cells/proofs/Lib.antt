@@ -1,3 +1,4 @@
+pub mod BlockLemmas
 pub mod ChangeLemmas
 pub mod DiffLemmas
 pub mod PartLemmas

@@ -1,5 +1,6 @@
 //! A row of cells that knows which part of it was written.
-ghost use Rattle.std.specs.Prelude.{◌≡◌, ◌≢◌, ℕ, ◌+◌, ◌^◌, ◌<◌, ◌≤◌, ◌++◌, true, false, length, slice_index, slice_set, replicate, take, drop};
+ghost use Rattle.std.specs.Prelude.{◌≡◌, ◌≢◌, ℕ, ◌+◌, ◌*◌, ◌/◌, ◌^◌, ◌<◌, ◌≤◌, ◌++◌, true, false, length, slice_index, slice_set, replicate, take, drop};
+ghost use Rattle.std.specs.Int.{bit_at};
 ghost use Rattle.arrayvec.specs.ArrayVec.{array_vec_len};
 ghost use Rattle.tsb_cells.specs.Diff.{diff, shifted};
 ghost use Rattle.tsb_cells.specs.Row.{row_at, with_row};
@@ -8,24 +9,23 @@ use crate::diff::Diff;
 use crate::reversible::Reversible;
 use arrayvec::ArrayVec;
 
+/// How many blocks a bank has at most: one for each bit of the word that marks those written.
+const BLOCKS: usize = 64;
+
 /// `N` cells, and what they held at the last `open`.
 ///
-/// Only the cells from `from` to before `to` can differ from those kept, so that `open` copies nothing and
-/// `close` compares only these.
+/// A cell can differ from the one kept only where `written` marks its block, so that `open` copies nothing and `close`
+/// compares only the cells of these blocks.
 #[derive(Clone, Copy)]
 pub struct Bank<const N: usize> {
     cells: [u32; N],
     kept: [u32; N],
-    from: usize,
-    to: usize,
+    written: u64,
     is_open: bool,
     ghost indexed: { N ≤ 65536 },
     ghost cells_full: { length cells ≡ N },
     ghost kept_full: { length kept ≡ N },
-    ghost ordered: { from ≤ to },
-    ghost bounded: { to ≤ N },
-    ghost same_below: { (k : ℕ) → k < from → slice_index cells k ≡ slice_index kept k },
-    ghost same_above: { (k : ℕ) → to ≤ k → slice_index cells k ≡ slice_index kept k },
+    ghost same_unmarked: { (k : ℕ) → bit_at written (k / (N / 64 + 1)) ≡ 0 → slice_index cells k ≡ slice_index kept k },
     ghost same_closed: { is_open ≡ false → cells ≡ kept },
 }
 
@@ -41,8 +41,7 @@ impl<const N: usize> Bank<N> {
         Bank {
             cells: [0; N],
             kept: [0; N],
-            from: 0,
-            to: 0,
+            written: 0,
             is_open: false,
         }
     }
@@ -67,13 +66,7 @@ impl<const N: usize> Bank<N> {
     {
         if self.cells[at] != value {
             self.cells[at] = value;
-            if self.from == self.to {
-                self.from = at;
-                self.to = at + 1;
-            } else {
-                self.from = self.from.min(at);
-                self.to = self.to.max(at + 1);
-            }
+            self.written |= 1 << (at / Self::block());
         }
     }
 
@@ -122,14 +115,53 @@ impl<const N: usize> Bank<N> {
         ensures cells { cells_of self.new ≡ cells_of self.old }
         ensures closed { is_open self.new ≡ false }
     {
-        for i in self.from..self.to {
-            let (old, new) = (self.kept[i], self.cells[i]);
-            if old != new {
-                out.push((offset + i as u16, old));
-            }
-            self.kept[i] = new;
+        let mut rest = self.written;
+        while rest != 0 {
+            let block = rest.trailing_zeros();
+            self.close_block(block as usize, out, offset);
+            rest &= !(1 << block);
         }
         self.is_open = false;
+    }
+
+    /// How many cells stand in a block.
+    #[inline(always)]
+    fn block() -> usize
+        ensures { result ≡ N / 64 + 1 }
+    {
+        N / BLOCKS + 1
+    }
+
+    /// Adds each cell of the block `block` that differs to `out`, and keeps what it holds. No cell before the block may
+    /// differ.
+    #[inline(always)]
+    fn close_block<const M: usize>(
+        &mut self,
+        block: usize,
+        out: &mut ArrayVec<(u16, u32), M>,
+        offset: u16,
+    )
+        requires opened { is_open self.old ≡ true }
+        requires within { block < 64 }
+        requires fits { offset + N ≤ 2 ^ 16 }
+        requires room { array_vec_len out.old + length (diff (kept_of self.old) (cells_of self.old)) ≤ M }
+        requires before { (k : ℕ) → k < block * (N / 64 + 1) → slice_index (cells_of self.old) k ≡ slice_index (kept_of self.old) k }
+        ensures changes { out.new.items ++ shifted offset (diff (kept_of self.new) (cells_of self.new))
+            ≡ out.old.items ++ shifted offset (diff (kept_of self.old) (cells_of self.old)) }
+        ensures here { (k : ℕ) → k / (N / 64 + 1) ≡ block → slice_index (cells_of self.new) k ≡ slice_index (kept_of self.new) k }
+        ensures others { (k : ℕ) → slice_index (cells_of self.old) k ≡ slice_index (kept_of self.old) k →
+            slice_index (cells_of self.new) k ≡ slice_index (kept_of self.new) k }
+        ensures cells { cells_of self.new ≡ cells_of self.old }
+        ensures opened { is_open self.new ≡ true }
+    {
+        let first = block * Self::block();
+        for k in 0..Self::block() {
+            let i = first + k;
+            if i < N && self.kept[i] != self.cells[i] {
+                out.push((offset + i as u16, self.kept[i]));
+                self.kept[i] = self.cells[i];
+            }
+        }
     }
 }
 
@@ -153,8 +185,7 @@ impl<const N: usize> Reversible<N> for Bank<N> {
     ghost kept_allowed = { λ b. b.kept_full };
 
     fn open(&mut self) {
-        self.from = 0;
-        self.to = 0;
+        self.written = 0;
         self.is_open = true;
     }
 
