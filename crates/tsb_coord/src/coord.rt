@@ -10,14 +10,14 @@ ghost use Rattle.tsb_objects.specs.tsb_types.declared.refusal.Refusal.{Refusal};
 ghost use Rattle.tsb_objects.specs.tsb_types.Sets.{has};
 ghost use Rattle.tsb_coord.specs.declared.TheConstants.{CELLS};
 ghost use Rattle.tsb_coord.specs.Cells.{pattern_in, correction_in, IsBy};
-ghost use Rattle.tsb_coord.specs.Correction.{forces, lets_walk_again};
 ghost use Rattle.tsb_coord.specs.Coordinated.{refusal};
 ghost use Rattle.tsb_coord.specs.Due.{KeepsOrders, IsExact};
 ghost use Rattle.tsb_coord.specs.Promises.{IsAtPowerUp, AreOrders, IsAnswered, IsSelected, correction_after, TellsLocal, TellsPattern};
 
 use crate::CELLS;
+use crate::asked::asked_in;
 use crate::coordination::Coordination;
-use crate::correction::{Correction, ahead_in, begun, skips, was_in_step};
+use crate::correction::{Correction, ahead_before, ahead_in, begun};
 use crate::counting::counter;
 use crate::waiting::ticks_to_next;
 use arrayvec::ArrayVec;
@@ -52,50 +52,6 @@ fn free() -> Coordination
         forced: PhaseSet::empty(),
         recycle: PhaseSet::empty(),
         omit: PhaseSet::empty(),
-    }
-}
-
-/// The phases that a pattern forces off in tick `now`: where its local counter is, and where it takes two steps at the
-/// first of them too.
-#[inline(always)]
-fn forced(plan: &Checked, n: Pattern, correction: Correction, now: u32) -> PhaseSet
-    requires used { is_used (checked_plan plan.now) n ≡ true }
-    requires since { correction.since ≤ TICKS }
-    requires in_time { now ≤ TICKS }
-    ensures { (p : ℕ) → 1 ≤ p → p ≤ 16 → has result p ≡ forces (checked_plan plan.now) (Some n) correction now p }
-{
-    if was_in_step(plan, n, correction, now) {
-        return plan.forced_at(n, counter(plan, n, now));
-    }
-    let clock = now + ahead_in(plan, n, correction, now);
-    let forced = plan.forced_at(n, counter(plan, n, clock));
-    if skips(plan, n, correction, now) {
-        let first = counter(plan, n, clock.saturating_sub(1));
-        return forced.union(plan.forced_at(n, first));
-    }
-    forced
-}
-
-/// The phases that a pattern lets walk again in tick `now`, where it forces these off: none while its local counter is
-/// coming into step.
-#[inline(always)]
-fn recycled(
-    plan: &Checked,
-    n: Pattern,
-    correction: Correction,
-    now: u32,
-    forced: PhaseSet,
-) -> PhaseSet
-    requires used { is_used (checked_plan plan.now) n ≡ true }
-    requires since { correction.since ≤ TICKS }
-    requires in_time { now ≤ TICKS }
-    requires told { (p : ℕ) → 1 ≤ p → p ≤ 16 → has forced p ≡ forces (checked_plan plan.now) (Some n) correction now p }
-    ensures { (p : ℕ) → 1 ≤ p → p ≤ 16 → has result p ≡ lets_walk_again (checked_plan plan.now) (Some n) correction now p }
-{
-    if was_in_step(plan, n, correction, now) {
-        plan.recycled_at(n, counter(plan, n, now), forced)
-    } else {
-        PhaseSet::empty()
     }
 }
 
@@ -236,14 +192,13 @@ impl Coord {
         match self.running(plan) {
             None => free(),
             Some(n) => {
-                let correction = self.correction();
-                let forced = forced(plan, n, correction, now);
+                let asked = asked_in(plan, n, self.correction(), now);
                 Coordination {
                     runs: Some(n),
                     sequence: plan.sequence_in_effect(Some(n)),
                     hold: plan.coordinated(Some(n)),
-                    forced,
-                    recycle: recycled(plan, n, correction, now, forced),
+                    forced: asked.forced,
+                    recycle: asked.recycle,
                     omit: plan.omitted(Some(n)),
                 }
             }
@@ -266,7 +221,7 @@ impl Coord {
             Some(n) => {
                 n.known();
                 let _consistent = plan.plan();
-                if was_in_step(plan, n, self.correction(), now) {
+                if ahead_before(plan, n, self.correction(), now) == 0 {
                     now + ticks_to_next(plan, n, counter(plan, n, now))
                 } else {
                     now + 1

@@ -1,11 +1,11 @@
 //! How the local counter comes into step once a pattern is selected while another one ran (`coordCorrectionMode`,
 //! profile). Times are in ticks.
-ghost use Rattle.std.specs.Prelude.{◌≡◌, ◌<◌, ◌≤◌, ◌-◌, ◌==◌, true, Some};
+ghost use Rattle.std.specs.Prelude.{◌≡◌, ◌<◌, ◌≤◌, ◌-◌, true, Some};
 ghost use Rattle.tsb_objects.specs.tsb_types.declared.limits.TheConstants.{TICKS};
 ghost use Rattle.tsb_objects.specs.tsb_plan.declared.plan.patterns.CorrectionMode.TheVariants.{Dwell};
 ghost use Rattle.tsb_objects.specs.tsb_plan.Parts.{cycle, is_used};
 ghost use Rattle.tsb_objects.specs.Checked.{checked_plan};
-ghost use Rattle.tsb_coord.specs.Correction.{lost, gained, longest_wait, waited, way, by_short_way, ahead_by, ahead_in, skips_in, begun, ahead_with, ahead_from};
+ghost use Rattle.tsb_coord.specs.Correction.{lost, gained, longest_wait, waited, way, by_short_way, ahead_by, ahead_in, begun, ahead_with, ahead_from};
 
 use crate::counting::{counter, cycle_of};
 use tsb_objects::{Checked, CorrectionMode, Pattern};
@@ -130,29 +130,19 @@ pub(crate) fn ahead_in(plan: &Checked, n: Pattern, correction: Correction, t: u3
     }
 }
 
-/// Whether the local counter of a pattern takes two steps in tick `t`.
-pub(crate) fn skips(plan: &Checked, n: Pattern, correction: Correction, t: u32) -> bool
-    requires used { is_used (checked_plan plan.now) n ≡ true }
-    requires since { correction.since ≤ TICKS }
-    requires in_time { t ≤ TICKS }
-    ensures { result ≡ skips_in (checked_plan plan.now) (Some n) correction t }
-{
-    let before = ahead_in(plan, n, correction, t.saturating_sub(1));
-    ahead_in(plan, n, correction, t) == (before + 1) % cycle_of(plan, n)
-}
-
-/// Whether the local counter of a pattern was in step before tick `t`; then it is in `t`, and stays so.
+/// How many ticks the local counter of a pattern was ahead before tick `t`; where it was in step, it is and stays so.
 #[inline(always)]
-pub(crate) fn was_in_step(plan: &Checked, n: Pattern, correction: Correction, t: u32) -> bool
+pub(crate) fn ahead_before(plan: &Checked, n: Pattern, correction: Correction, t: u32) -> u32
     requires used { is_used (checked_plan plan.now) n ≡ true }
     requires since { correction.since ≤ TICKS }
     requires in_time { t ≤ TICKS }
-    ensures { result ≡ (ahead_in (checked_plan plan.now) (Some n) correction (t - 1) == 0) }
+    ensures value { result ≡ ahead_in (checked_plan plan.now) (Some n) correction (t - 1) }
+    ensures small { result ≤ 2550 }
 {
     if correction.ahead == 0 {
-        return true;
+        return 0;
     }
-    ahead_in(plan, n, correction, t.saturating_sub(1)) == 0
+    ahead_in(plan, n, correction, t.saturating_sub(1))
 }
 
 /// How many ticks a counter is ahead that goes on from another one's place, by mode.

@@ -10,6 +10,7 @@
 //! which splits end, late force-off, the permissive time and how a counter comes into step are the profile's own.
 #![tactic(auto)]
 
+mod asked;
 pub mod coord;
 pub mod coordination;
 pub mod correction;
