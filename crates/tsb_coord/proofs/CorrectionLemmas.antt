@@ -12,7 +12,7 @@ use Rattle.tsb_objects.specs.tsb_plan.Parts.{is_used, cycle, offset, correction_
 use Rattle.tsb_objects.specs.tsb_plan.Running.{running}
 use Rattle.tsb_objects.specs.tsb_rules.Rules.{first_broken}
 use Rattle.tsb_coord.specs.Coordinated.{counter, local, local_in, residue_of_difference, is_at_force_off, asks_force_off, asks_recycle, is_pattern, forces_off, recycles}
-use Rattle.tsb_coord.specs.Correction.{Correction, in_step, lost, gained, longest_wait, waited, way, slower, faster, is_slower_way, by_short_way, ahead_by, within_cycle, ahead_in, clock, local_now, skips_in, skips, forces, comes_to_force_off, is_in_step, lets_walk_again, ahead_with, ahead_from, begun, selected_correction}
+use Rattle.tsb_coord.specs.Correction.{Correction, in_step, lost, gained, longest_wait, waited, way, slower, faster, is_slower_way, by_short_way, ahead_by, within_cycle, ahead_in, counted_tick, local_now, steps_twice_in, steps_twice, forces, comes_to_force_off, is_in_step, lets_walk_again, ahead_with, ahead_from, begun, selected_correction}
 use Rattle.tsb_coord.specs.Laws.{IsAtMostBehind, most_steps, CountsInStep, waits, IsLongEnough}
 use Rattle.tsb_coord.proofs.LocalLemmas.{counter_moves_on, difference_moves_on, in_range, its_parts}
 
@@ -399,9 +399,9 @@ or_false true = refl
 or_false false = refl
 
 -- it takes no two steps
-pub no_skip : (plan : Plan) (runs : Option ℕ) (c : Correction) (t : ℕ) → ahead_in plan runs c (t - 1) ≡ 0 → skips_in plan runs c t ≡ false
-no_skip plan None c t before = refl
-no_skip plan (Some n) c t before =
+pub no_second_step : (plan : Plan) (runs : Option ℕ) (c : Correction) (t : ℕ) → ahead_in plan runs c (t - 1) ≡ 0 → steps_twice_in plan runs c t ≡ false
+no_second_step plan None c t before = refl
+no_second_step plan (Some n) c t before =
     let now : ahead_in plan (Some n) c t ≡ 0 = once_in_step plan (Some n) c (t - 1) t before (omega arith) in
     ap (λ x. x == (ahead_in plan (Some n) c (t - 1) + 1) % cycle plan n) now
     ∙ ap (λ x. 0 == (x + 1) % cycle plan n) before
@@ -428,8 +428,8 @@ always_in_step plan selected c t none = eq-eqb (ahead_in plan (running plan sele
 pub in_step_at_once : (plan : Plan) (selected : Option ℕ) (c : Correction) (t : ℕ) → correction_mode plan ≡ AtOnce → is_in_step plan selected c t ≡ true
 in_step_at_once plan selected c t mode = eq-eqb (ahead_in plan (running plan selected) c t) 0 (at_once plan (running plan selected) c t mode)
 
-clock_in_step : (plan : Plan) (selected : Option ℕ) (c : Correction) (t : ℕ) → is_in_step plan selected c t ≡ true → clock plan selected c t ≡ t
-clock_in_step plan selected c t there =
+counted_in_step : (plan : Plan) (selected : Option ℕ) (c : Correction) (t : ℕ) → is_in_step plan selected c t ≡ true → counted_tick plan selected c t ≡ t
+counted_in_step plan selected c t there =
     let none : ahead_in plan (running plan selected) c t ≡ 0 = eqb-true (ahead_in plan (running plan selected) c t) 0 there in
     ap (λ a. t + a) none ∙ no_more t
   where
@@ -437,17 +437,17 @@ clock_in_step plan selected c t there =
     no_more t = omega arith
 
 pub local_in_step : (plan : Plan) (selected : Option ℕ) (c : Correction) (t : ℕ) → is_in_step plan selected c t ≡ true → local_now plan selected c t ≡ local plan t selected
-local_in_step plan selected c t there = ap (λ x. local plan x selected) (clock_in_step plan selected c t there)
+local_in_step plan selected c t there = ap (λ x. local plan x selected) (counted_in_step plan selected c t there)
 
 -- what is asked in tick t, or at the first of two steps, is what the counter in step asks, if it was in step before
 at_step : (plan : Plan) (selected : Option ℕ) (c : Correction) (t : ℕ) (asks : ℕ → Bool) → is_in_step plan selected c (t - 1) ≡ true →
-    (asks (clock plan selected c t) || (skips plan selected c t && asks (clock plan selected c t - 1))) ≡ asks t
+    (asks (counted_tick plan selected c t) || (steps_twice plan selected c t && asks (counted_tick plan selected c t - 1))) ≡ asks t
 at_step plan selected c t asks before =
     let now : is_in_step plan selected c t ≡ true = stays_in_step plan selected c (t - 1) t before (omega arith) in
-    let none : skips plan selected c t ≡ false =
-    no_skip plan (running plan selected) c t (eqb-true (ahead_in plan (running plan selected) c (t - 1)) 0 before) in
-    ap (λ b. asks (clock plan selected c t) || (b && asks (clock plan selected c t - 1))) none
-    ∙ or_false (asks (clock plan selected c t)) ∙ ap asks (clock_in_step plan selected c t now)
+    let none : steps_twice plan selected c t ≡ false =
+    no_second_step plan (running plan selected) c t (eqb-true (ahead_in plan (running plan selected) c (t - 1)) 0 before) in
+    ap (λ b. asks (counted_tick plan selected c t) || (b && asks (counted_tick plan selected c t - 1))) none
+    ∙ or_false (asks (counted_tick plan selected c t)) ∙ ap asks (counted_in_step plan selected c t now)
 
 pub forces_in_step : (plan : Plan) (selected : Option ℕ) (c : Correction) (t p : ℕ) → is_in_step plan selected c (t - 1) ≡ true →
     forces plan selected c t p ≡ asks_force_off plan t selected p

@@ -17,7 +17,7 @@ use Rattle.tsb_objects.proofs.InstantLemmas.{instants-below, late-end-below}
 use Rattle.tsb_coord.specs.declared.coordination.Coordination.{Coordination}
 use Rattle.tsb_coord.specs.Cells.{pattern_in, correction_in}
 use Rattle.tsb_coord.specs.Coordinated.{counter, local_in, instant_from, first_coordinated, reference, force_off, agree, yields_to, instant_of, late_end, is_late, is_forced_late, yields_for, is_behind, is_permitted, permissive_end, forces_off, walk_and_clearance, may_recycle, is_left, recycles, recycle_end_from, recycle_end, asks_force_off, asks_recycle}
-use Rattle.tsb_coord.specs.Correction.{Correction, clock, skips, forces, is_in_step, lets_walk_again}
+use Rattle.tsb_coord.specs.Correction.{Correction, counted_tick, steps_twice, forces, is_in_step, lets_walk_again}
 use Rattle.tsb_coord.specs.Due.{ForcesOff, EndsPermission, EndsRecycle, IsMet, IsEnded, IsExact}
 use Rattle.tsb_coord.specs.Promises.{AreOrders}
 use Rattle.tsb_coord.proofs.CorrectionLemmas.{stays_in_step, forces_in_step, walks_in_step}
@@ -225,8 +225,8 @@ free_orders plan row now t orders free said = record {
 
     unasked : (t p : ℕ) → forces plan (pattern_in row) (correction_in row) t p ≡ false
     unasked t p =
-        let at : ℕ = clock plan (pattern_in row) (correction_in row) t in
-        let two : Bool = skips plan (pattern_in row) (correction_in row) t in
+        let at : ℕ = counted_tick plan (pattern_in row) (correction_in row) t in
+        let two : Bool = steps_twice plan (pattern_in row) (correction_in row) t in
         ap (λ b. b || (two && asks_force_off plan (at - 1) (pattern_in row) p)) (none_at at p)
         ∙ ap (λ b. two && b) (none_at (at - 1) p) ∙ and_false two
 

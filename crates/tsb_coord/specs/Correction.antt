@@ -83,34 +83,34 @@ ahead_in plan (Some n) c t = ahead_by (correction_mode plan) plan n (within_cycl
 
 -- ## The local counter as it goes, of the pattern that is selected, where it runs
 
--- the tick by which coordination counts in tick t: as many later as the local counter is ahead
-abbrev pub clock : Plan → Option ℕ → Correction → ℕ → ℕ
-clock plan selected c t = t + ahead_in plan (running plan selected) c t
+-- the tick in which the counter in step stands where the local counter stands in tick t: as many later as it is ahead
+abbrev pub counted_tick : Plan → Option ℕ → Correction → ℕ → ℕ
+counted_tick plan selected c t = t + ahead_in plan (running plan selected) c t
 
 -- the local counter itself; none in free operation
 abbrev pub local_now : Plan → Option ℕ → Correction → ℕ → Option ℕ
-local_now plan selected c t = local plan (clock plan selected c t) selected
+local_now plan selected c t = local plan (counted_tick plan selected c t) selected
 
 -- that of pattern n takes two steps in tick t: it is a tick further ahead than in the tick before
-abbrev pub skips_in : Plan → Option ℕ → Correction → ℕ → Bool
-skips_in plan None c t = false
-skips_in plan (Some n) c t = ahead_in plan (Some n) c t == (ahead_in plan (Some n) c (t - 1) + 1) % cycle plan n
+abbrev pub steps_twice_in : Plan → Option ℕ → Correction → ℕ → Bool
+steps_twice_in plan None c t = false
+steps_twice_in plan (Some n) c t = ahead_in plan (Some n) c t == (ahead_in plan (Some n) c (t - 1) + 1) % cycle plan n
 
 -- of the pattern that runs
-abbrev pub skips : Plan → Option ℕ → Correction → ℕ → Bool
-skips plan selected c t = skips_in plan (running plan selected) c t
+abbrev pub steps_twice : Plan → Option ℕ → Correction → ℕ → Bool
+steps_twice plan selected c t = steps_twice_in plan (running plan selected) c t
 
 -- p is forced off where the local counter is in tick t, or where it takes two steps at the first of them
 abbrev pub forces : Plan → Option ℕ → Correction → ℕ → ℕ → Bool
 forces plan selected c t p =
-    asks_force_off plan (clock plan selected c t) selected p ||
-    (skips plan selected c t && asks_force_off plan (clock plan selected c t - 1) selected p)
+    asks_force_off plan (counted_tick plan selected c t) selected p ||
+    (steps_twice plan selected c t && asks_force_off plan (counted_tick plan selected c t - 1) selected p)
 
 -- it is at the force-off instant of p, or takes two steps and was there at the first
 abbrev pub comes_to_force_off : Plan → Option ℕ → Correction → ℕ → ℕ → Bool
 comes_to_force_off plan selected c t p =
-    is_at_force_off plan (clock plan selected c t) selected p ||
-    (skips plan selected c t && is_at_force_off plan (clock plan selected c t - 1) selected p)
+    is_at_force_off plan (counted_tick plan selected c t) selected p ||
+    (steps_twice plan selected c t && is_at_force_off plan (counted_tick plan selected c t - 1) selected p)
 
 -- it is in step in tick t; once it is it stays so
 abbrev pub is_in_step : Plan → Option ℕ → Correction → ℕ → Bool

@@ -8,7 +8,7 @@ use Rattle.tsb_step.specs.tsb_types.declared.row.Row.{Row}
 use Rattle.tsb_step.specs.tsb_types.Intervals.{is_green}
 use Rattle.tsb_step.specs.tsb_plan.Plan.{Plan}
 use Rattle.tsb_step.specs.tsb_coord.Coordinated.{is_in_permissive_time}
-use Rattle.tsb_step.specs.tsb_coord.Correction.{clock, skips}
+use Rattle.tsb_step.specs.tsb_coord.Correction.{counted_tick, steps_twice}
 use Rattle.tsb_step.specs.tsb_phase.Phase.{held_of}
 use Rattle.tsb_step.specs.tsb_phase.Green.{floats_off}
 use Rattle.tsb_step.specs.tsb_ring.Rings.{Ring}
@@ -29,9 +29,9 @@ is_forced_off s row p = forced s p || floats_off s.plan (phases_given s row) p (
 -- in the next tick the local counter is in the permissive time of p, or takes two steps and is there at the first
 abbrev pub in_permissive_time : State → ℕ → Bool
 in_permissive_time s p =
-    is_in_permissive_time s.plan (clock s.plan s.pattern s.correction (s.now + 1)) s.pattern p ||
-    (skips s.plan s.pattern s.correction (s.now + 1) &&
-    is_in_permissive_time s.plan (clock s.plan s.pattern s.correction (s.now + 1) - 1) s.pattern p)
+    is_in_permissive_time s.plan (counted_tick s.plan s.pattern s.correction (s.now + 1)) s.pattern p ||
+    (steps_twice s.plan s.pattern s.correction (s.now + 1) &&
+    is_in_permissive_time s.plan (counted_tick s.plan s.pattern s.correction (s.now + 1) - 1) s.pattern p)
 
 -- p was forced off in some tick of the green that it is in now
 abbrev pub was_forced_off : Plan → ℕ → List Input → Bool

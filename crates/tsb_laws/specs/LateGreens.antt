@@ -10,7 +10,7 @@ use Rattle.tsb_step.specs.tsb_types.declared.row.Row.{Row}
 use Rattle.tsb_step.specs.tsb_plan.Parts.{cycle, forces_late}
 use Rattle.tsb_step.specs.tsb_plan.Plan.{Plan, walk, pedestrian_clear}
 use Rattle.tsb_step.specs.tsb_coord.Coordinated.{counter, force_off, yields_to, counted_on, is_from_to}
-use Rattle.tsb_step.specs.tsb_coord.Correction.{clock}
+use Rattle.tsb_step.specs.tsb_coord.Correction.{counted_tick}
 use Rattle.tsb_step.specs.tsb_phase.Phase.{held_of}
 use Rattle.tsb_step.specs.tsb_phase.Green.{initial_has_passed}
 use Rattle.tsb_step.specs.tsb_phase.Pedestrian.{pedestrian_now}
@@ -38,7 +38,7 @@ pub record IsInLateSpan (s : State) (p : ℕ) : Type 0 where
   pub yields : yields_to s.plan number p ≡ Some coordinated
   pub limit : ℕ
   pub until : force_off s.plan (Some number) coordinated ≡ Some limit
-  pub within : is_from_to (cycle s.plan number) (counter s.plan number (clock s.plan s.pattern s.correction (s.now + 1))) instant (counted_on (cycle s.plan number) instant limit) ≡ true
+  pub within : is_from_to (cycle s.plan number) (counter s.plan number (counted_tick s.plan s.pattern s.correction (s.now + 1))) instant (counted_on (cycle s.plan number) instant limit) ≡ true
 
 -- ## In one tick
 

@@ -14,7 +14,7 @@ use Rattle.tsb_step.specs.tsb_plan.Parts.{cycle, permissive_time}
 use Rattle.tsb_step.specs.tsb_plan.Plan.{Plan, walk, pedestrian_clear}
 use Rattle.tsb_step.specs.tsb_plan.Running.{pattern_maximum}
 use Rattle.tsb_step.specs.tsb_coord.Coordinated.{counter, force_off}
-use Rattle.tsb_step.specs.tsb_coord.Correction.{clock}
+use Rattle.tsb_step.specs.tsb_coord.Correction.{counted_tick}
 use Rattle.tsb_step.specs.tsb_phase.Phase.{held_of}
 use Rattle.tsb_step.specs.tsb_phase.Green.{conflict_timer, initial_has_passed}
 use Rattle.tsb_step.specs.tsb_phase.Pedestrian.{pedestrian_now}
@@ -86,7 +86,7 @@ MaximumGreensMayEnd = (plan : Plan) (base later : List Input) (row : Row) (p n m
 
 -- the local counter of pattern n in the next tick, as it goes, also while it comes into step
 abbrev pub next_counter : State → ℕ → ℕ
-next_counter s n = counter s.plan n (clock s.plan s.pattern s.correction (s.now + 1))
+next_counter s n = counter s.plan n (counted_tick s.plan s.pattern s.correction (s.now + 1))
 
 -- p is coordinated in the pattern that runs, and in the next tick the local counter is at most the permissive time
 -- behind the instant of p, in this cycle or from the last one on

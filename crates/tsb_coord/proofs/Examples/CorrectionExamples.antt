@@ -18,7 +18,7 @@ use Rattle.tsb_objects.specs.tsb_rules.PatternRules.{split_sum, side_sum, split_
 use Rattle.tsb_objects.specs.tsb_rules.Rules.{first_broken, broken_by_rings, broken_by_phases, broken_by_parts, broken_by_extensions}
 use Rattle.tsb_objects.specs.Instants.{waiting_point}
 use Rattle.tsb_coord.specs.Coordinated.{local, force_off}
-use Rattle.tsb_coord.specs.Correction.{Correction, in_step, lost, gained, longest_wait, waited, way, is_slower_way, ahead_in, local_now, skips, forces, comes_to_force_off, is_in_step, lets_walk_again, ahead_from, selected_correction}
+use Rattle.tsb_coord.specs.Correction.{Correction, in_step, lost, gained, longest_wait, waited, way, is_slower_way, ahead_in, local_now, steps_twice, forces, comes_to_force_off, is_in_step, lets_walk_again, ahead_from, selected_correction}
 use Rattle.tsb_coord.specs.Laws.{waits, IsLongEnough}
 
 -- this mode and this limit
@@ -168,9 +168,9 @@ takes_two_steps : locals by_short_way (Some 2) ahead_600 (1003 ∷ 1004 ∷ 1005
 unfolding by_short_way quad
 takes_two_steps = refl
 
-skips_one : map (skips by_short_way (Some 2) ahead_600) (1004 ∷ 1005 ∷ 1006 ∷ []) ≡ false ∷ true ∷ false ∷ []
+both_in_one_tick : map (steps_twice by_short_way (Some 2) ahead_600) (1004 ∷ 1005 ∷ 1006 ∷ []) ≡ false ∷ true ∷ false ∷ []
 unfolding by_short_way quad
-skips_one = refl
+both_in_one_tick = refl
 
 -- and is in step 800 ticks later, in which it has taken 1000
 is_faster_in_step : map (is_in_step by_short_way (Some 2) ahead_600) (1001 ∷ 1800 ∷ 1801 ∷ 6000000 ∷ []) ≡ false ∷ false ∷ true ∷ true ∷ []

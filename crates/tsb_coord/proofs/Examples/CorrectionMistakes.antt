@@ -9,7 +9,7 @@ use Rattle.tsb_objects.specs.tsb_plan.Plan.{Plan}
 use Rattle.tsb_objects.specs.tsb_plan.Quad.{quad}
 use Rattle.tsb_objects.specs.tsb_rules.PatternRules.{split_sum, side_sum, split_end}
 use Rattle.tsb_coord.specs.Coordinated.{counter, residue_of_difference, force_off, asks_force_off, asks_recycle}
-use Rattle.tsb_coord.specs.Correction.{Correction, lost, gained, longest_wait, waited, slower, faster, ahead_with, clock, local_now, forces, lets_walk_again}
+use Rattle.tsb_coord.specs.Correction.{Correction, lost, gained, longest_wait, waited, slower, faster, ahead_with, counted_tick, local_now, forces, lets_walk_again}
 use Rattle.tsb_coord.proofs.Examples.CorrectionExamples.{adding, by_short_way, dwelling, dwelling_on, walking, ahead_200, ahead_600}
 
 -- ## It is in step at once in each mode: at the selection it is at 200, where that of the old pattern is at 400
@@ -132,7 +132,7 @@ would_jump_to_0 = refl
 -- ## Of two steps the second alone acts: phases 2 and 6 are not forced off at all in that cycle
 
 abbrev pub forces_at_second : Plan → Option ℕ → Correction → ℕ → ℕ → Bool
-forces_at_second plan selected c t p = asks_force_off plan (clock plan selected c t) selected p
+forces_at_second plan selected c t p = asks_force_off plan (counted_tick plan selected c t) selected p
 
 at_both : map (λ t. forces by_short_way (Some 2) ahead_600 t 2) (1448 ∷ 1449 ∷ 1450 ∷ []) ≡ false ∷ true ∷ false ∷ []
 unfolding by_short_way quad run_from split_sum side_sum split_end force_off
@@ -146,7 +146,7 @@ would_pass_it = refl
 -- 1468. The instant comes at 1449
 
 abbrev pub walks_meanwhile : Plan → Option ℕ → Correction → ℕ → ℕ → Bool
-walks_meanwhile plan selected c t p = asks_recycle plan (clock plan selected c t) selected p
+walks_meanwhile plan selected c t p = asks_recycle plan (counted_tick plan selected c t) selected p
 
 at_659 : local_now walking (Some 2) ahead_600 1368 ≡ Some 659
 unfolding walking by_short_way quad

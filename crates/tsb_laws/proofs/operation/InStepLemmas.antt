@@ -4,7 +4,7 @@ use Rattle.std.proofs.lemmas.Bool.{and_parts, and_from, or_cases, or_left, or_ri
 use Rattle.tsb_step.specs.tsb_plan.Plan.{Plan}
 use Rattle.tsb_step.specs.tsb_coord.declared.correction.Correction.{Correction}
 use Rattle.tsb_step.specs.tsb_coord.Coordinated.{is_at_force_off, asks_force_off, asks_recycle}
-use Rattle.tsb_step.specs.tsb_coord.Correction.{clock, skips, forces, comes_to_force_off, is_in_step}
+use Rattle.tsb_step.specs.tsb_coord.Correction.{counted_tick, steps_twice, forces, comes_to_force_off, is_in_step}
 use Rattle.tsb_step.proofs.tsb_coord.CorrectionLemmas.{stays_in_step, forces_in_step, comes_in_step}
 use Rattle.tsb_step.proofs.tsb_coord.LocalLemmas.{at_instant_asks}
 use Rattle.tsb_step.specs.State.{State}
@@ -30,20 +30,20 @@ comes_as s t p stepped later =
 pub coming_forces : (plan : Plan) (selected : Option ℕ) (c : Correction) (t p : ℕ) → comes_to_force_off plan selected c t p ≡ true →
     forces plan selected c t p ≡ true
 coming_forces plan selected c t p h =
-    elim (or_cases (is_at_force_off plan (clock plan selected c t) selected p) (skips plan selected c t && is_at_force_off plan (clock plan selected c t - 1) selected p) h) [
-      | inl now ↦ or_left (asks_force_off plan (clock plan selected c t) selected p) (skips plan selected c t && asks_force_off plan (clock plan selected c t - 1) selected p)
-          (at_instant_asks plan (clock plan selected c t) selected p now)
-      | inr first ↦ (let both = and_parts (skips plan selected c t) (is_at_force_off plan (clock plan selected c t - 1) selected p) first in
-          or_right (asks_force_off plan (clock plan selected c t) selected p) (skips plan selected c t && asks_force_off plan (clock plan selected c t - 1) selected p)
-          (and_from (skips plan selected c t) (asks_force_off plan (clock plan selected c t - 1) selected p) both.0
-          (at_instant_asks plan (clock plan selected c t - 1) selected p both.1)))
+    elim (or_cases (is_at_force_off plan (counted_tick plan selected c t) selected p) (steps_twice plan selected c t && is_at_force_off plan (counted_tick plan selected c t - 1) selected p) h) [
+      | inl now ↦ or_left (asks_force_off plan (counted_tick plan selected c t) selected p) (steps_twice plan selected c t && asks_force_off plan (counted_tick plan selected c t - 1) selected p)
+          (at_instant_asks plan (counted_tick plan selected c t) selected p now)
+      | inr first ↦ (let both = and_parts (steps_twice plan selected c t) (is_at_force_off plan (counted_tick plan selected c t - 1) selected p) first in
+          or_right (asks_force_off plan (counted_tick plan selected c t) selected p) (steps_twice plan selected c t && asks_force_off plan (counted_tick plan selected c t - 1) selected p)
+          (and_from (steps_twice plan selected c t) (asks_force_off plan (counted_tick plan selected c t - 1) selected p) both.0
+          (at_instant_asks plan (counted_tick plan selected c t - 1) selected p both.1)))
     ]
 
 -- where it is in a tick, a phase that is forced off there is forced off in the tick
-pub forced_by_clock : (plan : Plan) (selected : Option ℕ) (c : Correction) (t p : ℕ) → asks_force_off plan (clock plan selected c t) selected p ≡ true →
+pub forced_by_counter : (plan : Plan) (selected : Option ℕ) (c : Correction) (t p : ℕ) → asks_force_off plan (counted_tick plan selected c t) selected p ≡ true →
     forces plan selected c t p ≡ true
-forced_by_clock plan selected c t p h =
-    or_left (asks_force_off plan (clock plan selected c t) selected p) (skips plan selected c t && asks_force_off plan (clock plan selected c t - 1) selected p) h
+forced_by_counter plan selected c t p h =
+    or_left (asks_force_off plan (counted_tick plan selected c t) selected p) (steps_twice plan selected c t && asks_force_off plan (counted_tick plan selected c t - 1) selected p) h
 
 -- of equal plans, patterns and corrections
 pub same_forces : (plan other : Plan) (selected picked : Option ℕ) (c d : Correction) (t p : ℕ) → plan ≡ other → selected ≡ picked → c ≡ d →

@@ -8,7 +8,7 @@ use Rattle.tsb_step.specs.tsb_plan.Parts.{cycle}
 use Rattle.tsb_step.specs.tsb_plan.Plan.{Plan, walk, pedestrian_clear}
 use Rattle.tsb_step.specs.tsb_plan.Running.{is_coordinated_now}
 use Rattle.tsb_step.specs.tsb_coord.Coordinated.{counter, local_in, force_off, agree, late_end, is_from_to, counted_on, is_forced_late, is_permitted, forces_off, asks_force_off}
-use Rattle.tsb_step.specs.tsb_coord.Correction.{clock}
+use Rattle.tsb_step.specs.tsb_coord.Correction.{counted_tick}
 use Rattle.tsb_step.specs.declared.inputs.Input.{Input}
 use Rattle.tsb_step.specs.declared.inputs.Input.TheVariants.{Tick}
 use Rattle.tsb_step.specs.State.{State}
@@ -23,7 +23,7 @@ use Rattle.tsb_laws.specs.CoordinatedGreens.{HasGoneOn, is_pressed_in_pattern}
 use Rattle.tsb_laws.specs.LateGreens.{IsInLateSpan, IsLateGreen}
 use Rattle.tsb_laws.proofs.safety.DueLemmas.{count_run}
 use Rattle.tsb_laws.proofs.operation.PressedRunLemmas.{is_one}
-use Rattle.tsb_laws.proofs.operation.InStepLemmas.{forced_by_clock}
+use Rattle.tsb_laws.proofs.operation.InStepLemmas.{forced_by_counter}
 use Rattle.tsb_laws.proofs.operation.CoordinatedForceLemmas.{ready_at_once}
 use Rattle.tsb_laws.proofs.operation.CoordinatedRunLemmas.{forced_may_end}
 
@@ -47,7 +47,7 @@ late_by s p it t within =
 
 -- so it is in the next tick
 forced_late : (s : State) (p : ℕ) → IsInLateSpan s p → forced s p ≡ true
-forced_late s p it = forced_by_clock s.plan s.pattern s.correction (s.now + 1) p (late_by s p it (clock s.plan s.pattern s.correction (s.now + 1)) it.within)
+forced_late s p it = forced_by_counter s.plan s.pattern s.correction (s.now + 1) p (late_by s p it (counted_tick s.plan s.pattern s.correction (s.now + 1)) it.within)
 
 pub late_is_ready : (plan : Plan) (is : List Input) (row : Row) (p : ℕ) → IsConsistent plan → plan.phase_count ≤ 16 →
     AreTaken plan is → IsLateGreen (replay plan is) row p → ready (replay plan is) row p ≡ true

@@ -13,7 +13,7 @@ use Rattle.tsb_step.specs.tsb_plan.Plan.{Plan}
 use Rattle.tsb_step.specs.tsb_plan.Parts.{cycle, permissive_time, floats, is_coordinated}
 use Rattle.tsb_step.specs.tsb_plan.Running.{running, split_in_effect, coordinates_in, is_coordinated_now, split_green, floating_in, maximum_by_mode, pattern_maximum, floating_time}
 use Rattle.tsb_step.specs.tsb_coord.Coordinated.{local_in, force_off, agree, is_from_to, is_forced_late, is_permitted, forces_off, asks_force_off}
-use Rattle.tsb_step.specs.tsb_coord.Correction.{clock}
+use Rattle.tsb_step.specs.tsb_coord.Correction.{counted_tick}
 use Rattle.tsb_step.specs.tsb_phase.Phase.{Phase, Given, held_of}
 use Rattle.tsb_step.specs.tsb_phase.Green.{conflict_timer, has_reached_some, acting_maximum, is_gapped, is_by_gap, has_maxed_out, floats_off, forced_latch}
 use Rattle.tsb_step.specs.tsb_phase.Ready.{needs_forced, has_timed_out, may_end}
@@ -35,7 +35,7 @@ use Rattle.tsb_laws.proofs.safety.DueLemmas.{count_run}
 use Rattle.tsb_laws.proofs.operation.PhaseTimeLemmas.{left}
 use Rattle.tsb_laws.proofs.operation.PressedGreenLemmas.{reached_all}
 use Rattle.tsb_laws.proofs.operation.PressedRunLemmas.{is_one}
-use Rattle.tsb_laws.proofs.operation.InStepLemmas.{forced_by_clock}
+use Rattle.tsb_laws.proofs.operation.InStepLemmas.{forced_by_counter}
 use Rattle.tsb_laws.proofs.operation.CoordinatedForceLemmas.{ready_by_end, ready_by, ended_by_none, told_conflict, floats_now, latches, ready_at_once}
 use Rattle.tsb_laws.proofs.operation.CoordinatedRunLemmas.{forced_may_end}
 use Rattle.tsb_laws.proofs.operation.PatternPressLemmas.{IsSame, same_on, held_as, HasItBehind, has_it_behind}
@@ -189,7 +189,7 @@ maximum_may_end plan base later row p n m ok few taken dark waited acts within =
 -- it is forced off in the next tick
 forced_permitted : (s : State) (p : ℕ) → IsInPermissiveTime s p → forced s p ≡ true
 forced_permitted s p it =
-    forced_by_clock s.plan s.pattern s.correction (s.now + 1) p asked
+    forced_by_counter s.plan s.pattern s.correction (s.now + 1) p asked
   where
     behind : (m l i t : ℕ) → ((i ≤ l) × (l ≤ i + t)) ⊎ (l + m ≤ i + t) → is_from_to m l i (i + t + 1) ≡ true
     behind m l i t (inl both) =
@@ -198,14 +198,14 @@ forced_permitted s p it =
         or_left (nat_le i l && nat_lt l (i + t + 1)) (nat_lt (l + m) (i + t + 1)) (grind (arith, nat_tests, from, to))
     behind m l i t (inr over) = or_right (nat_le i l && nat_lt l (i + t + 1)) (nat_lt (l + m) (i + t + 1)) (grind (arith, nat_tests, over))
 
-    asked : asks_force_off s.plan (clock s.plan s.pattern s.correction (s.now + 1)) s.pattern p ≡ true
+    asked : asks_force_off s.plan (counted_tick s.plan s.pattern s.correction (s.now + 1)) s.pattern p ≡ true
     asked =
         let held : is_coordinated_now s.plan (Some it.number) p ≡ true = ap (λ (o : Option ℕ). is_coordinated_now s.plan o p) (sym it.runs) ∙ it.held in
         let some : nat_lt 0 (permissive_time s.plan it.number) ≡ true = (let over = it.some in grind (arith, nat_tests, over)) in
         let within : is_from_to (cycle s.plan it.number) (next_counter s it.number) it.instant (it.instant + permissive_time s.plan it.number + 1) ≡ true =
         behind (cycle s.plan it.number) (next_counter s it.number) it.instant (permissive_time s.plan it.number) it.within in
         let permitted : is_permitted s.plan (Some it.number) (Some (next_counter s it.number)) p ≡ true = rw (held, some, it.own) within in
-        ap (λ (o : Option ℕ). forces_off s.plan o (local_in s.plan (clock s.plan s.pattern s.correction (s.now + 1)) o) p) it.runs
+        ap (λ (o : Option ℕ). forces_off s.plan o (local_in s.plan (counted_tick s.plan s.pattern s.correction (s.now + 1)) o) p) it.runs
         ∙ or_right (agree (Some (next_counter s it.number)) (force_off s.plan (Some it.number) p))
         (is_forced_late s.plan (Some it.number) (Some (next_counter s it.number)) p || is_permitted s.plan (Some it.number) (Some (next_counter s it.number)) p)
         (or_right (is_forced_late s.plan (Some it.number) (Some (next_counter s it.number)) p)

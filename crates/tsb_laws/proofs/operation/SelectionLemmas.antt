@@ -7,7 +7,7 @@ use Rattle.tsb_step.specs.tsb_plan.Plan.{Plan}
 use Rattle.tsb_step.specs.tsb_rules.Rules.{first_broken}
 use Rattle.tsb_step.specs.tsb_coord.declared.correction.Correction.{Correction}
 use Rattle.tsb_step.specs.tsb_coord.Coordinated.{local_in, is_pattern, selects}
-use Rattle.tsb_step.specs.tsb_coord.Correction.{in_step, clock, local_now, selected_correction}
+use Rattle.tsb_step.specs.tsb_coord.Correction.{in_step, counted_tick, local_now, selected_correction}
 use Rattle.tsb_step.proofs.tsb_coord.CorrectionLemmas.{always_in_step, goes_on}
 use Rattle.tsb_step.proofs.tsb_coord.LocalLemmas.{in_range}
 use Rattle.tsb_step.specs.declared.inputs.Input.{Input}
@@ -35,7 +35,7 @@ begins_in_step : (s : State) (n : ℕ) → BeginsInStep s → (step s (Pattern n
 unfolding step
 begins_in_step s n (inl free) =
     ap (λ (l : Option ℕ). selected_correction s.plan (selects n) s.now l)
-    (ap (λ (o : Option ℕ). local_in s.plan (clock s.plan s.pattern s.correction s.now) o) free) ∙ from_none s.plan (selects n) s.now
+    (ap (λ (o : Option ℕ). local_in s.plan (counted_tick s.plan s.pattern s.correction s.now) o) free) ∙ from_none s.plan (selects n) s.now
 begins_in_step s n (inr mode) = begins_at_once s.plan (selects n) s.now (local s) mode
 
 lit_keeps : (s : State) (lamp : Option Lamp) → s.correction ≡ in_step → (with_lamp lamp s).correction ≡ in_step

@@ -14,7 +14,7 @@ use Rattle.tsb_step.specs.tsb_phase.Pedestrian.{ended_by, pedestrian_now}
 use Rattle.tsb_step.specs.tsb_phase.Next.{is_green_after}
 use Rattle.tsb_step.specs.tsb_phase.Ready.{needs_forced, may_end, green_is_done, is_ready}
 use Rattle.tsb_step.specs.tsb_coord.Coordinated.{local, force_off, yields_to, instant_of, late_end, is_late, is_forced_late, is_at_force_off, is_in_permissive_time, asks_force_off, asks_hold}
-use Rattle.tsb_step.specs.tsb_coord.Correction.{clock, skips}
+use Rattle.tsb_step.specs.tsb_coord.Correction.{counted_tick, steps_twice}
 use Rattle.tsb_step.specs.tsb_preempt.Service.{Service}
 use Rattle.tsb_step.specs.tsb_preempt.Preempts as preempts
 use Rattle.tsb_step.specs.tsb_ring.Rings as rings
@@ -245,10 +245,10 @@ at_instant s p held h =
     ]
   where
     there : ℕ
-    there = clock s.plan s.pattern s.correction (s.now + 1)
+    there = counted_tick s.plan s.pattern s.correction (s.now + 1)
 
     twice : Bool
-    twice = skips s.plan s.pattern s.correction (s.now + 1)
+    twice = steps_twice s.plan s.pattern s.correction (s.now + 1)
 
     second : (is_at_force_off s.plan there s.pattern p ≡ true) ⊎ (is_in_permissive_time s.plan there s.pattern p ≡ true) →
         (at_force_off s p ≡ true) ⊎ (in_permissive_time s p ≡ true)

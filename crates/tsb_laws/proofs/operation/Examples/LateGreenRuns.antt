@@ -12,7 +12,7 @@ use Rattle.tsb_step.specs.tsb_plan.Plan.{Plan, walk, pedestrian_clear, with_valu
 use Rattle.tsb_step.specs.tsb_plan.Quad.{quad}
 use Rattle.tsb_step.specs.tsb_rules.Rules.{first_broken}
 use Rattle.tsb_step.specs.tsb_coord.Coordinated.{counter, force_off, yields_to, counted_on, is_from_to}
-use Rattle.tsb_step.specs.tsb_coord.Correction.{clock}
+use Rattle.tsb_step.specs.tsb_coord.Correction.{counted_tick}
 use Rattle.tsb_step.specs.tsb_phase.Phase.{held_of}
 use Rattle.tsb_step.specs.tsb_phase.Green.{initial_has_passed}
 use Rattle.tsb_step.specs.tsb_phase.Pedestrian.{pedestrian_now}
@@ -93,10 +93,10 @@ until_760 : force_off (replay late started).plan (Some 1) 8 ≡ Some 760
 unfolding opened late
 until_760 = refl
 
-abbrev next_clock : State → ℕ
-next_clock s = clock s.plan s.pattern s.correction (s.now + 1)
+abbrev next_counted_tick : State → ℕ
+next_counted_tick s = counted_tick s.plan s.pattern s.correction (s.now + 1)
 
-is_within : is_from_to (cycle (replay late started).plan 1) (counter (replay late started).plan 1 (next_clock (replay late started))) 360
+is_within : is_from_to (cycle (replay late started).plan 1) (counter (replay late started).plan 1 (next_counted_tick (replay late started))) 360
     (counted_on (cycle (replay late started).plan 1) 360 760) ≡ true
 unfolding opened late
 is_within = refl

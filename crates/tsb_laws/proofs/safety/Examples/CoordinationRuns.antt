@@ -13,7 +13,7 @@ use Rattle.tsb_step.specs.tsb_plan.Plan.{Plan, is_enabled, with_values}
 use Rattle.tsb_step.specs.tsb_plan.Quad.{quad}
 use Rattle.tsb_step.specs.tsb_rules.Rules.{first_broken}
 use Rattle.tsb_step.specs.tsb_coord.Coordinated.{force_off, is_at_force_off}
-use Rattle.tsb_step.specs.tsb_coord.Correction.{clock}
+use Rattle.tsb_step.specs.tsb_coord.Correction.{counted_tick}
 use Rattle.tsb_step.specs.tsb_phase.ClearanceLaws.{clearance}
 use Rattle.tsb_step.specs.tsb_ring.Rings.{Ring1}
 use Rattle.tsb_step.specs.tsb_ring.Moves.{is_ended}
@@ -239,7 +239,7 @@ not_before = refl
 
 -- a force-off where the local counter comes to, and not on its way there
 abbrev where_it_comes_to : State → ℕ → Bool
-where_it_comes_to s p = is_at_force_off s.plan (clock s.plan s.pattern s.correction (s.now + 1)) s.pattern p
+where_it_comes_to s p = is_at_force_off s.plan (counted_tick s.plan s.pattern s.correction (s.now + 1)) s.pattern p
 
 would_pass_it : where_it_comes_to (replay faster selected_again) 2 ≡ false
 unfolding opened faster
