@@ -1,5 +1,6 @@
 pub mod LocalLemmas
 pub mod CellLemmas
+pub mod AheadLemmas
 pub mod CorrectionLemmas
 pub mod SpanLemmas
 pub mod WaitLemmas

@@ -3,7 +3,7 @@ use Rattle.std.proofs.lemmas.Bool.{eq-eqb}
 use Rattle.tsb_objects.specs.Checked.{checked_plan}
 use Rattle.tsb_objects.specs.tsb_plan.Parts.{cycle}
 use Rattle.tsb_objects.specs.tsb_plan.Plan.{Plan}
-use Rattle.tsb_coord.specs.Coordinated.{counter, force_off, forces_off, may_recycle, is_left, walk_and_clearance}
+use Rattle.tsb_coord.specs.Coordinated.{force_off, forces_off, may_recycle, is_left, walk_and_clearance}
 use Rattle.tsb_coord.specs.Correction.{ahead_in}
 use Rattle.tsb_coord.proofs.CorrectionLemmas.{forces_then, walks_then}
 use Rattle.tsb_coord.proofs.asked.in_step.Goals as goal
