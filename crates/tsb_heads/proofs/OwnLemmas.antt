@@ -1,5 +1,5 @@
--- Displays and fields look at phases 1 to 16, overlaps and commitments alone, the monitor at the vehicle and pedestrian heads of phases
--- 1 to 16; and heads that stay are let pass again.
+-- Displays and fields look at phases 1 to 16, overlaps and commitments alone, the monitor at the vehicle and pedestrian
+-- heads of phases 1 to 16; and heads that stay are let pass again.
 use Rattle.std.proofs.Common.{◌≡◌, ℕ, ◌+◌, ◌<◌, ◌≤◌, Bool, true, false, not, ◌&&◌, ◌||◌, if◌then◌else◌, Option, Some, None, is_some, refl, ap, ap₂, ◌∙◌, arith}
 use Rattle.std.specs.Option.{option_map, option_or}
 use Rattle.tsb_objects.specs.tsb_types.declared.interval.Interval.{Interval}
@@ -17,7 +17,7 @@ use Rattle.tsb_heads.specs.Heads.{Shown, Heads}
 use Rattle.tsb_heads.specs.Overlaps.{some_of, is_followed, keeps_green, is_kept_green, is_on_yellow, has_green_modifier, has_yellow_modifier, is_on_last_yellow, overlap_head}
 use Rattle.tsb_heads.specs.Displays.{ordered, flashing, flashed, field, laid_over}
 use Rattle.tsb_heads.specs.Monitoring as monitor
-use Rattle.tsb_heads.specs.Monitoring.{is_red, are_in_conflict, conflict_of, conflict_by, conflict, goes_red, green_to_red, judge}
+use Rattle.tsb_heads.specs.Monitoring.{is_red, are_in_conflict, conflict_of, conflict_by, conflict, goes_red, green_to_red}
 use Rattle.tsb_heads.specs.Reading.{shown_by, heads_of, heads_of_field}
 use Rattle.tsb_heads.specs.Promises.{IsSame}
 use Rattle.tsb_heads.specs.Laws.{AreAlike, ShowAlike, DisplaysLookOnlyAtTheirOwn, LampsLookOnlyAtTheirOwn, FieldsAreTold, MonitorsLookOnlyAtTheirOwn, StayingHeadsPass, PassedHeadsPassAgain}

@@ -4,7 +4,7 @@ use Rattle.std.proofs.Common.{◌≡◌, ℕ, Bool, true, false, cond, ◌&&◌,
 use Rattle.std.proofs.lemmas.Bool.{eq-eqb, cases_Bool, true≢false, false≢true, or_cases, or_left, or_right}
 use Rattle.tsb_types.specs.declared.interval.Interval.{Interval}
 use Rattle.tsb_types.specs.declared.interval.Interval.TheVariants.{Red, Green, Yellow, RedClear}
-use Rattle.tsb_types.specs.Intervals.{in_service, is_green, is_yellow}
+use Rattle.tsb_types.specs.Intervals.{in_service, is_yellow}
 use Rattle.tsb_types.specs.Lists.{among, is}
 use Rattle.tsb_objects.specs.tsb_plan.Plan.{Plan, phases}
 use Rattle.tsb_ring.specs.Rings.{Ring, Ring1, Ring2, other, State, Given, in_ring, serving}

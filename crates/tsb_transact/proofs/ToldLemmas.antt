@@ -1,5 +1,6 @@
--- Laws of the cells: a row that the desk can hold is the table of what it says, and a desk in range is read in its table.
-use Rattle.std.proofs.Common.{zero, suc, ◌≡◌, ◌≢◌, ℕ, ◌+◌, ◌-◌, ◌*◌, ◌==◌, ◌<◌, ◌≤◌, true, false, List, [], ◌∷◌, length, map, get_or, drop, slice_index, Option, None, Some, IfSome, refl, arith, sym, ◌∙◌, ap, subst, inl, inr}
+-- Laws of the cells: a row that the desk can hold is the table of what it says, and a desk in range is read in its
+-- table.
+use Rattle.std.proofs.Common.{zero, suc, ◌≡◌, ℕ, ◌+◌, ◌-◌, ◌*◌, ◌==◌, ◌<◌, ◌≤◌, true, false, List, [], ◌∷◌, length, map, get_or, drop, slice_index, Option, None, Some, IfSome, refl, arith, sym, ◌∙◌, ap, subst, inl, inr}
 use Rattle.std.proofs.lemmas.Bool.{cases_lt}
 use Rattle.std.proofs.lemmas.Bool.Decides.{eqb_tells, nat_tests}
 use Rattle.std.proofs.lemmas.List.{drop_more, drop_all, same_lists, get_or_default}

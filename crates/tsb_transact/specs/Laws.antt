@@ -1,5 +1,5 @@
 -- What holds of the cells of the desk. Each law here is the contract of a function in src/laws.rt, and proved there.
-use Rattle.std.specs.Prelude.{◌≡◌, ◌≢◌, ℕ, ◌≤◌, List, Some, IfSome}
+use Rattle.std.specs.Prelude.{◌≡◌, ℕ, ◌≤◌, List, IfSome}
 use Rattle.tsb_transact.specs.Desk.{Desk, IsSoundDesk}
 use Rattle.tsb_transact.specs.Cells.{desk_in, desk_cells, IsBy}
 use Rattle.tsb_transact.specs.Rows.{IsRow}

@@ -1,5 +1,5 @@
--- One-line mistakes that break the laws of what a preempt asks for, each with an example in which it shows. The plan is that
--- of Examples: preempt 1 has 2 and 6 in Track, 3 and 8 in Dwell.
+-- One-line mistakes that break the laws of what a preempt asks for, each with an example in which it shows. The plan is
+-- that of Examples: preempt 1 has 2 and 6 in Track, 3 and 8 in Dwell.
 use Rattle.std.specs.Prelude.{◌≡◌, ℕ, Bool, true, false, ◌||◌, [], ◌∷◌, map, Option, None, refl}
 use Rattle.tsb_types.specs.declared.interval.Interval.TheVariants.{Green}
 use Rattle.tsb_types.specs.declared.stage.Stage.{Stage}

@@ -1,5 +1,5 @@
--- What the laws of cells and of what a tick looks at refuse, by computing: timers that begin after the tick, a bound on how
--- long timers run, and a fifth preempt. Beside each stands what the definitions make of the same.
+-- What the laws of cells and of what a tick looks at refuse, by computing: timers that begin after the tick, a bound on
+-- how long timers run, and a fifth preempt. Beside each stands what the definitions make of the same.
 use Rattle.std.proofs.Common.{◌≡◌, ◌∙◌, ℕ, ◌+◌, ◌-◌, ◌==◌, nat_le, Bool, true, false, if◌then◌else◌, List, [], ◌∷◌, slice_index, Option, Some, None, refl, sym, ap, arith, inl, inr}
 use Rattle.std.proofs.lemmas.Bool.{cases_Bool, eqb-true, true≢false}
 use Rattle.tsb_cells.specs.Timer.{IsWithin}

@@ -1,5 +1,5 @@
--- What the laws of cells and of what the rings look at refuse, by computing: a row with one cell more, a cell of 0 that is
--- read as a number, and the call of a 17th phase. Beside each stands what the definitions make of the same.
+-- What the laws of cells and of what the rings look at refuse, by computing: a row with one cell more, a cell of 0 that
+-- is read as a number, and the call of a 17th phase. Beside each stands what the definitions make of the same.
 use Rattle.std.proofs.Common.{◌≡◌, ℕ, Bool, not, ◌&&◌, List, [], ◌∷◌, ◌++◌, slice_index, Option, Some, None, IfSome, refl, arith}
 use Rattle.tsb_types.specs.Lists.{some_passes, run_from}
 use Rattle.tsb_objects.specs.tsb_plan.Plan.{Plan}

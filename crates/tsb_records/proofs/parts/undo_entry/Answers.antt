@@ -1,5 +1,4 @@
-use Rattle.std.proofs.Common.{◌≡◌, ◌-◌, ◌∷◌, [], List, ℕ, sym, ap, ◌∙◌, refl, true, false, Bool, ltb, leb, ◌+◌, ◌&&◌}
-use Rattle.std.proofs.lemmas.Bool.{cond-true, cond-false}
+use Rattle.std.proofs.Common.{◌-◌, ◌∷◌, [], List, ℕ, sym, ◌∙◌, true}
 use Rattle.tsb_cells.specs.Diff.{apply_diff}
 use Rattle.tsb_cells.proofs.DiffLemmas.{length-apply_diff}
 use Rattle.tsb_records.proofs.PartLemmas.{one-within}

@@ -1,4 +1,4 @@
-use Rattle.std.proofs.Common.{◌≡◌, ◌||◌, ◌∙◌, ap₂, Bool}
+use Rattle.std.proofs.Common.{◌||◌, ◌∙◌, ap₂, Bool}
 use Rattle.tsb_detect.specs.Layer.{cells_of}
 use Rattle.tsb_detect.proofs.ReadLemmas.{alarms-told}
 use Rattle.tsb_detect.proofs.detectors.Detectors.alarms.Goals as goal

@@ -11,7 +11,7 @@ use Rattle.tsb_detect.proofs.detectors.Detectors.visit_moved.Given as goal
 abbrev pub decreases-loop-d : goal.decreases-loop-d
 decreases-loop-d l = size_of_numbers l.rest
 
--- of each detector that is not to be visited cells and output are as the tick makes them, and the others are as they were
+-- of each detector that is not to be visited cells and output are as the tick makes them, and the others as they were
 abbrev pub invariant-loop-d : goal.invariant-loop-d
 invariant-loop-d l = record {
   done : (e : ℕ) → 1 ≤ e → e ≤ 16 → has_number l.rest e ≡ false →
