@@ -1,9 +1,9 @@
 -- What a history is to its users: a list of records, the newest first, and the room for further ones.
 -- A record is what one input changed; the words below speak of the newest record, of those before
 -- it, of the bytes that records take, and of the numbers that a record can hold.
-use Rattle.std.specs.Prelude.{ℕ, zero, suc, ◌+◌, ◌*◌, ◌<◌, Bool, true, false, ◌&&◌, if◌then◌else◌, Option, Some, None, List, [], ◌∷◌, length, All}
+use Rattle.std.specs.Prelude.{ℕ, suc, ◌+◌, ◌*◌, ◌<◌, Bool, true, false, ◌&&◌, if◌then◌else◌, Option, Some, None, List, [], ◌∷◌, length, All}
 use Rattle.tsb_history.specs.declared.kinds.Kind.{Kind}
-use Rattle.tsb_history.specs.declared.kinds.Kind.TheVariants.{Tick, Pattern, Switch, Fault, Reset, Begin, Set, Verify, Commit, Abort}
+use Rattle.tsb_history.specs.declared.kinds.Kind.TheVariants.{Tick}
 
 -- one input: its kind, and each changed cell with the value that it had before
 pub record Change : Type 0 where
@@ -63,15 +63,7 @@ pub record FitsRecord (r : Change) : Type 0 where
 -- whether an input was a tick
 abbrev pub is_tick : Kind → Bool
 is_tick Tick = true
-is_tick Pattern = false
-is_tick Switch = false
-is_tick Fault = false
-is_tick Reset = false
-is_tick Begin = false
-is_tick Set = false
-is_tick Verify = false
-is_tick Commit = false
-is_tick Abort = false
+is_tick k = false
 
 -- whether a record has no entry
 abbrev pub has_none : List (ℕ × ℕ) → Bool

@@ -78,8 +78,8 @@ fn is_quiet(bytes: &[u8], end: usize) -> bool
     }
 }
 
-// How many of the `count` records that end before a place, the newest ones first, are those of quiet ticks; at most `most`.
-// Each has `QUIET` bytes.
+// How many of the `count` records that end before a place, the newest ones first, are those of quiet ticks; at most
+// `most`. Each has `QUIET` bytes.
 #[inline(always)]
 pub fn quiet_before(count: usize, bytes: &[u8], end: usize, most: usize) -> usize
     requires within { end ≤ length bytes.now }

@@ -83,8 +83,8 @@ impl History {
         Some(read_record(&self.bytes, self.bytes.len()))
     }
 
-    /// Takes the newest record away, which begins at that place, as `last` says. It takes no memory, and gives none back:
-    /// there is more room, by the bytes of the record.
+    /// Takes the newest record away, which begins at that place, as `last` says. It takes no memory, and gives none
+    /// back: there is more room, by the bytes of the record.
     #[inline(always)]
     pub fn pop(&mut self, start: usize)
         requires start { newest_start self.old.records ≡ Some start }

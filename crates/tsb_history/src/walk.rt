@@ -38,8 +38,8 @@ impl<'a> WalkBack<'a> {
         WalkBack { count, bytes, end }
     }
 
-    /// Passes over the records that come next as long as they are those of quiet ticks, in which no cell changed, and says
-    /// how many it passed.
+    /// Passes over the records that come next as long as they are those of quiet ticks, in which no cell changed, and
+    /// says how many it passed.
     #[inline(always)]
     pub fn skip_quiet(&mut self) -> usize
         ensures count { result ≡ quiet_ticks self.old }

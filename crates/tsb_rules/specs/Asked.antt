@@ -1,5 +1,5 @@
--- What a check asks one by one: of each phase, of each phase that a list names, of each overlap, preempt and pattern. The
--- rules say the same in their own words, and each comes to one of these tests for all of them.
+-- What a check asks one by one: of each phase, of each phase that a list names, of each overlap, preempt and pattern.
+-- The rules say the same in their own words, and each comes to one of these tests for all of them.
 use Rattle.std.specs.Prelude.{ℕ, ◌==◌, nat_le, nat_lt, Bool, not, ◌&&◌, ◌||◌, List}
 use Rattle.std.specs.List.{list_all}
 use Rattle.tsb_plan.specs.declared.object.Object.TheVariants.{PhaseConcurrency, OverlapIncludedPhases}

@@ -23,8 +23,8 @@ pub(super) enum OfPattern {
     /// K19: the splits of a side have one sum in each ring that has phases there, and the sums of the sides add up to
     /// the cycle.
     FillsCycle,
-    /// K20: it has coordinated phases. All are enabled, not omitted, on one side and pairwise concurrent, one of each ring
-    /// that has phases there, and their splits end at one time unless it leads and lags.
+    /// K20: it has coordinated phases. All are enabled, not omitted, on one side and pairwise concurrent, one of each
+    /// ring that has phases there, and their splits end at one time unless it leads and lags.
     IsCoordinated,
     /// K23: its permissive time is below its cycle.
     PermissiveTimeEnds,

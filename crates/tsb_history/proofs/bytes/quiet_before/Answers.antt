@@ -1,8 +1,7 @@
-use Rattle.std.proofs.Common.{◌≡◌, ◌≤◌, ◌+◌, ◌-◌, ◌∙◌, sym, arith, length}
+use Rattle.std.proofs.Common.{◌≡◌, ◌+◌, ◌-◌, ◌∙◌, sym, arith}
 use Rattle.tsb_history.specs.Bytes.{changes_at}
 use Rattle.tsb_history.specs.History.{quiet_ticks}
-use Rattle.tsb_history.proofs.PlaceLemmas.{length-changes_at}
-use Rattle.tsb_history.proofs.QuietLemmas.{quiet-few, quiet-none, quiet-one}
+use Rattle.tsb_history.proofs.QuietLemmas.{quiet-none, quiet-one}
 use Rattle.tsb_history.proofs.bytes.quiet_before.Goals as goal
 
 pub loop-quiet-preserved : goal.loop-quiet-preserved

@@ -1,4 +1,4 @@
-use Rattle.std.proofs.Common.{◌≡◌, ◌≤◌, ◌+◌, ◌-◌, ◌∙◌, ℕ, ap, subst, arith, length, vec_len, vec_capacity, Some}
+use Rattle.std.proofs.Common.{◌≡◌, ◌≤◌, ◌+◌, ◌-◌, ◌∙◌, ap, subst, arith, length, vec_len, vec_capacity, Some}
 use Rattle.tsb_history.specs.Bytes.{changes_at, start_at}
 use Rattle.tsb_history.specs.History.{Recorded, newest_start, older, size_of}
 use Rattle.tsb_history.proofs.PlaceLemmas.{size-newest, start-some, start-is}

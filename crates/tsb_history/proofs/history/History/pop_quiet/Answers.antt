@@ -1,6 +1,6 @@
-use Rattle.std.proofs.Common.{◌≡◌, ℕ, List, ◌+◌, ◌*◌, ◌-◌, ◌≤◌, ◌∙◌, ap, subst, sym, arith, drop, take, length, min, vec_len, vec_capacity, rules}
+use Rattle.std.proofs.Common.{◌≡◌, ℕ, ◌+◌, ◌*◌, ◌-◌, ◌∙◌, ap, subst, arith, drop, take, length, vec_len, vec_capacity, rules}
 use Rattle.tsb_history.specs.Bytes.{changes_at}
-use Rattle.tsb_history.specs.History.{Recorded, quiet_ticks, size_of}
+use Rattle.tsb_history.specs.History.{Recorded, size_of}
 use Rattle.tsb_history.proofs.PlaceLemmas.{size-laid}
 use Rattle.tsb_history.proofs.QuietLemmas.{AreFound, AreTaken, found-in, taken}
 use Rattle.tsb_history.proofs.history.History.pop_quiet.Goals as goal
