@@ -341,7 +341,7 @@ macro_rules! is_structural {
     };
 }
 
-// What there is to know of each object, a column of the table each, at the object's number, which is its place among all.
+// What there is to know of each object, a column of the table each, at the object's number: its place among all.
 
 /// Its name, as NTCIP 1202 and plan texts have it.
 pub(crate) const NAMES: [&'static str; Object::COUNT] = table!(names);

@@ -1,4 +1,4 @@
-use Rattle.std.proofs.Common.{◌≡◌, ℕ, ◌+◌, ◌-◌, ◌*◌, ◌<◌, arith, sym, ap, ◌∙◌, take, drop, length, get_or, List, true, refl}
+use Rattle.std.proofs.Common.{◌≡◌, ℕ, ◌+◌, ◌-◌, ◌*◌, arith, sym, ap, ◌∙◌, take, drop, length, get_or, List, true, refl}
 use Rattle.std.proofs.lemmas.List.{get_or-drop, get_or-take, length-take, length-drop}
 use Rattle.std.proofs.lemmas.Bool.Decides.{nat_tests}
 use Rattle.tsb_plan.specs.PlanOf.{plan_of}
