@@ -1,13 +1,12 @@
 //! Answers on their way out.
 #![tactic(auto)]
 
-ghost use Rattle.std.specs.Prelude.{◌≡◌, ◌∷◌, ◌++◌, ◌≤◌, [], ℕ, List, false, length, OnOk, OnErr, true};
+ghost use Rattle.std.specs.Prelude.{◌≡◌, ◌∷◌, ◌++◌, ◌+◌, ◌<◌, ◌≤◌, [], ℕ, List, false, length, take, OnOk, OnErr, true};
 ghost use Rattle.std.specs.Io.{ReadsAtMost};
 ghost use Rattle.std.specs.Io.KnownBytes.{ReadConsumes};
 ghost use Rattle.tsb_dialog.specs.Blame.{AfterCalls};
 ghost use Rattle.tsb_dialog.specs.Said.{Said, Wrote, with_feed};
 
-use arrayvec::ArrayVec;
 use std::io::{self, Read, Write};
 use std::marker::Model;
 use tsb_watched::{Watched, WriteError};
@@ -18,19 +17,55 @@ const ROOM: usize = 8192;
 /// Answers that were said and have not gone out yet.
 #[derive(Drop)]
 pub struct Pending {
-    bytes: ArrayVec<u8, ROOM>,
+    /// The first `count` of these were said. What stands behind them is left as it was, so that no byte is cleared.
+    bytes: [u8; ROOM],
+    count: usize,
     /// How many of the bytes have gone out.
     gone: usize,
 }
 
 impl Model for Pending {
-    ghost use Rattle.std.specs.Prelude.{ℕ, List, drop, length, ◌≤◌};
+    ghost use Rattle.std.specs.Prelude.{ℕ, List, drop, take, ◌≤◌};
 
     ghost Value = { List ℕ };
 
-    ghost view = { λ a. drop a.gone a.bytes.items };
+    ghost view = { λ a. drop a.gone (take a.count a.bytes) };
 
-    ghost invariant = { λ a. a.gone ≤ length a.bytes.items };
+    ghost invariant = { λ a. (a.gone ≤ a.count) × (a.count ≤ 8192) };
+}
+
+/// Puts a text into a room from `at` on, and gives where it ends.
+#[inline(always)]
+fn put(room: &mut [u8; ROOM], at: usize, text: &[u8]) -> usize
+    requires { at + length text.now ≤ 8192 }
+    ensures end { result ≡ at + length text.now }
+    ensures put { take result room.new ≡ take at room.old ++ text.now }
+{
+    let end = at + text.len();
+    room[at..end].copy_from_slice(text);
+    end
+}
+
+/// Puts a line and its line feed into a room from `at` on, and gives where they end.
+#[inline(always)]
+fn put_line(room: &mut [u8; ROOM], at: usize, line: &[u8]) -> usize
+    requires { at + length line.now < 8192 }
+    ensures end { result ≡ at + (length line.now + 1) }
+    ensures put { take result room.new ≡ take at room.old ++ with_feed line.now }
+{
+    let end = put(room, at, line);
+    put_byte(room, end, b'\n')
+}
+
+/// Puts a byte into a room at this place, and gives the next place.
+#[inline(always)]
+fn put_byte(room: &mut [u8; ROOM], at: usize, byte: u8) -> usize
+    requires { at < 8192 }
+    ensures end { result ≡ at + 1 }
+    ensures put { take result room.new ≡ take at room.old ++ byte ∷ [] }
+{
+    room[at] = byte;
+    at + 1
 }
 
 impl Pending {
@@ -42,7 +77,8 @@ impl Pending {
         ensures { result ≡ [] }
     {
         Pending {
-            bytes: ArrayVec::new(),
+            bytes: [0; ROOM],
+            count: 0,
             gone: 0,
         }
     }
@@ -55,16 +91,13 @@ impl Pending {
         ensures fault { OnErr result (Said (W.contents writer.old.device) (W.contents writer.new.device) self.old self.new []) }
         ensures blame { writer.old.failed ≡ false → AfterCalls result writer.new.failed }
     {
-        if self.bytes.remaining_capacity() < Self::LINE {
+        if ROOM - self.count < Self::LINE {
             self.write_out(writer)?;
             self.gone = 0;
-            self.bytes.clear();
-            let _ = self.bytes.try_extend_from_slice(line);
-            self.bytes.push(b'\n');
+            self.count = put_line(&mut self.bytes, 0, line);
             return Ok(());
         }
-        let _ = self.bytes.try_extend_from_slice(line);
-        self.bytes.push(b'\n');
+        self.count = put_line(&mut self.bytes, self.count, line);
         Ok(())
     }
 
@@ -75,6 +108,10 @@ impl Pending {
         ensures front { Wrote (W.contents writer.old.device) (W.contents writer.new.device) self.old self.new (λ said. (rest : List ℕ) × (text.now ≡ said ++ rest)) }
         ensures blame { writer.old.failed ≡ false → AfterCalls result writer.new.failed }
     {
+        if text.len() <= ROOM - self.count {
+            self.count = put(&mut self.bytes, self.count, text);
+            return Ok(());
+        }
         for byte in text {
             self.push(writer, *byte)?;
         }
@@ -87,14 +124,13 @@ impl Pending {
         ensures fault { OnErr result (Said (W.contents writer.old.device) (W.contents writer.new.device) self.old self.new []) }
         ensures blame { writer.old.failed ≡ false → AfterCalls result writer.new.failed }
     {
-        if self.bytes.is_full() {
+        if self.count == ROOM {
             self.write_out(writer)?;
             self.gone = 0;
-            self.bytes.clear();
-            self.bytes.push(byte);
+            self.count = put_byte(&mut self.bytes, 0, byte);
             return Ok(());
         }
-        self.bytes.push(byte);
+        self.count = put_byte(&mut self.bytes, self.count, byte);
         Ok(())
     }
 
@@ -104,8 +140,8 @@ impl Pending {
         ensures ok { OnOk result (self.new ≡ []) }
         ensures blame { writer.old.failed ≡ false → AfterCalls result writer.new.failed }
     {
-        while self.gone < self.bytes.len() {
-            match writer.write_once(&self.bytes[self.gone..]) {
+        while self.gone < self.count {
+            match writer.write_once(&self.bytes[self.gone..self.count]) {
                 Ok(count) => self.gone += count,
                 Err(fault) => return Err(fault),
             }
