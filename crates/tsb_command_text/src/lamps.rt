@@ -2,6 +2,7 @@
 ghost use Rattle.std.specs.Prelude.{◌≡◌};
 ghost use Rattle.tsb_command_text.specs.Lamps.{detector_of, head_number, lamp_of, pedestrian_signal_of, phase_of, signal_of, station_of};
 
+use crate::names::is;
 use tsb_lines::number;
 use tsb_types::{Detector, Lamp, Overlap, PedestrianColor, Phase, SignalColor, Station};
 
@@ -57,13 +58,13 @@ fn number_of_head(digits: &[u8]) -> Option<u32>
 fn signal(word: &[u8]) -> Option<SignalColor>
     ensures { result ≡ signal_of word.now }
 {
-    if word == b"G".as_slice() {
+    if is(word, b"G") {
         return Some(SignalColor::Green);
     }
-    if word == b"Y".as_slice() {
+    if is(word, b"Y") {
         return Some(SignalColor::Yellow);
     }
-    if word == b"R".as_slice() {
+    if is(word, b"R") {
         return Some(SignalColor::Red);
     }
     None
@@ -72,13 +73,13 @@ fn signal(word: &[u8]) -> Option<SignalColor>
 fn pedestrian_signal(word: &[u8]) -> Option<PedestrianColor>
     ensures { result ≡ pedestrian_signal_of word.now }
 {
-    if word == b"W".as_slice() {
+    if is(word, b"W") {
         return Some(PedestrianColor::Walk);
     }
-    if word == b"C".as_slice() {
+    if is(word, b"C") {
         return Some(PedestrianColor::Clearance);
     }
-    if word == b"D".as_slice() {
+    if is(word, b"D") {
         return Some(PedestrianColor::DontWalk);
     }
     None

@@ -6,6 +6,7 @@
 
 pub mod command;
 mod lamps;
+mod names;
 mod read;
 
 pub use command::{Command, Reading};

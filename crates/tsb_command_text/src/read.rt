@@ -8,6 +8,7 @@ ghost use Rattle.tsb_plan.specs.declared.version.Version.TheVariants.{Two};
 
 use crate::command::{Command, Reading};
 use crate::lamps::{detector, lamp, phase, station};
+use crate::names::is;
 use tsb_lines::{is_skipped, next_word, number};
 use tsb_plan::{Object, ObjectId, Version};
 use tsb_types::Watch;
@@ -67,16 +68,16 @@ fn of_words(line: &[u8]) -> Option<Command>
 fn of_one(name: &[u8]) -> Option<Command>
     ensures { result ≡ command_of_one name.now }
 {
-    if name == b"undo".as_slice() {
+    if is(name, b"undo") {
         return Some(Command::Undo);
     }
-    if name == b"show".as_slice() {
+    if is(name, b"show") {
         return Some(Command::Show);
     }
-    if name == b"reset".as_slice() {
+    if is(name, b"reset") {
         return Some(Command::Reset);
     }
-    if name == b"quit".as_slice() {
+    if is(name, b"quit") {
         return Some(Command::Quit);
     }
     None
@@ -86,34 +87,34 @@ fn of_one(name: &[u8]) -> Option<Command>
 fn of_two(name: &[u8], word: &[u8]) -> Option<Command>
     ensures { result ≡ command_of_two name.now word.now }
 {
-    if name == b"step".as_slice() {
+    if is(name, b"step") {
         return Some(Command::Step(number(word)?));
     }
-    if name == b"back".as_slice() {
+    if is(name, b"back") {
         return Some(Command::Back(number(word)?));
     }
-    if name == b"seek".as_slice() {
+    if is(name, b"seek") {
         return Some(Command::Seek(number(word)?));
     }
-    if name == b"pattern".as_slice() {
+    if is(name, b"pattern") {
         return Some(Command::Pattern(number(word)?));
     }
-    if name == b"when".as_slice() {
+    if is(name, b"when") {
         return Some(Command::When(watch_by_one(word)?));
     }
-    if name == b"begin".as_slice() {
+    if is(name, b"begin") {
         return Some(Command::Begin(station(word)?));
     }
-    if name == b"verify".as_slice() {
+    if is(name, b"verify") {
         return Some(Command::Verify(station(word)?));
     }
-    if name == b"commit".as_slice() {
+    if is(name, b"commit") {
         return Some(Command::Commit(station(word)?));
     }
-    if name == b"abort".as_slice() {
+    if is(name, b"abort") {
         return Some(Command::Abort(station(word)?));
     }
-    if name == b"fault".as_slice() && word == b"none".as_slice() {
+    if is(name, b"fault") && is(word, b"none") {
         return Some(Command::Fault(None));
     }
     None
@@ -123,13 +124,13 @@ fn of_two(name: &[u8], word: &[u8]) -> Option<Command>
 fn of_three(name: &[u8], first: &[u8], second: &[u8]) -> Option<Command>
     ensures { result ≡ command_of_three name.now first.now second.now }
 {
-    if name == b"when".as_slice() {
+    if is(name, b"when") {
         return Some(Command::When(watch_by_two(first, second)?));
     }
-    if name == b"preempt".as_slice() {
+    if is(name, b"preempt") {
         return Some(Command::Preempt(number(first)?, turned_on(second)?));
     }
-    if name == b"fault".as_slice() {
+    if is(name, b"fault") {
         return Some(Command::Fault(Some(lamp(first, second)?)));
     }
     None
@@ -145,7 +146,7 @@ fn of_five(
 ) -> Option<Command>
     ensures { result ≡ command_of_five name.now station_word.now object_word.now index.now value.now }
 {
-    if name != b"set".as_slice() {
+    if !is(name, b"set") {
         return None;
     }
     let station = station(station_word)?;
@@ -157,10 +158,10 @@ fn of_five(
 fn watch_by_one(word: &[u8]) -> Option<Watch>
     ensures { result ≡ watch_of_one word.now }
 {
-    if word == b"stage".as_slice() {
+    if is(word, b"stage") {
         return Some(Watch::Stage);
     }
-    if word == b"trip".as_slice() {
+    if is(word, b"trip") {
         return Some(Watch::Trip);
     }
     None
@@ -169,19 +170,19 @@ fn watch_by_one(word: &[u8]) -> Option<Watch>
 fn watch_by_two(word: &[u8], number: &[u8]) -> Option<Watch>
     ensures { result ≡ watch_of_two word.now number.now }
 {
-    if word == b"interval".as_slice() {
+    if is(word, b"interval") {
         return Some(Watch::Interval(phase(number)?));
     }
-    if word == b"ped".as_slice() {
+    if is(word, b"ped") {
         return Some(Watch::Ped(phase(number)?));
     }
-    if word == b"call".as_slice() {
+    if is(word, b"call") {
         return Some(Watch::Call(phase(number)?));
     }
-    if word == b"output".as_slice() {
+    if is(word, b"output") {
         return Some(Watch::Output(detector(number)?));
     }
-    if word == b"alarm".as_slice() {
+    if is(word, b"alarm") {
         return Some(Watch::Alarm(detector(number)?));
     }
     None
@@ -191,10 +192,10 @@ fn watch_by_two(word: &[u8], number: &[u8]) -> Option<Watch>
 pub fn turned_on(word: &[u8]) -> Option<bool>
     ensures { result ≡ on_or_off word.now }
 {
-    if word == b"on".as_slice() {
+    if is(word, b"on") {
         return Some(true);
     }
-    if word == b"off".as_slice() {
+    if is(word, b"off") {
         return Some(false);
     }
     None
