@@ -1,5 +1,5 @@
 -- A display line is ASCII text of 53 bytes, and of heads it tells only those of phases 1 to 16 and of overlaps 1 to 4.
-use Rattle.std.proofs.Common.{◌≡◌, ◌∙◌, ℕ, ◌+◌, ◌<◌, ◌≤◌, List, [], ◌∷◌, ◌++◌, map, length, refl, ap, arith, zero, suc, Option, Some, None, IfSome, take, drop, set, replicate}
+use Rattle.std.proofs.Common.{◌≡◌, ◌∙◌, ℕ, ◌+◌, ◌-◌, ◌%◌, ◌<◌, ◌≤◌, List, [], ◌∷◌, ◌++◌, map, length, refl, ap, arith, zero, suc, Option, Some, None, IfSome, take, drop, set, replicate}
 use Rattle.std.specs.Str.{IsUtf8, IsAscii}
 use Rattle.std.proofs.lemmas.Str.{IsUtf8-from_ascii}
 use Rattle.tsb_types.specs.Lists.{run_from}
@@ -125,3 +125,43 @@ pub line-written : (now : ℕ) (heads : Heads) (preempt local : Option ℕ) →
 unfolding line_of run_from
 line-written now heads preempt None = refl
 line-written now heads preempt (Some n) = refl
+
+-- ## Lines that are made of one another
+
+-- the line with these digits of the tick number
+abbrev with_digits : List ℕ → Heads → Option ℕ → Option ℕ → List ℕ
+with_digits digits heads preempt local =
+    digits ++ (32 ∷ vehicle_field heads.vehicle ++ (32 ∷ pedestrian_field heads.pedestrian
+    ++ (32 ∷ overlap_field heads.overlap ++ (32 ∷ preempt_digit preempt ∷ 32 ∷ local_field local))))
+
+-- a line gets another tick number
+pub line-renumbered : (was now : ℕ) (heads : Heads) → placed 0 7 (tick_field now) (line_of was heads None None) ≡ line_of now heads None None
+unfolding line_of run_from
+line-renumbered was now heads = refl
+
+-- all digits but the last are those of the number with a 0 for its last one
+round-digits : (n : ℕ) → set (tick_field (n - n % 10)) 6 (digit n 1) ≡ tick_field n
+round-digits n =
+    let d1 : digit (n - n % 10) 1000000 ≡ digit n 1000000 = omega arith in
+    let d2 : digit (n - n % 10) 100000 ≡ digit n 100000 = omega arith in
+    let d3 : digit (n - n % 10) 10000 ≡ digit n 10000 = omega arith in
+    let d4 : digit (n - n % 10) 1000 ≡ digit n 1000 = omega arith in
+    let d5 : digit (n - n % 10) 100 ≡ digit n 100 = omega arith in
+    let d6 : digit (n - n % 10) 10 ≡ digit n 10 = omega arith in
+    λ i. d1 i ∷ d2 i ∷ d3 i ∷ d4 i ∷ d5 i ∷ d6 i ∷ digit n 1 ∷ []
+
+-- a line gets its last digit, its preempt and its local counter
+filled : (round units : ℕ) (heads : Heads) (preempt local : Option ℕ) →
+    placed 49 4 (local_field local) (set (set (line_of round heads None None) 6 units) 47 (preempt_digit preempt))
+    ≡ with_digits (set (tick_field round) 6 units) heads preempt local
+unfolding line_of run_from
+filled round units heads preempt None = refl
+filled round units heads preempt (Some n) = refl
+
+pub line-filled : (now : ℕ) (heads : Heads) (preempt local : Option ℕ) →
+    placed 49 4 (local_field local) (set (set (line_of (now - now % 10) heads None None) 6 (digit now 1)) 47 (preempt_digit preempt))
+    ≡ line_of now heads preempt local
+unfolding line_of
+line-filled now heads preempt local =
+    filled (now - now % 10) (digit now 1) heads preempt local
+    ∙ ap (λ (digits : List ℕ). with_digits digits heads preempt local) (round-digits now)

@@ -20,7 +20,10 @@ pub const WIDTH: usize = 53;
 pub type LineBytes = [u8; WIDTH];
 
 /// Where the tick number begins.
-const TICK: usize = 0;
+pub(crate) const TICK: usize = 0;
+
+/// Where its last digit is.
+pub(crate) const UNITS: usize = 6;
 
 /// Where the letters of vehicle heads begin.
 const VEHICLES: usize = 8;
@@ -32,10 +35,10 @@ const PEDESTRIANS: usize = 25;
 const OVERLAPS: usize = 42;
 
 /// Where the preempt in service is.
-const PREEMPT: usize = 47;
+pub(crate) const PREEMPT: usize = 47;
 
 /// Where the local counter begins.
-const LOCAL: usize = 49;
+pub(crate) const LOCAL: usize = 49;
 
 /// The display line as text, without a line feed: `line_bytes`. It takes no memory.
 pub fn line(
@@ -100,7 +103,7 @@ pub(crate) fn bytes_of(
 
 /// Puts a field into a line from `at` on.
 #[inline(always)]
-fn put<const N: usize>(bytes: &mut LineBytes, at: usize, field: &[u8; N])
+pub(crate) fn put<const N: usize>(bytes: &mut LineBytes, at: usize, field: &[u8; N])
     requires { at + N ≤ 53 }
     ensures { bytes.new ≡ take at bytes.old ++ (field.now ++ drop (at + N) bytes.old) }
 {

@@ -1,39 +1,44 @@
 //! Display lines made one after another.
-ghost use Rattle.std.specs.Prelude.{◌≡◌};
+ghost use Rattle.std.specs.Prelude.{◌≡◌, None};
 ghost use Rattle.tsb_heads.specs.Reading.{heads_of};
-ghost use Rattle.tsb_display_text.specs.Letters.{AreOf};
 ghost use Rattle.tsb_display_text.specs.Line.{line_of};
 
-use crate::display_line::{LineBytes, bytes_of};
+use crate::display_line::{LOCAL, LineBytes, PREEMPT, TICK, UNITS, bytes_of, put};
 use crate::letters::Letters;
+use crate::numbers::{local_digits, preempt_digit};
 use std::marker::Model;
 use tsb_heads::Display;
+use tsb_lines::{digit, seven_digits};
 use tsb_types::Preempt;
 
-/// What the heads showed in a line, and its letters.
+/// What the heads showed in a line, and that line with a 0 for the last digit of its tick number, as if no preempt were
+/// in service and no pattern ran.
 #[derive(Clone, Copy)]
 struct Shown {
     heads: Display,
-    letters: Letters,
+    /// The tick number with a 0 for its last digit.
+    round: u32,
+    line: LineBytes,
 }
 
 /// Makes display lines one after another. It finds letters anew only where the heads show something else than in the
-/// line before, as most ticks change no head. What it keeps tells in no line, so clauses see nothing of it.
+/// line before, as most ticks change no head, and most digits only at each tenth tick. What it keeps tells in no line,
+/// so clauses see nothing of it.
 #[derive(Drop)]
 pub struct LineMaker {
     last: Option<Shown>,
 }
 
 impl Model for LineMaker {
-    ghost use Rattle.std.specs.Prelude.{IfSome};
+    ghost use Rattle.std.specs.Prelude.{◌≡◌, IfSome, None};
     ghost use Rattle.tsb_heads.specs.Reading.{heads_of};
-    ghost use Rattle.tsb_display_text.specs.Letters.{AreOf};
+    ghost use Rattle.tsb_display_text.specs.Line.{line_of};
 
     ghost Value = { Unit {0} };
 
     ghost view = { λ maker. tt };
 
-    ghost invariant = { λ maker. IfSome maker.last (λ shown. AreOf shown.letters (heads_of shown.heads)) };
+    ghost invariant = { λ maker. IfSome maker.last (λ shown. shown.line ≡ line_of shown.round (heads_of shown.heads) None None) };
 }
 
 impl LineMaker {
@@ -52,24 +57,44 @@ impl LineMaker {
     ) -> LineBytes
         ensures { result ≡ line_of now (heads_of heads.now) preempt local }
     {
-        bytes_of(now, &self.letters(heads), preempt, local)
+        let mut bytes = self.round_line(now - now % 10, heads);
+        bytes[UNITS] = digit(now, 1);
+        bytes[PREEMPT] = preempt_digit(preempt);
+        put(&mut bytes, LOCAL, &local_digits(local));
+        bytes
     }
 
-    /// The letters of what the heads show.
+    /// The line of these heads at a tick number that ends in 0, without a preempt and a local counter: the one that is
+    /// kept, or another, which is then kept.
     #[inline(always)]
-    fn letters(&mut self, heads: &Display) -> Letters
-        ensures { AreOf result (heads_of heads.now) }
+    fn round_line(&mut self, round: u32, heads: &Display) -> LineBytes
+        ensures { result ≡ line_of round (heads_of heads.now) None None }
+    {
+        if let Some(last) = &self.last {
+            if last.round == round && last.heads == *heads {
+                return last.line;
+            }
+        }
+        let line = self.other_line(round, heads);
+        self.last = Some(Shown {
+            heads: *heads,
+            round,
+            line,
+        });
+        line
+    }
+
+    /// The line of these heads at another tick number than the one that is kept, or of other heads.
+    fn other_line(&self, round: u32, heads: &Display) -> LineBytes
+        ensures { result ≡ line_of round (heads_of heads.now) None None }
     {
         if let Some(last) = &self.last {
             if last.heads == *heads {
-                return last.letters;
+                let mut line = last.line;
+                put(&mut line, TICK, &seven_digits(round));
+                return line;
             }
         }
-        let letters = Letters::of(heads);
-        self.last = Some(Shown {
-            heads: *heads,
-            letters,
-        });
-        letters
+        bytes_of(round, &Letters::of(heads), None, None)
     }
 }
