@@ -1,5 +1,5 @@
 -- Bytes that come one after the other, and the display lines in them.
-use Rattle.std.proofs.Common.{◌≡◌, ℕ, ◌+◌, ◌≤◌, ◌==◌, List, [], ◌∷◌, ◌++◌, length, length-append, Bool, true, false, not, refl, sym, ap, ◌∙◌, append_assoc, Some, None, Ok, Err, arith, subst, inl, inr}
+use Rattle.std.proofs.Common.{◌≡◌, ℕ, ◌+◌, ◌<◌, ◌≤◌, ◌==◌, List, [], ◌∷◌, ◌++◌, length, length-append, Bool, true, false, not, refl, sym, ap, ◌∙◌, append_assoc, Some, None, Ok, Err, arith, subst, inl, inr}
 use Rattle.std.specs.declared.option.Option.{Option}
 use Rattle.std.specs.List.{cons_option, filter_map}
 use Rattle.std.specs.Io.KnownBytes.{Consumes, IsAtEnd, Keeps as KeepsBytes}
@@ -80,6 +80,41 @@ lines-on (b ∷ bytes) line shown f = elim (eqb_tells b 10) [
 -- the display lines among bytes are what is known when all of them were taken and the last line has ended
 pub lines-taken : (bytes : List ℕ) → (with_line (with_bytes start bytes)).shown ≡ shown_lines bytes
 lines-taken bytes = lines-on bytes [] [] tt
+
+-- ## Lines that are taken whole
+
+no-feed : (b : ℕ) → (b ≡ 10 → ⊥) → (b == 10) ≡ false
+no-feed b f = elim (eqb_tells b 10) [ inl on ↦ absurd (f on.1) | inr off ↦ off.0 ]
+
+-- a byte and a piece of a line behind it come to the same as both at once
+held-both : (held piece : List ℕ) (b : ℕ) → kept 55 (kept 55 (held ++ b ∷ []) ++ piece) ≡ kept 55 (held ++ b ∷ piece)
+held-both held piece b = kept-more 55 (held ++ b ∷ []) piece ∙ ap (kept 55) (append_assoc held (b ∷ []) piece)
+
+-- a piece of a line goes onto what is held of it
+pub piece-held : (s : Stand) (piece : List ℕ) → 0 < length piece → HasNoFeed piece → with_bytes s piece ≡ record { shown = s.shown; held = kept 55 (s.held ++ piece) }
+piece-held s [] some f = absurd (omega (arith, some))
+piece-held s (b ∷ []) some f = byte-other s b (no-feed b f.0)
+piece-held s (b ∷ c ∷ piece) some f =
+    ap (λ (t : Stand). with_bytes t (c ∷ piece)) (byte-other s b (no-feed b f.0))
+    ∙ piece-held (with_held s b) (c ∷ piece) (omega arith) f.1
+    ∙ ap (λ (v : List ℕ). record { shown = s.shown; held = v }) (held-both s.held (c ∷ piece) b)
+
+-- the rest of a line goes onto what is held of it, and the line feed behind it ends the line
+pub rest-ended : (s : Stand) (rest : List ℕ) → HasNoFeed rest → with_bytes s (rest ++ 10 ∷ []) ≡ with_line (record { shown = s.shown; held = kept 55 (s.held ++ rest) })
+rest-ended s [] f = ap (λ (o : Option Shown). record { shown = with_shown s.shown o; held = [] }) (sym (held-shows (s.held ++ []) ∙ ap shown_in (append-nil s.held)))
+rest-ended s (b ∷ rest) f =
+    ap (λ (t : Stand). with_bytes t (rest ++ 10 ∷ [])) (byte-other s b (no-feed b f.0))
+    ∙ rest-ended (with_held s b) rest f.1
+    ∙ ap (λ (v : List ℕ). with_line (record { shown = s.shown; held = v })) (held-both s.held rest b)
+
+-- bytes behind those that were taken
+pub bytes-behind : (s : Stand) (taken more : List ℕ) → with_bytes s (taken ++ more) ≡ with_bytes (with_bytes s taken) more
+bytes-behind s taken more = fold-append with_byte s taken more
+
+-- what was taken, and the line after it
+pub line-behind : (taken rest next left bytes : List ℕ) → bytes ≡ taken ++ left → left ≡ rest ++ 10 ∷ next → bytes ≡ (taken ++ (rest ++ 10 ∷ [])) ++ next
+line-behind taken rest next left bytes all cut =
+    all ∙ ap (λ (v : List ℕ). taken ++ v) (cut ∙ sym (append_assoc rest (10 ∷ []) next)) ∙ sym (append_assoc taken (rest ++ 10 ∷ []) next)
 
 -- ## Reading
 

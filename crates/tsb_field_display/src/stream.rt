@@ -1,7 +1,8 @@
 //! Reading the display lines among what a session answers.
-ghost use Rattle.std.specs.Prelude.{◌≡◌, ℕ, Bool, Err, List, MatchResult, OnOk, Option, false};
+ghost use Rattle.std.specs.Prelude.{◌≡◌, ◌∷◌, ◌++◌, [], ℕ, Bool, Err, List, MatchResult, OnOk, Option, false};
 ghost use Rattle.std.specs.Io.KnownBytes.{IsAtEnd};
-ghost use Rattle.tsb_field_display.specs.Stream.{GoesOn, Going, ReplayRead, Stand, StandsAt, with_byte, with_bytes, with_line, start};
+ghost use Rattle.tsb_lines.specs.Lines.{HasNoFeed};
+ghost use Rattle.tsb_field_display.specs.Stream.{GoesOn, Going, ReplayRead, Stand, StandsAt, with_bytes, with_line, start};
 
 use crate::error::ReplayError;
 use crate::reading::read_line;
@@ -9,7 +10,7 @@ use crate::replay::Replay;
 use std::alloc::{AllocError, Global};
 use std::io::Read;
 use tsb_display_text::WIDTH;
-use tsb_lines::KeptLine;
+use tsb_lines::{KeptLine, cut_at_feed};
 use tsb_watched::Watched;
 
 /// How many bytes of a line are kept: those of a display line, the carriage return after them, and one more, by which
@@ -49,23 +50,26 @@ impl Stream {
         Ok(())
     }
 
-    /// Takes one more byte.
-    fn feed(&mut self, byte: u8) -> Result<(), AllocError>
-        ensures { (s : Stand) → StandsAt s self.old → OnOk result (StandsAt (with_byte s byte) self.new) }
+    /// Takes the rest of a line, up to its line feed.
+    fn feed_line(&mut self, rest: &[u8]) -> Result<(), AllocError>
+        requires { HasNoFeed rest.now }
+        ensures { (s : Stand) → StandsAt s self.old → OnOk result (StandsAt (with_bytes s (rest.now ++ 10 ∷ [])) self.new) }
     {
-        if byte == b'\n' {
-            return self.end_line();
-        }
-        self.line.push(byte);
-        Ok(())
+        self.line.extend(rest);
+        self.end_line()
     }
 
     /// Takes these bytes.
     fn feed_all(&mut self, bytes: &[u8]) -> Result<(), AllocError>
         ensures { (s : Stand) → StandsAt s self.old → OnOk result (StandsAt (with_bytes s bytes.now) self.new) }
     {
-        for byte in bytes {
-            self.feed(*byte)?;
+        let mut left = bytes;
+        while let Some((rest, next)) = cut_at_feed(left) {
+            self.feed_line(rest)?;
+            left = next;
+        }
+        if !left.is_empty() {
+            self.line.extend(left);
         }
         Ok(())
     }
