@@ -1,7 +1,7 @@
 //! Words that are names.
 ghost use Rattle.std.specs.Prelude.{◌≡◌, bytes_eq};
 
-/// Whether a word is this name. A name is short, so its bytes are compared here, and no function of any length is called.
+/// Whether a word is this name. Names are short, so their bytes are compared here, one by one.
 #[inline(always)]
 pub(crate) fn is<const N: usize>(word: &[u8], name: &[u8; N]) -> bool
     ensures { result ≡ bytes_eq word.now name.now }

@@ -11,8 +11,8 @@ use tsb_heads::Display;
 use tsb_lines::{digit, seven_digits};
 use tsb_types::Preempt;
 
-/// What the heads showed in a line, and that line with a 0 for the last digit of its tick number, as if no preempt were
-/// in service and no pattern ran.
+/// What the heads showed in a line, and that line. Its tick number ends in 0 here, and it tells of no preempt and of no
+/// local counter.
 #[derive(Clone, Copy)]
 struct Shown {
     heads: Display,
@@ -22,8 +22,8 @@ struct Shown {
 }
 
 /// Makes display lines one after another. It finds letters anew only where the heads show something else than in the
-/// line before, as most ticks change no head, and most digits only at each tenth tick. What it keeps tells in no line,
-/// so clauses see nothing of it.
+/// line before, as most ticks change no head. Most digits it finds only at each tenth tick. What it keeps tells in no
+/// line, so clauses see nothing of it.
 #[derive(Drop)]
 pub struct LineMaker {
     last: Option<Shown>,
@@ -64,8 +64,8 @@ impl LineMaker {
         bytes
     }
 
-    /// The line of these heads at a tick number that ends in 0, without a preempt and a local counter: the one that is
-    /// kept, or another, which is then kept.
+    /// The line of these heads at this tick number, without a preempt and a local counter. It is the one that is kept,
+    /// or another, which is then kept.
     #[inline(always)]
     fn round_line(&mut self, round: u32, heads: &Display) -> LineBytes
         ensures { result ≡ line_of round (heads_of heads.now) None None }
