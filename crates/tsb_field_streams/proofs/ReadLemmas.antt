@@ -3,9 +3,9 @@ use Rattle.std.proofs.Common.{◌≡◌, ℕ, ◌+◌, ◌<◌, ◌≤◌, List,
 use Rattle.std.proofs.lemmas.List.{append-nil}
 use Rattle.std.proofs.lemmas.Bool.{lt-ltb}
 use Rattle.std.proofs.lemmas.Bool.Decides.{eqb_tells}
-use Rattle.tsb_lines.specs.Lines.{kept, lines_of, without_return}
+use Rattle.tsb_lines.specs.Lines.{HasNoFeed, kept, lines_of, without_return}
 use Rattle.tsb_lines.proofs.KeptLemmas.{kept-tells}
-use Rattle.tsb_lines.proofs.LineLemmas.{feedless-more, length-return, lines-alone, lines-joined}
+use Rattle.tsb_lines.proofs.LineLemmas.{feedless-both, length-return, lines-alone, lines-joined}
 use Rattle.tsb_field_streams.specs.declared.error.FilterError.{FilterError}
 use Rattle.tsb_field_streams.specs.declared.error.FilterError.TheVariants.{LongLine}
 use Rattle.tsb_field_streams.specs.Filtering.{Given, Stand, one_more, start, with_line}
@@ -40,12 +40,12 @@ empty-line g n s = elim (eqb_tells n 1) [ inl z ↦ rw z.0 refl | inr off ↦ rw
 pub read-start : (g : Given) → HasRead g [] 1 (start g) []
 read-start g = record { front = []; whole = refl; unfinished = tt; comes = λ more. refl }
 
--- a byte that ends no line
-pub read-byte : (g : Given) (bytes : List ℕ) (n : ℕ) (s : Stand) (held : List ℕ) (b : ℕ) → HasRead g bytes n s held → (b ≡ 10 → ⊥) → HasRead g (bytes ++ b ∷ []) n s (held ++ b ∷ [])
-read-byte g bytes n s held b r other = record {
+-- a piece that ends no line
+pub read-piece : (g : Given) (bytes : List ℕ) (n : ℕ) (s : Stand) (held piece : List ℕ) → HasRead g bytes n s held → HasNoFeed piece → HasRead g (bytes ++ piece) n s (held ++ piece)
+read-piece g bytes n s held piece r none = record {
   front = r.front;
-  whole = ap (λ (v : List ℕ). v ++ b ∷ []) r.whole ∙ append_assoc r.front held (b ∷ []);
-  unfinished = feedless-more held b r.unfinished other;
+  whole = ap (λ (v : List ℕ). v ++ piece) r.whole ∙ append_assoc r.front held piece;
+  unfinished = feedless-both held piece r.unfinished none;
   comes = r.comes;
 }
 

@@ -1,5 +1,5 @@
 -- What a stream has written, and how it ends.
-use Rattle.std.proofs.Common.{◌≡◌, ◌⊎◌, ℕ, zero, suc, ◌+◌, ◌-◌, ◌*◌, ◌<◌, ◌≤◌, List, [], ◌∷◌, ◌++◌, length, min, max, take, take_all, get_or, drop, refl, sym, ap, ◌∙◌, append_assoc, length-append, arith, subst, inl, inr, OnOk, OnErr}
+use Rattle.std.proofs.Common.{◌≡◌, ◌⊎◌, ℕ, zero, suc, ◌+◌, ◌-◌, ◌*◌, ◌<◌, ◌≤◌, List, [], ◌∷◌, ◌++◌, length, min, max, take, refl, sym, ap, ◌∙◌, append_assoc, length-append, arith, subst, inl, inr, OnOk, OnErr}
 use Rattle.std.proofs.lemmas.List.{append-nil}
 use Rattle.std.proofs.lemmas.Bool.{cases_eq}
 use Rattle.std.specs.declared.option.Option.{Option}
@@ -7,8 +7,8 @@ use Rattle.std.specs.declared.result.Result.{Result}
 use Rattle.std.specs.declared.result.Result.TheVariants.{Ok, Err}
 use Rattle.std.specs.Io.KnownBytes.{Appends, Consumes, IsAtEnd, Keeps}
 use Rattle.tsb_lines.specs.Writes.{AppendsFront}
-use Rattle.tsb_lines.proofs.StreamLemmas.{appends-more, appends-nothing, consumes-kept, consumes-more, consumes-nothing, front-more, front-rest}
-use Rattle.tsb_lines.specs.Lines.{kept, without_return}
+use Rattle.tsb_lines.proofs.StreamLemmas.{appends-more, appends-nothing, consumes-kept, consumes-more, consumes-nothing}
+use Rattle.tsb_lines.specs.Lines.{HasNoFeed, kept, without_return}
 use Rattle.tsb_lines.proofs.KeptLemmas.{kept-more}
 use Rattle.tsb_field_log.specs.declared.street.Rows.{Rows}
 use Rattle.tsb_field_log.specs.Changes.{changes, rows_of}
@@ -30,7 +30,7 @@ use Rattle.tsb_field_streams.specs.Filtering.{Given, Stand, next_after, one_more
 use Rattle.tsb_field_streams.specs.Lines.{HasRead, all_of, ended, filtered}
 use Rattle.tsb_field_streams.specs.Standing.{StandsAt, Takes}
 use Rattle.tsb_field_streams.specs.Streaming.{Follows, WroteFront, Went, Sticks, Finished, EndedBehind, EndedSo, Known, TookLast, known_log, whole_log}
-use Rattle.tsb_field_streams.proofs.ReadLemmas.{all-comes, front-comes, kept-last, kept-line, read-byte, read-fault, read-line, read-start, sticks-more}
+use Rattle.tsb_field_streams.proofs.ReadLemmas.{all-comes, front-comes, kept-last, kept-line, read-fault, read-line, read-piece, read-start, sticks-more}
 
 -- ## What is written
 
@@ -160,16 +160,16 @@ line-fault g bytes line old filter e a b f is takes =
     goes (Ok t) k takes = absurd takes
     goes (Err d) k takes = read-fault g bytes old.number f.stand f.held e f.read (sym same ∙ k ∙ ap Err (sym takes))
 
--- ## Bytes
+-- ## Pieces of lines
 
--- a byte that ends no line
-pub byte-went : (g : Given) (bytes : List ℕ) (b : ℕ) (old new : Stream) (a c : Option (List ℕ)) → (f : Follows g bytes old a c) → (b ≡ 10 → ⊥) → new.filter ≡ old.filter → new.number ≡ old.number
-    → new.line ≡ kept 1002 (old.line ++ b ∷ []) → Follows g (bytes ++ b ∷ []) new a c
-byte-went g bytes b old new a c f other same number is = record {
+-- a piece that ends no line
+pub piece-went : (g : Given) (bytes piece : List ℕ) (old new : Stream) (a c : Option (List ℕ)) → (f : Follows g bytes old a c) → HasNoFeed piece → new.filter ≡ old.filter → new.number ≡ old.number
+    → new.line ≡ kept 1002 (old.line ++ piece) → Follows g (bytes ++ piece) new a c
+piece-went g bytes piece old new a c f none same number is = record {
   stand = f.stand;
-  held = f.held ++ b ∷ [];
-  read = subst (λ (n : ℕ). HasRead g (bytes ++ b ∷ []) n f.stand (f.held ++ b ∷ [])) (sym number) (read-byte g bytes old.number f.stand f.held b f.read other);
-  kept = is ∙ ap (λ (v : List ℕ). kept 1002 (v ++ b ∷ [])) f.kept ∙ kept-more 1002 f.held (b ∷ []);
+  held = f.held ++ piece;
+  read = subst (λ (n : ℕ). HasRead g (bytes ++ piece) n f.stand (f.held ++ piece)) (sym number) (read-piece g bytes old.number f.stand f.held piece f.read none);
+  kept = is ∙ ap (λ (v : List ℕ). kept 1002 (v ++ piece)) f.kept ∙ kept-more 1002 f.held piece;
   stands = subst (λ (filter : Filter). StandsAt g f.stand filter) (sym same) f.stands;
   grown = f.grown;
 }
@@ -177,24 +177,26 @@ byte-went g bytes b old new a c f other same number is = record {
 pub follows-same : (g : Given) (xs ys : List ℕ) (stream : Stream) (a c : Option (List ℕ)) → xs ≡ ys → Follows g xs stream a c → Follows g ys stream a c
 follows-same g xs ys stream a c is f = subst (λ (v : List ℕ). Follows g v stream a c) is f
 
-pub piece-more : (g : Given) (before bytes : List ℕ) (i x : ℕ) (stream : Stream) (a c : Option (List ℕ)) → i < length bytes → x ≡ get_or bytes i 0
-    → Follows g ((before ++ take i bytes) ++ x ∷ []) stream a c → Follows g (before ++ take (i + 1) bytes) stream a c
-piece-more g before bytes i x stream a c lt is f = follows-same g ((before ++ take i bytes) ++ x ∷ []) (before ++ take (i + 1) bytes) stream a c (front-more before bytes i x lt is) f
+pub went-same : (r : Result (Unit {0}) FilterError) (g : Given) (xs ys : List ℕ) (stream : Stream) (a c : Option (List ℕ)) → xs ≡ ys → Went r g xs stream a c → Went r g ys stream a c
+went-same r g xs ys stream a c is w = subst (λ (v : List ℕ). Went r g v stream a c) is w
 
-pub piece-fault : (g : Given) (before bytes : List ℕ) (i x : ℕ) (e : FilterError) (a c : Option (List ℕ)) → i < length bytes → x ≡ get_or bytes i 0
-    → WroteFront g ((before ++ take i bytes) ++ x ∷ []) a c × ((e ≡ Write) ⊎ Sticks g ((before ++ take i bytes) ++ x ∷ []) e)
+-- what was taken, and the line after it
+pub line-behind : (taken rest next left bytes : List ℕ) → bytes ≡ taken ++ left → left ≡ rest ++ 10 ∷ next → bytes ≡ (taken ++ (rest ++ 10 ∷ [])) ++ next
+line-behind taken rest next left bytes all cut =
+    all ∙ ap (λ (v : List ℕ). taken ++ v) (cut ∙ sym (append_assoc rest (10 ∷ []) next)) ∙ sym (append_assoc taken (rest ++ 10 ∷ []) next)
+
+-- a fault within some bytes is one within these and what follows them
+pub line-broken : (g : Given) (before taken line next bytes : List ℕ) (e : FilterError) (a c : Option (List ℕ)) → bytes ≡ (taken ++ line) ++ next
+    → WroteFront g ((before ++ taken) ++ line) a c × ((e ≡ Write) ⊎ Sticks g ((before ++ taken) ++ line) e)
     → WroteFront g (before ++ bytes) a c × ((e ≡ Write) ⊎ Sticks g (before ++ bytes) e)
-piece-fault g before bytes i x e a c lt is w =
-    let all : ((before ++ take i bytes) ++ x ∷ []) ++ drop (i + 1) bytes ≡ before ++ bytes = front-rest before bytes i x lt is in (
-      subst (λ (v : List ℕ). WroteFront g v a c) all (wrote-more g ((before ++ take i bytes) ++ x ∷ []) (drop (i + 1) bytes) a c w.0),
+line-broken g before taken line next bytes e a c cut w =
+    let all : ((before ++ taken) ++ line) ++ next ≡ before ++ bytes = ap (λ (v : List ℕ). v ++ next) (append_assoc before taken line) ∙ append_assoc before (taken ++ line) next ∙ ap (λ (v : List ℕ). before ++ v) (sym cut) in (
+      subst (λ (v : List ℕ). WroteFront g v a c) all (wrote-more g ((before ++ taken) ++ line) next a c w.0),
       elim w.1 [
         | inl write ↦ inl write
-        | inr sticks ↦ inr (subst (λ (v : List ℕ). Sticks g v e) all (sticks-more g ((before ++ take i bytes) ++ x ∷ []) (drop (i + 1) bytes) e sticks))
+        | inr sticks ↦ inr (subst (λ (v : List ℕ). Sticks g v e) all (sticks-more g ((before ++ taken) ++ line) next e sticks))
       ],
     )
-
-pub piece-end : (g : Given) (before bytes : List ℕ) (i : ℕ) (stream : Stream) (a c : Option (List ℕ)) → length bytes ≤ i → Follows g (before ++ take i bytes) stream a c → Follows g (before ++ bytes) stream a c
-piece-end g before bytes i stream a c le f = follows-same g (before ++ take i bytes) (before ++ bytes) stream a c (ap (λ (v : List ℕ). before ++ v) (take_all i bytes le)) f
 
 -- ## The end
 

@@ -1,5 +1,6 @@
 //! Lines of events as a stream of bytes, and the log that they make known.
 ghost use Rattle.std.specs.Prelude.{◌≡◌, ◌∷◌, [], ◌++◌, false, ℕ, IfOk, List, Option, length, option_map, replicate};
+ghost use Rattle.tsb_lines.specs.Lines.{HasNoFeed};
 ghost use Rattle.tsb_field_log.specs.Mapping.{wires_of};
 ghost use Rattle.tsb_field_streams.specs.Filtering.{Given, Stand};
 ghost use Rattle.tsb_field_log.specs.Taken.{HasTaken};
@@ -13,7 +14,7 @@ use std::alloc::{AllocError, Global};
 use std::io::{Read, Write};
 use tsb_field_log::{Street, Wire, wires};
 use tsb_held_rows::Held;
-use tsb_lines::KeptLine;
+use tsb_lines::{KeptLine, cut_at_feed};
 
 /// The most events of a stream, in bytes: 1 GiB.
 pub const EVENTS: usize = 1_073_741_824;
@@ -48,16 +49,14 @@ impl Stream<'_> {
         write_rows(writer, rows)
     }
 
-    /// Takes one more byte.
-    fn feed<W: Write>(&mut self, byte: u8, writer: &mut W) -> Result<(), FilterError>
+    /// Takes the rest of a line, up to its line feed.
+    fn feed_line<W: Write>(&mut self, rest: &[u8], writer: &mut W) -> Result<(), FilterError>
+        requires one { HasNoFeed rest.now }
         ensures went { (g : Given) (bytes : List ℕ) (begun : Option (List ℕ)) → Follows g bytes self.old begun (W.contents writer.old)
-            → Went result g (bytes ++ byte ∷ []) self.new begun (W.contents writer.new) }
+            → Went result g (bytes ++ (rest.now ++ 10 ∷ [])) self.new begun (W.contents writer.new) }
     {
-        if byte == b'\n' {
-            return self.end_line(writer);
-        }
-        self.line.push(byte);
-        Ok(())
+        self.line.extend(rest);
+        self.end_line(writer)
     }
 
     /// Takes these bytes.
@@ -65,12 +64,14 @@ impl Stream<'_> {
         ensures went { (g : Given) (before : List ℕ) (begun : Option (List ℕ)) → Follows g before self.old begun (W.contents writer.old)
             → Went result g (before ++ bytes.now) self.new begun (W.contents writer.new) }
     {
-        for byte in bytes {
-            match self.feed(*byte, writer) {
-                Ok(()) => {}
+        let mut left = bytes;
+        while let Some((rest, next)) = cut_at_feed(left) {
+            match self.feed_line(rest, writer) {
+                Ok(()) => left = next,
                 Err(fault) => return Err(fault),
             }
         }
+        self.line.extend(left);
         Ok(())
     }
 

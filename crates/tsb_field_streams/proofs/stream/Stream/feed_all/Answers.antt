@@ -1,29 +1,41 @@
-use Rattle.std.proofs.Common.{refl, get_or, sym}
+use Rattle.std.proofs.Common.{[], ◌∷◌, ◌++◌, ◌∙◌, ap, append_assoc, refl, sym, List, ℕ}
 use Rattle.std.proofs.lemmas.List.{append-nil}
-use Rattle.tsb_field_streams.proofs.StreamLemmas.{follows-same, piece-end, piece-fault, piece-more}
+use Rattle.tsb_field_streams.proofs.StreamLemmas.{follows-same, line-behind, line-broken, piece-went}
 use Rattle.tsb_field_streams.proofs.stream.Stream.feed_all.Goals as goal
 
-pub loop-byte-init : goal.loop-byte-init
-loop-byte-init g c = record {
-  follows = λ given before begun f. follows-same given before _ _ _ _ (sym (append-nil before)) f;
-}
+pub loop-rest-init : goal.loop-rest-init
+loop-rest-init g c = record { cut = ([], refl, λ given before begun f. follows-same given before _ _ _ _ (sym (append-nil before)) f) }
 
 pub returns-in-Err : goal.returns-in-Err
-returns-in-Err g c = record {
-  went = λ given before begun f.
-      piece-fault given before c.args.bytes.now c.loop-byte.byte-index (get_or c.args.bytes.now c.loop-byte.byte-index 0) c.in-Err.fault _ _ c.loop-byte-test.true refl
-      (c.in-Err.ensures.went given _ begun (c.loop-byte.invariant.follows given before begun f));
-}
+returns-in-Err g c =
+    let was = c.loop-rest.invariant.cut in
+    let line : List ℕ = c.in-Some.rest.now ++ 10 ∷ [] in
+    record {
+      went = λ given before begun f.
+          line-broken given before was.0 line c.in-Some.next.now c.args.bytes.now c.in-Err.fault _ _
+          (line-behind was.0 c.in-Some.rest.now c.in-Some.next.now c.loop-rest.left.now c.args.bytes.now was.1 c.in-Some.ensures.1)
+          (c.in-Err.ensures.went given (before ++ was.0) begun (was.2 given before begun f));
+    }
 
-pub loop-byte-preserved : goal.loop-byte-preserved
-loop-byte-preserved g c = record {
-  follows = λ given before begun f.
-      piece-more given before c.args.bytes.now c.loop-byte.byte-index (get_or c.args.bytes.now c.loop-byte.byte-index 0) _ _ _ c.loop-byte-test.true refl
-      (c.in-Ok.ensures.went given _ begun (c.loop-byte.invariant.follows given before begun f));
-}
+pub loop-rest-preserved : goal.loop-rest-preserved
+loop-rest-preserved g c =
+    let was = c.loop-rest.invariant.cut in
+    let line : List ℕ = c.in-Some.rest.now ++ 10 ∷ [] in
+    record {
+      cut = (
+        was.0 ++ line,
+        line-behind was.0 c.in-Some.rest.now c.in-Some.next.now c.loop-rest.left.now c.args.bytes.now was.1 c.in-Some.ensures.1,
+        λ given before begun f. follows-same given ((before ++ was.0) ++ line) (before ++ (was.0 ++ line)) _ _ _ (append_assoc before was.0 line)
+            (c.in-Ok.ensures.went given (before ++ was.0) begun (was.2 given before begun f)),
+      );
+    }
 
 pub returns : goal.returns
-returns g c = record {
-  went = λ given before begun f.
-      piece-end given before c.args.bytes.now c.loop-byte.byte-index _ _ _ c.loop-byte-test.false (c.loop-byte.invariant.follows given before begun f);
-}
+returns g c =
+    let was = c.loop-rest.invariant.cut in
+    let left : List ℕ = c.loop-rest.left.now in
+    record {
+      went = λ given before begun f.
+          follows-same given ((before ++ was.0) ++ left) (before ++ c.args.bytes.now) _ _ _ (append_assoc before was.0 left ∙ ap (λ (v : List ℕ). before ++ v) (sym was.1))
+          (piece-went given (before ++ was.0) left c.loop-rest.self _ _ _ (was.2 given before begun f) c.in_default.ensures refl refl c.extend.ensures.kept);
+    }

@@ -1,10 +1,15 @@
-use Rattle.std.proofs.Common.{◌++◌, take, List, ℕ}
+use Rattle.std.proofs.Common.{◌≡◌, ◌++◌, length, List, ℕ}
 use Rattle.std.specs.declared.option.Option.{Option}
 use Rattle.tsb_field_streams.specs.Filtering.{Given}
 use Rattle.tsb_field_streams.specs.Streaming.{Follows}
 use Rattle.tsb_field_streams.proofs.stream.Stream.feed_all.Given as goal
 
-abbrev pub invariant-loop-byte : goal.invariant-loop-byte
-invariant-loop-byte g l = record {
-  follows : (given : Given) (before : List ℕ) (begun : Option (List ℕ)) → Follows given before l.fn.self begun (g.W.Write.contents l.fn.writer) → Follows given (before ++ take l.byte-index l.bytes) l.self begun (g.W.Write.contents l.writer);
+-- what was taken so far are whole lines
+abbrev pub invariant-loop-rest : goal.invariant-loop-rest
+invariant-loop-rest g l = record {
+  cut : (taken : List ℕ) × (l.bytes ≡ taken ++ l.left)
+      × ((given : Given) (before : List ℕ) (begun : Option (List ℕ)) → Follows given before l.fn.self begun (g.W.Write.contents l.fn.writer) → Follows given (before ++ taken) l.self begun (g.W.Write.contents l.writer));
 }
+
+abbrev pub decreases-loop-rest : goal.decreases-loop-rest
+decreases-loop-rest g l = length l.left
