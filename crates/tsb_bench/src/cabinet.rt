@@ -18,7 +18,7 @@ ghost use Rattle.tsb_step.specs.Good.{IsGood};
 ghost use Rattle.tsb_step.specs.State.{start};
 ghost use Rattle.tsb_step.specs.Step.{verdict, last_tick, kind_of};
 ghost use Rattle.tsb_step.specs.declared.TheConstants.{MONITOR_CELLS};
-ghost use Rattle.tsb_step.specs.declared.first_cell.TheConstants.{DESK, MONITOR};
+ghost use Rattle.tsb_step.specs.declared.first_cell.TheConstants.{DESK, DETECTORS, MONITOR};
 ghost use Rattle.tsb_controller.specs.Layer as layers;
 ghost use Rattle.tsb_controller.specs.Layer.{IsClosed};
 ghost use Rattle.tsb_controller.specs.Records as records;
@@ -196,43 +196,37 @@ impl Cabinet {
         ensures shut { IsShut self.new }
         ensures passing { self.new.passing ≡ self.old.passing }
     {
-        undo_plan_and_desk(&mut self.plan, &mut self.desk, &change);
-        undo_layers(&mut self.controller, &mut self.monitor.bank, &change);
+        if undo_layers(&mut self.controller, &mut self.monitor.bank, &change) {
+            undo_plan(&mut self.plan, &change);
+            undo_desk(&mut self.desk, &change);
+        }
     }
 }
 
-/// Puts back what a record holds of the layers and the monitor, entry by entry.
-fn undo_layers(controller: &mut Controller, monitor: &mut Bank<MONITOR_CELLS>, change: &Record<'_>)
+/// Puts back what a record holds of the layers and the monitor, entry by entry. It says whether any other entry was
+/// there: one of plan or desk, which few records hold.
+fn undo_layers(
+    controller: &mut Controller,
+    monitor: &mut Bank<MONITOR_CELLS>,
+    change: &Record<'_>,
+) -> bool
     requires controller { IsClosed controller.old }
     requires monitor { bank.is_open monitor.old ≡ false }
+    ensures others { result ≡ false → part 0 DETECTORS change.now.entries ≡ [] }
     ensures layers { layers.rows_of controller.new ≡ records.put_back (layers.rows_of controller.old) change.now.entries }
     ensures monitor { bank.cells_of monitor.new ≡ apply_diff (bank.cells_of monitor.old) (part MONITOR MONITOR_CELLS change.now.entries) }
     ensures closed { IsClosed controller.new }
     ensures shut { bank.is_open monitor.new ≡ false }
 {
+    let mut others = false;
     for i in 0..change.len() {
         if let Some((cell, old)) = change.entry(i) {
+            others |= cell < DETECTORS;
             controller.undo_entry(cell, old);
             undo_entry(monitor, cell, old, MONITOR);
         }
     }
-}
-
-/// Puts back what a record holds of plan and desk; few records hold any of it.
-fn undo_plan_and_desk(plan: &mut Checked, desk: &mut Desk, change: &Record<'_>)
-    requires ranged { AreInRange (apply_diff plan.old.plan.values (part 0 PLAN_CELLS change.now.entries)) }
-    requires passed { first_broken (plan_in (apply_diff plan.old.plan.values (part 0 PLAN_CELLS change.now.entries))) ≡ None }
-    requires shut { is_open desk.old ≡ false }
-    requires few { HasFew change.now.entries }
-    requires row { IsRow (apply_diff (cells_of desk.old) (part DESK DESK_CELLS change.now.entries)) }
-    ensures plan { plan.new.plan.values ≡ apply_diff plan.old.plan.values (part 0 PLAN_CELLS change.now.entries) }
-    ensures desk { cells_of desk.new ≡ apply_diff (cells_of desk.old) (part DESK DESK_CELLS change.now.entries) }
-    ensures shut { is_open desk.new ≡ false }
-{
-    if touches(change, 0, DETECTORS as usize) {
-        undo_plan(plan, change);
-        undo_desk(desk, change);
-    }
+    others
 }
 
 /// Puts back what a record holds of the plan.
