@@ -4,6 +4,7 @@ pub mod InputLemmas
 pub mod DeskLemmas
 pub mod PartLemmas
 pub mod PassingLemmas
+pub mod ShownLemmas
 pub mod ValueLemmas
 pub mod SessionLemmas
 pub mod WatchedLemmas

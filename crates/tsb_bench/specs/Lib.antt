@@ -6,6 +6,8 @@ pub mod Watched
 pub mod Held
 -- what is kept of the cabinet before an input, by which its events are told
 pub mod Telling
+-- what is kept of the heads while no cell changes
+pub mod Shown
 -- how long the room of the history lasts
 pub mod Room
 -- the names of crates below, for those above

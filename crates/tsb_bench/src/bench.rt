@@ -21,8 +21,10 @@ ghost use Rattle.tsb_transact.specs.Layer.{cells_of};
 ghost use Rattle.tsb_controller.specs.Whole.{AreAllBy, all_in, all_changes};
 ghost use Rattle.tsb_bench.specs.Cabinet.{rows_of, IsShut, IsDone, MayPass, next_tick, most_cells};
 ghost use Rattle.tsb_bench.specs.Held.{state_of, whole, ticks, memory};
+ghost use Rattle.tsb_bench.specs.Shown.{IsShown};
 
 use crate::cabinet::{Cabinet, Changes, MOST_CELLS};
+use crate::shown::keep_shown;
 use crate::watched::Watched;
 use arrayvec::ArrayVec;
 use std::alloc::Global;
@@ -50,17 +52,21 @@ pub struct Bench {
     pub(crate) history: History,
     /// The cells that the newest input changed. It is kept because it takes long to make, and says nothing more.
     changes: Changes,
+    /// What the heads show, where it was asked for and no cell has changed since.
+    pub(crate) shown: Option<Display>,
 }
 
 impl Model for Bench {
     ghost use Rattle.tsb_bench.specs.Cabinet.{rows_of, IsShut, MayPass};
     ghost use Rattle.tsb_bench.specs.Held.{Held, HasSoundPast};
+    ghost use Rattle.tsb_bench.specs.Shown.{IsShown};
 
     ghost Value = { Held };
 
     ghost view = { λ a. record { tick = a.tick; rows = rows_of a.cabinet; records = a.history.records; room = a.history.room } };
 
-    ghost invariant = { λ a. IsShut a.cabinet × HasSoundPast a.tick (rows_of a.cabinet) a.history.records × MayPass a.tick a.cabinet };
+    ghost invariant = { λ a. IsShut a.cabinet × HasSoundPast a.tick (rows_of a.cabinet) a.history.records × MayPass a.tick a.cabinet
+        × IsShown (rows_of a.cabinet) a.shown };
 }
 
 /// The kind of an input.
@@ -102,12 +108,14 @@ fn most_cells(kind: Kind) -> usize
 }
 
 /// Takes an input at tick number `tick` which is not refused, with its record, and gives the tick number after it.
-/// The cells that it changes take the place of those in `changes`.
+/// The cells that it changes take the place of those in `changes`. What was found of the heads stays only where no
+/// cell changes.
 #[inline(never)]
 fn work(
     cabinet: &mut Cabinet,
     history: &mut History,
     changes: &mut Changes,
+    shown: &mut Option<Display>,
     tick: u32,
     input: &Input,
 ) -> u32
@@ -116,6 +124,7 @@ fn work(
     requires limit { tick ≤ last_tick }
     requires good { IsGood (all_in tick (rows_of cabinet.old)) }
     requires allowed { verdict (all_in tick (rows_of cabinet.old)) input.now ≡ None }
+    requires shown { IsShown (rows_of cabinet.old) shown.old }
     requires room { record_size (most_cells (kind_of input.now)) ≤ history.old.room }
     ensures next { result ≡ next_tick tick input.now }
     ensures done { IsDone input.now tick (rows_of cabinet.old) (rows_of cabinet.new) (all_changes (rows_of cabinet.old) (rows_of cabinet.new)) }
@@ -125,10 +134,12 @@ fn work(
     ensures room { history.old.room ≤ history.new.room + record_size (length (all_changes (rows_of cabinet.old) (rows_of cabinet.new))) }
     ensures shut { IsShut cabinet.new }
     ensures passing { MayPass result cabinet.new }
+    ensures shown { IsShown (rows_of cabinet.new) shown.new }
 {
     changes.clear();
     let tick = cabinet.step(tick, input, changes);
     history.push(kind_of(input), changes);
+    keep_shown(shown, changes);
     tick
 }
 
@@ -149,6 +160,7 @@ impl Bench {
             cabinet,
             history: History::new(alloc),
             changes: ArrayVec::new(),
+            shown: None,
         })
     }
 
@@ -169,9 +181,7 @@ impl Bench {
         // Two phases with right of way are concurrent in the plan in effect.
         ensures safe { IsSafe (state_of self.now) }
     {
-        self.cabinet
-            .controller
-            .display(self.cabinet.monitor.is_tripped(), &self.cabinet.plan)
+        self.cabinet.display()
     }
 
     /// The local counter of the pattern that runs, in tenths of a second.
@@ -256,6 +266,7 @@ impl Bench {
             &mut self.cabinet,
             &mut self.history,
             &mut self.changes,
+            &mut self.shown,
             self.tick,
             &input,
         );
@@ -279,6 +290,7 @@ impl Bench {
         };
         let kind = change.kind();
         self.cabinet.undo(change);
+        self.shown = None;
         self.tick -= ticks_of(kind);
         self.history.pop(start);
         Ok(kind)
@@ -387,6 +399,7 @@ impl Bench {
             cabinet,
             history,
             changes: ArrayVec::new(),
+            shown: None,
         })
     }
 }

@@ -14,6 +14,7 @@ mod monitor_cells;
 mod passing;
 mod player;
 mod room_laws;
+mod shown;
 mod status;
 mod telling;
 mod watched;

@@ -27,6 +27,7 @@ invariant_of-self-then-passes c = (
   sound-passed c.args.input c.self.inside.tick c.self.inside.cabinet c.self.inside.history.records c.push.new.self.records c.self.invariant.1 (c.passes.ensures c.if-passes.true)
       (c.push.ensures.records ∙ ap (λ (rs : List Change). record { kind = kinds.Tick; entries = [] } ∷ rs) c.reserve.ensures.same),
   may-later c.self.inside.tick (c.self.inside.tick + 1) c.self.inside.cabinet (omega arith) c.self.invariant.2,
+  c.self.invariant.3,
 )
 
 pub returns-then-passes-clause-records : goal.returns-then-passes-clause-records
@@ -80,6 +81,9 @@ work-self-inside-requires-clause-by c = (sound-held _ _ _ c.self.invariant.1).by
 pub work-self-inside-requires-clause-limit : goal.work-self-inside-requires-clause-limit
 work-self-inside-requires-clause-limit c = (sound-held _ _ _ c.self.invariant.1).limit
 
+pub work-self-inside-requires-clause-shown : goal.work-self-inside-requires-clause-shown
+work-self-inside-requires-clause-shown c = c.self.invariant.3
+
 pub work-self-inside-requires-clause-good : goal.work-self-inside-requires-clause-good
 work-self-inside-requires-clause-good c = (sound-held _ _ _ c.self.invariant.1).good
 
@@ -90,6 +94,7 @@ invariant_of-self-2 c = (
       c.work-self-inside.new.history.records c.self.invariant.1 (sym c.refusal.ensures ∙ no_refusal c.refusal.result c.in_default-refusal.not-Some) c.work-self-inside.ensures.done c.work-self-inside.ensures.next
       (c.work-self-inside.ensures.records ∙ ap (λ (rs : List Change). record { kind = kind_of c.args.input; entries = all_changes (rows_of c.self.inside.cabinet) (rows_of c.work-self-inside.new.cabinet) } ∷ rs) c.reserve-2.ensures.same),
   c.work-self-inside.ensures.passing,
+  c.work-self-inside.ensures.shown,
 )
 
 pub returns-clause-records : goal.returns-clause-records

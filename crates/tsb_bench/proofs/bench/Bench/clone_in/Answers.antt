@@ -11,6 +11,7 @@ invariant_of-result c = (
   subst (λ (a : All). HasSoundPast c.self.inside.tick a c.in-Ok.history.records) (sym c.in-Ok-clone_in.ensures.rows)
       (subst (λ (rs : List Change). HasSoundPast c.self.inside.tick (rows_of c.self.inside.cabinet) rs) (sym c.in-Ok.ensures) c.self.invariant.1),
   c.in-Ok-clone_in.ensures.passing c.self.inside.tick,
+  tt,
 )
 
 pub returns : goal.returns

@@ -1,24 +1,17 @@
-use Rattle.std.proofs.Common.{sym, subst, refl}
-use Rattle.tsb_objects.specs.Checked.{checked_plan}
-use Rattle.tsb_plan.specs.PlanOf.{plan_of}
+use Rattle.std.proofs.Common.{subst}
 use Rattle.tsb_heads.specs.Promises.{IsSame}
 use Rattle.tsb_heads.specs.Reading.{heads_of}
 use Rattle.tsb_step.specs.Signs.{display, IsSafe}
 use Rattle.tsb_step.proofs.SafeLemmas.{display_is_safe}
-use Rattle.tsb_bench.specs.Cabinet.{rows_of}
 use Rattle.tsb_bench.specs.Held.{Held, state_of}
 use Rattle.tsb_bench.proofs.HeldLemmas.{sound-held}
-use Rattle.tsb_bench.proofs.InputLemmas.{beside}
 use Rattle.tsb_bench.proofs.bench.Bench.display.Goals as goal
 
 pub display-requires : goal.display-requires
-display-requires c = record { rings_by = (sound-held _ _ _ c.self.invariant.1).by.layers.rings }
+display-requires c = record { by = (c.self.inside.tick, (sound-held _ _ _ c.self.invariant.1).by) }
 
 pub returns-clause-shown : goal.returns-clause-shown
-unfolding checked_plan plan_of
-returns-clause-shown c =
-    subst (λ (h : Held). IsSame (heads_of c.display.result) (display (state_of h))) c.self.view_is
-    (c.display.ensures c.self.inside.tick (beside (rows_of c.self.inside.cabinet)) refl (sym c.is_tripped.ensures))
+returns-clause-shown c = subst (λ (h : Held). IsSame (heads_of c.display.result) (display (state_of h))) c.self.view_is (c.display.ensures c.self.inside.tick)
 
 pub returns-clause-safe : goal.returns-clause-safe
 returns-clause-safe c = subst (λ (h : Held). IsSafe (state_of h)) c.self.view_is (display_is_safe _ (sound-held _ _ _ c.self.invariant.1).good)

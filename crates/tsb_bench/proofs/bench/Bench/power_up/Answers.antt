@@ -12,6 +12,7 @@ invariant_of-result c = (
   sound-start (rows_of c.in-Ok.cabinet) c.new-2.result.records c.in-Ok.ensures.by c.in-Ok.cabinet.plan.plan.ranged
       c.in-Ok.cabinet.desk.row.sound (subst IsGood (sym c.in-Ok.ensures.state) (good-start c.args.plan)) c.new-2.ensures.records,
   c.in-Ok.ensures.passing 0,
+  tt,
 )
 
 pub returns : goal.returns

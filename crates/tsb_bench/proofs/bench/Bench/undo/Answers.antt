@@ -43,6 +43,7 @@ invariant_of-self c = (
       (subst (λ (rs : List Change). HasSoundPast (c.self.inside.tick - ticks_of c.in-Some.change.kind) (all_put_back (rows_of c.self.inside.cabinet) c.in-Some.change.entries) rs) (sym c.pop.ensures.rest)
       (newest c).before)),
   c.undo.ensures.passing (c.self.inside.tick - c.ticks_of.result),
+  tt,
 )
 
 pub returns-clause-ok : goal.returns-clause-ok

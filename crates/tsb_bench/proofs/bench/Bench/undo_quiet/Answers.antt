@@ -3,6 +3,7 @@ use Rattle.tsb_history.specs.History.{Change, quiet_ticks}
 use Rattle.tsb_controller.specs.Whole.{All}
 use Rattle.tsb_bench.specs.Cabinet.{rows_of}
 use Rattle.tsb_bench.specs.Held.{Held, HasSoundPast}
+use Rattle.tsb_bench.specs.Shown.{IsShown}
 use Rattle.tsb_bench.proofs.HeldLemmas.{AreQuiet, are-quiet}
 use Rattle.tsb_bench.proofs.RoomLemmas.{more-behind}
 use Rattle.tsb_bench.proofs.bench.Bench.undo_quiet.Goals as goal
@@ -18,6 +19,7 @@ invariant_of-self c =
       subst (λ (a : All). HasSoundPast (c.self.inside.tick - c.pop_quiet-quiet.result) a c.pop_quiet-quiet.new.self.records) (sym c.pass_none.ensures.rows)
           (subst (λ (rs : List Change). HasSoundPast (c.self.inside.tick - c.pop_quiet-quiet.result) (rows_of c.self.inside.cabinet) rs) (sym c.pop_quiet-quiet.ensures.rest) are.sound),
       c.pass_none.ensures.passing (c.self.inside.tick - c.pop_quiet-quiet.result),
+      subst (λ (a : All). IsShown a c.self.inside.shown) (sym c.pass_none.ensures.rows) c.self.invariant.3,
     )
 
 pub returns-clause-tick : goal.returns-clause-tick
