@@ -44,7 +44,8 @@ pub fn obey<W: Write>(
     match task_of(command) {
         Task::Ticks(ticks) => step(course, lines, rows, ticks, echo, pending, writer),
         Task::Show => {
-            pending.say(writer, &line_bytes(lines, course.bench()))?;
+            let line = course.line_bytes(lines);
+            pending.say(writer, &line)?;
             Ok(None)
         }
         Task::Quit => Ok(None),
@@ -87,16 +88,18 @@ fn next_tick(bench: &Bench) -> u32
 
 /// Says what a tick has told, and the display line after it.
 pub fn say_tick<W: Write>(
-    course: &Course,
+    course: &mut Course,
     lines: &mut LineMaker,
     pending: &mut Pending,
     writer: &mut Watched<W>,
 ) -> Result<(), WriteError>
-    ensures said { SaidUntilFault result (W.contents writer.old.device) (W.contents writer.new.device) pending.old pending.new (news_in course.now ++ with_feed (display_line (state_of course.now.bench))) }
+    ensures said { SaidUntilFault result (W.contents writer.old.device) (W.contents writer.new.device) pending.old pending.new (news_in course.old ++ with_feed (display_line (state_of course.old.bench))) }
+    ensures same { course.new ≡ course.old }
     ensures blame { writer.old.failed ≡ false → AfterCalls result writer.new.failed }
 {
     course.say_news(pending, writer)?;
-    pending.say(writer, &line_bytes(lines, course.bench()))
+    let line = course.line_bytes(lines);
+    pending.say(writer, &line)
 }
 
 /// Says that something was refused, and tells why.

@@ -1,6 +1,6 @@
 //! A bench, with what is kept and told of the inputs that it takes.
 ghost use Rattle.std.specs.Prelude.{◌≡◌, ◌≤◌, ◌∷◌, IfErr, List, OnErr, OnOk, false};
-ghost use Rattle.tsb_bench.specs.Held.{whole};
+ghost use Rattle.tsb_bench.specs.Held.{state_of, whole};
 ghost use Rattle.tsb_bench.specs.tsb_history.History.{Change};
 ghost use Rattle.tsb_bench.specs.tsb_step.Past.{earlier};
 ghost use Rattle.tsb_bench.specs.tsb_step.Step.{last_tick};
@@ -11,15 +11,17 @@ ghost use Rattle.tsb_dialog.specs.Blame.{AfterCalls};
 ghost use Rattle.tsb_dialog.specs.Said.{SaidUntilFault};
 ghost use Rattle.tsb_kept.specs.Kept.{nothing_kept};
 ghost use Rattle.tsb_log_text.specs.declared.log.LogRow.{LogRow};
-ghost use Rattle.tsb_text.specs.Answers.{Setup};
+ghost use Rattle.tsb_text.specs.Answers.{Setup, display_line};
 ghost use Rattle.tsb_text.specs.Obeyed.{Answered, Forgets, ForgetsNewest, Stands, Took, mode_with, news_in};
 
 use crate::events::say_events;
+use crate::lines::shown_line;
 use std::alloc::Global;
 use std::io::Write;
 use std::marker::Model;
 use tsb_bench::{Answer, Bench, Cmd, Input, Kind, answer};
 use tsb_dialog::{Pending, Watched, WriteError};
+use tsb_display_text::{LineBytes, LineMaker};
 use tsb_events::Events;
 use tsb_kept::Kept;
 use tsb_objects::Refusal;
@@ -72,6 +74,15 @@ impl Course {
         ensures { result.now ≡ self.now.bench }
     {
         &self.bench
+    }
+
+    /// The bytes of the display line, without a line feed. The heads are found anew only where a cell has changed, and all
+    /// stays as it was. It takes no memory.
+    pub fn line_bytes(&mut self, lines: &mut LineMaker) -> LineBytes
+        ensures line { result ≡ display_line (state_of self.old.bench) }
+        ensures same { self.new ≡ self.old }
+    {
+        shown_line(lines, &mut self.bench)
     }
 
     /// What is kept of the inputs that remain.

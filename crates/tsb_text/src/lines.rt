@@ -39,6 +39,21 @@ pub fn line_bytes(lines: &mut LineMaker, bench: &Bench) -> LineBytes
     )
 }
 
+/// The bytes of the display line, as `line_bytes` has them, of the heads that the bench keeps while no cell changes. The
+/// bench stays as it was.
+pub(crate) fn shown_line(lines: &mut LineMaker, bench: &mut Bench) -> LineBytes
+    ensures line { result ≡ display_line (state_of bench.old) }
+    ensures same { bench.new ≡ bench.old }
+{
+    let shown = bench.shown();
+    lines.line_bytes(
+        bench.now(),
+        &shown,
+        preempt_in_service(bench),
+        bench.local(),
+    )
+}
+
 /// The preempt in service, where one is.
 fn preempt_in_service(bench: &Bench) -> Option<Preempt>
     ensures { result ≡ preempt_in_service (state_of bench.now) }

@@ -1,7 +1,5 @@
-use Rattle.std.proofs.Common.{sym, ◌∙◌, ap}
+use Rattle.std.proofs.Common.{sym, ◌∙◌}
 use Rattle.std.proofs.lemmas.Result.{err_from_is_err_and}
-use Rattle.tsb_bench.specs.Held.{Held, state_of}
-use Rattle.tsb_text.specs.Answers.{display_line}
 use Rattle.tsb_text.specs.Obeyed.{besides_of}
 use Rattle.tsb_text.specs.Rows.{rows_in}
 use Rattle.tsb_text.proofs.AnswerLemmas.{quit-done, show-done, show-fault}
@@ -12,11 +10,11 @@ returns-in-Ticks-clause-done g c given is s = rw (sym c.task_of.ensures ∙ c.in
 
 pub returns-in_err-say-in-Show-clause-done : goal.returns-in_err-say-in-Show-clause-done
 returns-in_err-say-in-Show-clause-done g c given is s = let p = err_from_is_err_and c.from_residual.result c.from_residual.ensures.1 in
-    rw (p.1, sym c.task_of.ensures ∙ c.in-Show.is) (show-fault p.0 given (rows_in c.args.rows.now) (besides_of c.args.course.now c.args.echo.now) is c.args.course.now _ _ _ _ c.line_bytes.result s (c.line_bytes.ensures ∙ ap (λ (b : Held). display_line (state_of b)) c.bench.ensures) c.in_err-say-in-Show.ensures.fault)
+    rw (p.1, sym c.task_of.ensures ∙ c.in-Show.is) (show-fault p.0 given (rows_in c.args.rows.now) (besides_of c.args.course.now c.args.echo.now) is c.args.course.now _ _ _ _ c.line_bytes-line.result s c.line_bytes-line.ensures.line c.in_err-say-in-Show.ensures.fault)
 
 pub returns-in_ok-say-in-Show-clause-done : goal.returns-in_ok-say-in-Show-clause-done
 returns-in_ok-say-in-Show-clause-done g c given is s =
-    rw (sym c.task_of.ensures ∙ c.in-Show.is) (show-done given (rows_in c.args.rows.now) (besides_of c.args.course.now c.args.echo.now) is c.args.course.now _ _ _ _ c.line_bytes.result s (c.line_bytes.ensures ∙ ap (λ (b : Held). display_line (state_of b)) c.bench.ensures) c.in_ok-say-in-Show.ensures.ok)
+    rw (sym c.task_of.ensures ∙ c.in-Show.is, c.line_bytes-line.ensures.same) (show-done given (rows_in c.args.rows.now) (besides_of c.args.course.now c.args.echo.now) is c.args.course.now _ _ _ _ c.line_bytes-line.result s c.line_bytes-line.ensures.line c.in_ok-say-in-Show.ensures.ok)
 
 pub returns-in-Quit-clause-done : goal.returns-in-Quit-clause-done
 returns-in-Quit-clause-done g c given is s =

@@ -1,6 +1,5 @@
-use Rattle.std.proofs.Common.{◌∙◌, ap}
 use Rattle.std.proofs.lemmas.Result.{err_from_is_err_and}
-use Rattle.tsb_bench.specs.Held.{Held, state_of}
+use Rattle.tsb_bench.specs.Held.{state_of}
 use Rattle.tsb_dialog.specs.Said.{with_feed}
 use Rattle.tsb_dialog.proofs.SaidLemmas.{still-cut}
 use Rattle.tsb_text.specs.Answers.{display_line}
@@ -14,4 +13,4 @@ returns-in_err-say_news-clause-said g c = let p = err_from_is_err_and c.from_res
 
 pub returns-clause-said : goal.returns-clause-said
 returns-clause-said g c =
-    pair-said c.say.result _ _ _ _ _ _ (news_in c.args.course.now) c.line_bytes.result (display_line (state_of c.args.course.now.bench)) (c.line_bytes.ensures ∙ ap (λ (b : Held). display_line (state_of b)) c.bench.ensures) c.in_ok-say_news.ensures.said c.say.ensures.ok c.say.ensures.fault
+    pair-said c.say.result _ _ _ _ _ _ (news_in c.args.course.now) c.line_bytes-line.result (display_line (state_of c.args.course.now.bench)) c.line_bytes-line.ensures.line c.in_ok-say_news.ensures.said c.say.ensures.ok c.say.ensures.fault
