@@ -54,11 +54,18 @@ impl Controller {
         ensures rows { rows_of self.new ≡ put_back (rows_of self.old) ((cell, old) ∷ []) }
         ensures closed { IsClosed self.new }
     {
-        undo_entry(&mut self.detectors, cell, old, DETECTORS);
-        undo_entry(&mut self.calls, cell, old, CALLS);
-        undo_entry(&mut self.phases, cell, old, PHASES);
-        undo_entry(&mut self.rings, cell, old, RINGS);
-        undo_entry(&mut self.coord, cell, old, COORD);
-        undo_entry(&mut self.preempts, cell, old, PREEMPTS);
+        if cell < CALLS {
+            undo_entry(&mut self.detectors, cell, old, DETECTORS);
+        } else if cell < PHASES {
+            undo_entry(&mut self.calls, cell, old, CALLS);
+        } else if cell < RINGS {
+            undo_entry(&mut self.phases, cell, old, PHASES);
+        } else if cell < COORD {
+            undo_entry(&mut self.rings, cell, old, RINGS);
+        } else if cell < PREEMPTS {
+            undo_entry(&mut self.coord, cell, old, COORD);
+        } else {
+            undo_entry(&mut self.preempts, cell, old, PREEMPTS);
+        }
     }
 }
