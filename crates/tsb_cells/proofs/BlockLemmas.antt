@@ -1,10 +1,21 @@
 -- The word that marks the blocks written of a bank: what it is to mark a block, and to take the first mark out.
-use Rattle.std.proofs.Common.{◌≡◌, ◌≢◌, ℕ, ◌+◌, ◌-◌, ◌*◌, ◌/◌, ◌%◌, ◌^◌, ◌<◌, ◌≤◌, max, arith, w64, bit_or, bit_and, sym, ◌∙◌, ap, inl, inr}
+use Rattle.std.proofs.Common.{◌≡◌, ◌≢◌, ℕ, ◌+◌, ◌-◌, ◌*◌, ◌/◌, ◌%◌, ◌^◌, ◌<◌, ◌≤◌, max, arith, w64, bit_or, bit_and, sym, ◌∙◌, ap, eq-eqb, true, inl, inr}
 use Rattle.std.specs.Int.{bit_at, trailing_zeros}
-use Rattle.std.proofs.lemmas.Bool.{cases_lt}
+use Rattle.std.proofs.lemmas.Bool.{cases_lt, false≢true}
+use Rattle.std.proofs.lemmas.Bool.Decides.{eqb_tells}
 use Rattle.std.proofs.lemmas.Nat.{and_le_l}
 use Rattle.std.proofs.lemmas.Nat.Bits.{bit_at_or, bit_at_above, bit_at_set_same, bit_at_clear_same, bit_at_clear_other, bit_at-trailing_zeros}
+use Rattle.tsb_cells.specs.Blocks.{is_unmarked}
 use Rattle.std.proofs.Math.Nat.{div-lt_iff_lt-mul, lt-div-mul-add}
+
+-- a block that is not marked has no bit in the word
+pub unmarked-none : (n word k : ℕ) → is_unmarked n word k ≡ true → bit_at word (k / (n / 64 + 1)) ≡ 0
+unfolding is_unmarked
+unmarked-none n word k is = elim (eqb_tells (bit_at word (k / (n / 64 + 1))) 0) [ inl same ↦ same.1 | inr other ↦ absurd (false≢true (sym other.0 ∙ is)) ]
+
+pub none-unmarked : (n word k : ℕ) → bit_at word (k / (n / 64 + 1)) ≡ 0 → is_unmarked n word k ≡ true
+unfolding is_unmarked
+none-unmarked n word k none = eq-eqb (bit_at word (k / (n / 64 + 1))) 0 none
 
 -- a block that is marked
 pub marked-same : (word b : ℕ) → b < 64 → bit_at (bit_or word (1 * 2 ^ b % 18446744073709551616)) b ≢ 0

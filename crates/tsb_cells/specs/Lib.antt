@@ -4,6 +4,8 @@ pub mod Diff
 pub mod DiffLaws
 -- the cells of a layer, now and at the last `open`
 pub mod Bank
+-- which cells of a bank were written, by the word that marks their blocks
+pub mod Blocks
 -- one value among the cells of a bank
 pub mod Row
 -- timers in ticks, and the cells that tell when they began

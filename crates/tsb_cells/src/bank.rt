@@ -1,7 +1,7 @@
 //! A row of cells that knows which part of it was written.
 ghost use Rattle.std.specs.Prelude.{◌≡◌, ◌≢◌, ℕ, ◌+◌, ◌*◌, ◌/◌, ◌^◌, ◌<◌, ◌≤◌, ◌++◌, true, false, length, slice_index, slice_set, replicate, take, drop};
-ghost use Rattle.std.specs.Int.{bit_at};
 ghost use Rattle.arrayvec.specs.ArrayVec.{array_vec_len};
+ghost use Rattle.tsb_cells.specs.Blocks.{is_unmarked};
 ghost use Rattle.tsb_cells.specs.Diff.{diff, shifted};
 ghost use Rattle.tsb_cells.specs.Row.{row_at, with_row};
 
@@ -25,7 +25,7 @@ pub struct Bank<const N: usize> {
     ghost indexed: { N ≤ 65536 },
     ghost cells_full: { length cells ≡ N },
     ghost kept_full: { length kept ≡ N },
-    ghost same_unmarked: { (k : ℕ) → bit_at written (k / (N / 64 + 1)) ≡ 0 → slice_index cells k ≡ slice_index kept k },
+    ghost same_unmarked: { (k : ℕ) → is_unmarked N written k ≡ true → slice_index cells k ≡ slice_index kept k },
     ghost same_closed: { is_open ≡ false → cells ≡ kept },
 }
 

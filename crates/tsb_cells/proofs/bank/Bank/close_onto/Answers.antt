@@ -1,13 +1,21 @@
-use Rattle.std.proofs.Common.{arith, ◌≡◌, ℕ, ◌+◌, ◌*◌, ◌/◌, ◌<◌, ◌≤◌, length, sym, ◌∙◌, get_or, ap, List, [], ◌++◌, w64, inl, inr, ext_get_or}
+use Rattle.std.proofs.Common.{arith, ◌≡◌, ℕ, ◌+◌, ◌*◌, ◌/◌, ◌<◌, ◌≤◌, length, refl, sym, ◌∙◌, get_or, ap, List, [], ◌++◌, w64, inl, inr, ext_get_or}
 use Rattle.std.specs.Int.{bit_at, trailing_zeros}
 use Rattle.std.proofs.lemmas.Bool.{cases_eq}
 use Rattle.std.proofs.lemmas.List.{append-nil}
 use Rattle.std.proofs.lemmas.Nat.Bits.{bit_at-zero}
 use Rattle.tsb_cells.specs.Diff.{diff, shifted}
 use Rattle.tsb_cells.specs.declared.bank.Bank.{Bank}
-use Rattle.tsb_cells.proofs.BlockLemmas.{taken-smaller, taken-other, first-within, first-before}
+use Rattle.tsb_cells.proofs.BlockLemmas.{taken-smaller, taken-other, first-within, first-before, none-unmarked}
 use Rattle.tsb_cells.proofs.DiffLemmas.{diff-same, length-diff, length-followed}
 use Rattle.tsb_cells.proofs.bank.Bank.close_onto.Goals as goal
+
+pub loop-rest-init : goal.loop-rest-init
+loop-rest-init g c = record {
+  found = refl;
+  same = λ k none. c.args.self.now.same_unmarked k (none-unmarked g.row.N c.args.self.now.written k none);
+  cells = refl;
+  opened = c.requires.opened;
+}
 
 pub loop-rest-smaller : goal.loop-rest-smaller
 loop-rest-smaller g c = taken-smaller c.loop-rest.rest (omega arith) c.loop-rest-test.true
