@@ -8,3 +8,5 @@ pub mod PlanTextSays
 pub mod RuleLines
 -- the line that tells a fault
 pub mod FaultLines
+-- the outline of a JSON value, which a plan is read from
+pub mod Outlines

@@ -7,8 +7,11 @@
 #![tactic(auto)]
 
 mod error;
+mod json_numbers;
 mod listed;
 mod numbers;
+mod outline;
+mod passing;
 mod read;
 mod rules;
 

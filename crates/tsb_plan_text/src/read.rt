@@ -1,17 +1,19 @@
 //! Plan texts.
-ghost use Rattle.std.specs.Prelude.{◌≡◌, ◌<◌, ◌≤◌, ◌↔◌, ◌⊎◌, length, Ok, Err, IfOk};
-ghost use Rattle.serde_json.specs.Errors.{IsMemory};
+ghost use Rattle.std.specs.Prelude.{◌≡◌, ◌<◌, ◌≤◌, ◌↔◌, ◌⊎◌, length, Ok, Err, IfOk, option_map};
 ghost use Rattle.serde_json.specs.View.{view, members_view};
 ghost use Rattle.tsb_objects.specs.Checked.{checked_plan};
 ghost use Rattle.tsb_plan.specs.PlanOf.{plan_of};
 ghost use Rattle.tsb_plan_text.specs.PlanErrors.{Gives, Makes, not_json};
 ghost use Rattle.tsb_plan_text.specs.PlanTextSays.{Says};
+ghost use Rattle.tsb_plan_text.specs.Outlines.{outlined, levels};
 ghost use Rattle.tsb_plan_text.specs.PlanText.{drafted, reading, data_plan, or_fault, with_member, with_members, data_of};
 
 use crate::error::PlanError;
 use crate::listed::Listed;
 use crate::numbers::version_of;
-use serde_json::{Error, Map, Value};
+use crate::outline::outline;
+use json::{Error, Scratch};
+use serde_json::{Map, Value};
 use std::alloc::Global;
 use tsb_objects::{Checked, Plan, Version};
 use tsb_plan::version_laws::versions_say_the_same;
@@ -56,8 +58,7 @@ pub fn read_unchecked(alloc: Global, text: &[u8]) -> Result<Plan, PlanError>
     if text.len() > LIMIT {
         return Err(PlanError::TooLarge);
     }
-    let value = parse(alloc, text)?;
-    read_value(alloc, &value)
+    read_json(alloc, text)
 }
 
 /// The plan that a text of at most `LIMIT` bytes gives, checked.
@@ -66,30 +67,40 @@ fn read_short(alloc: Global, text: &[u8]) -> Result<Checked, PlanError>
     requires { length text.now ≤ 1048576 }
     ensures { Gives checked_plan result (reading text.now) }
 {
-    let value = parse(alloc, text)?;
-    let plan = read_value(alloc, &value)?;
+    let plan = read_json(alloc, text)?;
     Checked::new(plan).map_err(PlanError::Rule)
 }
 
-/// The text as JSON.
-fn parse(alloc: Global, text: &[u8]) -> Result<Value, PlanError>
-    ensures { Gives view result (or_fault (data_of text.now) not_json Ok) }
+/// The plan that a text gives, whether it meets the rules or not.
+fn read_json(alloc: Global, text: &[u8]) -> Result<Plan, PlanError>
+    ensures { Gives plan_of result (or_fault (data_of text.now) not_json data_plan) }
 {
-    match Value::from_slice(alloc, text) {
+    let value = parse(alloc, text)?;
+    read_value(alloc, &value)
+}
+
+/// The outline of the text as JSON.
+fn parse(alloc: Global, text: &[u8]) -> Result<Value, PlanError>
+    ensures { Gives view result (or_fault (option_map (outlined levels) (data_of text.now)) not_json Ok) }
+{
+    let Ok(text) = simdutf8::compat::from_utf8(text) else {
+        return Err(PlanError::NotJson);
+    };
+    let mut scratch = Scratch::new(alloc);
+    match outline(alloc, text, &mut scratch) {
         Ok(value) => Ok(value),
-        Err(error) => Err(json_fault(&error)),
+        Err(error) => Err(json_fault(error)),
     }
 }
 
-/// Why a text gives no JSON: `Memory` exactly where it ran out.
-fn json_fault(error: &Error) -> PlanError
-    ensures memory { (result ≡ PlanError.Memory) ↔ IsMemory error.now }
+/// Why a text gives no JSON.
+fn json_fault(error: Error) -> PlanError
+    ensures told { (result ≡ PlanError.NotJson) ↔ (error ≡ Error.Invalid) }
     ensures one { (result ≡ PlanError.Memory) ⊎ (result ≡ PlanError.NotJson) }
 {
-    if error.is_memory() {
-        PlanError::Memory
-    } else {
-        PlanError::NotJson
+    match error {
+        Error::Invalid => PlanError::NotJson,
+        _ => PlanError::Memory,
     }
 }
 
