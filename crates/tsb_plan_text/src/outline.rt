@@ -85,8 +85,15 @@ fn outline_table(
         → members_read depth (length reader.old) no_members reader.old ≡ None }
     ensures taken { OnOk result (length reader.new < length reader.old) }
 {
-    let mut kept = Map::new(alloc);
+    let mut kept: Map<String, Value> = Map::new(alloc);
     'table: while let Some(key) = reader.next_key()? {
+        if let Some(mut last) = kept.last_entry() {
+            if last.key().as_str() == key {
+                let later = outline_value(alloc, reader, depth, levels)?;
+                drop(last.insert(later));
+                continue;
+            }
+        }
         let name = String::from_str(alloc, key)?;
         let member = outline_value(alloc, reader, depth, levels)?;
         let Ok(before) = kept.insert(name, member) else {

@@ -136,6 +136,16 @@ outline_table-returns-in_err-key-clause-err t c refused =
     let old = l.invariant.3 in
     l.invariant.5 ∙ members_turn c.args.depth n old l.reader l.invariant.1 ∙ ap (members_next c.args.depth (n - 1) old) c.in_err-key.ensures.value
 
+pub outline_table-returns-in_err-later-clause-err : goal.outline_table-returns-in_err-later-clause-err
+outline_table-returns-in_err-later-clause-err t c refused =
+    let l = c.table in
+    let n = l.invariant.0 in
+    let old = l.invariant.3 in
+    let k = c.in-Some.key.now in
+    let named : read_key l.reader ≡ Some (Some k, c.next_key.new.self) = grind arith in
+    l.invariant.5 ∙ members_turn c.args.depth n old l.reader l.invariant.1 ∙ ap (members_next c.args.depth (n - 1) old) named
+    ∙ ap (put_next c.args.depth (n - 1) k old) (c.outline_value.ensures.err (grind arith))
+
 pub outline_table-returns-in_err-member-clause-err : goal.outline_table-returns-in_err-member-clause-err
 outline_table-returns-in_err-member-clause-err t c refused =
     let l = c.table in
@@ -144,7 +154,32 @@ outline_table-returns-in_err-member-clause-err t c refused =
     let k = c.in-Some.key.now in
     let named : read_key l.reader ≡ Some (Some k, c.next_key.new.self) = grind arith in
     l.invariant.5 ∙ members_turn c.args.depth n old l.reader l.invariant.1 ∙ ap (members_next c.args.depth (n - 1) old) named
-    ∙ ap (put_next c.args.depth (n - 1) k old) (c.outline_value.ensures.err (grind arith))
+    ∙ ap (put_next c.args.depth (n - 1) k old) (c.outline_value-in-Some.ensures.err (grind arith))
+
+pub outline_table-table-preserved-then-eq : goal.outline_table-table-preserved-then-eq
+outline_table-table-preserved-then-eq t c =
+    let l = c.table in
+    let n = l.invariant.0 in
+    let old = l.invariant.3 in
+    let k = c.in-Some.key.now in
+    let named : read_key l.reader ≡ Some (Some k, c.next_key.new.self) = grind arith in
+    let done = c.in_ok-later.ensures in
+    let d = done.ok.0 in
+    let v = c.in_ok-later.later in
+    let less = read_key-shorter l.reader (Some k) c.next_key.new.self named in
+    let lesser = done.taken in
+    let known : string_bytes c.key.result.now ≡ k = search rules in
+    let inserted =
+    ap (λ m. members_view m.entries) c.insert.ensures.written.1 ∙ ap members_view (c.in-Some-last_entry.ensures.update.1 v) ∙ members_view-insert_entry l.kept.entries _ v
+    ∙ ap (λ name. put name (view v) (members_view l.kept.entries)) (sym (ap string_bytes c.key.ensures) ∙ known) in (
+      n - 1,
+      omega (arith, l.invariant.1),
+      omega (arith, l.invariant.2),
+      put k d old,
+      ap members_view (grind arith) ∙ inserted ∙ ap₂ (put k) done.ok.2 l.invariant.4 ∙ put_outlined c.args.levels k d old,
+      l.invariant.5 ∙ members_turn c.args.depth n old l.reader l.invariant.1 ∙ ap (members_next c.args.depth (n - 1) old) named
+          ∙ ap (put_next c.args.depth (n - 1) k old) done.ok.1,
+    )
 
 pub outline_table-table-preserved : goal.outline_table-table-preserved
 outline_table-table-preserved t c =
@@ -159,8 +194,8 @@ outline_table-table-preserved t c =
     let less = read_key-shorter l.reader (Some k) c.next_key.new.self named in
     let lesser = done.taken in
     let copied : string_bytes c.in_ok-name.name ≡ k = search rules in
-    let inserted : members_view c.insert.new.self.entries ≡ put k (view v) (members_view l.kept.entries) =
-    ap members_view c.in-Ok.ensures.entries ∙ members_view-insert_entry l.kept.entries c.in_ok-name.name v ∙ ap (λ name. put name (view v) (members_view l.kept.entries)) copied in (
+    let inserted : members_view c.insert-in-Some.new.self.entries ≡ put k (view v) (members_view l.kept.entries) =
+    ap members_view c.in-Ok.ensures.entries ∙ members_view-insert_entry _ c.in_ok-name.name v ∙ ap₂ (λ name es. put name (view v) (members_view es)) copied (grind arith) in (
       n - 1,
       omega (arith, l.invariant.1),
       omega (arith, l.invariant.2),
