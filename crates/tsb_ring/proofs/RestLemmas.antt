@@ -1,5 +1,5 @@
 -- Where nothing is asked of the rings, both rest and no move is made.
-use Rattle.std.proofs.Common.{◌≡◌, ◌⊎◌, ℕ, Bool, true, false, not, cond, ◌&&◌, ◌||◌, Option, Some, None, is_some, refl, sym, ap, inl, inr}
+use Rattle.std.proofs.Common.{◌≡◌, ◌⊎◌, ℕ, Bool, true, false, not, cond, ◌&&◌, ◌||◌, Option, Some, None, is_some, is_none, refl, sym, ap, inl, inr}
 use Rattle.std.proofs.lemmas.Bool.{cases_Bool}
 use Rattle.tsb_types.specs.Intervals.{is_green, in_service}
 use Rattle.tsb_types.specs.Lists.{later, not_later}
@@ -7,7 +7,7 @@ use Rattle.tsb_objects.specs.tsb_plan.Plan.{Plan, phases}
 use Rattle.tsb_ring.specs.declared.want.Want.{Want}
 use Rattle.tsb_ring.specs.declared.want.Want.TheVariants.{Rest}
 use Rattle.tsb_ring.specs.Rings.{Ring, Ring1, Ring2, in_ring, own_ring, State, Given, serving}
-use Rattle.tsb_ring.specs.Wants.{fits, is_on_side, is_candidate, is_called_elsewhere, want_by_calls, is_idle_or_green, want, want_of, picked_before, pick, taken}
+use Rattle.tsb_ring.specs.Wants.{fits, is_on_side, is_candidate, is_called_elsewhere, want_by_calls, want_found, is_idle_or_green, want, want_of, picked_before, pick, taken}
 use Rattle.tsb_ring.specs.Crossings.{wants_cross, ring_joins, begins, own_commitment, committed}
 use Rattle.tsb_ring.specs.Next.{idle_pick, completes, starting, leaves, ends, clears}
 use Rattle.tsb_ring.specs.Moves.{if_passes, ring_moves, moves}
@@ -20,6 +20,39 @@ uncommitted s given u Ring2 = u.second
 
 -- ## Wants
 
+-- no want was found, or it is to rest
+abbrev pub Rests : Option Want → Type 0
+Rests w = (w ≡ None) ⊎ (w ≡ Some Rest)
+
+pub not_called : (plan : Plan) (s : State) (given : Given) → ((p : ℕ) → (given.callable p && not (is_on_side plan s.side p)) ≡ false) →
+    is_called_elsewhere plan s given ≡ false
+not_called plan s given h =
+    ap (λ (o : Option ℕ). is_some o) (first-none (λ p. given.callable p && not (is_on_side plan s.side p)) (phases plan) h)
+
+-- a ring without a candidate wants to rest, where no other side is called
+rest_by_calls : (plan : Plan) (s : State) (given : Given) (r : Ring) (picked : Option ℕ) → ((p : ℕ) → is_candidate plan s given r picked p ≡ false) →
+    is_called_elsewhere plan s given ≡ false → want_by_calls plan s given r picked ≡ Rest
+rest_by_calls plan s given r picked none here =
+    rw (
+      first-none (is_candidate plan s given r picked) (later (s.last r) (given.sequence r)) none,
+      here,
+      first-none (is_candidate plan s given r picked) (not_later (s.last r) (given.sequence r)) none,
+    ) refl
+
+rest_found : (plan : Plan) (s : State) (given : Given) (r : Ring) (picked : Option ℕ) (target : Option (ℕ → Bool)) → target ≡ None →
+    want_by_calls plan s given r picked ≡ Rest → want_found plan s given r picked target ≡ Rest
+rest_found plan s given r picked None free h = h
+rest_found plan s given r picked (Some target) free h = absurd (cc)
+
+pub rests_at : (plan : Plan) (s : State) (given : Given) (r : Ring) (picked : Option ℕ) → given.target ≡ None → ((p : ℕ) → is_candidate plan s given r picked p ≡ false) →
+    is_called_elsewhere plan s given ≡ false → Rests (want plan s given r picked)
+unfolding want
+rests_at plan s given r picked free none here =
+    elim (cases_Bool (is_none s.crossing && is_none (s.commitment r) && is_idle_or_green given (serving plan given r))) [
+      | inl e ↦ inr (rw e (ap Some (rest_found plan s given r picked given.target free (rest_by_calls plan s given r picked none here))))
+      | inr e ↦ inl (rw e refl)
+    ]
+
 uncalled : (a b c : Bool) → (a && b && false && c) ≡ false
 uncalled true true c = refl
 uncalled true false c = refl
@@ -28,34 +61,11 @@ uncalled false b c = refl
 no_candidate : (plan : Plan) (s : State) (given : Given) (r : Ring) (picked : Option ℕ) → IsUnasked s given → (p : ℕ) → is_candidate plan s given r picked p ≡ false
 no_candidate plan s given r picked u p = rw (u.callable p) (uncalled (in_ring plan r p) (is_on_side plan s.side p) (fits plan s given r picked p))
 
-not_elsewhere : (plan : Plan) (s : State) (given : Given) → IsUnasked s given → is_called_elsewhere plan s given ≡ false
-not_elsewhere plan s given u =
-    ap (λ (o : Option ℕ). is_some o)
-    (first-none (λ p. given.callable p && not (is_on_side plan s.side p)) (phases plan) (λ p. rw (u.callable p) refl))
-
-rest_by_calls : (plan : Plan) (s : State) (given : Given) (r : Ring) (picked : Option ℕ) → IsUnasked s given → want_by_calls plan s given r picked ≡ Rest
-rest_by_calls plan s given r picked u =
-    rw (
-      first-none (is_candidate plan s given r picked) (later (s.last r) (given.sequence r)) (no_candidate plan s given r picked u),
-      not_elsewhere plan s given u,
-      first-none (is_candidate plan s given r picked) (not_later (s.last r) (given.sequence r)) (no_candidate plan s given r picked u),
-    ) refl
-
--- no want was found, or it is to rest
-abbrev pub Rests : Option Want → Type 0
-Rests w = (w ≡ None) ⊎ (w ≡ Some Rest)
-
-rests : (plan : Plan) (s : State) (given : Given) (r : Ring) (picked : Option ℕ) → IsUnasked s given → Rests (want plan s given r picked)
-unfolding want serving fits
-rests plan s given r picked u =
-    elim (cases_Bool (is_idle_or_green given (serving plan given r))) [
-      | inl e ↦ inr (rw (u.crossing, uncommitted s given u r, u.target, e) (ap Some (rest_by_calls plan s given r picked u)))
-      | inr e ↦ inl (rw (u.crossing, uncommitted s given u r, e) refl)
-    ]
-
 rests_of : (plan : Plan) (s : State) (given : Given) (r : Ring) → IsUnasked s given → Rests (want_of plan s given r)
 unfolding want_of
-rests_of plan s given r u = rests plan s given r (picked_before plan s given r) u
+rests_of plan s given r u =
+    rests_at plan s given r (picked_before plan s given r) u.target (no_candidate plan s given r (picked_before plan s given r) u)
+    (not_called plan s given (λ p. rw (u.callable p) refl))
 
 pub taken-rest : (given : Given) (o : Option ℕ) (w : Option Want) → Rests w → taken given o w ≡ None
 taken-rest given o w (inl e) = rw e refl
@@ -128,7 +138,7 @@ unfolding clears
 no_clear plan s given p e = rw e refl
 
 -- a phase in service is not over
-unfinished : (a b c : Bool) → (a && b) ≡ true → (b && c) ≡ false → c ≡ false
+pub unfinished : (a b c : Bool) → (a && b) ≡ true → (b && c) ≡ false → c ≡ false
 unfinished true true c h k = k
 unfinished true false c h k = absurd (cc)
 unfinished false b c h k = absurd (cc)

@@ -1,16 +1,15 @@
 //! The phases that the rings serve, and those of a preempt's target.
-ghost use Rattle.std.specs.Prelude.{◌≡◌, ℕ, true};
+ghost use Rattle.std.specs.Prelude.{◌≡◌, ℕ};
 ghost use Rattle.tsb_objects.specs.Checked.{checked_plan};
 ghost use Rattle.tsb_types.specs.Flow.{interval_of};
 ghost use Rattle.tsb_types.specs.Intervals.{in_service};
 ghost use Rattle.tsb_types.specs.Sets.{has};
-ghost use Rattle.tsb_ring.specs.Layer.{may_move, AreHeld};
+ghost use Rattle.tsb_ring.specs.Layer.{may_leave};
 ghost use Rattle.tsb_ring.specs.Promises.{given_of};
 ghost use Rattle.tsb_ring.specs.Rings.{in_ring, ring_numbered, serving};
 ghost use Rattle.tsb_ring.specs.Wants.{is_targeted};
 
 use crate::conditions::Conditions;
-use crate::crossing::{ring_1, ring_2};
 use tsb_objects::{Checked, Phase, PhaseSet, Ring};
 
 /// The phases of a ring.
@@ -60,27 +59,14 @@ pub(crate) fn targeted(plan: &Checked, target: PhaseSet) -> PhaseSet
     plan.enabled().intersection(target)
 }
 
-/// The phases that may move once they are in service: over, or ready without being among those that a preempt wants
-/// served.
+/// The phases that may be left once they are in service: ready, and not among those that a preempt wants served.
 #[inline(always)]
-fn movable(plan: &Checked, conditions: &Conditions) -> PhaseSet
-    ensures { (p : ℕ) → has result p ≡ may_move (checked_plan plan.now) (given_of (checked_plan plan.now) conditions.now) p }
+pub(crate) fn leaving(plan: &Checked, conditions: &Conditions) -> PhaseSet
+    ensures { (p : ℕ) → has result p ≡ may_leave (checked_plan plan.now) (given_of (checked_plan plan.now) conditions.now) p }
 {
     let ready = conditions.timing.ready;
-    let leaving = match conditions.orders.target {
+    match conditions.orders.target {
         Some(target) => ready.difference(targeted(plan, target)),
         None => ready,
-    };
-    conditions.timing.over.union(leaving)
-}
-
-/// Whether both rings serve a phase, and no phase in service may move.
-#[inline(always)]
-pub(crate) fn are_held(plan: &Checked, conditions: &Conditions) -> bool
-    ensures { result ≡ true → AreHeld (checked_plan plan.now) (given_of (checked_plan plan.now) conditions.now) }
-{
-    let moving = in_service(conditions).intersection(movable(plan, conditions));
-    moving.is_empty()
-        && serving(plan, conditions, ring_1()).is_some()
-        && serving(plan, conditions, ring_2()).is_some()
+    }
 }
