@@ -120,6 +120,9 @@ fn either(first: Option<Phase>, second: Option<Phase>) -> PhaseSet
     ensures { (p : ℕ) → has result p ≡ (is p first || is p second) }
 {
     let mut set = PhaseSet::empty();
+    if first.is_none() && second.is_none() {
+        return set;
+    }
     if let Some(phase) = first {
         set.insert(phase);
     }
