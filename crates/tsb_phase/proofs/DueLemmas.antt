@@ -1,6 +1,5 @@
 -- Ticks that find the rows of phases as an earlier one did, and leave them so.
 use Rattle.std.proofs.Common.{◌≡◌, ◌≢◌, ℕ, ◌+◌, ◌-◌, ◌*◌, ◌/◌, ◌==◌, ◌<◌, ◌≤◌, min, nat_le, nat_lt, List, slice_index, Bool, true, false, ◌&&◌, ◌||◌, if◌then◌else◌, Option, Some, None, is_some, is_none, refl, sym, ap, ap₂, subst, ◌∙◌, inl, inr, arith}
-use Rattle.std.proofs.lemmas.Bool.{cond-true}
 use Rattle.std.proofs.lemmas.Bool.Decides.{nat_tests, eqb_tells}
 use Rattle.tsb_cells.specs.declared.timer.Timer.{Timer}
 use Rattle.tsb_cells.specs.declared.timer.Timer.TheVariants.{Off, On}
@@ -23,7 +22,7 @@ use Rattle.tsb_phase.specs.Cells.{number_in, row_in, phase_of, interval_of_row, 
 use Rattle.tsb_phase.specs.Due.{least_of, has_expired, IsKept, IsStill, StaysReverted}
 use Rattle.tsb_phase.proofs.BoundLemmas.{gap_falls_on}
 use Rattle.tsb_phase.proofs.GreenLemmas.{same_phase, next-green}
-use Rattle.tsb_phase.proofs.ReadLemmas.{IsRedRow, is-red, red-state, told-red, dont-walk}
+use Rattle.tsb_phase.proofs.ReadLemmas.{is-red, red-state, told-red, dont-walk}
 
 -- ## Timers
 
@@ -70,14 +69,14 @@ one-more P due turns n new e told here t p soon from within =
       | inr other ↦ (let apart : p ≢ n = other.1 in told t p (omega (arith, e, soon)) from (omega (arith, within, apart)))
     ]
 
-pub reverts-here : (plan : Plan) (cells : List ℕ) (now t n p cell limit : ℕ) → p ≡ n → cell ≡ slice_index cells (8 + 16 * 5 + p) → limit ≡ red_revert plan p →
+pub reverts-here : (plan : Plan) (cells : List ℕ) (now t n p cell limit : ℕ) → p ≡ n → cell ≡ slice_index cells (7 + 16 * 5 + p) → limit ≡ red_revert plan p →
     (cell ≤ now + 1 → now ≤ t → has_reached (timer_at t cell) limit ≡ has_reached (timer_at now cell) limit) → StaysReverted plan cells now t n
 unfolding row_in
 reverts-here plan cells now t n p cell limit same e f h =
     subst (λ (k : ℕ). StaysReverted plan cells now t k) same (λ after within.
-    (let by_cell : slice_index cells (88 + p) ≤ now + 1 → now ≤ t → has_reached (timer_at t (slice_index cells (88 + p))) limit ≡ has_reached (timer_at now (slice_index cells (88 + p))) limit =
+    (let by_cell : slice_index cells (87 + p) ≤ now + 1 → now ≤ t → has_reached (timer_at t (slice_index cells (87 + p))) limit ≡ has_reached (timer_at now (slice_index cells (87 + p))) limit =
     subst (λ (c : ℕ). c ≤ now + 1 → now ≤ t → has_reached (timer_at t c) limit ≡ has_reached (timer_at now c) limit) e h in
-    at-limit (timer_at t (slice_index cells (88 + p))) (timer_at now (slice_index cells (88 + p))) limit (red_revert plan p) f (by_cell within after)))
+    at-limit (timer_at t (slice_index cells (87 + p))) (timer_at now (slice_index cells (87 + p))) limit (red_revert plan p) f (by_cell within after)))
 
 -- ## The gap
 
@@ -319,7 +318,7 @@ reverted-green : (plan : Plan) (p : ℕ) (w v : Phase) → w.interval ≡ Green 
 unfolding red_revert_passed
 reverted-green plan p w v e f same = rw (e, f) same
 
-pub green-still : (plan : Plan) (given : Given) (p : ℕ) (r : PhaseRow) (now t : ℕ) → r.green ≡ true → IsRowBy t r → IsKept plan given p r now →
+pub green-still : (plan : Plan) (given : Given) (p : ℕ) (r : PhaseRow) (now t : ℕ) → interval_of_row r ≡ Green → IsRowBy t r → IsKept plan given p r now →
     pedestrian_now plan given p (phase_of t r) ≡ pedestrian_of_row r →
     pedestrian_now plan given p (phase_of now r) ≡ pedestrian_of_row r →
     has_reached (timer_at t r.timer) (least_of plan given p (ended_by given p)) ≡ has_reached (timer_at now r.timer) (least_of plan given p (ended_by given p)) →
@@ -330,8 +329,7 @@ pub green-still : (plan : Plan) (given : Given) (p : ℕ) (r : PhaseRow) (now t 
     has_reached_some (timer_at t r.timer) (floating_time plan given.runs p) ≡ has_reached_some (timer_at now r.timer) (floating_time plan given.runs p) →
     has_reached (timer_at t r.red_revert) (red_revert plan p) ≡ has_reached (timer_at now r.red_revert) (red_revert plan p) →
     IsStill plan given p r now t
-green-still plan given p r now t is by kept part part-now least passed turned before most floating revert =
-    let green : interval_of_row r ≡ Green = cond-true r.green Green _ is in
+green-still plan given p r now t green by kept part part-now least passed turned before most floating revert =
     record {
       state =
           same_phase _ _
@@ -371,8 +369,9 @@ waiting i w = record w {
   forced = false;
 }
 
-waits : (t : ℕ) (r : PhaseRow) (i : Interval) → IsRowBy t r → r.green ≡ false → interval_of_row r ≡ i → phase_of t r ≡ waiting i (phase_of t r)
-waits t r i by green is =
+waits : (t : ℕ) (r : PhaseRow) (i : Interval) → IsRowBy t r → is_green i ≡ false → interval_of_row r ≡ i → phase_of t r ≡ waiting i (phase_of t r)
+waits t r i by other is =
+    let green : is_green (interval_of_row r) ≡ false = ap is_green is ∙ other in
     let no_part : pedestrian_of_row r ≡ DontWalk = dont-walk r (by.no_walk green) (by.no_clearance green) in
     same_phase _ _ is refl no_part (timer_at-off t r.pedestrian_timer (by.dont_walk no_part))
     (timer_at-off t r.passage (by.no_passage green)) (timer_at-off t r.conflict (by.no_conflict green)) (timer_at-off t r.reduction (by.no_reduction green))
@@ -396,23 +395,15 @@ told-red_clear : (plan : Plan) (given : Given) (p : ℕ) (w : Phase) → w.inter
 unfolding is_ready is_over red_revert_passed
 told-red_clear plan given p w e = rw e (refl, refl, refl, refl)
 
-is-yellow : (r : PhaseRow) → r.green ≡ false → r.yellow ≡ true → interval_of_row r ≡ Yellow
-is-yellow r green yellow = rw (green, yellow) refl
-
-clear-of : (g y c : Bool) → (if g then Green else (if y then Yellow else (if c then RedClear else Red))) ≡ RedClear → g ≡ false
-clear-of true y c h = absurd (cc)
-clear-of false y c h = refl
-
-pub yellow-still : (plan : Plan) (given : Given) (p : ℕ) (r : PhaseRow) (now t : ℕ) → r.green ≡ false → r.yellow ≡ true → IsRowBy t r →
+pub yellow-still : (plan : Plan) (given : Given) (p : ℕ) (r : PhaseRow) (now t : ℕ) → interval_of_row r ≡ Yellow → IsRowBy t r →
     has_reached (timer_at t r.timer) (yellow_change plan p) ≡ false → has_reached (timer_at now r.timer) (yellow_change plan p) ≡ false →
     has_reached (timer_at t r.red_revert) (red_revert plan p) ≡ has_reached (timer_at now r.red_revert) (red_revert plan p) →
     IsStill plan given p r now t
-yellow-still plan given p r now t green yellow by not not_now revert =
-    let is : interval_of_row r ≡ Yellow = is-yellow r green yellow in
+yellow-still plan given p r now t is by not not_now revert =
     let told = told-yellow plan given p (phase_of t r) is not in
     let told_now = told-yellow plan given p (phase_of now r) is not_now in
     record {
-      state = waits t r Yellow by green is ∙ sym (next-yellow plan given p (phase_of t r) is not);
+      state = waits t r Yellow by refl is ∙ sym (next-yellow plan given p (phase_of t r) is not);
       ready = told.0 ∙ sym told_now.0;
       over = told.1 ∙ sym told_now.1;
       gapped = told.2 ∙ sym told_now.2;
@@ -425,11 +416,10 @@ pub red_clear-still : (plan : Plan) (given : Given) (p : ℕ) (r : PhaseRow) (no
     has_reached (timer_at t r.red_revert) (red_revert plan p) ≡ has_reached (timer_at now r.red_revert) (red_revert plan p) →
     IsStill plan given p r now t
 red_clear-still plan given p r now t is by over revert =
-    let green : r.green ≡ false = clear-of r.green r.yellow r.red_clear is in
     let told = told-red_clear plan given p (phase_of t r) is in
     let told_now = told-red_clear plan given p (phase_of now r) is in
     record {
-      state = waits t r RedClear by green is ∙ sym (next-red_clear plan given p (phase_of t r) is);
+      state = waits t r RedClear by refl is ∙ sym (next-red_clear plan given p (phase_of t r) is);
       ready = told.0 ∙ sym told_now.0;
       over = told.1 ∙ over ∙ sym told_now.1;
       gapped = told.2 ∙ sym told_now.2;
@@ -441,9 +431,9 @@ pub red-still : (plan : Plan) (given : Given) (p : ℕ) (r : PhaseRow) (now t : 
     has_reached (timer_at t r.red_revert) (red_revert plan p) ≡ has_reached (timer_at now r.red_revert) (red_revert plan p) →
     IsStill plan given p r now t
 red-still plan given p r now t out by revert =
-    let is : IsRedRow r = is-red r out in
-    let told = told-red plan given p (phase_of t r) is.red in
-    let told_now = told-red plan given p (phase_of now r) is.red in
+    let is : interval_of_row r ≡ Red = is-red (interval_of_row r) out in
+    let told = told-red plan given p (phase_of t r) is in
+    let told_now = told-red plan given p (phase_of now r) is in
     record {
       state = red-state t plan given p r by is;
       ready = sym told.0 ∙ told_now.0;

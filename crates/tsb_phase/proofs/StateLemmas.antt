@@ -10,7 +10,7 @@ use Rattle.tsb_objects.specs.tsb_types.declared.interval.Interval.{Interval}
 use Rattle.tsb_objects.specs.tsb_types.declared.interval.Interval.TheVariants.{Red, Green, Yellow, RedClear}
 use Rattle.tsb_objects.specs.tsb_types.declared.interval.PedestrianInterval.{PedestrianInterval}
 use Rattle.tsb_objects.specs.tsb_types.declared.interval.PedestrianInterval.TheVariants.{DontWalk, Walk, PedestrianClear}
-use Rattle.tsb_objects.specs.tsb_types.Intervals.{is_green, is_yellow, is_red_clear, is_walk, is_clearance, is_dont_walk}
+use Rattle.tsb_objects.specs.tsb_types.Intervals.{is_green, in_service, is_walk, is_clearance, is_dont_walk}
 use Rattle.tsb_objects.specs.tsb_types.Lists.{run_from}
 use Rattle.tsb_objects.specs.tsb_types.Sets.{names, list_of, list_in, is_phase}
 use Rattle.tsb_objects.proofs.tsb_types.RunLemmas.{at-run}
@@ -22,20 +22,18 @@ use Rattle.tsb_phase.specs.declared.ending.Ending.TheVariants.{MaxOut, GapOut}
 use Rattle.tsb_phase.specs.declared.phase_row.PhaseRow.{PhaseRow}
 use Rattle.tsb_phase.specs.DynamicMaximum.{is_same}
 use Rattle.tsb_phase.specs.Phase.{Phase, at_power_up}
-use Rattle.tsb_phase.specs.Cells.{number_in, number_cell, phase_in, phases_cells, IsBy, row_in, phase_of, IsRowBy}
+use Rattle.tsb_phase.specs.Cells.{has_way, is_clearing, number_in, number_cell, phase_in, phases_cells, IsBy, row_in, phase_of, IsRowBy}
 use Rattle.tsb_phase.specs.Laws.{IsInRange, AreInRange, StatesAreRead}
 use Rattle.tsb_phase.proofs.GreenLemmas.{part-told, same_phase}
 use Rattle.tsb_phase.proofs.RowLemmas.{same_values}
 use Rattle.tsb_phase.proofs.ReadLemmas.{phase_in-row}
-use Rattle.tsb_objects.proofs.tsb_types.IntervalLemmas.{serves-green, serves-yellow, serves-red_clear}
 
 -- ## One phase, and the row that keeps it
 
 row_of : ℕ → Phase → PhaseRow
 row_of now x = record {
-  green = is_green x.interval;
-  yellow = is_yellow x.interval;
-  red_clear = is_red_clear x.interval;
+  right_of_way = has_way x.interval;
+  clearing = is_clearing x.interval;
   walk = is_walk x.pedestrian;
   clearance = is_clearance x.pedestrian;
   gapped = x.gapped;
@@ -51,7 +49,8 @@ row_of now x = record {
   running_maximum = number_cell x.running_maximum;
 }
 
-interval-told : (i : Interval) → (if is_green i then Green else (if is_yellow i then Yellow else (if is_red_clear i then RedClear else Red))) ≡ i
+interval-told : (i : Interval) →
+    (if has_way i then (if is_clearing i then Yellow else Green) else (if is_clearing i then RedClear else Red)) ≡ i
 interval-told Red = refl
 interval-told Green = refl
 interval-told Yellow = refl
@@ -79,18 +78,6 @@ is-read now x is =
 
 -- ## What it holds
 
-green-alone : (i : Interval) → is_green i ≡ true → (is_yellow i ≡ false) × (is_red_clear i ≡ false)
-green-alone Red h = (refl, refl)
-green-alone Green h = (refl, refl)
-green-alone Yellow h = absurd (cc)
-green-alone RedClear h = absurd (cc)
-
-yellow-alone : (i : Interval) → is_yellow i ≡ true → is_red_clear i ≡ false
-yellow-alone Red h = refl
-yellow-alone Green h = refl
-yellow-alone Yellow h = refl
-yellow-alone RedClear h = absurd (cc)
-
 walk-alone : (i : PedestrianInterval) → is_walk i ≡ true → is_clearance i ≡ false
 walk-alone DontWalk h = refl
 walk-alone Walk h = refl
@@ -114,12 +101,15 @@ clears-on PedestrianClear h = refl
 not-walking : (x : PedestrianInterval) → x ≡ DontWalk → (is_walk x ≡ false) × (is_clearance x ≡ false)
 not-walking x e = rw e (refl, refl)
 
+-- what the two lists tell is not Green, so the interval is not
+not-green : (i : Interval) →
+    is_green (if has_way i then (if is_clearing i then Yellow else Green) else (if is_clearing i then RedClear else Red)) ≡ false →
+    is_green i ≡ false
+not-green i h = ap is_green (sym (interval-told i)) ∙ h
+
 is-held : (now : ℕ) (x : Phase) → IsInRange now x → IsRowBy now (row_of now x)
 unfolding row_of
 is-held now x is = record {
-  green_yellow = λ h. (green-alone x.interval h).0;
-  green_red_clear = λ h. (green-alone x.interval h).1;
-  yellow_red_clear = yellow-alone x.interval;
   walk_clearance = walk-alone x.pedestrian;
   endings = ending-alone x.last_ending;
   timer = timer_cell-le now x.timer;
@@ -130,19 +120,17 @@ is-held now x is = record {
   red_revert = timer_cell-le now x.red_revert;
   running_maximum = is.running_maximum;
   red = λ h. timer_cell-off now x.timer (is.red (sym (interval-told x.interval) ∙ h));
-  green = λ h. timer_cell-on now x.timer (is.served (serves-green x.interval h));
-  yellow = λ h. timer_cell-on now x.timer (is.served (serves-yellow x.interval h));
-  red_clear = λ h. timer_cell-on now x.timer (is.served (serves-red_clear x.interval h));
+  served = λ h. timer_cell-on now x.timer (is.served (ap in_service (sym (interval-told x.interval)) ∙ h));
   dont_walk = λ h. timer_cell-off now x.pedestrian_timer (is.dont_walk (sym (part-told x.pedestrian) ∙ h));
   walk = λ h. timer_cell-on now x.pedestrian_timer (is.walks (walks-on x.pedestrian h));
   clearance = λ h. timer_cell-on now x.pedestrian_timer (is.walks (clears-on x.pedestrian h));
-  no_walk = λ h. (not-walking x.pedestrian (is.no_walk h)).0;
-  no_clearance = λ h. (not-walking x.pedestrian (is.no_walk h)).1;
-  not_gapped = is.not_gapped;
-  not_forced = is.not_forced;
-  no_passage = λ h. timer_cell-off now x.passage (is.no_passage h);
-  no_conflict = λ h. timer_cell-off now x.conflict (is.no_conflict h);
-  no_reduction = λ h. timer_cell-off now x.reduction (is.no_reduction h);
+  no_walk = λ h. (not-walking x.pedestrian (is.no_walk (not-green x.interval h))).0;
+  no_clearance = λ h. (not-walking x.pedestrian (is.no_walk (not-green x.interval h))).1;
+  not_gapped = λ h. is.not_gapped (not-green x.interval h);
+  not_forced = λ h. is.not_forced (not-green x.interval h);
+  no_passage = λ h. timer_cell-off now x.passage (is.no_passage (not-green x.interval h));
+  no_conflict = λ h. timer_cell-off now x.conflict (is.no_conflict (not-green x.interval h));
+  no_reduction = λ h. timer_cell-off now x.reduction (is.no_reduction (not-green x.interval h));
 }
 
 -- ## Where the table has it
@@ -171,78 +159,78 @@ before xs f n k v long below e = get_or_append_left xs (column f) 0 k (omega (ar
 longer : (xs : List ℕ) (f : ℕ → ℕ) (n m : ℕ) → length xs ≡ n → n + 16 ≡ m → length (xs ++ column f) ≡ m
 longer xs f n m long e = omega (arith, length-append xs (column f), long-column f, long, e)
 
--- nine cells and seven columns
-module _ (nine : List ℕ) (a b c d e f g : ℕ → ℕ) (long : length nine ≡ 9) where
-  long-1 : length (nine ++ column a) ≡ 25
-  long-1 = longer (nine) a 9 25 long refl
+-- eight cells and seven columns
+module _ (eight : List ℕ) (a b c d e f g : ℕ → ℕ) (long : length eight ≡ 8) where
+  long-1 : length (eight ++ column a) ≡ 24
+  long-1 = longer (eight) a 8 24 long refl
 
-  long-2 : length (nine ++ column a ++ column b) ≡ 41
-  long-2 = longer (nine ++ column a) b 25 41 long-1 refl
+  long-2 : length (eight ++ column a ++ column b) ≡ 40
+  long-2 = longer (eight ++ column a) b 24 40 long-1 refl
 
-  long-3 : length (nine ++ column a ++ column b ++ column c) ≡ 57
-  long-3 = longer (nine ++ column a ++ column b) c 41 57 long-2 refl
+  long-3 : length (eight ++ column a ++ column b ++ column c) ≡ 56
+  long-3 = longer (eight ++ column a ++ column b) c 40 56 long-2 refl
 
-  long-4 : length (nine ++ column a ++ column b ++ column c ++ column d) ≡ 73
-  long-4 = longer (nine ++ column a ++ column b ++ column c) d 57 73 long-3 refl
+  long-4 : length (eight ++ column a ++ column b ++ column c ++ column d) ≡ 72
+  long-4 = longer (eight ++ column a ++ column b ++ column c) d 56 72 long-3 refl
 
-  long-5 : length (nine ++ column a ++ column b ++ column c ++ column d ++ column e) ≡ 89
-  long-5 = longer (nine ++ column a ++ column b ++ column c ++ column d) e 73 89 long-4 refl
+  long-5 : length (eight ++ column a ++ column b ++ column c ++ column d ++ column e) ≡ 88
+  long-5 = longer (eight ++ column a ++ column b ++ column c ++ column d) e 72 88 long-4 refl
 
-  long-6 : length (nine ++ column a ++ column b ++ column c ++ column d ++ column e ++ column f) ≡ 105
-  long-6 = longer (nine ++ column a ++ column b ++ column c ++ column d ++ column e) f 89 105 long-5 refl
+  long-6 : length (eight ++ column a ++ column b ++ column c ++ column d ++ column e ++ column f) ≡ 104
+  long-6 = longer (eight ++ column a ++ column b ++ column c ++ column d ++ column e) f 88 104 long-5 refl
 
-  long-all : length (nine ++ column a ++ column b ++ column c ++ column d ++ column e ++ column f ++ column g) ≡ CELLS
-  long-all = longer (nine ++ column a ++ column b ++ column c ++ column d ++ column e ++ column f) g 105 CELLS long-6 refl
+  long-all : length (eight ++ column a ++ column b ++ column c ++ column d ++ column e ++ column f ++ column g) ≡ CELLS
+  long-all = longer (eight ++ column a ++ column b ++ column c ++ column d ++ column e ++ column f) g 104 CELLS long-6 refl
 
   module _ (p : ℕ) (from : 1 ≤ p) (to : p ≤ 16) where
-    at-a : get_or (nine ++ column a ++ column b ++ column c ++ column d ++ column e ++ column f ++ column g) (8 + p) 0 ≡ a p
+    at-a : get_or (eight ++ column a ++ column b ++ column c ++ column d ++ column e ++ column f ++ column g) (7 + p) 0 ≡ a p
     at-a =
-        before (nine ++ column a ++ column b ++ column c ++ column d ++ column e ++ column f) g 105 (8 + p) _ long-6 (omega (arith, to))
-        (before (nine ++ column a ++ column b ++ column c ++ column d ++ column e) f 89 (8 + p) _ long-5 (omega (arith, to))
-        (before (nine ++ column a ++ column b ++ column c ++ column d) e 73 (8 + p) _ long-4 (omega (arith, to))
-        (before (nine ++ column a ++ column b ++ column c) d 57 (8 + p) _ long-3 (omega (arith, to))
-        (before (nine ++ column a ++ column b) c 41 (8 + p) _ long-2 (omega (arith, to))
-        (before (nine ++ column a) b 25 (8 + p) _ long-1 (omega (arith, to))
-        (at-column (nine) a 9 (8 + p) p long (omega arith) from to))))))
+        before (eight ++ column a ++ column b ++ column c ++ column d ++ column e ++ column f) g 104 (7 + p) _ long-6 (omega (arith, to))
+        (before (eight ++ column a ++ column b ++ column c ++ column d ++ column e) f 88 (7 + p) _ long-5 (omega (arith, to))
+        (before (eight ++ column a ++ column b ++ column c ++ column d) e 72 (7 + p) _ long-4 (omega (arith, to))
+        (before (eight ++ column a ++ column b ++ column c) d 56 (7 + p) _ long-3 (omega (arith, to))
+        (before (eight ++ column a ++ column b) c 40 (7 + p) _ long-2 (omega (arith, to))
+        (before (eight ++ column a) b 24 (7 + p) _ long-1 (omega (arith, to))
+        (at-column (eight) a 8 (7 + p) p long (omega arith) from to))))))
 
-    at-b : get_or (nine ++ column a ++ column b ++ column c ++ column d ++ column e ++ column f ++ column g) (24 + p) 0 ≡ b p
+    at-b : get_or (eight ++ column a ++ column b ++ column c ++ column d ++ column e ++ column f ++ column g) (23 + p) 0 ≡ b p
     at-b =
-        before (nine ++ column a ++ column b ++ column c ++ column d ++ column e ++ column f) g 105 (24 + p) _ long-6 (omega (arith, to))
-        (before (nine ++ column a ++ column b ++ column c ++ column d ++ column e) f 89 (24 + p) _ long-5 (omega (arith, to))
-        (before (nine ++ column a ++ column b ++ column c ++ column d) e 73 (24 + p) _ long-4 (omega (arith, to))
-        (before (nine ++ column a ++ column b ++ column c) d 57 (24 + p) _ long-3 (omega (arith, to))
-        (before (nine ++ column a ++ column b) c 41 (24 + p) _ long-2 (omega (arith, to))
-        (at-column (nine ++ column a) b 25 (24 + p) p long-1 (omega arith) from to)))))
+        before (eight ++ column a ++ column b ++ column c ++ column d ++ column e ++ column f) g 104 (23 + p) _ long-6 (omega (arith, to))
+        (before (eight ++ column a ++ column b ++ column c ++ column d ++ column e) f 88 (23 + p) _ long-5 (omega (arith, to))
+        (before (eight ++ column a ++ column b ++ column c ++ column d) e 72 (23 + p) _ long-4 (omega (arith, to))
+        (before (eight ++ column a ++ column b ++ column c) d 56 (23 + p) _ long-3 (omega (arith, to))
+        (before (eight ++ column a ++ column b) c 40 (23 + p) _ long-2 (omega (arith, to))
+        (at-column (eight ++ column a) b 24 (23 + p) p long-1 (omega arith) from to)))))
 
-    at-c : get_or (nine ++ column a ++ column b ++ column c ++ column d ++ column e ++ column f ++ column g) (40 + p) 0 ≡ c p
+    at-c : get_or (eight ++ column a ++ column b ++ column c ++ column d ++ column e ++ column f ++ column g) (39 + p) 0 ≡ c p
     at-c =
-        before (nine ++ column a ++ column b ++ column c ++ column d ++ column e ++ column f) g 105 (40 + p) _ long-6 (omega (arith, to))
-        (before (nine ++ column a ++ column b ++ column c ++ column d ++ column e) f 89 (40 + p) _ long-5 (omega (arith, to))
-        (before (nine ++ column a ++ column b ++ column c ++ column d) e 73 (40 + p) _ long-4 (omega (arith, to))
-        (before (nine ++ column a ++ column b ++ column c) d 57 (40 + p) _ long-3 (omega (arith, to))
-        (at-column (nine ++ column a ++ column b) c 41 (40 + p) p long-2 (omega arith) from to))))
+        before (eight ++ column a ++ column b ++ column c ++ column d ++ column e ++ column f) g 104 (39 + p) _ long-6 (omega (arith, to))
+        (before (eight ++ column a ++ column b ++ column c ++ column d ++ column e) f 88 (39 + p) _ long-5 (omega (arith, to))
+        (before (eight ++ column a ++ column b ++ column c ++ column d) e 72 (39 + p) _ long-4 (omega (arith, to))
+        (before (eight ++ column a ++ column b ++ column c) d 56 (39 + p) _ long-3 (omega (arith, to))
+        (at-column (eight ++ column a ++ column b) c 40 (39 + p) p long-2 (omega arith) from to))))
 
-    at-d : get_or (nine ++ column a ++ column b ++ column c ++ column d ++ column e ++ column f ++ column g) (56 + p) 0 ≡ d p
+    at-d : get_or (eight ++ column a ++ column b ++ column c ++ column d ++ column e ++ column f ++ column g) (55 + p) 0 ≡ d p
     at-d =
-        before (nine ++ column a ++ column b ++ column c ++ column d ++ column e ++ column f) g 105 (56 + p) _ long-6 (omega (arith, to))
-        (before (nine ++ column a ++ column b ++ column c ++ column d ++ column e) f 89 (56 + p) _ long-5 (omega (arith, to))
-        (before (nine ++ column a ++ column b ++ column c ++ column d) e 73 (56 + p) _ long-4 (omega (arith, to))
-        (at-column (nine ++ column a ++ column b ++ column c) d 57 (56 + p) p long-3 (omega arith) from to)))
+        before (eight ++ column a ++ column b ++ column c ++ column d ++ column e ++ column f) g 104 (55 + p) _ long-6 (omega (arith, to))
+        (before (eight ++ column a ++ column b ++ column c ++ column d ++ column e) f 88 (55 + p) _ long-5 (omega (arith, to))
+        (before (eight ++ column a ++ column b ++ column c ++ column d) e 72 (55 + p) _ long-4 (omega (arith, to))
+        (at-column (eight ++ column a ++ column b ++ column c) d 56 (55 + p) p long-3 (omega arith) from to)))
 
-    at-e : get_or (nine ++ column a ++ column b ++ column c ++ column d ++ column e ++ column f ++ column g) (72 + p) 0 ≡ e p
+    at-e : get_or (eight ++ column a ++ column b ++ column c ++ column d ++ column e ++ column f ++ column g) (71 + p) 0 ≡ e p
     at-e =
-        before (nine ++ column a ++ column b ++ column c ++ column d ++ column e ++ column f) g 105 (72 + p) _ long-6 (omega (arith, to))
-        (before (nine ++ column a ++ column b ++ column c ++ column d ++ column e) f 89 (72 + p) _ long-5 (omega (arith, to))
-        (at-column (nine ++ column a ++ column b ++ column c ++ column d) e 73 (72 + p) p long-4 (omega arith) from to))
+        before (eight ++ column a ++ column b ++ column c ++ column d ++ column e ++ column f) g 104 (71 + p) _ long-6 (omega (arith, to))
+        (before (eight ++ column a ++ column b ++ column c ++ column d ++ column e) f 88 (71 + p) _ long-5 (omega (arith, to))
+        (at-column (eight ++ column a ++ column b ++ column c ++ column d) e 72 (71 + p) p long-4 (omega arith) from to))
 
-    at-f : get_or (nine ++ column a ++ column b ++ column c ++ column d ++ column e ++ column f ++ column g) (88 + p) 0 ≡ f p
+    at-f : get_or (eight ++ column a ++ column b ++ column c ++ column d ++ column e ++ column f ++ column g) (87 + p) 0 ≡ f p
     at-f =
-        before (nine ++ column a ++ column b ++ column c ++ column d ++ column e ++ column f) g 105 (88 + p) _ long-6 (omega (arith, to))
-        (at-column (nine ++ column a ++ column b ++ column c ++ column d ++ column e) f 89 (88 + p) p long-5 (omega arith) from to)
+        before (eight ++ column a ++ column b ++ column c ++ column d ++ column e ++ column f) g 104 (87 + p) _ long-6 (omega (arith, to))
+        (at-column (eight ++ column a ++ column b ++ column c ++ column d ++ column e) f 88 (87 + p) p long-5 (omega arith) from to)
 
-    at-g : get_or (nine ++ column a ++ column b ++ column c ++ column d ++ column e ++ column f ++ column g) (104 + p) 0 ≡ g p
+    at-g : get_or (eight ++ column a ++ column b ++ column c ++ column d ++ column e ++ column f ++ column g) (103 + p) 0 ≡ g p
     at-g =
-        at-column (nine ++ column a ++ column b ++ column c ++ column d ++ column e ++ column f) g 105 (104 + p) p long-6 (omega arith) from to
+        at-column (eight ++ column a ++ column b ++ column c ++ column d ++ column e ++ column f) g 104 (103 + p) p long-6 (omega arith) from to
 
 -- a list that is made of a test
 list-read : (cells : List ℕ) (k p : ℕ) (test : ℕ → Bool) → slice_index cells k ≡ list_of 16 test → 1 ≤ p → p ≤ 16 → names (list_in cells k) p ≡ test p
@@ -255,8 +243,7 @@ list-read cells k p test e from to =
 
 abbrev listed : (ℕ → Phase) → List ℕ
 listed f =
-    list_of 16 (λ p. is_green (f p).interval) ∷ list_of 16 (λ p. is_yellow (f p).interval) ∷
-    list_of 16 (λ p. is_red_clear (f p).interval) ∷
+    list_of 16 (λ p. has_way (f p).interval) ∷ list_of 16 (λ p. is_clearing (f p).interval) ∷
     list_of 16 (λ p. is_walk (f p).pedestrian) ∷ list_of 16 (λ p. is_clearance (f p).pedestrian) ∷
     list_of 16 (λ p. (f p).gapped) ∷ list_of 16 (λ p. (f p).forced) ∷
     list_of 16 (λ p. is_same MaxOut (f p).last_ending) ∷ list_of 16 (λ p. is_same GapOut (f p).last_ending) ∷ []
@@ -290,16 +277,15 @@ module _ (now : ℕ) (f : ℕ → Phase) where
   row-read : (p : ℕ) → 1 ≤ p → p ≤ 16 → row_in (phases_cells now f) p ≡ row_of now (f p)
   unfolding row_in row_of column
   row-read p from to =
-      same_values _ _ _ _ _ _ _ _ _ _ _ _ _ _ _ _ _ _ _ _ _ _ _ _ _ _ _ _ _ _ _ _
-      (list-read (phases_cells now f) 0 p (λ q. is_green (f q).interval) refl from to)
-      (list-read (phases_cells now f) 1 p (λ q. is_yellow (f q).interval) refl from to)
-      (list-read (phases_cells now f) 2 p (λ q. is_red_clear (f q).interval) refl from to)
-      (list-read (phases_cells now f) 3 p (λ q. is_walk (f q).pedestrian) refl from to)
-      (list-read (phases_cells now f) 4 p (λ q. is_clearance (f q).pedestrian) refl from to)
-      (list-read (phases_cells now f) 5 p (λ q. (f q).gapped) refl from to)
-      (list-read (phases_cells now f) 6 p (λ q. (f q).forced) refl from to)
-      (list-read (phases_cells now f) 7 p (λ q. is_same MaxOut (f q).last_ending) refl from to)
-      (list-read (phases_cells now f) 8 p (λ q. is_same GapOut (f q).last_ending) refl from to)
+      same_values _ _ _ _ _ _ _ _ _ _ _ _ _ _ _ _ _ _ _ _ _ _ _ _ _ _ _ _ _ _
+      (list-read (phases_cells now f) 0 p (λ q. has_way (f q).interval) refl from to)
+      (list-read (phases_cells now f) 1 p (λ q. is_clearing (f q).interval) refl from to)
+      (list-read (phases_cells now f) 2 p (λ q. is_walk (f q).pedestrian) refl from to)
+      (list-read (phases_cells now f) 3 p (λ q. is_clearance (f q).pedestrian) refl from to)
+      (list-read (phases_cells now f) 4 p (λ q. (f q).gapped) refl from to)
+      (list-read (phases_cells now f) 5 p (λ q. (f q).forced) refl from to)
+      (list-read (phases_cells now f) 6 p (λ q. is_same MaxOut (f q).last_ending) refl from to)
+      (list-read (phases_cells now f) 7 p (λ q. is_same GapOut (f q).last_ending) refl from to)
       (at-a (listed f) timers pedestrian_timers passages conflicts reductions red_reverts maximums refl p from to)
       (at-b (listed f) timers pedestrian_timers passages conflicts reductions red_reverts maximums refl p from to)
       (at-c (listed f) timers pedestrian_timers passages conflicts reductions red_reverts maximums refl p from to)
@@ -308,17 +294,16 @@ module _ (now : ℕ) (f : ℕ → Phase) where
       (at-f (listed f) timers pedestrian_timers passages conflicts reductions red_reverts maximums refl p from to)
       (at-g (listed f) timers pedestrian_timers passages conflicts reductions red_reverts maximums refl p from to)
 
-lists-small : (now : ℕ) (f : ℕ → Phase) (k : ℕ) → k < 9 → slice_index (phases_cells now f) k < 65536
-lists-small now f zero below = list_of-below 16 (λ p. is_green (f p).interval)
-lists-small now f (suc zero) below = list_of-below 16 (λ p. is_yellow (f p).interval)
-lists-small now f (suc (suc zero)) below = list_of-below 16 (λ p. is_red_clear (f p).interval)
-lists-small now f (suc (suc (suc zero))) below = list_of-below 16 (λ p. is_walk (f p).pedestrian)
-lists-small now f (suc (suc (suc (suc zero)))) below = list_of-below 16 (λ p. is_clearance (f p).pedestrian)
-lists-small now f (suc (suc (suc (suc (suc zero))))) below = list_of-below 16 (λ p. (f p).gapped)
-lists-small now f (suc (suc (suc (suc (suc (suc zero)))))) below = list_of-below 16 (λ p. (f p).forced)
-lists-small now f (suc (suc (suc (suc (suc (suc (suc zero))))))) below = list_of-below 16 (λ p. is_same MaxOut (f p).last_ending)
-lists-small now f (suc (suc (suc (suc (suc (suc (suc (suc zero)))))))) below = list_of-below 16 (λ p. is_same GapOut (f p).last_ending)
-lists-small now f (suc (suc (suc (suc (suc (suc (suc (suc (suc k))))))))) below = absurd (omega (arith, below))
+lists-small : (now : ℕ) (f : ℕ → Phase) (k : ℕ) → k < 8 → slice_index (phases_cells now f) k < 65536
+lists-small now f zero below = list_of-below 16 (λ p. has_way (f p).interval)
+lists-small now f (suc zero) below = list_of-below 16 (λ p. is_clearing (f p).interval)
+lists-small now f (suc (suc zero)) below = list_of-below 16 (λ p. is_walk (f p).pedestrian)
+lists-small now f (suc (suc (suc zero))) below = list_of-below 16 (λ p. is_clearance (f p).pedestrian)
+lists-small now f (suc (suc (suc (suc zero)))) below = list_of-below 16 (λ p. (f p).gapped)
+lists-small now f (suc (suc (suc (suc (suc zero))))) below = list_of-below 16 (λ p. (f p).forced)
+lists-small now f (suc (suc (suc (suc (suc (suc zero)))))) below = list_of-below 16 (λ p. is_same MaxOut (f p).last_ending)
+lists-small now f (suc (suc (suc (suc (suc (suc (suc zero))))))) below = list_of-below 16 (λ p. is_same GapOut (f p).last_ending)
+lists-small now f (suc (suc (suc (suc (suc (suc (suc (suc k)))))))) below = absurd (omega (arith, below))
 
 state-by : (now : ℕ) (f : ℕ → Phase) → AreInRange now f → IsBy now (phases_cells now f)
 state-by now f are = record {

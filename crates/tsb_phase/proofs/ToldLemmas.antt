@@ -7,35 +7,29 @@ use Rattle.tsb_cells.proofs.TimerLemmas.{timer_cell-timer_at}
 use Rattle.tsb_cells.proofs.RowLemmas.{take-whole}
 use Rattle.tsb_objects.specs.tsb_types.declared.interval.Interval.TheVariants.{Red, Green, Yellow, RedClear}
 use Rattle.tsb_objects.specs.tsb_types.declared.interval.PedestrianInterval.TheVariants.{DontWalk, Walk, PedestrianClear}
-use Rattle.tsb_objects.specs.tsb_types.Intervals.{is_green, is_yellow, is_red_clear, is_walk, is_clearance}
+use Rattle.tsb_objects.specs.tsb_types.Intervals.{is_walk, is_clearance}
 use Rattle.tsb_objects.specs.tsb_types.Sets.{list_of}
 use Rattle.tsb_objects.proofs.tsb_types.ClipLemmas.{is_phase_from}
 use Rattle.tsb_phase.specs.declared.TheConstants.{CELLS}
 use Rattle.tsb_phase.specs.declared.ending.Ending.TheVariants.{MaxOut, GapOut}
 use Rattle.tsb_phase.specs.DynamicMaximum.{is_same}
-use Rattle.tsb_phase.specs.Cells.{number_in, number_cell, phase_in, row_in, phases_cells, IsBy}
+use Rattle.tsb_phase.specs.Cells.{has_way, is_clearing, number_in, number_cell, phase_in, row_in, phases_cells, IsBy}
 use Rattle.tsb_phase.specs.Laws.{RowsAreTold}
 use Rattle.tsb_cells.proofs.TableLemmas.{list-told, more, column}
 
 -- ## What the lists tell
 
-green-by : (g y r : Bool) → is_green (if g then Green else (if y then Yellow else (if r then RedClear else Red))) ≡ g
-green-by true y r = refl
-green-by false true r = refl
-green-by false false true = refl
-green-by false false false = refl
+way-by : (r c : Bool) → has_way (if r then (if c then Yellow else Green) else (if c then RedClear else Red)) ≡ r
+way-by true true = refl
+way-by true false = refl
+way-by false true = refl
+way-by false false = refl
 
-yellow-by : (g y r : Bool) → (g ≡ true → y ≡ false) → is_yellow (if g then Green else (if y then Yellow else (if r then RedClear else Red))) ≡ y
-yellow-by true y r apart = sym (apart refl)
-yellow-by false true r apart = refl
-yellow-by false false true apart = refl
-yellow-by false false false apart = refl
-
-red_clear-by : (g y r : Bool) → (g ≡ true → r ≡ false) → (y ≡ true → r ≡ false) → is_red_clear (if g then Green else (if y then Yellow else (if r then RedClear else Red))) ≡ r
-red_clear-by true y r one two = sym (one refl)
-red_clear-by false true r one two = sym (two refl)
-red_clear-by false false true one two = refl
-red_clear-by false false false one two = refl
+clearing-by : (r c : Bool) → is_clearing (if r then (if c then Yellow else Green) else (if c then RedClear else Red)) ≡ c
+clearing-by true true = refl
+clearing-by true false = refl
+clearing-by false true = refl
+clearing-by false false = refl
 
 pub walk-by : (w c : Bool) → is_walk (if w then Walk else (if c then PedestrianClear else DontWalk)) ≡ w
 walk-by true c = refl
@@ -65,51 +59,48 @@ number-told n = elim (cases_Bool (n == 0)) [
   | inr some ↦ (let e : n - 1 + 1 ≡ n = grind (arith, nat_tests, some) in rw some e)
 ]
 
-nine : (row : List ℕ) → 9 ≤ length row → (slice_index row 0 ∷ slice_index row 1 ∷ slice_index row 2 ∷ slice_index row 3 ∷ slice_index row 4 ∷ slice_index row 5 ∷ slice_index row 6 ∷ slice_index row 7 ∷ slice_index row 8 ∷ []) ≡ take 9 row
-nine (a ∷ (b ∷ (c ∷ (d ∷ (e ∷ (f ∷ (g ∷ (h ∷ (i ∷ rest))))))))) full = refl
-nine row full = absurd (omega arith)
+eight : (row : List ℕ) → 8 ≤ length row → (slice_index row 0 ∷ slice_index row 1 ∷ slice_index row 2 ∷ slice_index row 3 ∷ slice_index row 4 ∷ slice_index row 5 ∷ slice_index row 6 ∷ slice_index row 7 ∷ []) ≡ take 8 row
+eight (a ∷ (b ∷ (c ∷ (d ∷ (e ∷ (f ∷ (g ∷ (h ∷ rest)))))))) full = refl
+eight row full = absurd (omega arith)
 
 module _ (now : ℕ) (row : List ℕ) (by : IsBy now row) where
   full : length row ≡ CELLS
   full = by.full
 
-  lists : (list_of 16 (λ p. is_green (phase_in now row p).interval) ∷ list_of 16 (λ p. is_yellow (phase_in now row p).interval) ∷
-      list_of 16 (λ p. is_red_clear (phase_in now row p).interval) ∷
+  lists : (list_of 16 (λ p. has_way (phase_in now row p).interval) ∷ list_of 16 (λ p. is_clearing (phase_in now row p).interval) ∷
       list_of 16 (λ p. is_walk (phase_in now row p).pedestrian) ∷ list_of 16 (λ p. is_clearance (phase_in now row p).pedestrian) ∷
       list_of 16 (λ p. (phase_in now row p).gapped) ∷ list_of 16 (λ p. (phase_in now row p).forced) ∷
-      list_of 16 (λ p. is_same MaxOut (phase_in now row p).last_ending) ∷ list_of 16 (λ p. is_same GapOut (phase_in now row p).last_ending) ∷ []) ≡ take 9 row
+      list_of 16 (λ p. is_same MaxOut (phase_in now row p).last_ending) ∷ list_of 16 (λ p. is_same GapOut (phase_in now row p).last_ending) ∷ []) ≡ take 8 row
   unfolding phase_in row_in
   lists =
       rw (
-        list-told row 0 (λ p. is_green (phase_in now row p).interval) (by.lists 0 (omega arith)) (λ p from to. rw (is_phase_from p from to) (green-by _ _ _)),
-        list-told row 1 (λ p. is_yellow (phase_in now row p).interval) (by.lists 1 (omega arith)) (λ p from to. rw (is_phase_from p from to) (yellow-by _ _ _ (by.each p from to).green_yellow)),
-        list-told row 2 (λ p. is_red_clear (phase_in now row p).interval) (by.lists 2 (omega arith))
-            (λ p from to. rw (is_phase_from p from to) (red_clear-by _ _ _ (by.each p from to).green_red_clear (by.each p from to).yellow_red_clear)),
-        list-told row 3 (λ p. is_walk (phase_in now row p).pedestrian) (by.lists 3 (omega arith)) (λ p from to. rw (is_phase_from p from to) (walk-by _ _)),
-        list-told row 4 (λ p. is_clearance (phase_in now row p).pedestrian) (by.lists 4 (omega arith)) (λ p from to. rw (is_phase_from p from to) (clear-by _ _ (by.each p from to).walk_clearance)),
-        list-told row 5 (λ p. (phase_in now row p).gapped) (by.lists 5 (omega arith)) (λ p from to. rw (is_phase_from p from to) refl),
-        list-told row 6 (λ p. (phase_in now row p).forced) (by.lists 6 (omega arith)) (λ p from to. rw (is_phase_from p from to) refl),
-        list-told row 7 (λ p. is_same MaxOut (phase_in now row p).last_ending) (by.lists 7 (omega arith)) (λ p from to. rw (is_phase_from p from to) (max-by _ _)),
-        list-told row 8 (λ p. is_same GapOut (phase_in now row p).last_ending) (by.lists 8 (omega arith)) (λ p from to. rw (is_phase_from p from to) (gap-by _ _ (by.each p from to).endings)),
-      ) (nine row (omega (arith, full)))
+        list-told row 0 (λ p. has_way (phase_in now row p).interval) (by.lists 0 (omega arith)) (λ p from to. rw (is_phase_from p from to) (way-by _ _)),
+        list-told row 1 (λ p. is_clearing (phase_in now row p).interval) (by.lists 1 (omega arith)) (λ p from to. rw (is_phase_from p from to) (clearing-by _ _)),
+        list-told row 2 (λ p. is_walk (phase_in now row p).pedestrian) (by.lists 2 (omega arith)) (λ p from to. rw (is_phase_from p from to) (walk-by _ _)),
+        list-told row 3 (λ p. is_clearance (phase_in now row p).pedestrian) (by.lists 3 (omega arith)) (λ p from to. rw (is_phase_from p from to) (clear-by _ _ (by.each p from to).walk_clearance)),
+        list-told row 4 (λ p. (phase_in now row p).gapped) (by.lists 4 (omega arith)) (λ p from to. rw (is_phase_from p from to) refl),
+        list-told row 5 (λ p. (phase_in now row p).forced) (by.lists 5 (omega arith)) (λ p from to. rw (is_phase_from p from to) refl),
+        list-told row 6 (λ p. is_same MaxOut (phase_in now row p).last_ending) (by.lists 6 (omega arith)) (λ p from to. rw (is_phase_from p from to) (max-by _ _)),
+        list-told row 7 (λ p. is_same GapOut (phase_in now row p).last_ending) (by.lists 7 (omega arith)) (λ p from to. rw (is_phase_from p from to) (gap-by _ _ (by.each p from to).endings)),
+      ) (eight row (omega (arith, full)))
 
   phases-told : phases_cells now (phase_in now row) ≡ row
   unfolding phase_in row_in
   phases-told =
-      more row 105 (λ p. number_cell (phase_in now row p).running_maximum) _
-      (more row 89 (λ p. timer_cell now (phase_in now row p).red_revert) _
-      (more row 73 (λ p. timer_cell now (phase_in now row p).reduction) _
-      (more row 57 (λ p. timer_cell now (phase_in now row p).conflict) _
-      (more row 41 (λ p. timer_cell now (phase_in now row p).passage) _
-      (more row 25 (λ p. timer_cell now (phase_in now row p).pedestrian_timer) _
-      (more row 9 (λ p. timer_cell now (phase_in now row p).timer) _ lists
-      (column row 9 _ (omega (arith, full)) (omega arith) (λ p from to. rw (is_phase_from p from to) (timer_cell-timer_at now _ (by.each p from to).timer))))
-      (column row 25 _ (omega (arith, full)) (omega arith) (λ p from to. rw (is_phase_from p from to) (timer_cell-timer_at now _ (by.each p from to).pedestrian_timer))))
-      (column row 41 _ (omega (arith, full)) (omega arith) (λ p from to. rw (is_phase_from p from to) (timer_cell-timer_at now _ (by.each p from to).passage))))
-      (column row 57 _ (omega (arith, full)) (omega arith) (λ p from to. rw (is_phase_from p from to) (timer_cell-timer_at now _ (by.each p from to).conflict))))
-      (column row 73 _ (omega (arith, full)) (omega arith) (λ p from to. rw (is_phase_from p from to) (timer_cell-timer_at now _ (by.each p from to).reduction))))
-      (column row 89 _ (omega (arith, full)) (omega arith) (λ p from to. rw (is_phase_from p from to) (timer_cell-timer_at now _ (by.each p from to).red_revert))))
-      (column row 105 _ (omega (arith, full)) (omega arith) (λ p from to. rw (is_phase_from p from to) (number-told _)))
+      more row 104 (λ p. number_cell (phase_in now row p).running_maximum) _
+      (more row 88 (λ p. timer_cell now (phase_in now row p).red_revert) _
+      (more row 72 (λ p. timer_cell now (phase_in now row p).reduction) _
+      (more row 56 (λ p. timer_cell now (phase_in now row p).conflict) _
+      (more row 40 (λ p. timer_cell now (phase_in now row p).passage) _
+      (more row 24 (λ p. timer_cell now (phase_in now row p).pedestrian_timer) _
+      (more row 8 (λ p. timer_cell now (phase_in now row p).timer) _ lists
+      (column row 8 _ (omega (arith, full)) (omega arith) (λ p from to. rw (is_phase_from p from to) (timer_cell-timer_at now _ (by.each p from to).timer))))
+      (column row 24 _ (omega (arith, full)) (omega arith) (λ p from to. rw (is_phase_from p from to) (timer_cell-timer_at now _ (by.each p from to).pedestrian_timer))))
+      (column row 40 _ (omega (arith, full)) (omega arith) (λ p from to. rw (is_phase_from p from to) (timer_cell-timer_at now _ (by.each p from to).passage))))
+      (column row 56 _ (omega (arith, full)) (omega arith) (λ p from to. rw (is_phase_from p from to) (timer_cell-timer_at now _ (by.each p from to).conflict))))
+      (column row 72 _ (omega (arith, full)) (omega arith) (λ p from to. rw (is_phase_from p from to) (timer_cell-timer_at now _ (by.each p from to).reduction))))
+      (column row 88 _ (omega (arith, full)) (omega arith) (λ p from to. rw (is_phase_from p from to) (timer_cell-timer_at now _ (by.each p from to).red_revert))))
+      (column row 104 _ (omega (arith, full)) (omega arith) (λ p from to. rw (is_phase_from p from to) (number-told _)))
       ∙ take-whole row CELLS full
 
 pub rows-told : RowsAreTold

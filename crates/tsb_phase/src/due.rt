@@ -1,7 +1,7 @@
 //! When a test of phase timing next changes, while what a tick gives it stays the same. `u32::MAX` stands for no tick.
 ghost use Rattle.std.specs.Prelude.{◌≡◌, ℕ, ◌+◌, ◌-◌, ◌<◌, ◌≤◌, ◌^◌, true, false};
 ghost use Rattle.tsb_cells.specs.Timer.{timer_at, has_reached};
-ghost use Rattle.tsb_objects.specs.tsb_types.declared.interval.Interval.TheVariants.{RedClear};
+ghost use Rattle.tsb_objects.specs.tsb_types.declared.interval.Interval.TheVariants.{Green, Yellow, RedClear};
 ghost use Rattle.tsb_objects.specs.tsb_types.declared.interval.PedestrianInterval.TheVariants.{Walk, PedestrianClear};
 ghost use Rattle.tsb_objects.specs.tsb_plan.PlanOf.{plan_of};
 ghost use Rattle.tsb_phase.specs.Green.{initial, gap, has_reached_some};
@@ -20,13 +20,13 @@ use crate::green::{
 use crate::pedestrian::{
     clearance_time, ended_by, is_resting_in_walk, may_walk_again, pedestrian_of, walk_time,
 };
-use crate::phase_row::PhaseRow;
+use crate::phase_row::{PhaseRow, interval_of};
 use crate::phases::Phases;
 use crate::rows::RED_REVERTS;
 use crate::times::{gap, initial, ticks_to_gap};
 use crate::visit::{held, number_in};
 use tsb_cells::Timer;
-use tsb_objects::{PedestrianInterval, Phase, Plan};
+use tsb_objects::{Interval, PedestrianInterval, Phase, Plan};
 
 /// The tick up to which a timer that is On, as its cell tells, has not reached a limit.
 #[inline(always)]
@@ -187,7 +187,7 @@ fn turn_gap(now: u32, plan: &Plan, p: Phase, was: &PhaseRow) -> u32
 fn due_kept(now: u32, plan: &Plan, conditions: &Conditions, p: Phase, was: &PhaseRow) -> u32
     requires fits { now + 1 < 2 ^ 32 }
     requires by { IsRowBy now was.now }
-    requires green { was.now.green ≡ true }
+    requires is { interval_of_row was.now ≡ Green }
     requires kept { IsKept (plan_of plan.now) (given_of conditions.now) p was.now now }
     ensures { (t : ℕ) → now < t → t < result → IsStill (plan_of plan.now) (given_of conditions.now) p was.now now t }
 {
@@ -214,7 +214,7 @@ fn due_kept(now: u32, plan: &Plan, conditions: &Conditions, p: Phase, was: &Phas
 fn due_green(now: u32, plan: &Plan, conditions: &Conditions, p: Phase, was: &PhaseRow) -> u32
     requires fits { now + 1 < 2 ^ 32 }
     requires by { IsRowBy now was.now }
-    requires green { was.now.green ≡ true }
+    requires is { interval_of_row was.now ≡ Green }
     ensures { (t : ℕ) → now < t → t < result → IsStill (plan_of plan.now) (given_of conditions.now) p was.now now t }
 {
     if is_kept(now, plan, conditions, p, was) {
@@ -228,8 +228,7 @@ fn due_green(now: u32, plan: &Plan, conditions: &Conditions, p: Phase, was: &Pha
 fn due_yellow(now: u32, plan: &Plan, p: Phase, was: &PhaseRow) -> u32
     requires fits { now + 1 < 2 ^ 32 }
     requires by { IsRowBy now was.now }
-    requires green { was.now.green ≡ false }
-    requires yellow { was.now.yellow ≡ true }
+    requires is { interval_of_row was.now ≡ Yellow }
     ensures { (given : Given) (t : ℕ) → now < t → t < result → IsStill (plan_of plan.now) given p was.now now t }
 {
     let change = plan.yellow_change(p);
@@ -261,16 +260,12 @@ fn due_of(now: u32, plan: &Plan, conditions: &Conditions, p: Phase, was: &PhaseR
     requires by { IsRowBy now was.now }
     ensures { (t : ℕ) → now < t → t < result → IsStill (plan_of plan.now) (given_of conditions.now) p was.now now t }
 {
-    if was.green {
-        return due_green(now, plan, conditions, p, was);
+    match interval_of(was) {
+        Interval::Green => due_green(now, plan, conditions, p, was),
+        Interval::Yellow => due_yellow(now, plan, p, was),
+        Interval::RedClear => due_red_clear(now, plan, p, was),
+        Interval::Red => now,
     }
-    if was.yellow {
-        return due_yellow(now, plan, p, was);
-    }
-    if was.red_clear {
-        return due_red_clear(now, plan, p, was);
-    }
-    now
 }
 
 impl Phases {

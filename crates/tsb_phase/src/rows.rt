@@ -10,24 +10,23 @@ use crate::phases::Phases;
 use tsb_cells::lists::{phases, put_phases};
 use tsb_objects::{Phase, PhaseSet};
 
-/// The lists, each in the cell of this number.
-pub(crate) const GREENS: usize = 0;
+/// The list of the phases that have right of way, in Green or Yellow. Each list is in the cell of its number.
+pub(crate) const RIGHT_OF_WAY: usize = 0;
 
-pub(crate) const YELLOWS: usize = 1;
+/// The list of those that are clearing, in Yellow or RedClear.
+pub(crate) const CLEARING: usize = 1;
 
-pub(crate) const RED_CLEARS: usize = 2;
+pub(crate) const WALKS: usize = 2;
 
-pub(crate) const WALKS: usize = 3;
+pub(crate) const CLEARANCES: usize = 3;
 
-pub(crate) const CLEARANCES: usize = 4;
+pub(crate) const GAPPED: usize = 4;
 
-pub(crate) const GAPPED: usize = 5;
+pub(crate) const FORCED: usize = 5;
 
-pub(crate) const FORCED: usize = 6;
+pub(crate) const MAX_OUTS: usize = 6;
 
-pub(crate) const MAX_OUTS: usize = 7;
-
-pub(crate) const GAP_OUTS: usize = 8;
+pub(crate) const GAP_OUTS: usize = 7;
 
 /// The kinds of cells, 16 of each after the lists.
 pub(crate) const TIMERS: usize = 0;
@@ -45,17 +44,17 @@ pub(crate) const RED_REVERTS: usize = 5;
 pub(crate) const RUNNING_MAXIMUMS: usize = 6;
 
 /// The cell of the interval timer of phase 1.
-pub(crate) const FIRST_TIMER: usize = 9;
+pub(crate) const FIRST_TIMER: usize = 8;
 
 /// The cell of kind `k` of a phase.
 #[inline(always)]
 fn place(k: usize, p: Phase) -> usize
     requires { k < 7 }
-    ensures at { result ≡ 8 + 16 * k + p }
+    ensures at { result ≡ 7 + 16 * k + p }
     ensures from { 1 ≤ p }
     ensures within { p ≤ 16 }
 {
-    8 + 16 * k + usize::from(p.number())
+    7 + 16 * k + usize::from(p.number())
 }
 
 impl Phases {
@@ -65,7 +64,7 @@ impl Phases {
     #[inline(always)]
     pub(crate) fn cell(&self, k: usize, p: Phase) -> u32
         requires { k < 7 }
-        ensures { result ≡ slice_index (cells_of self.now) (8 + 16 * k + p) }
+        ensures { result ≡ slice_index (cells_of self.now) (7 + 16 * k + p) }
     {
         self.bank.get(place(k, p))
     }
@@ -77,9 +76,8 @@ impl Phases {
         ensures { result ≡ row_in (cells_of self.now) p }
     {
         PhaseRow {
-            green: phases(&self.bank, GREENS).contains(p),
-            yellow: phases(&self.bank, YELLOWS).contains(p),
-            red_clear: phases(&self.bank, RED_CLEARS).contains(p),
+            right_of_way: phases(&self.bank, RIGHT_OF_WAY).contains(p),
+            clearing: phases(&self.bank, CLEARING).contains(p),
             walk: phases(&self.bank, WALKS).contains(p),
             clearance: phases(&self.bank, CLEARANCES).contains(p),
             gapped: phases(&self.bank, GAPPED).contains(p),
@@ -99,7 +97,7 @@ impl Phases {
     /// Puts the phase into list `k`, or takes it out, where that is a change.
     #[inline(always)]
     fn put_list(&mut self, k: usize, p: Phase, was: bool, on: bool)
-        requires in_range { k < 9 }
+        requires in_range { k < 8 }
         requires opened { is_open self.old ≡ true }
         requires was { was ≡ list_of_row k (row_in (cells_of self.old) p) }
         ensures row { row_in (cells_of self.new) p ≡ with_list k on (row_in (cells_of self.old) p) }
@@ -116,7 +114,7 @@ impl Phases {
     /// Puts the phase into list `k`, or takes it out. It stays out of line: in most ticks nothing changes.
     #[inline(never)]
     fn change_list(&mut self, k: usize, p: Phase, on: bool)
-        requires in_range { k < 9 }
+        requires in_range { k < 8 }
         requires opened { is_open self.old ≡ true }
         ensures row { row_in (cells_of self.new) p ≡ with_list k on (row_in (cells_of self.old) p) }
         ensures others { (q : ℕ) → 1 ≤ q → q ≤ 16 → q ≢ p → row_in (cells_of self.new) q ≡ row_in (cells_of self.old) q }
@@ -131,7 +129,7 @@ impl Phases {
 
     /// Takes all phases out of list `k`.
     pub(crate) fn empty_list(&mut self, k: usize)
-        requires in_range { k < 9 }
+        requires in_range { k < 8 }
         requires opened { is_open self.old ≡ true }
         ensures none { (p : ℕ) → names (list_in (cells_of self.new) k) p ≡ false }
         ensures small { slice_index (cells_of self.new) k < 65536 }
@@ -184,9 +182,8 @@ impl Phases {
         ensures kept { kept_of self.new ≡ kept_of self.old }
         ensures opened { is_open self.new ≡ true }
     {
-        self.put_list(GREENS, p, was.green, row.green);
-        self.put_list(YELLOWS, p, was.yellow, row.yellow);
-        self.put_list(RED_CLEARS, p, was.red_clear, row.red_clear);
+        self.put_list(RIGHT_OF_WAY, p, was.right_of_way, row.right_of_way);
+        self.put_list(CLEARING, p, was.clearing, row.clearing);
         self.put_list(WALKS, p, was.walk, row.walk);
         self.put_list(CLEARANCES, p, was.clearance, row.clearance);
         self.put_list(GAPPED, p, was.gapped, row.gapped);

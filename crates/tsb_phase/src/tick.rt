@@ -11,11 +11,12 @@ ghost use Rattle.tsb_phase.specs.Cells.{row_in, interval_of_row, IsRowBy};
 ghost use Rattle.tsb_phase.specs.Rows.{IsVisit, IsFresh, IsToldAs, told};
 
 use crate::conditions::Conditions;
+use crate::phase_row::interval_of;
 use crate::phases::Phases;
-use crate::rows::{GREENS, RED_CLEARS, RED_REVERTS, YELLOWS};
+use crate::rows::{CLEARING, RED_REVERTS, RIGHT_OF_WAY};
 use crate::visit::{visit_green, visit_red_clear, visit_yellow};
 use tsb_cells::lists::phases;
-use tsb_objects::{Checked, Phase, PhaseSet, Timing};
+use tsb_objects::{Checked, Interval, Phase, PhaseSet, Timing};
 
 /// Whether the timer of a cell is Off or has reached the limit at tick `now`. Both are always tested: so a loop over
 /// all phases has no branch, and takes several of them at a time.
@@ -53,23 +54,26 @@ impl Phases {
         ensures opened { is_open self.new ≡ true }
     {
         let was = self.load(p);
-        if was.green {
-            let visit = visit_green(now, plan, conditions, p, &was);
-            self.store(p, &was, &visit.row);
-            timing.ready = timing.ready.joined(p, visit.ready);
-            timing.gapped = timing.gapped.joined(p, visit.gapped);
-            timing.walks = timing.walks.joined(p, visit.walks);
-            return;
+        match interval_of(&was) {
+            Interval::Green => {
+                let visit = visit_green(now, plan, conditions, p, &was);
+                self.store(p, &was, &visit.row);
+                timing.ready = timing.ready.joined(p, visit.ready);
+                timing.gapped = timing.gapped.joined(p, visit.gapped);
+                timing.walks = timing.walks.joined(p, visit.walks);
+            }
+            Interval::Yellow => {
+                let visit = visit_yellow(now, plan.plan(), conditions, p, &was);
+                self.store(p, &was, &visit.row);
+                timing.over = timing.over.joined(p, visit.over);
+                timing.red_revert_passed = timing.red_revert_passed.with(p, visit.reverted);
+            }
+            Interval::RedClear => {
+                let visit = visit_red_clear(now, plan.plan(), conditions, p, &was);
+                timing.over = timing.over.joined(p, visit.over);
+            }
+            Interval::Red => {}
         }
-        if was.yellow {
-            let visit = visit_yellow(now, plan.plan(), conditions, p, &was);
-            self.store(p, &was, &visit.row);
-            timing.over = timing.over.joined(p, visit.over);
-            timing.red_revert_passed = timing.red_revert_passed.with(p, visit.reverted);
-            return;
-        }
-        let visit = visit_red_clear(now, plan.plan(), conditions, p, &was);
-        timing.over = timing.over.joined(p, visit.over);
     }
 
     /// The phases whose red revert timer is Off or has reached its time.
@@ -94,9 +98,7 @@ impl Phases {
     pub(crate) fn in_service(&self) -> PhaseSet
         ensures { (p : ℕ) → has result p ≡ in_service (interval_of_row (row_in (cells_of self.now) p)) }
     {
-        phases(&self.bank, GREENS)
-            .union(phases(&self.bank, YELLOWS))
-            .union(phases(&self.bank, RED_CLEARS))
+        phases(&self.bank, RIGHT_OF_WAY).union(phases(&self.bank, CLEARING))
     }
 
     /// The times of phases run.

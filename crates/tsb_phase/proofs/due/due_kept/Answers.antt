@@ -18,7 +18,7 @@ returns c = λ t after soon.
     let plan : Plan = plan_of c.args.plan.now in
     let given : Given = given_of c.args.conditions.now in
     let by : IsRowBy now was = c.requires.by in
-    green-still plan given c.args.p was now t c.requires.green (later now t was (omega (arith, after)) by) c.requires.kept
+    green-still plan given c.args.p was now t c.requires.is (later now t was (omega (arith, after)) by) c.requires.kept
     (c.due_pedestrian-part.ensures t (later now t was (omega (arith, after)) by) (omega (arith, soon)))
     (c.due_pedestrian-part.ensures now by (omega (arith, after, soon)))
     (c.due_initial-initial.ensures.least t (omega (arith, after)) (omega (arith, soon)))
