@@ -65,6 +65,9 @@ pub fn read_record(bytes: &[u8], end: usize) -> (Record<'_>, usize)
 // The bytes of the record of a quiet tick.
 pub const QUIET: usize = 3;
 
+// The bytes of an entry.
+pub const ENTRY: usize = 6;
+
 // Whether the record that ends before a place is that of a quiet tick.
 #[inline(always)]
 fn is_quiet(bytes: &[u8], end: usize) -> bool

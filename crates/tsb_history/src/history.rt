@@ -105,6 +105,9 @@ impl History {
     {
         let end = self.bytes.len();
         let quiet = quiet_before(self.count, &self.bytes, end, most);
+        if quiet == 0 {
+            return 0;
+        }
         self.bytes.truncate(end - QUIET * quiet);
         self.count -= quiet;
         quiet

@@ -5,12 +5,14 @@
 #![tactic(auto)]
 
 mod bytes;
+mod entries;
 mod history;
 mod kinds;
 mod laws;
 mod record;
 mod walk;
 
+pub use entries::Entries;
 pub use history::History;
 pub use kinds::Kind;
 pub use laws::bytes_tell_records;

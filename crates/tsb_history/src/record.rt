@@ -2,6 +2,7 @@ ghost use Rattle.std.specs.Prelude.{◌≡◌, ◌+◌, ◌*◌, ◌<◌, ◌≤
 ghost use Rattle.tsb_history.specs.Bytes.{entries_at};
 
 use crate::bytes::{four, two};
+use crate::entries::Entries;
 use crate::kinds::Kind;
 use std::marker::Model;
 
@@ -62,6 +63,14 @@ impl<'a> Record<'a> {
         ensures { IsTrue result ↔ (self.now.entries ≡ []) }
     {
         self.len() == 0
+    }
+
+    /// Its entries, in the order in which they were pushed.
+    #[inline(always)]
+    pub fn entries(&self) -> Entries<'a>
+        ensures { result ≡ self.now.entries }
+    {
+        Entries::of(self.count, self.bytes, self.start)
     }
 
     /// The entry at an index from 0: the cell, and the value that it had before. `None` from

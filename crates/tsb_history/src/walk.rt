@@ -46,6 +46,9 @@ impl<'a> WalkBack<'a> {
         ensures rest { self.new ≡ drop result self.old }
     {
         let quiet = quiet_before(self.count, self.bytes, self.end, self.count);
+        if quiet == 0 {
+            return 0;
+        }
         self.end -= QUIET * quiet;
         self.count -= quiet;
         quiet

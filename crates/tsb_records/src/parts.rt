@@ -21,11 +21,10 @@ pub fn touches(change: &Record<'_>, offset: u16, count: usize) -> bool
     ensures untouched { result ≡ false → part offset count change.now.entries ≡ [] }
     ensures touched { result ≡ true → part offset count change.now.entries ≢ [] }
 {
-    for i in 0..change.len() {
-        if let Some((cell, _)) = change.entry(i) {
-            if is_one_of(cell, offset, count) {
-                return true;
-            }
+    let mut entries = change.entries();
+    while let Some((cell, _)) = entries.next() {
+        if is_one_of(cell, offset, count) {
+            return true;
         }
     }
     false
@@ -37,46 +36,61 @@ pub fn part_of<const N: usize>(change: &Record<'_>, offset: u16) -> Diff<N>
     requires few { length (part offset N change.now.entries) ≤ N }
     ensures { result.items ≡ part offset N change.now.entries }
 {
-    let mut entries = ArrayVec::new();
-    for i in 0..change.len() {
-        if let Some((cell, old)) = change.entry(i) {
-            if is_one_of(cell, offset, N) {
-                entries.push((cell - offset, old));
-            }
+    let mut part = ArrayVec::new();
+    let mut entries = change.entries();
+    while let Some((cell, old)) = entries.next() {
+        if is_one_of(cell, offset, N) {
+            part.push((cell - offset, old));
         }
     }
-    entries
+    part
 }
 
-/// Puts back what one entry of a record says, if it is of a row whose `N` cells are those from `offset` on. The row has
-/// to be closed, and to take any values.
+/// Puts back what one entry of a record says, if it is of a row whose `N` cells are those from `offset` on, and says
+/// whether it is. The row has to be closed, and to take any values.
 #[inline(always)]
-pub fn undo_entry<const N: usize, R: Reversible<N>>(row: &mut R, cell: u16, old: u32, offset: u16)
+pub fn undo_entry<const N: usize, R: Reversible<N>>(
+    row: &mut R,
+    cell: u16,
+    old: u32,
+    offset: u16,
+) -> bool
     requires indexed { N ≤ 65536 }
     requires fits { offset + N ≤ 65536 }
     requires closed { R.is_open row.old ≡ false }
     requires free { (cells : List ℕ) → length cells ≡ N → R.allows cells }
     ensures cells { R.cells row.new ≡ apply_diff (R.cells row.old) (part offset N ((cell, old) ∷ [])) }
     ensures closed { R.is_open row.new ≡ false }
+    ensures is { result ≡ (nat_le offset cell && nat_lt cell (offset + N)) }
+    ensures other { result ≡ false → row.new ≡ row.old }
 {
-    if is_one_of(cell, offset, N) {
-        row.undo(&[(cell - offset, old)]);
+    if !is_one_of(cell, offset, N) {
+        return false;
     }
+    row.undo(&[(cell - offset, old)]);
+    true
 }
 
-/// Puts back what the record says of a row whose `N` cells are those from `offset` on. The row has to be closed, and to
-/// take any values. It builds no list of the entries.
-pub fn undo_part<const N: usize, R: Reversible<N>>(row: &mut R, change: &Record<'_>, offset: u16)
+/// Puts back what the record says of a row whose `N` cells are those from `offset` on, and says whether it has an entry
+/// of them. The row has to be closed, and to take any values. It builds no list of the entries.
+#[inline(always)]
+pub fn undo_part<const N: usize, R: Reversible<N>>(
+    row: &mut R,
+    change: &Record<'_>,
+    offset: u16,
+) -> bool
     requires indexed { N ≤ 65536 }
     requires fits { offset + N ≤ 65536 }
     requires closed { R.is_open row.old ≡ false }
     requires free { (cells : List ℕ) → length cells ≡ N → R.allows cells }
     ensures cells { R.cells row.new ≡ apply_diff (R.cells row.old) (part offset N change.now.entries) }
     ensures closed { R.is_open row.new ≡ false }
+    ensures untouched { result ≡ false → row.new ≡ row.old }
 {
-    for i in 0..change.len() {
-        if let Some((cell, old)) = change.entry(i) {
-            undo_entry(row, cell, old, offset);
-        }
+    let mut touched = false;
+    let mut entries = change.entries();
+    while let Some((cell, old)) = entries.next() {
+        touched |= undo_entry(row, cell, old, offset);
     }
+    touched
 }

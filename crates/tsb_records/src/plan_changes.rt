@@ -33,11 +33,10 @@ pub fn put_back(plan: &Plan, change: &Record<'_>) -> Plan
     ensures { result.values ≡ apply_diff plan.now.values (part 0 PLAN_CELLS change.now.entries) }
 {
     let mut cells = cells_of(plan);
-    for i in 0..change.len() {
-        if let Some((cell, old)) = change.entry(i) {
-            if (cell as usize) < PLAN_CELLS {
-                cells[cell as usize] = old;
-            }
+    let mut entries = change.entries();
+    while let Some((cell, old)) = entries.next() {
+        if (cell as usize) < PLAN_CELLS {
+            cells[cell as usize] = old;
         }
     }
     Plan::of_cells(&cells)

@@ -8,7 +8,7 @@ pub undo-requires-clause-closed : goal.undo-requires-clause-closed
 undo-requires-clause-closed g c = c.requires.closed
 
 pub undo-requires-clause-in_range : goal.undo-requires-clause-in_range
-undo-requires-clause-in_range g c = one-within c.args.offset g.row.N (c.args.cell, c.args.old) (sym c.is_one_of.ensures.value ∙ c.if-is_one_of.true)
+undo-requires-clause-in_range g c = one-within c.args.offset g.row.N (c.args.cell, c.args.old) (sym c.is_one_of.ensures.value ∙ c.if-not-is_one_of.false)
 
 pub undo-requires-clause-allowed : goal.undo-requires-clause-allowed
 undo-requires-clause-allowed g c =
