@@ -110,6 +110,10 @@ module _ (h : Held) (w : Watch) (x : Watched) (tick : ℕ) (value : Value) (r : 
   pub goes-on-same : (y : Watched) (old : Value) → Holds w back y → Tells w y old → old ≡ value → IsAt h w y (tick - ticks_of r.kind) value rs
   goes-on-same y old holds tells same = goes-on y holds (subst (Tells w y) same tells)
 
+  -- the layer itself stayed
+  pub goes-on-still : (y : Watched) → Holds w back y → y ≡ x → IsAt h w y (tick - ticks_of r.kind) value rs
+  goes-on-still y holds same = goes-on y holds (subst (λ (z : Watched). Tells w z value) (sym same) at.tells)
+
   -- a record of no cells changes nothing
   pub goes-past : r.entries ≡ [] → IsAt h w x (tick - ticks_of r.kind) value rs
   goes-past none = goes-on x (subst (λ (es : List (ℕ × ℕ)). Holds w (all_put_back at.rows es) x) (sym none) at.holds) at.tells

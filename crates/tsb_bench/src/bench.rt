@@ -277,6 +277,7 @@ impl Bench {
     ///
     /// `Nothing` says that no input is left, and nothing has changed. It takes no memory; the bytes of the record are
     /// room again.
+    #[inline(always)]
     pub fn undo(&mut self) -> Result<Kind, Nothing>
         ensures kind { IfOk result (λ k. newest_kind self.old.records ≡ Some k) }
         ensures ok { OnOk result (whole self.new ≡ earlier (whole self.old) 1) }
@@ -336,6 +337,9 @@ impl Bench {
         ensures memory { memory self.new ≡ memory self.old }
     {
         let quiet = self.history.pop_quiet(most as usize) as u32;
+        if quiet == 0 {
+            return 0;
+        }
         self.cabinet.pass_none();
         self.tick -= quiet;
         quiet
@@ -373,8 +377,7 @@ impl Bench {
             match records.next() {
                 None => return None,
                 Some(change) => {
-                    watched.undo(&change);
-                    if !watched.value().is_same(&value) {
+                    if watched.undo(&change) && !watched.value().is_same(&value) {
                         return Some(tick);
                     }
                     tick -= ticks_of(change.kind());

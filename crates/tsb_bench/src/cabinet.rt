@@ -178,24 +178,6 @@ impl Cabinet {
         ensures passing { (tick : ℕ) → MayPass tick self.new }
     {
         self.passing = Passing::none();
-        if !change.is_empty() {
-            self.put_back(change);
-        }
-    }
-
-    /// Puts back the entries of a record, in a function of its own: four in five records have none, and theirs is then
-    /// not slowed by what this needs.
-    #[inline(never)]
-    fn put_back(&mut self, change: Record<'_>)
-        requires shut { IsShut self.old }
-        requires few { HasFew change.entries }
-        requires ranged { AreInRange (apply_diff (rows_of self.old).plan (part 0 PLAN_CELLS change.entries)) }
-        requires passed { first_broken (plan_in (apply_diff (rows_of self.old).plan (part 0 PLAN_CELLS change.entries))) ≡ None }
-        requires desk { IsRow (apply_diff (rows_of self.old).desk (part DESK DESK_CELLS change.entries)) }
-        ensures rows { rows_of self.new ≡ all_put_back (rows_of self.old) change.entry.entries }
-        ensures shut { IsShut self.new }
-        ensures passing { self.new.passing ≡ self.old.passing }
-    {
         if undo_layers(&mut self.controller, &mut self.monitor.bank, &change) {
             undo_plan(&mut self.plan, &change);
             undo_desk(&mut self.desk, &change);
@@ -205,6 +187,7 @@ impl Cabinet {
 
 /// Puts back what a record holds of the layers and the monitor, entry by entry. It says whether any other entry was
 /// there: one of plan or desk, which few records hold.
+#[inline(always)]
 fn undo_layers(
     controller: &mut Controller,
     monitor: &mut Bank<MONITOR_CELLS>,
@@ -219,10 +202,10 @@ fn undo_layers(
     ensures shut { bank.is_open monitor.new ≡ false }
 {
     let mut others = false;
-    for i in 0..change.len() {
-        if let Some((cell, old)) = change.entry(i) {
+    let mut entries = change.entries();
+    while let Some((cell, old)) = entries.next() {
+        if !controller.undo_entry(cell, old) {
             others |= cell < DETECTORS;
-            controller.undo_entry(cell, old);
             undo_entry(monitor, cell, old, MONITOR);
         }
     }
@@ -230,6 +213,7 @@ fn undo_layers(
 }
 
 /// Puts back what a record holds of the plan.
+#[inline(never)]
 fn undo_plan(plan: &mut Checked, change: &Record<'_>)
     requires ranged { AreInRange (apply_diff plan.old.plan.values (part 0 PLAN_CELLS change.now.entries)) }
     requires passed { first_broken (plan_in (apply_diff plan.old.plan.values (part 0 PLAN_CELLS change.now.entries))) ≡ None }
@@ -252,6 +236,7 @@ fn put_back_plan(plan: &mut Checked, change: &Record<'_>)
 }
 
 /// Puts back what a record holds of the desk.
+#[inline(never)]
 fn undo_desk(desk: &mut Desk, change: &Record<'_>)
     requires shut { is_open desk.old ≡ false }
     requires few { HasFew change.now.entries }

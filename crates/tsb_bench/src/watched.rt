@@ -78,10 +78,12 @@ impl Watched {
         }
     }
 
-    /// Puts back what a record holds of the layer.
-    pub(crate) fn undo(&mut self, change: &Record<'_>)
+    /// Puts back what a record holds of the layer, and says whether it holds anything of it.
+    #[inline(always)]
+    pub(crate) fn undo(&mut self, change: &Record<'_>) -> bool
         requires held { (watch : WatchValue) × (a : All) × Holds watch a self.old }
-        ensures { (watch : WatchValue) (a : All) → Holds watch a self.old → Holds watch (all_put_back a change.now.entries) self.new }
+        ensures holds { (watch : WatchValue) (a : All) → Holds watch a self.old → Holds watch (all_put_back a change.now.entries) self.new }
+        ensures untouched { result ≡ false → self.new ≡ self.old }
     {
         match self {
             Watched::Interval(phases, _) => undo_part(phases, change, PHASES),

@@ -1,7 +1,7 @@
 //! The record of what changes in the layers, and how it is put back.
-ghost use Rattle.std.specs.Prelude.{◌≡◌, ◌+◌, ◌≤◌, ◌++◌, ◌∷◌, []};
+ghost use Rattle.std.specs.Prelude.{◌≡◌, ◌+◌, ◌<◌, ◌≤◌, ◌++◌, ◌∷◌, [], true};
 ghost use Rattle.arrayvec.specs.ArrayVec.{array_vec_len};
-ghost use Rattle.tsb_step.specs.declared.first_cell.TheConstants.{LAYER_CELLS};
+ghost use Rattle.tsb_step.specs.declared.first_cell.TheConstants.{DETECTORS, LAYER_CELLS, MONITOR};
 ghost use Rattle.tsb_controller.specs.Records.{changes, put_back};
 
 use crate::controller::Controller;
@@ -47,25 +47,29 @@ impl Controller {
         self.preempts.close_onto(out, PREEMPTS);
     }
 
-    /// Puts back what an entry of a record says, where it is of a cell of the layers.
+    /// Puts back what an entry of a record says, where it is of a cell of the layers, and says whether it is.
     #[inline(always)]
-    pub fn undo_entry(&mut self, cell: u16, old: u32)
+    pub fn undo_entry(&mut self, cell: u16, old: u32) -> bool
         requires closed { IsClosed self.old }
         ensures rows { rows_of self.new ≡ put_back (rows_of self.old) ((cell, old) ∷ []) }
         ensures closed { IsClosed self.new }
+        ensures from { result ≡ true → DETECTORS ≤ cell }
+        ensures below { result ≡ true → cell < MONITOR }
     {
-        if cell < CALLS {
-            undo_entry(&mut self.detectors, cell, old, DETECTORS);
+        if cell < DETECTORS {
+            false
+        } else if cell < CALLS {
+            undo_entry(&mut self.detectors, cell, old, DETECTORS)
         } else if cell < PHASES {
-            undo_entry(&mut self.calls, cell, old, CALLS);
+            undo_entry(&mut self.calls, cell, old, CALLS)
         } else if cell < RINGS {
-            undo_entry(&mut self.phases, cell, old, PHASES);
+            undo_entry(&mut self.phases, cell, old, PHASES)
         } else if cell < COORD {
-            undo_entry(&mut self.rings, cell, old, RINGS);
+            undo_entry(&mut self.rings, cell, old, RINGS)
         } else if cell < PREEMPTS {
-            undo_entry(&mut self.coord, cell, old, COORD);
+            undo_entry(&mut self.coord, cell, old, COORD)
         } else {
-            undo_entry(&mut self.preempts, cell, old, PREEMPTS);
+            undo_entry(&mut self.preempts, cell, old, PREEMPTS)
         }
     }
 }

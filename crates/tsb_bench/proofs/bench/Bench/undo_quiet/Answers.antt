@@ -11,8 +11,8 @@ use Rattle.tsb_bench.proofs.bench.Bench.undo_quiet.Goals as goal
 pub overflow_sub-self : goal.overflow_sub-self
 overflow_sub-self c = (are-quiet c.pop_quiet-quiet.result c.self.inside.tick (rows_of c.self.inside.cabinet) c.self.inside.history.records c.self.invariant.1 (omega (arith, c.pop_quiet-quiet.ensures.count))).within
 
-pub invariant_of-self : goal.invariant_of-self
-invariant_of-self c =
+pub invariant_of-self-2 : goal.invariant_of-self-2
+invariant_of-self-2 c =
     let are : AreQuiet c.pop_quiet-quiet.result c.self.inside.tick (rows_of c.self.inside.cabinet) c.self.inside.history.records =
     are-quiet c.pop_quiet-quiet.result c.self.inside.tick (rows_of c.self.inside.cabinet) c.self.inside.history.records c.self.invariant.1 (omega (arith, c.pop_quiet-quiet.ensures.count)) in (
       c.pass_none.ensures.shut,

@@ -9,8 +9,9 @@ use Rattle.tsb_bench.specs.Held.{Held}
 use Rattle.tsb_bench.specs.declared.watched.Watched.{Watched}
 use Rattle.tsb_bench.specs.declared.watched.Value.{Value}
 use Rattle.tsb_bench.proofs.HeldLemmas.{are-quiet, sound-held}
-use Rattle.tsb_bench.proofs.WatchedLemmas.{IsAt, at-start, back-held, found, goes-on-same, goes-quiet, none-left}
+use Rattle.tsb_bench.proofs.WatchedLemmas.{IsAt, at-start, back-held, found, goes-on-same, goes-on-still, goes-quiet, none-left}
 use Rattle.tsb_bench.proofs.bench.Bench.when.Goals as goal
+use Rattle.tsb_bench.proofs.bench.Bench.when.Goals.{else-undo-via-then-undo+else-not-is_same, else-undo-via-else-undo}
 
 -- behind the quiet ticks
 behind : (k : ℕ) (h : Held) (w : Watch) (x : Watched) (tick : ℕ) (value : Value) (was left : List Change) → k ≡ quiet_ticks was → left ≡ drop k was → IsAt h w x tick value was → IsAt h w x (tick - k) value left
@@ -51,7 +52,7 @@ value-requires c =
         c.args.watch,
         c.loop-change.tick - c.skip_quiet.result - ticks_of c.in-Some.change.kind,
         all_put_back at.rows c.in-Some.change.entries,
-        c.undo.ensures c.args.watch at.rows at.holds,
+        c.undo.ensures.holds c.args.watch at.rows at.holds,
         (back-held c.args.self.now c.args.watch c.loop-change.watched (c.loop-change.tick - c.skip_quiet.result) c.value-value.result c.in-Some.change c.next.new.self at).by,
       );
     }
@@ -63,7 +64,7 @@ returns-then-not-is_same c =
     let at : IsAt c.args.self.now c.args.watch c.loop-change.watched (c.loop-change.tick - c.skip_quiet.result) c.value-value.result (c.in-Some.change ∷ c.next.new.self) =
     subst (IsAt c.args.self.now c.args.watch c.loop-change.watched (c.loop-change.tick - c.skip_quiet.result) c.value-value.result) c.in-Some.ensures.steps left in
     found c.args.self.now c.args.watch c.loop-change.watched (c.loop-change.tick - c.skip_quiet.result) c.value-value.result c.in-Some.change c.next.new.self at c.value.result
-    (c.value.ensures c.args.watch (c.loop-change.tick - c.skip_quiet.result - ticks_of c.in-Some.change.kind) (all_put_back at.rows c.in-Some.change.entries) (c.undo.ensures c.args.watch at.rows at.holds)
+    (c.value.ensures c.args.watch (c.loop-change.tick - c.skip_quiet.result - ticks_of c.in-Some.change.kind) (all_put_back at.rows c.in-Some.change.entries) (c.undo.ensures.holds c.args.watch at.rows at.holds)
     (back-held c.args.self.now c.args.watch c.loop-change.watched (c.loop-change.tick - c.skip_quiet.result) c.value-value.result c.in-Some.change c.next.new.self at).by)
     (c.is_same.ensures.apart c.if-not-is_same.true)
 
@@ -81,11 +82,19 @@ loop-change-preserved c =
     behind c.skip_quiet.result c.args.self.now c.args.watch c.loop-change.watched c.loop-change.tick c.value-value.result c.loop-change.records c.skip_quiet.new.self c.skip_quiet.ensures.count c.skip_quiet.ensures.rest c.loop-change.invariant.at in
     let at : IsAt c.args.self.now c.args.watch c.loop-change.watched (c.loop-change.tick - c.skip_quiet.result) c.value-value.result (c.in-Some.change ∷ c.next.new.self) =
     subst (IsAt c.args.self.now c.args.watch c.loop-change.watched (c.loop-change.tick - c.skip_quiet.result) c.value-value.result) c.in-Some.ensures.steps left in
-    record {
-      at = subst (λ (n : ℕ). IsAt c.args.self.now c.args.watch c.undo.new.self (c.loop-change.tick - c.skip_quiet.result - n) c.value-value.result c.next.new.self) (sym (c.ticks_of-tick.ensures ∙ ap ticks_of c.kind.ensures))
-          (goes-on-same c.args.self.now c.args.watch c.loop-change.watched (c.loop-change.tick - c.skip_quiet.result) c.value-value.result c.in-Some.change c.next.new.self at c.undo.new.self c.value.result (c.undo.ensures c.args.watch at.rows at.holds)
-          (c.value.ensures c.args.watch) (c.is_same.ensures.same c.if-not-is_same.false));
-    }
+    let ticks : ticks_of c.in-Some.change.kind ≡ c.ticks_of-tick.result = sym (c.ticks_of-tick.ensures ∙ ap ticks_of c.kind.ensures) in
+    elim c.else-undo.branch [
+      | else-undo-via-then-undo+else-not-is_same w ↦ record {
+        at = subst (λ (n : ℕ). IsAt c.args.self.now c.args.watch c.undo.new.self (c.loop-change.tick - c.skip_quiet.result - n) c.value-value.result c.next.new.self) ticks
+            (goes-on-same c.args.self.now c.args.watch c.loop-change.watched (c.loop-change.tick - c.skip_quiet.result) c.value-value.result c.in-Some.change c.next.new.self at c.undo.new.self w.value.result (c.undo.ensures.holds c.args.watch at.rows at.holds)
+            (w.value.ensures c.args.watch) (w.is_same.ensures.same w.if-not-is_same.false));
+      }
+      | else-undo-via-else-undo w ↦ record {
+        at = subst (λ (n : ℕ). IsAt c.args.self.now c.args.watch c.undo.new.self (c.loop-change.tick - c.skip_quiet.result - n) c.value-value.result c.next.new.self) ticks
+            (goes-on-still c.args.self.now c.args.watch c.loop-change.watched (c.loop-change.tick - c.skip_quiet.result) c.value-value.result c.in-Some.change c.next.new.self at c.undo.new.self (c.undo.ensures.holds c.args.watch at.rows at.holds)
+            (c.undo.ensures.untouched w.if-undo.false));
+      }
+    ]
 
 pub returns-in-None : goal.returns-in-None
 returns-in-None c =

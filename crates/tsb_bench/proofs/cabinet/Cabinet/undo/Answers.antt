@@ -5,7 +5,7 @@ use Rattle.tsb_transact.specs.Layer.{cells_of}
 use Rattle.tsb_transact.specs.declared.TheConstants.{CELLS as DESK_CELLS}
 use Rattle.tsb_step.specs.declared.first_cell.TheConstants.{DESK, DETECTORS}
 use Rattle.tsb_bench.proofs.PartLemmas.{stays-inside}
-use Rattle.tsb_bench.proofs.cabinet.Cabinet.put_back.Goals as goal
+use Rattle.tsb_bench.proofs.cabinet.Cabinet.undo.Goals as goal
 
 pub returns-else-undo_layers-clause-rows : goal.returns-else-undo_layers-clause-rows
 returns-else-undo_layers-clause-rows c =
