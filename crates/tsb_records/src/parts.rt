@@ -4,7 +4,7 @@ ghost use Rattle.tsb_cells.specs.Diff.{apply_diff, part};
 
 use arrayvec::ArrayVec;
 use tsb_cells::{Diff, Reversible};
-use tsb_history::Record;
+use tsb_history::{Entries, Record};
 
 /// Whether it is one of the `count` cells from `offset` on.
 fn is_one_of(cell: u16, offset: u16, count: usize) -> bool
@@ -16,6 +16,7 @@ fn is_one_of(cell: u16, offset: u16, count: usize) -> bool
 }
 
 /// Whether the record has an entry of one of the `count` cells from `offset` on.
+#[inline(always)]
 pub fn touches(change: &Record<'_>, offset: u16, count: usize) -> bool
     requires { offset + count ≤ 65536 }
     ensures untouched { result ≡ false → part offset count change.now.entries ≡ [] }
@@ -30,14 +31,13 @@ pub fn touches(change: &Record<'_>, offset: u16, count: usize) -> bool
     false
 }
 
-/// The record's entries of the `N` cells from `offset` on, numbered from 0.
-pub fn part_of<const N: usize>(change: &Record<'_>, offset: u16) -> Diff<N>
+/// Those of these entries that are of the `N` cells from `offset` on, numbered from 0.
+pub fn part_of<const N: usize>(mut entries: Entries<'_>, offset: u16) -> Diff<N>
     requires fits { offset + N ≤ 65536 }
-    requires few { length (part offset N change.now.entries) ≤ N }
-    ensures { result.items ≡ part offset N change.now.entries }
+    requires few { length (part offset N entries) ≤ N }
+    ensures { result.items ≡ part offset N entries.entry }
 {
     let mut part = ArrayVec::new();
-    let mut entries = change.entries();
     while let Some((cell, old)) = entries.next() {
         if is_one_of(cell, offset, N) {
             part.push((cell - offset, old));

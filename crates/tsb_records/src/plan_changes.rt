@@ -6,7 +6,7 @@ ghost use Rattle.tsb_plan.specs.declared.object.TheConstants.{PLAN_CELLS};
 ghost use Rattle.tsb_plan.specs.Objects.{AreInRange};
 
 use arrayvec::ArrayVec;
-use tsb_history::Record;
+use tsb_history::Entries;
 use tsb_plan::{PLAN_CELLS, Plan};
 
 /// Adds each cell in which two plans differ to `out`, with what it held in the plan before, in ascending order.
@@ -27,13 +27,13 @@ pub fn differences_onto<const M: usize>(
     }
 }
 
-/// The plan with what the record says of its cells put back. What this gives has to be in range, as each plan is.
-pub fn put_back(plan: &Plan, change: &Record<'_>) -> Plan
-    requires { AreInRange (apply_diff plan.now.values (part 0 PLAN_CELLS change.now.entries)) }
-    ensures { result.values ≡ apply_diff plan.now.values (part 0 PLAN_CELLS change.now.entries) }
+/// The plan with what these entries of a record say of its cells put back. What this gives has to be in range, as each
+/// plan is.
+pub fn put_back(plan: &Plan, mut entries: Entries<'_>) -> Plan
+    requires { AreInRange (apply_diff plan.now.values (part 0 PLAN_CELLS entries)) }
+    ensures { result.values ≡ apply_diff plan.now.values (part 0 PLAN_CELLS entries.entry) }
 {
     let mut cells = cells_of(plan);
-    let mut entries = change.entries();
     while let Some((cell, old)) = entries.next() {
         if (cell as usize) < PLAN_CELLS {
             cells[cell as usize] = old;
