@@ -1,7 +1,7 @@
 //! The cabinet: the controller with its plan, its desk and its monitor, and what each input does to them.
 #![tactic(auto, unfolding(tsb_objects::specs::Checked::checked_plan, tsb_plan::specs::PlanOf::plan_of))]
 
-ghost use Rattle.std.specs.Prelude.{◌≡◌, ℕ, ◌+◌, ◌-◌, ◌≤◌, [], true, false, None, Some, if◌then◌else◌, nat_lt, MatchResult, IfOk};
+ghost use Rattle.std.specs.Prelude.{◌≡◌, ℕ, ◌+◌, ◌-◌, ◌<◌, ◌≤◌, [], length, true, false, None, Some, if◌then◌else◌, nat_lt, MatchResult, IfOk};
 ghost use Rattle.arrayvec.specs.ArrayVec.{array_vec_len};
 ghost use Rattle.tsb_cells.specs.Bank as bank;
 ghost use Rattle.tsb_cells.specs.Diff.{apply_diff, part};
@@ -32,7 +32,7 @@ use arrayvec::ArrayVec;
 use std::alloc::Global;
 use tsb_cells::{Bank, Diff, Reversible};
 use tsb_controller::Controller;
-use tsb_history::Record;
+use tsb_history::{Entries, Record};
 use tsb_objects::{Checked, PLAN_CELLS, Refusal, limits};
 use tsb_records::plan_changes::put_back;
 use tsb_records::{part_of, touches, undo_entry};
@@ -178,65 +178,86 @@ impl Cabinet {
         ensures passing { (tick : ℕ) → MayPass tick self.new }
     {
         self.passing = Passing::none();
-        if undo_layers(&mut self.controller, &mut self.monitor.bank, &change) {
-            undo_plan(&mut self.plan, &change);
-            undo_desk(&mut self.desk, &change);
+        let mut entries = change.entries();
+        if undo_layers(&mut self.controller, &mut self.monitor.bank, &mut entries) {
+            return;
         }
+        undo_plan(&mut self.plan, &change);
+        undo_desk(&mut self.desk, &change);
+        undo_rest(&mut self.controller, &mut self.monitor.bank, entries);
     }
 }
 
-/// Puts back what a record holds of the layers and the monitor, entry by entry. It says whether any other entry was
-/// there: one of plan or desk, which few records hold.
+/// Puts back entries of a record, of the layers and the monitor, one by one. It stops behind one of plan or desk, which
+/// few records hold, and says whether there was none.
 #[inline(always)]
 fn undo_layers(
     controller: &mut Controller,
     monitor: &mut Bank<MONITOR_CELLS>,
-    change: &Record<'_>,
+    entries: &mut Entries<'_>,
 ) -> bool
     requires controller { IsClosed controller.old }
     requires monitor { bank.is_open monitor.old ≡ false }
-    ensures others { result ≡ false → part 0 DETECTORS change.now.entries ≡ [] }
-    ensures layers { layers.rows_of controller.new ≡ records.put_back (layers.rows_of controller.old) change.now.entries }
-    ensures monitor { bank.cells_of monitor.new ≡ apply_diff (bank.cells_of monitor.old) (part MONITOR MONITOR_CELLS change.now.entries) }
+    ensures others { result ≡ true → part 0 DETECTORS entries.old ≡ [] }
+    ensures all { result ≡ true → entries.new ≡ [] }
+    ensures fewer { result ≡ false → length entries.new < length entries.old }
+    ensures layers { records.put_back (layers.rows_of controller.new) entries.new ≡ records.put_back (layers.rows_of controller.old) entries.old }
+    ensures monitor { apply_diff (bank.cells_of monitor.new) (part MONITOR MONITOR_CELLS entries.new)
+        ≡ apply_diff (bank.cells_of monitor.old) (part MONITOR MONITOR_CELLS entries.old) }
     ensures closed { IsClosed controller.new }
     ensures shut { bank.is_open monitor.new ≡ false }
 {
-    let mut others = false;
-    let mut entries = change.entries();
     while let Some((cell, old)) = entries.next() {
-        if !controller.undo_entry(cell, old) {
-            others |= cell < DETECTORS;
-            undo_entry(monitor, cell, old, MONITOR);
+        if !controller.undo_entry(cell, old) && !undo_entry(monitor, cell, old, MONITOR) {
+            return false;
         }
     }
-    others
+    true
+}
+
+/// Puts back what these entries hold of the layers and the monitor, and passes over those of plan and desk.
+#[inline(always)]
+#[tactic(auto, using(crate::proofs::PartLemmas::put_nothing, crate::proofs::PartLemmas::set_nothing))]
+fn undo_rest(
+    controller: &mut Controller,
+    monitor: &mut Bank<MONITOR_CELLS>,
+    mut entries: Entries<'_>,
+)
+    requires controller { IsClosed controller.old }
+    requires monitor { bank.is_open monitor.old ≡ false }
+    ensures layers { layers.rows_of controller.new ≡ records.put_back (layers.rows_of controller.old) entries.entry }
+    ensures monitor { bank.cells_of monitor.new ≡ apply_diff (bank.cells_of monitor.old) (part MONITOR MONITOR_CELLS entries.entry) }
+    ensures closed { IsClosed controller.new }
+    ensures shut { bank.is_open monitor.new ≡ false }
+{
+    while !undo_layers(controller, monitor, &mut entries) {}
 }
 
 /// Puts back what a record holds of the plan.
-#[inline(never)]
+#[inline(always)]
 fn undo_plan(plan: &mut Checked, change: &Record<'_>)
     requires ranged { AreInRange (apply_diff plan.old.plan.values (part 0 PLAN_CELLS change.now.entries)) }
     requires passed { first_broken (plan_in (apply_diff plan.old.plan.values (part 0 PLAN_CELLS change.now.entries))) ≡ None }
     ensures { plan.new.plan.values ≡ apply_diff plan.old.plan.values (part 0 PLAN_CELLS change.now.entries) }
 {
     if touches(change, 0, PLAN_CELLS) {
-        put_back_plan(plan, change);
+        put_back_plan(plan, change.entries());
     }
 }
 
 /// Makes the plan as it was, with its tables. It is a function of its own because few records have a plan's cells, and
 /// its room on the stack takes long to clear.
 #[inline(never)]
-fn put_back_plan(plan: &mut Checked, change: &Record<'_>)
-    requires ranged { AreInRange (apply_diff plan.old.plan.values (part 0 PLAN_CELLS change.now.entries)) }
-    requires passed { first_broken (plan_in (apply_diff plan.old.plan.values (part 0 PLAN_CELLS change.now.entries))) ≡ None }
-    ensures { plan.new.plan.values ≡ apply_diff plan.old.plan.values (part 0 PLAN_CELLS change.now.entries) }
+fn put_back_plan(plan: &mut Checked, entries: Entries<'_>)
+    requires ranged { AreInRange (apply_diff plan.old.plan.values (part 0 PLAN_CELLS entries)) }
+    requires passed { first_broken (plan_in (apply_diff plan.old.plan.values (part 0 PLAN_CELLS entries))) ≡ None }
+    ensures { plan.new.plan.values ≡ apply_diff plan.old.plan.values (part 0 PLAN_CELLS entries.entry) }
 {
-    *plan = Checked::known(put_back(plan.plan(), change));
+    *plan = Checked::known(put_back(plan.plan(), entries));
 }
 
 /// Puts back what a record holds of the desk.
-#[inline(never)]
+#[inline(always)]
 fn undo_desk(desk: &mut Desk, change: &Record<'_>)
     requires shut { is_open desk.old ≡ false }
     requires few { HasFew change.now.entries }
@@ -245,22 +266,22 @@ fn undo_desk(desk: &mut Desk, change: &Record<'_>)
     ensures shut { is_open desk.new ≡ false }
 {
     if touches(change, DESK, tsb_transact::CELLS) {
-        put_back_desk(desk, change);
+        put_back_desk(desk, change.entries());
     }
 }
 
 /// Makes the desk as it was, in a function of its own for the same reason.
 #[inline(never)]
 #[tactic(auto, using(crate::proofs::PartLemmas::parts))]
-fn put_back_desk(desk: &mut Desk, change: &Record<'_>)
+fn put_back_desk(desk: &mut Desk, entries: Entries<'_>)
     requires shut { is_open desk.old ≡ false }
-    requires few { HasFew change.now.entries }
-    requires row { IsRow (apply_diff (cells_of desk.old) (part DESK DESK_CELLS change.now.entries)) }
-    ensures cells { cells_of desk.new ≡ apply_diff (cells_of desk.old) (part DESK DESK_CELLS change.now.entries) }
+    requires few { HasFew entries }
+    requires row { IsRow (apply_diff (cells_of desk.old) (part DESK DESK_CELLS entries)) }
+    ensures cells { cells_of desk.new ≡ apply_diff (cells_of desk.old) (part DESK DESK_CELLS entries.entry) }
     ensures shut { is_open desk.new ≡ false }
 {
-    let entries: Diff<{ tsb_transact::CELLS }> = part_of(change, DESK);
-    desk.undo(entries.as_slice());
+    let part: Diff<{ tsb_transact::CELLS }> = part_of(entries, DESK);
+    desk.undo(part.as_slice());
 }
 
 /// Why a tick is refused at tick number `tick`.

@@ -1,0 +1,22 @@
+use Rattle.std.proofs.Common.{◌≡◌, false, length}
+use Rattle.tsb_cells.specs.Bank as bank
+use Rattle.tsb_cells.specs.Diff.{apply_diff, part}
+use Rattle.tsb_step.specs.declared.TheConstants.{MONITOR_CELLS}
+use Rattle.tsb_step.specs.declared.first_cell.TheConstants.{MONITOR}
+use Rattle.tsb_controller.specs.Layer as layers
+use Rattle.tsb_controller.specs.Layer.{IsClosed}
+use Rattle.tsb_controller.specs.Records as records
+use Rattle.tsb_bench.proofs.cabinet.undo_rest.Given as goal
+
+-- what is left to be put back leads to what all of it leads to
+abbrev pub invariant-loop-entries : goal.invariant-loop-entries
+invariant-loop-entries l = record {
+  layers : records.put_back (layers.rows_of l.controller) l.entries ≡ records.put_back (layers.rows_of l.initial.controller) l.initial.entries;
+  monitor : apply_diff (bank.cells_of l.monitor) (part MONITOR MONITOR_CELLS l.entries) ≡
+      apply_diff (bank.cells_of l.initial.monitor) (part MONITOR MONITOR_CELLS l.initial.entries);
+  closed : IsClosed l.controller;
+  shut : bank.is_open l.monitor ≡ false;
+}
+
+abbrev pub decreases-loop-entries : goal.decreases-loop-entries
+decreases-loop-entries l = length l.entries
