@@ -56,10 +56,11 @@ impl Controller {
         ensures from { result ≡ true → DETECTORS ≤ cell }
         ensures below { result ≡ true → cell < MONITOR }
     {
-        if cell < DETECTORS {
-            false
-        } else if cell < CALLS {
+        // Most entries are of detectors.
+        if DETECTORS <= cell && cell < CALLS {
             undo_entry(&mut self.detectors, cell, old, DETECTORS)
+        } else if cell < DETECTORS {
+            false
         } else if cell < PHASES {
             undo_entry(&mut self.calls, cell, old, CALLS)
         } else if cell < RINGS {
