@@ -1,10 +1,14 @@
 -- What the rules' tests say where they are passed.
-use Rattle.std.proofs.Common.{zero, suc, ◌≡◌, ℕ, ◌+◌, ◌<◌, ◌≤◌, ◌==◌, Bool, true, false, not, ◌||◌, List, [], ◌∷◌, Option, Some, None, refl, arith, sym, ◌∙◌, ap, inl, inr}
+use Rattle.std.proofs.Common.{zero, suc, ◌≡◌, ℕ, ◌+◌, ◌<◌, ◌≤◌, ◌==◌, nat_le, Bool, true, false, not, ◌&&◌, ◌||◌, List, [], ◌∷◌, length, get_or, drop, Option, Some, None, refl, arith, sym, ◌∙◌, ap, inl, inr}
 use Rattle.std.specs.List.{list_all, list_any}
 use Rattle.std.proofs.lemmas.Bool.{and_parts, cases_eq}
 use Rattle.std.proofs.lemmas.Bool.Decides.{nat_tests}
 use Rattle.tsb_rules.specs.declared.rules.Rule.{Rule}
 use Rattle.tsb_types.specs.Lists.{run_from}
+use Rattle.tsb_types.specs.Sets.{names}
+use Rattle.tsb_rules.specs.SequenceRules.{is_zeros, zeros_last}
+use Rattle.tsb_types.proofs.RunLemmas.{all-run_from}
+use Rattle.tsb_types.proofs.SetLemmas.{names-zero}
 use Rattle.tsb_rules.specs.Rules.{unless, or_rule}
 
 -- a test that holds under a condition, where the condition holds
@@ -61,3 +65,36 @@ at-among test p (q ∷ qs) all some =
     go : test q ≡ true → (b : Bool) → (q == p) ≡ b → (b || list_any (λ x. x == p) qs) ≡ true → (list_any (λ x. x == p) qs ≡ true → test p ≡ true) → test p ≡ true
     go at true here e later = let same : q ≡ p = grind (arith, nat_tests, here) in ap test (sym same) ∙ at
     go at false here e later = later e
+
+-- a test of those that a list names is passed where it names none
+pub named_none : (test : ℕ → Bool) (n : ℕ) → list_all (λ q. not (names 0 q) || test q) (run_from 1 n) ≡ true
+named_none test n = all-run_from (λ q. not (names 0 q) || test q) 1 n (λ k from below. rw (names-zero k) refl)
+
+or-true : (b : Bool) → (b || true) ≡ true
+or-true true = refl
+or-true false = refl
+
+-- no number is below 0
+pub none-below : (f : ℕ → ℕ) (ps : List ℕ) → list_all (λ q. q == 0 || nat_le 0 (f q)) ps ≡ true
+none-below f [] = refl
+none-below f (q ∷ qs) =
+    let low : nat_le 0 (f q) ≡ true = grind (arith, nat_tests) in
+    rw (low, or-true (q == 0)) (none-below f qs)
+
+-- where there are only zeros, there are only zeros after each
+zeros-then : (ps : List ℕ) → (is_zeros ps && zeros_last ps) ≡ is_zeros ps
+zeros-then [] = refl
+zeros-then (q ∷ qs) = join (q == 0) (is_zeros qs) (zeros_last qs) (zeros-then qs)
+  where
+    join : (b z l : Bool) → (z && l) ≡ z → ((b && z) && ((not b || z) && l)) ≡ (b && z)
+    join true true l e = e
+    join true false l e = refl
+    join false z l e = refl
+
+-- from a zero on, zeros stand last where only zeros come after it
+pub zeros-at : (ps : List ℕ) (k : ℕ) → k < length ps → get_or ps k 0 ≡ 0 → zeros_last (drop k ps) ≡ is_zeros (drop (k + 1) ps)
+zeros-at [] k below none = absurd (omega arith)
+zeros-at (p ∷ ps) zero below none = rw none (zeros-then ps)
+zeros-at (p ∷ ps) (suc k) below none =
+    let later : suc k + 1 ≡ suc (k + 1) = omega arith in
+    rw later (zeros-at ps k (omega (arith, below)) none)

@@ -55,10 +55,13 @@ fn named_meets(plan: &Plan, asked: OfNamed, other: Phase) -> bool
     }
 }
 
-/// Whether each phase that the list names is as a rule asks.
+/// Whether each phase that the list names is as a rule asks. Most lists name none, and then no phase is asked.
 pub(super) fn each_named(plan: &Plan, list: u16, asked: OfNamed) -> bool
     ensures { result ≡ each_named (plan_of plan.now) list (named_meets asked (plan_of plan.now)) }
 {
+    if list == 0 {
+        return true;
+    }
     let named = PhaseSet::from_list(list);
     Phase::all().iter().all(|other| !named.contains(*other) || named_meets(plan, asked, *other))
 }
@@ -137,10 +140,11 @@ fn has_concurrent_lists(plan: &Plan, preempt: Preempt) -> bool
         && names_concurrent(plan, of_preempt(plan, Object::PreemptExitPhase, preempt))
 }
 
+/// Whether the list names only enabled phases, pairwise concurrent.
 fn names_concurrent(plan: &Plan, list: u16) -> bool
     ensures { result ≡ names_concurrent (plan_of plan.now) list }
 {
-    each_phase(plan, OfPhase::ConcurrentIn(list))
+    list == 0 || each_phase(plan, OfPhase::ConcurrentIn(list))
 }
 
 /// Whether the list does not name the phase, or it is enabled and concurrent with each other phase of the list.

@@ -1,15 +1,16 @@
 //! Rules K17 to K20 and K23: what a used pattern must be.
 #![tactic(auto, unfolding(tsb_plan::specs::PlanOf::plan_of))]
 
-ghost use Rattle.std.specs.Prelude.{◌≡◌, ◌==◌, ◌||◌, not};
+ghost use Rattle.std.specs.Prelude.{◌≡◌, ◌==◌, ◌||◌, not, if◌then◌else◌, sum_by, Some, None};
 ghost use Rattle.tsb_plan.specs.Parts.{is_coordinated, leads_and_lags, split_of, sequence_of};
 ghost use Rattle.tsb_plan.specs.PlanOf.{plan_of};
 ghost use Rattle.tsb_rules.specs.Asked.{pattern_meets};
-ghost use Rattle.tsb_rules.specs.PatternRules.{each_pattern, names_sequence, is_whole, holds_phase, holds_phases, some_and, rings_agree_on_sides, fills, may_coordinate, ends_with, agrees_with_all, has_phases, is_coordinated_in, coordinated_count, has_one_in_each_ring, coordinates, has_coordinated, all_coordinate, coordinated_agree};
+ghost use Rattle.tsb_rules.specs.PatternRules.{each_pattern, names_sequence, is_whole, holds_phase, holds_phases, some_and, rings_agree_on_sides, fills, may_coordinate, ends_with, agrees_with_all, has_phases, is_coordinated_in, coordinated_count, has_one_in_each_ring, coordinates, has_coordinated, all_coordinate, coordinated_agree, side_sum};
+ghost use Rattle.tsb_types.specs.Lists.{run_from};
 
 use crate::rules::asked::{OfEnabled, OfPhase, Sought, each_enabled, each_phase, some_phase};
 use crate::rules::sequences::is_blank;
-use crate::rules::splits::{has_phases, rings_agree, sides_sum, split_end};
+use crate::rules::splits::{agreed_side_sum, has_phases, split_end};
 use tsb_plan::Plan;
 use tsb_types::{Pattern, Phase, Ring, Sequence, Split};
 
@@ -103,17 +104,20 @@ fn pattern_fills_cycle(plan: &Plan, pattern: Pattern) -> bool
 fn fills(plan: &Plan, pattern: Pattern, split: Split) -> bool
     ensures { result ≡ fills (plan_of plan.now) pattern split }
 {
-    rings_agree_on_sides(plan, split) && sides_sum(plan, split, 4) == plan.cycle(pattern)
+    agreed_sum(plan, split) == Some(plan.cycle(pattern))
 }
 
+/// The sums of all sides, if the rings agree on each.
 #[tactic(auto, unfolding(tsb_plan::specs::PlanOf::plan_of, tsb_types::specs::Lists::run_from))]
-fn rings_agree_on_sides(plan: &Plan, split: Split) -> bool
-    ensures { result ≡ rings_agree_on_sides (plan_of plan.now) split }
+fn agreed_sum(plan: &Plan, split: Split) -> Option<u32>
+    ensures { result ≡ (if rings_agree_on_sides (plan_of plan.now) split
+        then Some (sum_by (side_sum (plan_of plan.now) split) (run_from 1 4)) else None) }
 {
-    rings_agree(plan, split, 1)
-        && rings_agree(plan, split, 2)
-        && rings_agree(plan, split, 3)
-        && rings_agree(plan, split, 4)
+    let first = agreed_side_sum(plan, split, 1)?;
+    let second = agreed_side_sum(plan, split, 2)?;
+    let third = agreed_side_sum(plan, split, 3)?;
+    let fourth = agreed_side_sum(plan, split, 4)?;
+    Some(first + second + third + fourth)
 }
 
 fn pattern_is_coordinated(plan: &Plan, pattern: Pattern) -> bool
@@ -197,9 +201,11 @@ fn ends_with(
     ensures { result ≡ ends_with (plan_of plan.now) apart sequence split phase other }
 {
     plan.side(phase) == plan.side(other)
-        && (phase == other || plan.concurrency(phase).contains(other))
-        && (apart
-            || split_end(plan, sequence, split, phase) == split_end(plan, sequence, split, other))
+        && (phase == other
+            || plan.concurrency(phase).contains(other)
+                && (apart
+                    || split_end(plan, sequence, split, phase)
+                        == split_end(plan, sequence, split, other)))
 }
 
 /// Whether each ring that has phases on the side of the phase has one coordinated phase.

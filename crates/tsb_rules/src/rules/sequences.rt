@@ -130,16 +130,23 @@ fn lists_once(places: &[u16]) -> bool
     true
 }
 
+/// Whether no phase comes before one of a lower side.
 fn rises(plan: &Plan, places: &[u16]) -> bool
     ensures { result ≡ rises (plan_of plan.now) places.now }
 {
     for place in 0..places.len() {
-        let side = side_of_number(plan, places[place]);
-        if !are_from_side(plan, side, &places[place + 1..]) {
+        if !rises_from(plan, places[place], &places[place + 1..]) {
             return false;
         }
     }
     true
+}
+
+/// Whether no phase that is listed behind this number is of a lower side. A place without a phase has none to compare.
+fn rises_from(plan: &Plan, number: u16, places: &[u16]) -> bool
+    ensures { result ≡ list_all (λ q. q == 0 || nat_le (side_of (plan_of plan.now) number) (side_of (plan_of plan.now) q)) places.now }
+{
+    number == 0 || are_from_side(plan, side_of_number(plan, number), places)
 }
 
 /// The side of the phase of this number; 0 where no phase has it.
@@ -163,8 +170,8 @@ fn zeros_last(places: &[u16]) -> bool
     ensures { result ≡ zeros_last places.now }
 {
     for place in 0..places.len() {
-        if places[place] == 0 && !are_zeros(&places[place + 1..]) {
-            return false;
+        if places[place] == 0 {
+            return are_zeros(&places[place + 1..]);
         }
     }
     true

@@ -1,7 +1,7 @@
 //! Sums of splits, and when in the cycle a split ends. Times are in tenths of a second.
 #![tactic(auto, unfolding(tsb_plan::specs::PlanOf::plan_of))]
 
-ghost use Rattle.std.specs.Prelude.{◌≡◌, ℕ, ◌+◌, ◌*◌, ◌≤◌, ◌==◌, ◌&&◌, ◌||◌, not, nat_le, true, sum_by, length};
+ghost use Rattle.std.specs.Prelude.{◌≡◌, ℕ, ◌+◌, ◌*◌, ◌≤◌, ◌==◌, ◌&&◌, ◌||◌, not, nat_le, true, if◌then◌else◌, sum_by, length, Some, None, IfSome};
 ghost use Rattle.tsb_types.specs.Lists.{run_from, up_to};
 ghost use Rattle.tsb_rules.specs.PatternRules.{is_on, has_phases, split_on, split_sum, side_sum, split_before, split_end, rings_agree};
 ghost use Rattle.tsb_plan.specs.PlanOf.{plan_of};
@@ -78,13 +78,21 @@ pub(super) fn sides_sum(plan: &Plan, split: Split, last: u32) -> u32
     sum
 }
 
-/// Whether the rings that have phases on the side have one sum of splits there.
-pub(super) fn rings_agree(plan: &Plan, split: Split, side: u32) -> bool
-    ensures { result ≡ rings_agree (plan_of plan.now) split side }
+/// The sum of the side's splits, if the rings that have phases on the side have one sum there.
+#[tactic(auto, unfolding(tsb_plan::specs::PlanOf::plan_of, crate::specs::PatternRules::side_sum))]
+pub(super) fn agreed_side_sum(plan: &Plan, split: Split, side: u32) -> Option<u32>
+    ensures sum { result ≡ (if rings_agree (plan_of plan.now) split side then Some (side_sum (plan_of plan.now) split side) else None) }
+    ensures range { IfSome result (λ n. n ≤ 40800) }
 {
     let (first, second) = (Ring::of(1), Ring::of(2));
-    !(has_phases(plan, first, side) && has_phases(plan, second, side))
-        || split_sum(plan, split, first, side) == split_sum(plan, split, second, side)
+    if !has_phases(plan, first, side) {
+        return Some(split_sum(plan, split, second, side));
+    }
+    let sum = split_sum(plan, split, first, side);
+    if has_phases(plan, second, side) && split_sum(plan, split, second, side) != sum {
+        return None;
+    }
+    Some(sum)
 }
 
 /// What a listed phase adds to the splits on the side.
