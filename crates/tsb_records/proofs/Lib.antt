@@ -1,2 +1,3 @@
 pub mod PartLemmas
 mod PlanChangeLemmas
+mod WordLemmas

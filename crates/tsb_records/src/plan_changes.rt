@@ -1,7 +1,7 @@
 //! The plan's entries in a record: written and put back.
-ghost use Rattle.std.specs.Prelude.{◌≡◌, ◌+◌, ◌≤◌, ◌++◌, length};
+ghost use Rattle.std.specs.Prelude.{◌≡◌, ℕ, ◌+◌, ◌-◌, ◌<◌, ◌≤◌, ◌%◌, ◌++◌, true, length, drop, get_or};
 ghost use Rattle.arrayvec.specs.ArrayVec.{array_vec_len};
-ghost use Rattle.tsb_cells.specs.Diff.{diff, apply_diff, part};
+ghost use Rattle.tsb_cells.specs.Diff.{diff, diff_from, apply_diff, part};
 ghost use Rattle.tsb_plan.specs.declared.object.TheConstants.{PLAN_CELLS};
 ghost use Rattle.tsb_plan.specs.Objects.{AreInRange};
 
@@ -9,7 +9,11 @@ use arrayvec::ArrayVec;
 use tsb_history::Entries;
 use tsb_plan::{PLAN_CELLS, Plan};
 
-/// Adds each cell in which two plans differ to `out`, with what it held in the plan before, in ascending order.
+/// How many cells are compared at once.
+const BLOCK: usize = 64;
+
+/// Adds each cell in which two plans differ to `out`, with what it held in the plan before, in ascending order. Few cells
+/// do, so those of blocks that are the same are passed over.
 pub fn differences_onto<const M: usize>(
     before: &Plan,
     after: &Plan,
@@ -19,7 +23,47 @@ pub fn differences_onto<const M: usize>(
     ensures changes { out.new.items ≡ out.old.items ++ diff before.now.values after.now.values }
     ensures len { array_vec_len out.new ≤ array_vec_len out.old + PLAN_CELLS }
 {
-    for k in 0..PLAN_CELLS {
+    for block in 0..PLAN_CELLS / BLOCK + 1 {
+        let first = block * BLOCK;
+        let end = (first + BLOCK).min(PLAN_CELLS);
+        if !are_same(before, after, first, end) {
+            differences_within(before, after, first, end, out);
+        }
+    }
+}
+
+/// Whether two plans are the same in the cells from `first` up to `end`. No branch depends on a cell, so that many are
+/// compared in one instruction.
+fn are_same(before: &Plan, after: &Plan, first: usize, end: usize) -> bool
+    requires { end ≤ PLAN_CELLS }
+    ensures { result ≡ true → (j : ℕ) → first ≤ j → j < end → get_or before.now.values j 0 ≡ get_or after.now.values j 0 }
+{
+    let (old, new) = (before.words(), after.words());
+    let mut differing = 0usize;
+    for k in first..end {
+        if old[k] != new[k] {
+            differing += 1;
+        }
+    }
+    differing == 0
+}
+
+/// Adds each cell from `first` up to `end` in which two plans differ to `out`, with what it held in the plan before.
+fn differences_within<const M: usize>(
+    before: &Plan,
+    after: &Plan,
+    first: usize,
+    end: usize,
+    out: &mut ArrayVec<(u16, u32), M>,
+)
+    requires from { first ≤ end }
+    requires to { end ≤ PLAN_CELLS }
+    requires room { array_vec_len out.old + (end - first) ≤ M }
+    ensures changes { out.new.items ++ diff_from end (drop end before.now.values) (drop end after.now.values)
+        ≡ out.old.items ++ diff_from first (drop first before.now.values) (drop first after.now.values) }
+    ensures len { array_vec_len out.new ≤ array_vec_len out.old + (end - first) }
+{
+    for k in first..end {
         let old = before.cell(k);
         if old != after.cell(k) {
             out.push((k as u16, old));
@@ -33,29 +77,18 @@ pub fn put_back(plan: &Plan, mut entries: Entries<'_>) -> Plan
     requires { AreInRange (apply_diff plan.now.values (part 0 PLAN_CELLS entries)) }
     ensures { result.values ≡ apply_diff plan.now.values (part 0 PLAN_CELLS entries.entry) }
 {
-    let mut cells = cells_of(plan);
+    let mut words = *plan.words();
     while let Some((cell, old)) = entries.next() {
         if (cell as usize) < PLAN_CELLS {
-            cells[cell as usize] = old;
+            words[cell as usize] = low_word(old);
         }
     }
-    Plan::of_cells(&cells)
+    Plan::of_words(&words)
 }
 
-/// `N` cells that are 0.
-fn zeros<const N: usize>() -> [u32; N]
-    ensures { length result ≡ N }
+/// The lower 16 bits of a value, which are all of it where a plan has it.
+fn low_word(value: u32) -> u16
+    ensures { result ≡ value % 65536 }
 {
-    [0; N]
-}
-
-/// All cells of a plan.
-fn cells_of(plan: &Plan) -> [u32; PLAN_CELLS]
-    ensures { result ≡ plan.now.values }
-{
-    let mut cells = zeros();
-    for at in 0..PLAN_CELLS {
-        cells[at] = plan.cell(at);
-    }
-    cells
+    (value % 65536) as u16
 }

@@ -1,10 +1,10 @@
 //! The cells of a plan: each object's values, index by index, one object after the other.
-ghost use Rattle.std.specs.Prelude.{◌≡◌, ◌<◌, slice_index};
+ghost use Rattle.std.specs.Prelude.{◌≡◌, ◌<◌, slice_index, slice_set};
 ghost use Rattle.tsb_plan.specs.declared.object.TheConstants.{PLAN_CELLS};
 ghost use Rattle.tsb_plan.specs.Objects.{AreInRange};
 
 use crate::object::PLAN_CELLS;
-use crate::plan::{Plan, zeros};
+use crate::plan::Plan;
 
 impl Plan {
     /// What the cell `k` holds, in the unit of the object whose cell it is.
@@ -15,15 +15,28 @@ impl Plan {
         u32::from(self.values[k])
     }
 
-    /// The plan whose cells hold these values. Each has to be in the range of the object whose cell it is.
-    pub fn of_cells(cells: &[u32; PLAN_CELLS]) -> Plan
-        requires { AreInRange cells.now }
-        ensures { result.values ≡ cells.now }
+    /// Puts a value into the cell `k`. It has to be in the range of the object whose cell it is.
+    pub fn put_cell(&mut self, k: usize, value: u32)
+        requires within { k < PLAN_CELLS }
+        requires ranged { AreInRange (slice_set self.old.values k value) }
+        ensures { self.new.values ≡ slice_set self.old.values k value }
     {
-        let mut values = zeros();
-        for k in 0..PLAN_CELLS {
-            values[k] = cells[k] as u16;
-        }
-        Plan { values }
+        self.values[k] = value as u16;
+    }
+
+    /// The values of all cells, lent.
+    pub fn words(&self) -> &[u16; PLAN_CELLS]
+        ensures { result.now ≡ self.now.values }
+    {
+        &self.values
+    }
+
+    /// The plan whose cells hold these values, as `words` gives them. Each has to be in the range of the object whose
+    /// cell it is.
+    pub fn of_words(words: &[u16; PLAN_CELLS]) -> Plan
+        requires { AreInRange words.now }
+        ensures { result.values ≡ words.now }
+    {
+        Plan { values: *words }
     }
 }
