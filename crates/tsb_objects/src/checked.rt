@@ -21,8 +21,8 @@ use tsb_rules::{Rule, check};
 
 /// A plan that may be run, with tables of what it says of all phases and detectors at once, also while a pattern runs.
 ///
-/// Its plan meets the rules and stays as it is: only `Checked::new` and `Checked::known` make a `Checked`, so whoever
-/// is handed one has nothing to check.
+/// Its plan meets the rules: only `Checked::new` and `Checked::known` make a `Checked`, and `renew`
+/// makes it another one, so whoever is handed one has nothing to check.
 #[derive(Clone, Copy)]
 pub struct Checked {
     plan: Plan,
@@ -65,6 +65,20 @@ impl Checked {
             pattern_tables: PatternTables::of(&plan),
             union_tables: UnionTables::of(&plan),
         }
+    }
+
+    /// Takes the plan, which is known to meet the rules, in place of its own. The tables are made where they stand, as a
+    /// function pays for all the room that it has on the stack.
+    #[tactic(auto, unfolding(tsb_plan::specs::PlanOf::plan_of, crate::specs::Checked::checked_plan))]
+    pub fn renew(&mut self, plan: &Plan)
+        requires { first_broken (plan_of plan.now) ≡ None }
+        ensures { checked_plan self.new ≡ plan_of plan.now }
+    {
+        self.plan = *plan;
+        self.phase_tables = PhaseTables::of(plan);
+        self.detector_tables = DetectorTables::of(plan);
+        self.pattern_tables = PatternTables::of(plan);
+        self.union_tables.renew(plan);
     }
 
     /// The plan that was checked.

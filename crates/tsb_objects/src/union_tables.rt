@@ -2,7 +2,7 @@
 #![tactic(auto, unfolding(tsb_plan::specs::PlanOf::plan_of))]
 
 ghost use Rattle.std.specs.Prelude.{◌≡◌, ℕ, ◌+◌, ◌<◌, ◌≤◌, ◌==◌, ◌&&◌, not, None, length, slice_index};
-ghost use Rattle.tsb_objects.specs.Unions.{AreUnionTables, AreOfEight};
+ghost use Rattle.tsb_objects.specs.Unions.{AreUnionTables, AreOfEight, AreUnions};
 ghost use Rattle.tsb_plan.specs.Parts.{call_phase, pedestrian_call_phase};
 ghost use Rattle.tsb_plan.specs.Plan.{is_concurrent};
 ghost use Rattle.tsb_plan.specs.PlanOf.{plan_of};
@@ -32,10 +32,20 @@ impl UnionTables {
         ensures { AreUnionTables (plan_of plan.now) result }
     {
         UnionTables {
-            called: Unions::new(&called(plan)),
+            called: unions_of_calls(plan),
             walks_called: unions_of_walks(plan),
-            conflicts: Unions::new(&conflicts(plan)),
+            conflicts: unions_of_conflicts(plan),
         }
+    }
+
+    /// Makes them the tables of a plan.
+    pub(crate) fn renew(&mut self, plan: &Plan)
+        requires { first_broken (plan_of plan.now) ≡ None }
+        ensures { AreUnionTables (plan_of plan.now) self.new }
+    {
+        self.called = unions_of_calls(plan);
+        self.walks_called = unions_of_walks(plan);
+        self.conflicts = unions_of_conflicts(plan);
     }
 }
 
@@ -60,6 +70,13 @@ fn called(plan: &Plan) -> [u16; 16]
         sets[usize::from(k)] = alone(plan.call_phase(detector)).list();
     }
     sets
+}
+
+/// The phases that vehicle detectors call.
+fn unions_of_calls(plan: &Plan) -> Unions
+    ensures { AreUnions (λ d p. is p (call_phase (plan_of plan.now) d)) result }
+{
+    Unions::new(&called(plan))
 }
 
 /// The phase whose walk each pedestrian detector, 1 to 8, calls, as a list.
@@ -107,4 +124,12 @@ fn conflicts(plan: &Plan) -> [u16; 16]
         sets[usize::from(k)] = conflicts_of(plan, phase).list();
     }
     sets
+}
+
+/// The other phases that are not concurrent with a phase.
+fn unions_of_conflicts(plan: &Plan) -> Unions
+    requires { first_broken (plan_of plan.now) ≡ None }
+    ensures { AreUnions (λ q p. not (q == p) && not (is_concurrent (plan_of plan.now) p q)) result }
+{
+    Unions::new(&conflicts(plan))
 }
