@@ -51,8 +51,8 @@ pub fn laid(bank: &Bank<CELLS>, plan: &Plan) -> Plan
     let mut laid = *plan;
     let count = bank.get(COUNT) as usize;
     for k in 1..count + 1 {
-        let edit = edit(bank, k);
-        let _put = laid.put(edit.id, edit.value);
+        let place = bank.get(2 * k + 2) as usize;
+        laid.put_cell(place - 1, bank.get(2 * k + 3));
     }
     laid
 }
