@@ -253,7 +253,8 @@ fn put_back_plan(plan: &mut Checked, entries: Entries<'_>)
     requires passed { first_broken (plan_in (apply_diff plan.old.plan.values (part 0 PLAN_CELLS entries))) ≡ None }
     ensures { plan.new.plan.values ≡ apply_diff plan.old.plan.values (part 0 PLAN_CELLS entries.entry) }
 {
-    *plan = Checked::known(put_back(plan.plan(), entries));
+    let before = put_back(plan.plan(), entries);
+    plan.renew(&before);
 }
 
 /// Puts back what a record holds of the desk.

@@ -128,36 +128,32 @@ impl Cabinet {
         let forgets = self.desk.forgets(&self.plan);
         let serving = self.controller.is_serving();
         let preempted = self.controller.is_preempted();
+        let before = *self.plan.plan();
         self.desk.open();
-        let plan = committed_plan(&mut self.desk, station, &self.plan, serving, preempted);
-        differences_onto(self.plan.plan(), plan.plan(), out);
+        put_into_effect(&mut self.desk, station, &mut self.plan, serving, preempted);
+        differences_onto(&before, self.plan.plan(), out);
         self.desk.close_onto(out, DESK);
         forget_if(&mut self.controller, forgets, out);
-        self.plan = plan;
     }
 }
 
-/// The plan with the edits of a commit that is not refused; the desk closes its transaction.
-fn committed_plan(
+/// Puts the edits of a commit that is not refused into effect; the desk closes its transaction.
+fn put_into_effect(
     desk: &mut Desk,
     station: Station,
-    plan: &Checked,
+    plan: &mut Checked,
     serving: bool,
     preempted: bool,
-) -> Checked
+)
     requires opened { is_open desk.old ≡ true }
-    requires can { CanCommit (checked_plan plan.now) (cells_of desk.old) }
-    requires allowed { calls.commit_refusal (checked_plan plan.now) station serving preempted (desk_in (cells_of desk.old)) ≡ None }
-    ensures plan { checked_plan result ≡ calls.committed_plan (checked_plan plan.now) (desk_in (cells_of desk.old)) }
+    requires can { CanCommit (checked_plan plan.old) (cells_of desk.old) }
+    requires allowed { calls.commit_refusal (checked_plan plan.old) station serving preempted (desk_in (cells_of desk.old)) ≡ None }
+    ensures plan { checked_plan plan.new ≡ calls.committed_plan (checked_plan plan.old) (desk_in (cells_of desk.old)) }
     ensures desk { desk_in (cells_of desk.new) ≡ calls.after_commit }
     ensures kept { kept_of desk.new ≡ kept_of desk.old }
     ensures opened { is_open desk.new ≡ true }
 {
-    match desk.commit(station, plan, serving, preempted) {
-        Ok(edited) => edited,
-        // It is not refused.
-        Err(_) => *plan,
-    }
+    let _done = desk.commit_onto(station, plan, serving, preempted);
 }
 
 /// The rings forget the phases that they started last, where a commit changes the structure. The cells that change go
