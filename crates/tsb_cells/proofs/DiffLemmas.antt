@@ -1,9 +1,9 @@
 -- The difference of two rows, step by step: what it is within, that rows that agree have none, and that it
 -- gives back what the row was.
-use Rattle.std.proofs.Common.{◌≡◌, ◌≢◌, ℕ, ◌+◌, ◌<◌, ◌≤◌, ◌==◌, List, [], ◌∷◌, ◌++◌, length, true, false, if◌then◌else◌, get_or, set, drop, refl, sym, ◌∙◌, ap, arith, append_assoc, inl, inr, zero, suc, eq-eqb, length-set}
+use Rattle.std.proofs.Common.{◌≡◌, ◌≢◌, ℕ, ◌+◌, ◌<◌, ◌≤◌, ◌==◌, List, [], ◌∷◌, ◌++◌, length, true, false, if◌then◌else◌, get_or, set, refl, sym, ◌∙◌, ap, arith, append_assoc, inl, inr, zero, suc, eq-eqb, length-set}
 use Rattle.std.proofs.lemmas.Bool.Decides.{eqb_tells}
 use Rattle.std.proofs.lemmas.Grind.{common_steps}
-use Rattle.std.proofs.lemmas.List.{set_at, length_push, ext_get_or, length-drop, get_or-drop}
+use Rattle.std.proofs.lemmas.List.{set_at, length_push}
 use Rattle.std.proofs.lemmas.List.Elements.{All-nil, All-cons}
 use Rattle.tsb_cells.specs.Diff.{diff_from, diff, apply_diff, AreWithin, shifted}
 
@@ -74,36 +74,6 @@ diff_from-same i (x ∷ row) = rw (eq-eqb x x refl) (diff_from-same (i + 1) row)
 
 pub diff-same : (row : List ℕ) → diff row row ≡ []
 diff-same row = diff_from-same 0 row
-
--- rows that agree below `n` differ from `n` on
-diff_from-skip : (i n : ℕ) (before now : List ℕ) → length before ≡ length now → n ≤ length before →
-    ((k : ℕ) → k < n → get_or now k 0 ≡ get_or before k 0) →
-    diff_from (i + n) (drop n before) (drop n now) ≡ diff_from i before now
-diff_from-skip i zero before now h l same = ap (λ (j : ℕ). diff_from j before now) (let e : i + 0 ≡ i = omega arith in e)
-diff_from-skip i (suc n) [] now h l same = absurd (omega arith)
-diff_from-skip i (suc n) (x ∷ before) [] h l same = absurd (omega arith)
-diff_from-skip i (suc n) (x ∷ before) (y ∷ now) h l same =
-    let first : y ≡ x = same 0 (omega arith) in
-    let rest : diff_from (i + 1 + n) (drop n before) (drop n now) ≡ diff_from (i + 1) before now =
-    diff_from-skip (i + 1) n before now (omega arith) (omega arith) (λ k b. same (suc k) (omega arith)) in
-    let index : i + suc n ≡ i + 1 + n = omega arith in
-    rw (index, eq-eqb x y (sym first)) rest
-
-pub diff-skip : (n : ℕ) (before now : List ℕ) → length before ≡ length now → n ≤ length before →
-    ((k : ℕ) → k < n → get_or now k 0 ≡ get_or before k 0) →
-    diff_from n (drop n before) (drop n now) ≡ diff before now
-diff-skip n before now h l same = ap (λ (j : ℕ). diff_from j (drop n before) (drop n now)) (let e : n ≡ 0 + n = omega arith in e) ∙ diff_from-skip 0 n before now h l same
-
--- rows that agree from `n` on differ in nothing there
-pub diff_from-rest : (n : ℕ) (before now : List ℕ) → length before ≡ length now →
-    ((k : ℕ) → n ≤ k → get_or now k 0 ≡ get_or before k 0) →
-    diff_from n (drop n before) (drop n now) ≡ []
-diff_from-rest n before now h same =
-    let lens : length (drop n now) ≡ length (drop n before) = omega (arith, length-drop n now, length-drop n before) in
-    let cells : (k : ℕ) → get_or (drop n now) k 0 ≡ get_or (drop n before) k 0 =
-    λ k. get_or-drop n now k 0 ∙ same (n + k) (omega arith) ∙ sym (get_or-drop n before k 0) in
-    let rest : drop n now ≡ drop n before = ext_get_or 0 (drop n now) (drop n before) lens (λ k l. cells k) in
-    rw rest (diff_from-same n (drop n before))
 
 -- where the first cell that differs is kept, its entry goes and the others stay
 diff_from-settle : (o i : ℕ) (before now : List ℕ) → length before ≡ length now → i < length before →

@@ -230,8 +230,8 @@ fn late_until(cycle: u32, at: u32, late: &Option<u32>) -> u32
     }
 }
 
-/// The tick of the local counter behind the last one at which a phase is forced off in a pattern that is used, by the
-/// words of all instants, counted on past the cycle; 0 where it has none.
+/// The tick of the local counter behind the last one at which a phase is forced off in a pattern that is used. It is
+/// found from the words of all instants, and counts on past the cycle; 0 where there is none.
 fn end_word(plan: &Plan, instants: &[u16; 256], n: Pattern, p: Phase) -> u16
     requires used { is_used (plan_of plan.now) n ≡ true }
     requires told { AreInstants (plan_of plan.now) instants.now }
