@@ -1,3 +1,4 @@
+pub mod DigitLemmas
 pub mod LimitLemmas
 pub mod NumberLemmas
 pub mod RiseLemmas

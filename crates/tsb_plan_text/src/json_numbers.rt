@@ -1,14 +1,49 @@
 //! Numbers as JSON writes them, and as `serde_json` has them.
-ghost use Rattle.std.specs.Prelude.{◌≡◌, ◌==◌, slice_index, drop, option_map, if◌then◌else◌, MatchOption, Some};
+ghost use Rattle.std.specs.Prelude.{◌≡◌, ◌≤◌, ◌==◌, length, slice_index, drop, option_map, if◌then◌else◌, MatchOption, Some};
+ghost use Rattle.std.specs.Option.{SomeIff};
+ghost use Rattle.std.specs.Str.Parse.{IsNumeral, digits_value};
 ghost use Rattle.serde_json.specs.Read.{number_of, number_from, float_of};
 ghost use Rattle.serde_json.specs.View.{number_view};
 
 use fast_float::Numeral;
 use serde_json::Number;
 
+/// How many digits a number has at most that is in range whatever they are.
+const PLAIN_DIGITS: usize = 19;
+
 /// The number that a token of JSON writes, where it is in range.
-#[inline(never)]
+#[inline(always)]
+#[tactic(auto, using(crate::proofs::DigitLemmas::plain_is))]
 pub(crate) fn json_number(text: &str) -> Option<Number>
+    ensures { option_map number_view result ≡ number_of text.now }
+{
+    match plain_number(text.as_bytes()) {
+        Some(number) => Some(Number::from(number)),
+        None => other_number(text),
+    }
+}
+
+/// The number that digits alone write, where they are so few that it is in range whatever they are.
+#[inline(always)]
+fn plain_number(digits: &[u8]) -> Option<u64>
+    ensures { SomeIff result (IsNumeral 10 digits.now × (length digits.now ≤ 19)) (digits_value 10 digits.now) }
+{
+    if digits.is_empty() || digits.len() > PLAIN_DIGITS {
+        return None;
+    }
+    let mut number = 0;
+    'digits: for digit in digits {
+        if !digit.is_ascii_digit() {
+            return None;
+        }
+        number = 10 * number + (*digit - b'0') as u64;
+    }
+    Some(number)
+}
+
+/// The number that a token of JSON writes, where it is in range, whatever form it has.
+#[inline(never)]
+fn other_number(text: &str) -> Option<Number>
     ensures { option_map number_view result ≡ number_of text.now }
 {
     let (minus, size) = split_minus(text.as_bytes());

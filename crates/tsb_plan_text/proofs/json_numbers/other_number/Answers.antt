@@ -3,7 +3,7 @@ use Rattle.std.specs.Float.{float_is_finite}
 use Rattle.fast_float.specs.Text.{Parts, scan}
 use Rattle.serde_json.specs.Data.{float}
 use Rattle.serde_json.specs.Read.{number_of, number_from}
-use Rattle.tsb_plan_text.proofs.json_numbers.json_number.Goals as goal
+use Rattle.tsb_plan_text.proofs.json_numbers.other_number.Goals as goal
 
 -- the two ways to read a number, told apart by whether a minus comes first
 one_way : (minus : Bool) (s : List ℕ)
