@@ -101,3 +101,14 @@ impl From<AllocError> for PlanError {
         PlanError::Memory
     }
 }
+
+impl From<Rule> for PlanError {
+    ghost use Rattle.std.specs.Prelude.{◌≡◌};
+    ghost use Rattle.tsb_plan_text.specs.declared.error.PlanError.TheVariants.{Rule as broken};
+
+    ghost from_gives = { λ rule e. e ≡ broken rule };
+
+    fn from(rule: Rule) -> PlanError {
+        PlanError::Rule(rule)
+    }
+}

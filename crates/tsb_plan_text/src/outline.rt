@@ -21,11 +21,14 @@ const DEPTH: usize = 127;
 const LEVELS: usize = 2;
 
 /// The outline of the value that the text is.
-pub(crate) fn outline(alloc: Global, text: &str, scratch: &mut Scratch) -> Result<Value, Error>
+#[inline(never)]
+pub(crate) fn outline(alloc: Global, text: &str) -> Result<Value, Error>
     ensures ok { IfOk result (λ v. (d : Data) × (read_text text.now ≡ Some d) × (view v ≡ outlined all_levels d)) }
     ensures err { result ≡ Err Error.Invalid → read_text text.now ≡ None }
 {
-    let mut reader = Reader::new(text, scratch)?;
+    // It is large: a frame in which little else is done clears it once.
+    let mut scratch = Scratch::new(alloc);
+    let mut reader = Reader::new(text, &mut scratch)?;
     let value = outline_value(alloc, &mut reader, DEPTH, LEVELS)?;
     match reader.next() {
         None => Ok(value),

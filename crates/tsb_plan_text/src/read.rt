@@ -2,6 +2,7 @@
 ghost use Rattle.std.specs.Prelude.{◌≡◌, ◌<◌, ◌≤◌, ◌↔◌, ◌⊎◌, length, Ok, Err, IfOk, option_map};
 ghost use Rattle.serde_json.specs.View.{view, members_view};
 ghost use Rattle.tsb_objects.specs.Checked.{checked_plan};
+ghost use Rattle.tsb_plan.specs.Plan.{empty};
 ghost use Rattle.tsb_plan.specs.PlanOf.{plan_of};
 ghost use Rattle.tsb_plan_text.specs.PlanErrors.{Gives, Makes, not_json};
 ghost use Rattle.tsb_plan_text.specs.PlanTextSays.{Says};
@@ -12,10 +13,10 @@ use crate::error::PlanError;
 use crate::listed::Listed;
 use crate::numbers::version_of;
 use crate::outline::outline;
-use json::{Error, Scratch};
+use json::Error;
 use serde_json::{Map, Value};
 use std::alloc::Global;
-use tsb_objects::{Checked, Plan, Version};
+use tsb_objects::{Checked, Plan, Version, check};
 use tsb_plan::version_laws::versions_say_the_same;
 
 /// The greatest length of a plan text, in bytes.
@@ -28,6 +29,7 @@ const VERSION: &str = "version";
 ///
 /// An `Err` is the text's first fault, in the order of `PlanError`, or `Memory`, which may come in place of the plan
 /// and of any fault but `TooLarge`. Where a member or an index comes twice in a table, the last counts.
+#[inline(never)]
 #[tactic(auto, unfolding(crate::specs::PlanText::reading))]
 pub fn read_plan(alloc: Global, text: &[u8]) -> Result<Checked, PlanError>
     // The plan or the very fault that the text has, or `Memory`: so the only wrong bodies left are those that give up
@@ -58,25 +60,31 @@ pub fn read_unchecked(alloc: Global, text: &[u8]) -> Result<Plan, PlanError>
     if text.len() > LIMIT {
         return Err(PlanError::TooLarge);
     }
-    read_json(alloc, text)
+    let mut plan = Plan::empty();
+    read_json(alloc, text, &mut plan)?;
+    Ok(plan)
 }
 
 /// The plan that a text of at most `LIMIT` bytes gives, checked.
+#[inline(always)]
 #[tactic(auto, unfolding(crate::specs::PlanText::reading, crate::specs::PlanText::checked))]
 fn read_short(alloc: Global, text: &[u8]) -> Result<Checked, PlanError>
     requires { length text.now ≤ 1048576 }
     ensures { Gives checked_plan result (reading text.now) }
 {
-    let plan = read_json(alloc, text)?;
-    Checked::new(plan).map_err(PlanError::Rule)
+    let mut plan = Plan::empty();
+    read_json(alloc, text, &mut plan)?;
+    check(&plan)?;
+    Ok(Checked::known(plan))
 }
 
-/// The plan that a text gives, whether it meets the rules or not.
-fn read_json(alloc: Global, text: &[u8]) -> Result<Plan, PlanError>
-    ensures { Gives plan_of result (or_fault (data_of text.now) not_json data_plan) }
+/// Makes an empty plan the one that a text gives, whether it meets the rules or not.
+fn read_json(alloc: Global, text: &[u8], plan: &mut Plan) -> Result<(), PlanError>
+    ensures { plan_of plan.old ≡ empty
+        → Makes result (plan_of plan.new) (or_fault (data_of text.now) not_json data_plan) }
 {
     let value = parse(alloc, text)?;
-    read_value(alloc, &value)
+    read_value(alloc, &value, plan)
 }
 
 /// The outline of the text as JSON.
@@ -86,8 +94,7 @@ fn parse(alloc: Global, text: &[u8]) -> Result<Value, PlanError>
     let Ok(text) = simdutf8::compat::from_utf8(text) else {
         return Err(PlanError::NotJson);
     };
-    let mut scratch = Scratch::new(alloc);
-    match outline(alloc, text, &mut scratch) {
+    match outline(alloc, text) {
         Ok(value) => Ok(value),
         Err(error) => Err(json_fault(error)),
     }
@@ -104,10 +111,10 @@ fn json_fault(error: Error) -> PlanError
     }
 }
 
-/// The plan that the value gives.
+/// Makes an empty plan the one that the value gives.
 #[tactic(auto, unfolding(crate::specs::PlanText::data_plan))]
-fn read_value(alloc: Global, value: &Value) -> Result<Plan, PlanError>
-    ensures { Gives plan_of result (data_plan (view value.now)) }
+fn read_value(alloc: Global, value: &Value, plan: &mut Plan) -> Result<(), PlanError>
+    ensures { plan_of plan.old ≡ empty → Makes result (plan_of plan.new) (data_plan (view value.now)) }
 {
     let Some(members) = value.as_object() else {
         return Err(PlanError::NotATable);
@@ -116,9 +123,7 @@ fn read_value(alloc: Global, value: &Value) -> Result<Plan, PlanError>
     let Some(version) = number.and_then(version_of) else {
         return Err(PlanError::Version);
     };
-    let mut plan = Plan::empty();
-    read_members(alloc, version, members, &mut plan)?;
-    Ok(plan)
+    read_members(alloc, version, members, plan)
 }
 
 /// Puts what each member gives into the plan.

@@ -16,8 +16,8 @@ returns-in-Ok-outline c =
     let found = c.in-Ok-outline.ensures.ok in
     rw (some_data c.args.text.now found.0 same.1 (sym (ap read same.0) ∙ found.1)) (ap Ok (sym found.2))
 
-pub returns : goal.returns
-returns c =
+pub returns-in-Err : goal.returns-in-Err
+returns-in-Err c =
     elim c.json_fault.ensures.one [
       | inl memory ↦ rw memory tt
       | inr not_json ↦
