@@ -90,7 +90,9 @@ pub fn undo_part<const N: usize, R: Reversible<N>>(
     let mut touched = false;
     let mut entries = change.entries();
     while let Some((cell, old)) = entries.next() {
-        touched |= undo_entry(row, cell, old, offset);
+        if undo_entry(row, cell, old, offset) {
+            touched = true;
+        }
     }
     touched
 }
