@@ -106,6 +106,12 @@ def head_row(rows: list[str], function: Function) -> int:
     return next(k for k in range(function.first - 1, function.last) if HEAD.match(rows[k]))
 
 
+def is_in_cycle(text: str, function: Function) -> bool:
+    """Whether a function is said to be one of a cycle of calls."""
+    rows = text.split("\n")
+    return any(it.lstrip().startswith("#[cycle(") for it in rows[function.first - 1 : head_row(rows, function)])
+
+
 def is_of_trait(text: str, function: Function) -> bool:
     """Whether a function is one of a trait, or of an `impl` of one."""
     rows = text.split("\n")

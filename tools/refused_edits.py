@@ -29,8 +29,8 @@ from collections.abc import Iterator
 from typing import Any
 
 import kit
-from crate_functions import Function, Path, function_at, functions_at, functions_of, head_row, is_of_trait, proof_of
-from crate_functions import sources, span
+from crate_functions import Function, Path, function_at, functions_at, functions_of, head_row, is_in_cycle, is_of_trait
+from crate_functions import proof_of, sources, span
 
 # How the prover begins what it says of a goal that is left open, and of an answer that does not fit.
 OPEN_GOAL = re.compile(r"note: (?:\./)?(\S+?):(\d+):\d+: (?:it is not proved that |`search` found no proof \()")
@@ -90,11 +90,13 @@ def edit_of(crate: Any, file: pathlib.Path) -> Edit:
 
 
 def is_plain(texts: dict[Path, str], changes: tuple[Change, ...], function: Function) -> bool:
-    """Whether a function can be copied under another name: it is none of a trait, and all of these changes are in it."""
+    """Whether a function can be copied under another name: it is none of a trait nor of a cycle of calls, and all of these
+    changes are in it."""
     text = texts[function.path]
     start, end = span(text, function)
     inside = all(it.path == function.path and start <= text.find(it.old) <= end - len(it.old) for it in changes)
-    return inside and not is_of_trait(text, function) and proof_of(texts, function) is not None
+    is_free = not is_of_trait(text, function) and not is_in_cycle(text, function)
+    return inside and is_free and proof_of(texts, function) is not None
 
 
 def grouped(edits: list[Edit]) -> list[list[Edit]]:
