@@ -54,11 +54,11 @@ counted o k below =
     subst (λ (q : Object). sum_by indices (take (order o) objects) + indices q ≤ sum_by indices (take k objects)) (at-order o) step
 
 -- the cells of an object stand before those of a later one
-ends-before : (o p : Object) → order o < order p → first_cell o + indices o ≤ first_cell p
+pub ends-before : (o p : Object) → order o < order p → first_cell o + indices o ≤ first_cell p
 unfolding first_cell
 ends-before o p below = counted o (order p) below
 
-ends-within : (o : Object) → first_cell o + indices o ≤ PLAN_CELLS
+pub ends-within : (o : Object) → first_cell o + indices o ≤ PLAN_CELLS
 ends-within o =
     let whole : sum_by indices (take COUNT objects) ≡ PLAN_CELLS = ap (sum_by indices) (take-whole objects COUNT (sym length-objects)) ∙ total in
     subst (λ (n : ℕ). first_cell o + indices o ≤ n) whole (counted o COUNT (order-below o))

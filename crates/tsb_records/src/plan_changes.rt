@@ -32,20 +32,13 @@ pub fn differences_onto<const M: usize>(
     }
 }
 
-/// Whether two plans are the same in the cells from `first` up to `end`. No branch depends on a cell, so that many are
-/// compared in one instruction.
+/// Whether two plans are the same in the cells from `first` up to `end`.
 fn are_same(before: &Plan, after: &Plan, first: usize, end: usize) -> bool
-    requires { end ≤ PLAN_CELLS }
+    requires from { first ≤ end }
+    requires to { end ≤ PLAN_CELLS }
     ensures { result ≡ true → (j : ℕ) → first ≤ j → j < end → get_or before.now.values j 0 ≡ get_or after.now.values j 0 }
 {
-    let (old, new) = (before.words(), after.words());
-    let mut differing = 0usize;
-    for k in first..end {
-        if old[k] != new[k] {
-            differing += 1;
-        }
-    }
-    differing == 0
+    before.has_same_cells(after, first, end)
 }
 
 /// Adds each cell from `first` up to `end` in which two plans differ to `out`, with what it held in the plan before.

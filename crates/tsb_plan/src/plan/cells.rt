@@ -1,5 +1,5 @@
 //! The cells of a plan: each object's values, index by index, one object after the other.
-ghost use Rattle.std.specs.Prelude.{◌≡◌, ◌<◌, slice_index, slice_set};
+ghost use Rattle.std.specs.Prelude.{◌≡◌, ◌<◌, ◌≤◌, true, slice_index, slice_range, slice_set};
 ghost use Rattle.tsb_plan.specs.declared.object.TheConstants.{PLAN_CELLS};
 ghost use Rattle.tsb_plan.specs.Objects.{AreInRange};
 
@@ -29,6 +29,18 @@ impl Plan {
         ensures { result.now ≡ self.now.values }
     {
         &self.values
+    }
+
+    /// Whether another plan holds the same in the cells from `first` up to, but not including, `end`.
+    #[inline(always)]
+    pub fn has_same_cells(&self, other: &Plan, first: usize, end: usize) -> bool
+        requires order { first ≤ end }
+        requires within { end ≤ PLAN_CELLS }
+        ensures { result ≡ true → slice_range self.now.values first end ≡ slice_range other.now.values first end }
+    {
+        let own = &self.values[first..end];
+        let others = &other.values[first..end];
+        own == others
     }
 
     /// The plan whose cells hold these values, as `words` gives them. Each has to be in the range of the object whose
