@@ -3,6 +3,8 @@ pub mod PassLemmas
 pub mod TableLemmas
 pub mod InstantLemmas
 mod UnionLemmas
+mod AgreementLemmas
+mod RangeLemmas
 pub mod Examples
 pub use Rattle.tsb_types.proofs as tsb_types
 pub use Rattle.tsb_plan.proofs as tsb_plan

@@ -6,6 +6,8 @@ pub mod Tables
 pub mod PatternTables
 -- the unions of sets of phases that a checked plan has at hand
 pub mod Unions
+-- plans that agree on the objects that tables are made from
+pub mod Agreement
 -- the plan of a checked plan
 pub mod Checked
 -- the names of crates below, for those above

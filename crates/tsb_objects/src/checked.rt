@@ -67,18 +67,19 @@ impl Checked {
         }
     }
 
-    /// Takes the plan, which is known to meet the rules, in place of its own. The tables are made where they stand, as a
-    /// function pays for all the room that it has on the stack.
+    /// Takes the plan, which is known to meet the rules, in place of its own. Tables stay where both plans agree on what
+    /// they are made from; others are made where they stand, as a function pays for all the room that it has on the
+    /// stack.
     #[tactic(auto, unfolding(tsb_plan::specs::PlanOf::plan_of, crate::specs::Checked::checked_plan))]
     pub fn renew(&mut self, plan: &Plan)
         requires { first_broken (plan_of plan.now) ≡ None }
         ensures { checked_plan self.new ≡ plan_of plan.now }
     {
+        self.phase_tables.renew(&self.plan, plan);
+        self.detector_tables.renew(&self.plan, plan);
+        self.pattern_tables.renew(&self.plan, plan);
+        self.union_tables.renew(&self.plan, plan);
         self.plan = *plan;
-        self.phase_tables = PhaseTables::of(plan);
-        self.detector_tables = DetectorTables::of(plan);
-        self.pattern_tables = PatternTables::of(plan);
-        self.union_tables.renew(plan);
     }
 
     /// The plan that was checked.

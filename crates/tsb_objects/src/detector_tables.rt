@@ -4,6 +4,7 @@
 ghost use Rattle.tsb_objects.specs.Tables.{AreDetectorTables};
 ghost use Rattle.tsb_plan.specs.PlanOf.{plan_of};
 
+use crate::agreement::agree_for_detectors;
 use crate::tables::numbers_with;
 use tsb_plan::{Object, Plan};
 use tsb_types::NumberSet;
@@ -28,6 +29,17 @@ impl DetectorTables {
             with_delay: numbers_with(plan, Object::VehicleDetectorDelay),
             with_no_activity: numbers_with(plan, Object::VehicleDetectorNoActivity),
             with_maximum_presence: numbers_with(plan, Object::VehicleDetectorMaxPresence),
+        }
+    }
+
+    /// Makes them the tables of a plan, from those of the plan before it: they stay where both plans agree on what they
+    /// are made from.
+    pub(crate) fn renew(&mut self, before: &Plan, plan: &Plan)
+        requires { AreDetectorTables (plan_of before.now) self.old }
+        ensures { AreDetectorTables (plan_of plan.now) self.new }
+    {
+        if !agree_for_detectors(before, plan) {
+            *self = DetectorTables::of(plan);
         }
     }
 }

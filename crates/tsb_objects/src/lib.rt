@@ -5,6 +5,7 @@
 //! choice. Nothing here takes memory.
 #![tactic(auto)]
 
+mod agreement;
 pub mod checked;
 mod detector_tables;
 mod instants;

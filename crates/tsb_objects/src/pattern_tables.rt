@@ -9,6 +9,7 @@ ghost use Rattle.tsb_plan.specs.PlanOf.{plan_of};
 ghost use Rattle.tsb_plan.specs.Running.{split_in_effect};
 ghost use Rattle.tsb_types.specs.Sets.{has, names};
 
+use crate::agreement::agree_for_patterns;
 use crate::instants::{counted_from, instant, reference};
 use crate::late_ends::{late_end, yields_for};
 use tsb_plan::Plan;
@@ -69,6 +70,17 @@ impl PatternTables {
             instants: words,
             ends: ends(plan, &words),
             waiting_points: waiting_points(plan, &words),
+        }
+    }
+
+    /// Makes them the tables of a plan, from those of the plan before it: they stay where both plans agree on what they
+    /// are made from.
+    pub(crate) fn renew(&mut self, before: &Plan, plan: &Plan)
+        requires { ArePatternTables (plan_of before.now) self.old }
+        ensures { ArePatternTables (plan_of plan.now) self.new }
+    {
+        if !agree_for_patterns(before, plan) {
+            *self = PatternTables::of(plan);
         }
     }
 }

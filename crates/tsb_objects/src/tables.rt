@@ -7,6 +7,7 @@ ghost use Rattle.tsb_plan.specs.Objects.{indices};
 ghost use Rattle.tsb_plan.specs.PlanOf.{plan_of};
 ghost use Rattle.tsb_types.specs.Sets.{names, has, has_number};
 
+use crate::agreement::agree_for_phases;
 use tsb_plan::{Object, Plan};
 use tsb_types::{NumberSet, PhaseSet};
 
@@ -43,6 +44,17 @@ impl PhaseTables {
             with_walk: PhaseSet::from_list(numbers_with(plan, Object::PhaseWalk).list()),
             rings: columns(plan, Object::PhaseRing),
             sides: columns(plan, Object::PhaseSide),
+        }
+    }
+
+    /// Makes them the tables of a plan, from those of the plan before it: they stay where both plans agree on what they
+    /// are made from.
+    pub(crate) fn renew(&mut self, before: &Plan, plan: &Plan)
+        requires { ArePhaseTables (plan_of before.now) self.old }
+        ensures { ArePhaseTables (plan_of plan.now) self.new }
+    {
+        if !agree_for_phases(before, plan) {
+            *self = PhaseTables::of(plan);
         }
     }
 }

@@ -10,6 +10,7 @@ ghost use Rattle.tsb_rules.specs.Rules.{first_broken};
 ghost use Rattle.tsb_types.specs.Lists.{is};
 ghost use Rattle.tsb_types.specs.Sets.{names, has};
 
+use crate::agreement::agree_for_unions;
 use crate::unions::{Unions, unions_of_eight};
 use tsb_plan::Plan;
 use tsb_types::{Detector, PedestrianDetector, Phase, PhaseSet};
@@ -38,14 +39,18 @@ impl UnionTables {
         }
     }
 
-    /// Makes them the tables of a plan.
-    pub(crate) fn renew(&mut self, plan: &Plan)
-        requires { first_broken (plan_of plan.now) ≡ None }
+    /// Makes them the tables of a plan, from those of the plan before it: they stay where both plans agree on what they
+    /// are made from.
+    pub(crate) fn renew(&mut self, before: &Plan, plan: &Plan)
+        requires before { AreUnionTables (plan_of before.now) self.old }
+        requires passed { first_broken (plan_of plan.now) ≡ None }
         ensures { AreUnionTables (plan_of plan.now) self.new }
     {
-        self.called = unions_of_calls(plan);
-        self.walks_called = unions_of_walks(plan);
-        self.conflicts = unions_of_conflicts(plan);
+        if !agree_for_unions(before, plan) {
+            self.called = unions_of_calls(plan);
+            self.walks_called = unions_of_walks(plan);
+            self.conflicts = unions_of_conflicts(plan);
+        }
     }
 }
 
