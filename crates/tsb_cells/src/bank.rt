@@ -197,8 +197,13 @@ impl<const N: usize> Reversible<N> for Bank<N> {
 
     fn undo(&mut self, changes: &[(u16, u32)]) {
         for (cell, old) in changes {
-            self.cells[*cell as usize] = *old;
-            self.kept[*cell as usize] = *old;
+            self.undo_cell(*cell as usize, *old);
         }
+    }
+
+    #[inline(always)]
+    fn undo_cell(&mut self, at: usize, old: u32) {
+        self.cells[at] = old;
+        self.kept[at] = old;
     }
 }

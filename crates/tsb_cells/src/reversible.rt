@@ -1,5 +1,5 @@
 //! What can be opened, changed, closed with a record of the changes, and put back by that record.
-ghost use Rattle.std.specs.Prelude.{◌≡◌, ℕ, List, Bool, true, false, ◌≤◌, length};
+ghost use Rattle.std.specs.Prelude.{◌≡◌, ℕ, List, Bool, true, false, ◌<◌, ◌≤◌, ◌∷◌, [], length};
 ghost use Rattle.tsb_cells.specs.Diff.{diff, apply_diff, AreWithin};
 
 use crate::diff::Diff;
@@ -42,6 +42,14 @@ pub trait Reversible<const N: usize> {
         requires in_range { AreWithin N changes.now }
         requires allowed { allows (apply_diff (cells self.old) changes.now) }
         ensures cells { cells self.new ≡ apply_diff (cells self.old) changes.now }
+        ensures closed { is_open self.new ≡ false };
+
+    /// Puts `old` back into the cell `at`, as `undo` does with one entry.
+    fn undo_cell(&mut self, at: usize, old: u32)
+        requires closed { is_open self.old ≡ false }
+        requires in_range { at < N }
+        requires allowed { allows (apply_diff (cells self.old) ((at, old) ∷ [])) }
+        ensures cells { cells self.new ≡ apply_diff (cells self.old) ((at, old) ∷ []) }
         ensures closed { is_open self.new ≡ false };
 
     /// Each cell has a number of 16 bits.

@@ -293,4 +293,9 @@ impl Reversible<CELLS> for Coord {
     fn undo(&mut self, changes: &[(u16, u32)]) {
         self.bank.undo(changes)
     }
+
+    #[inline(always)]
+    fn undo_cell(&mut self, at: usize, old: u32) {
+        self.bank.undo_cell(at, old)
+    }
 }

@@ -67,7 +67,7 @@ pub fn undo_entry<const N: usize, R: Reversible<N>>(
     if !is_one_of(cell, offset, N) {
         return false;
     }
-    row.undo(&[(cell - offset, old)]);
+    row.undo_cell(cell as usize - offset as usize, old);
     true
 }
 
@@ -86,6 +86,7 @@ pub fn undo_part<const N: usize, R: Reversible<N>>(
     ensures cells { R.cells row.new ≡ apply_diff (R.cells row.old) (part offset N change.now.entries) }
     ensures closed { R.is_open row.new ≡ false }
     ensures untouched { result ≡ false → row.new ≡ row.old }
+    ensures touched { result ≡ true → part offset N change.now.entries ≢ [] }
 {
     let mut touched = false;
     let mut entries = change.entries();

@@ -1,14 +1,17 @@
-use Rattle.std.proofs.Common.{◌≡◌, false, length}
+use Rattle.std.proofs.Common.{◌≡◌, ◌≢◌, true, false, [], length}
 use Rattle.tsb_cells.specs.Diff.{apply_diff, part}
 use Rattle.tsb_records.proofs.parts.undo_part.Given as goal
 
--- what is left to be put back leads to what all of it leads to; where no entry was of the row, it has stayed
+-- what is left to be put back leads to what all of it leads to; where no entry was of the row, it has stayed, and the
+-- record has such an entry where what is left has one
 abbrev pub invariant-loop-cell : goal.invariant-loop-cell
 invariant-loop-cell g l = record {
   rest : apply_diff (g.R.Reversible.cells l.row) (part l.offset g.row.N l.entries) ≡
       apply_diff (g.R.Reversible.cells l.initial.row) (part l.offset g.row.N l.change.entries);
   closed : g.R.Reversible.is_open l.row ≡ false;
   stays : l.touched ≡ false → l.row ≡ l.initial.row;
+  touched : l.touched ≡ true → part l.offset g.row.N l.change.entries ≢ [];
+  more : part l.offset g.row.N l.entries ≢ [] → part l.offset g.row.N l.change.entries ≢ [];
 }
 
 abbrev pub decreases-loop-cell : goal.decreases-loop-cell
