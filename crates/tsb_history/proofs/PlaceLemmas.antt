@@ -22,6 +22,11 @@ size-laid (suc n) bs end laid =
     let rest : size_of (changes_at n bs (start_at bs end)) ≡ start_at bs end = size-laid n bs (start_at bs end) laid.1 in
     omega arith
 
+-- the records before the newest end where it begins
+pub rest-laid : (n : ℕ) (bs : List ℕ) (end : ℕ) → (n ≡ 0 → ⊥) → IsLaid n bs end → IsLaid (n - 1) bs (start_at bs end)
+rest-laid zero bs end some laid = absurd (some refl)
+rest-laid (suc n) bs end some laid = let one : n ≡ suc n - 1 = omega arith in subst (λ (m : ℕ). IsLaid m bs (start_at bs end)) one laid.1
+
 -- the newest of some records is the one that ends last, and begins behind all others
 pub newest_at-some : (n : ℕ) (bs : List ℕ) (end : ℕ) → (n ≡ 0 → ⊥) → IsLaid n bs end → newest_at (changes_at n bs end) ≡ Some (change_at bs end, start_at bs end)
 newest_at-some zero bs end some laid = absurd (some refl)

@@ -1,7 +1,7 @@
 -- How records are spelled in bytes, and how they are read again.
 -- Spelling goes by lists, one piece after the other. Reading goes by places in the whole list of
 -- bytes, from the end of a record to its start, so that nothing is cut or copied.
-use Rattle.std.specs.Prelude.{◌≡◌, ℕ, zero, suc, ◌+◌, ◌-◌, ◌*◌, ◌≤◌, ◌==◌, List, [], ◌∷◌, ◌++◌, length, All, slice_index, if◌then◌else◌}
+use Rattle.std.specs.Prelude.{◌≡◌, ℕ, zero, suc, ◌+◌, ◌-◌, ◌*◌, ◌/◌, ◌≤◌, ◌==◌, List, [], ◌∷◌, ◌++◌, length, All, slice_index, if◌then◌else◌}
 use Rattle.std.specs.Int.{w16, w32, to_le_bytes}
 use Rattle.tsb_history.specs.declared.kinds.Kind.{Kind}
 use Rattle.tsb_history.specs.declared.kinds.Kind.TheVariants.{Tick, Pattern, Switch, Fault, Reset, Begin, Set, Verify, Commit, Abort}
@@ -64,6 +64,10 @@ four_at bs i = slice_index bs i + slice_index bs (i + 1) * 256 + slice_index bs 
 abbrev pub entries_at : ℕ → List ℕ → ℕ → List (ℕ × ℕ)
 entries_at zero bs i = []
 entries_at (suc n) bs i = (two_at bs i, four_at bs (i + 2)) ∷ entries_at n bs (i + 6)
+
+-- how many entries, of six bytes each, are from a place to another
+abbrev pub entries_within : ℕ → ℕ → ℕ
+entries_within at end = (end - at) / 6
 
 -- how many entries the record has that ends before a place, and where it begins
 abbrev pub count_at : List ℕ → ℕ → ℕ

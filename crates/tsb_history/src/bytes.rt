@@ -59,7 +59,7 @@ pub fn read_record(bytes: &[u8], end: usize) -> (Record<'_>, usize)
     let count = two(bytes, end - 2) as usize;
     let start = end - (6 * count + 3);
     let kind = Kind::of_code(bytes[end - 3]);
-    (Record::of(kind, count, bytes, start), start)
+    (Record::of(kind, count, bytes, start, end - 3), start)
 }
 
 // The bytes of the record of a quiet tick.
@@ -89,6 +89,10 @@ pub fn quiet_before(count: usize, bytes: &[u8], end: usize, most: usize) -> usiz
     requires laid { IsLaid count bytes.now end }
     ensures { result ≡ min most (quiet_ticks (changes_at count bytes.now end)) }
 {
+    // Where the newest is none of them, no more is looked at.
+    if count == 0 || !is_quiet(bytes, end) {
+        return 0;
+    }
     let most = count.min(most);
     let mut quiet = 0;
     let mut at = end;

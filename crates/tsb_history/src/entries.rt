@@ -1,6 +1,6 @@
 ghost use Rattle.std.specs.Prelude.{◌≡◌, ◌+◌, ◌*◌, ◌≤◌, length};
 ghost use Rattle.std.specs.Iterator.{YieldsFirst, item_count};
-ghost use Rattle.tsb_history.specs.Bytes.{entries_at};
+ghost use Rattle.tsb_history.specs.Bytes.{entries_at, entries_within};
 
 use crate::bytes::{ENTRY, four, two};
 use std::marker::Model;
@@ -9,30 +9,32 @@ use std::marker::Model;
 /// with the value that it had before. Callers see the list of those that are still to come.
 #[derive(Drop)]
 pub struct Entries<'a> {
-    left: usize,
     bytes: &'a [u8],
     at: usize,
+    /// Where the last of them ends.
+    end: usize,
 }
 
 impl<'a> Model for Entries<'a> {
-    ghost use Rattle.std.specs.Prelude.{List, ℕ, length, ◌+◌, ◌*◌, ◌≤◌};
-    ghost use Rattle.tsb_history.specs.Bytes.{entries_at};
+    ghost use Rattle.std.specs.Prelude.{List, ℕ, length, ◌≡◌, ◌+◌, ◌*◌, ◌≤◌};
+    ghost use Rattle.tsb_history.specs.Bytes.{entries_at, entries_within};
 
     ghost Value = { List (ℕ × ℕ) };
 
-    ghost view = { λ a. entries_at a.left a.bytes.now a.at };
+    ghost view = { λ a. entries_at (entries_within a.at a.end) a.bytes.now a.at };
 
-    ghost invariant = { λ a. a.at + 6 * a.left ≤ length a.bytes.now };
+    ghost invariant = { λ a. (a.at + 6 * entries_within a.at a.end ≡ a.end) × (a.end ≤ length a.bytes.now) };
 }
 
 impl<'a> Entries<'a> {
-    // The `left` entries that begin at a place.
+    // The entries from the place `at` up to `end`, which they fill.
     #[inline(always)]
-    pub(crate) fn of(left: usize, bytes: &'a [u8], at: usize) -> Self
-        requires within { at + 6 * left ≤ length bytes.now }
-        ensures { result ≡ entries_at left bytes.now at }
+    pub(crate) fn of(bytes: &'a [u8], at: usize, end: usize) -> Self
+        requires whole { at + 6 * entries_within at end ≡ end }
+        requires within { end ≤ length bytes.now }
+        ensures { result ≡ entries_at (entries_within at end) bytes.now at }
     {
-        Entries { left, bytes, at }
+        Entries { bytes, at, end }
     }
 }
 
@@ -45,11 +47,10 @@ impl<'a> Iterator for Entries<'a> {
 
     #[inline(always)]
     fn next(&mut self) -> Option<(u16, u32)> {
-        if self.left == 0 {
+        if self.at >= self.end {
             return None;
         }
         let entry = (two(self.bytes, self.at), four(self.bytes, self.at + 2));
-        self.left -= 1;
         self.at += ENTRY;
         Some(entry)
     }

@@ -14,10 +14,12 @@ pub struct Record<'a> {
     count: usize,
     bytes: &'a [u8],
     start: usize,
+    /// Where the last of its entries ends.
+    end: usize,
 }
 
 impl<'a> Model for Record<'a> {
-    ghost use Rattle.std.specs.Prelude.{length, ◌+◌, ◌*◌, ◌≤◌, ◌<◌};
+    ghost use Rattle.std.specs.Prelude.{length, ◌≡◌, ◌+◌, ◌*◌, ◌≤◌, ◌<◌};
     ghost use Rattle.tsb_history.specs.History.{Change};
     ghost use Rattle.tsb_history.specs.Bytes.{entries_at};
 
@@ -25,14 +27,15 @@ impl<'a> Model for Record<'a> {
 
     ghost view = { λ a. record { kind = a.kind; entries = entries_at a.count a.bytes.now a.start } };
 
-    ghost invariant = { λ a. (a.count < 65536) × (a.start + 6 * a.count ≤ length a.bytes.now) };
+    ghost invariant = { λ a. (a.count < 65536) × (a.start + 6 * a.count ≡ a.end) × (a.end ≤ length a.bytes.now) };
 }
 
 impl<'a> Record<'a> {
-    // The record whose `count` entries begin at `start`.
-    pub(crate) fn of(kind: Kind, count: usize, bytes: &'a [u8], start: usize) -> Self
+    // The record whose `count` entries begin at `start` and end at `end`.
+    pub(crate) fn of(kind: Kind, count: usize, bytes: &'a [u8], start: usize, end: usize) -> Self
         requires few { count < 65536 }
-        requires within { start + 6 * count ≤ length bytes.now }
+        requires whole { start + 6 * count ≡ end }
+        requires within { end ≤ length bytes.now }
         ensures { result ≡ record { kind = kind; entries = entries_at count bytes.now start } }
     {
         Record {
@@ -40,6 +43,7 @@ impl<'a> Record<'a> {
             count,
             bytes,
             start,
+            end,
         }
     }
 
@@ -70,7 +74,7 @@ impl<'a> Record<'a> {
     pub fn entries(&self) -> Entries<'a>
         ensures { result ≡ self.now.entries }
     {
-        Entries::of(self.count, self.bytes, self.start)
+        Entries::of(self.bytes, self.start, self.end)
     }
 
     /// The entry at an index from 0: the cell, and the value that it had before. `None` from
