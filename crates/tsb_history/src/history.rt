@@ -9,6 +9,9 @@ use crate::walk::WalkBack;
 use std::alloc::{AllocError, Global};
 use std::marker::Model;
 
+/// For how many more bytes a history asks where it has to grow, so that it does not grow again at the next record.
+const SPARE: usize = 2048;
+
 /// The records of the inputs that were not undone. Callers see the list of the records, the newest
 /// first, and for how many bytes of further records there is memory.
 #[derive(Drop)]
@@ -55,7 +58,11 @@ impl History {
         ensures err { OnErr result (self.new ≡ self.old) }
         ensures wanting { OnErr result (self.old.room < record_size cells) }
     {
-        self.bytes.reserve(6 * cells + 3)
+        let size = 6 * cells + 3;
+        if size <= self.bytes.capacity() - self.bytes.len() {
+            return Ok(());
+        }
+        self.bytes.reserve(size + SPARE)
     }
 
     /// Puts a record on top: an input's kind, and its entries, each a cell with the value that the
