@@ -294,11 +294,17 @@ pub record GoesBackQuietly (t k : ℕ) (h new : Held) : Type 0 where
   pub ahead : t ≤ new.tick
   pub same : sought t (state_of new) new.records ≡ sought t (state_of h) h.records
   pub fewer : length new.records ≤ length h.records
+  pub less : 0 < k → length new.records < length h.records
 
 length-dropped : (k : ℕ) (rs : List Change) → length (drop k rs) ≤ length rs
 length-dropped zero rs = omega arith
 length-dropped (suc k) [] = omega arith
 length-dropped (suc k) (r ∷ rs) = let less : length (drop k rs) ≤ length rs = length-dropped k rs in omega (arith, less)
+
+less-dropped : (k : ℕ) (rs : List Change) → 0 < k → k ≤ quiet_ticks rs → length (drop k rs) < length rs
+less-dropped zero rs some most = absurd (omega (arith, some))
+less-dropped (suc k) [] some most = absurd (omega (arith, most))
+less-dropped (suc k) (r ∷ rs) some most = let less : length (drop k rs) ≤ length rs = length-dropped k rs in omega (arith, less)
 
 pub goes-back-quietly : (t k most : ℕ) (h new : Held) → HasSoundPast h.tick h.rows h.records → t ≤ h.tick → most ≡ h.tick - t → k ≡ min most (quiet_ticks h.records) → new.tick + k ≡ h.tick → new.rows ≡ h.rows → new.records ≡ drop k h.records
     → GoesBackQuietly t k h new
@@ -314,4 +320,5 @@ goes-back-quietly t k most h new sound ahead limit all tick rows left =
           ∙ ap (λ (rs : List Change). sought t (all_in (h.tick - k) h.rows) rs) left
           ∙ are.same t (omega (arith, ahead, limit, all));
       fewer = subst (λ (rs : List Change). length rs ≤ length h.records) (sym left) (length-dropped k h.records);
+      less = λ some. subst (λ (rs : List Change). length rs < length h.records) (sym left) (less-dropped k h.records some (omega (arith, all)));
     }

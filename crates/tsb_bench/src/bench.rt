@@ -316,8 +316,7 @@ impl Bench {
             return Err(Nothing);
         }
         while self.tick != tick {
-            let _ = self.undo_quiet(self.tick - tick);
-            if self.tick != tick {
+            if self.undo_quiet(self.tick - tick) == 0 {
                 let _ = self.undo();
             }
         }
