@@ -7,6 +7,7 @@
 pub mod command;
 mod lamps;
 mod names;
+mod objects;
 mod read;
 
 pub use command::{Command, Reading};

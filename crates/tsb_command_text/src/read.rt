@@ -3,14 +3,13 @@ ghost use Rattle.std.specs.Prelude.{◌≡◌};
 ghost use Rattle.tsb_command_text.specs.Commands.{command_in, command_of, command_of_five, command_of_one, command_of_three, command_of_two, on_or_off, watch_of_one, watch_of_two};
 ghost use Rattle.tsb_command_text.specs.Readings.{reading};
 ghost use Rattle.tsb_lines.specs.Words.{words_of};
-ghost use Rattle.tsb_plan.specs.Names.{object_named};
-ghost use Rattle.tsb_plan.specs.declared.version.Version.TheVariants.{Two};
 
 use crate::command::{Command, Reading};
 use crate::lamps::{detector, lamp, phase, station};
 use crate::names::is;
+use crate::objects::object;
 use tsb_lines::{is_skipped, next_word, number};
-use tsb_plan::{Object, ObjectId, Version};
+use tsb_plan::ObjectId;
 use tsb_types::Watch;
 
 /// The most bytes that a line may have, its end not counted.
@@ -199,13 +198,4 @@ pub fn turned_on(word: &[u8]) -> Option<bool>
         return Some(false);
     }
     None
-}
-
-/// The object of version 2 that has this name.
-#[tactic(auto, unfolding(tsb_plan::specs::Names::object_named, tsb_plan::specs::Objects::objects))]
-fn object(word: &[u8]) -> Option<Object>
-    ensures { result ≡ object_named Two word.now }
-{
-    Object::ALL.iter().copied().find(|object| Version::Two.has(*object)
-        && object.name().as_bytes() == word)
 }

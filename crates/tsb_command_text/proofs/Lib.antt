@@ -1,0 +1,2 @@
+-- objects are found among those with names as long
+pub mod ObjectLemmas
