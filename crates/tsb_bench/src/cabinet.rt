@@ -161,7 +161,7 @@ impl Cabinet {
         ensures shut { IsShut self.new }
         ensures passing { (tick : ℕ) → MayPass tick self.new }
     {
-        self.passing = Passing::none();
+        self.passing.last = 0;
     }
 
     /// Puts back what a record holds.
@@ -177,7 +177,7 @@ impl Cabinet {
         ensures shut { IsShut self.new }
         ensures passing { (tick : ℕ) → MayPass tick self.new }
     {
-        self.passing = Passing::none();
+        self.passing.last = 0;
         let mut entries = change.entries();
         if undo_layers(&mut self.controller, &mut self.monitor.bank, &mut entries) {
             return;

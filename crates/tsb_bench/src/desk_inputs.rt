@@ -65,7 +65,7 @@ impl Cabinet {
         ensures passing { self.new.passing ≡ self.old.passing }
     {
         self.desk.open();
-        let _done = self.desk.set(station, id, value);
+        self.desk.take_edit(id, value);
         self.desk.close_onto(out, DESK);
     }
 
