@@ -11,6 +11,7 @@ ghost use Rattle.tsb_dialog.specs.Blame.{AfterCalls};
 ghost use Rattle.tsb_dialog.specs.Said.{SaidUntilFault};
 ghost use Rattle.tsb_kept.specs.Kept.{nothing_kept};
 ghost use Rattle.tsb_log_text.specs.declared.log.LogRow.{LogRow};
+ghost use Rattle.tsb_text.specs.declared.course.Mode.TheVariants as modes;
 ghost use Rattle.tsb_text.specs.Answers.{Setup, display_line};
 ghost use Rattle.tsb_text.specs.Obeyed.{Answered, Forgets, ForgetsNewest, Stands, Took, mode_with, news_in};
 
@@ -106,23 +107,42 @@ impl Course {
 
     /// Takes an input, keeps it, and has it tell its events. Where there is no memory to keep it, it is refused, and
     /// nothing has changed.
+    #[inline(always)]
     pub fn take(&mut self, input: Input) -> Result<(), Refusal>
         ensures took { (given : Setup) (log : List LogRow) (inputs : List InputValue) → Stands given log self.old inputs → Took result given log self.new inputs input }
         ensures mode { self.new.mode ≡ self.old.mode }
     {
-        let tick = self.bench.now();
         match self.mode {
             Mode::Plain => self.bench.apply(input),
-            Mode::Keeping => {
-                self.bench.apply(input)?;
-                self.keep(&input, tick)
-            }
-            Mode::Telling => {
-                let last = self.kept.last_row();
-                self.bench.apply_telling(input, &last, &mut self.news)?;
-                self.keep(&input, tick)
-            }
+            Mode::Keeping => self.take_keeping(input),
+            Mode::Telling => self.take_telling(input),
         }
+    }
+
+    /// Takes an input, and keeps it. It is a function of its own because a session keeps none, and the room for it on the
+    /// stack takes long to clear.
+    #[inline(never)]
+    fn take_keeping(&mut self, input: Input) -> Result<(), Refusal>
+        requires keeping { self.old.mode ≡ modes.Keeping }
+        ensures took { (given : Setup) (log : List LogRow) (inputs : List InputValue) → Stands given log self.old inputs → Took result given log self.new inputs input }
+        ensures mode { self.new.mode ≡ self.old.mode }
+    {
+        let tick = self.bench.now();
+        self.bench.apply(input)?;
+        self.keep(&input, tick)
+    }
+
+    /// Takes an input, keeps it, and has it tell its events. It is a function of its own for the same reason.
+    #[inline(never)]
+    fn take_telling(&mut self, input: Input) -> Result<(), Refusal>
+        requires telling { self.old.mode ≡ modes.Telling }
+        ensures took { (given : Setup) (log : List LogRow) (inputs : List InputValue) → Stands given log self.old inputs → Took result given log self.new inputs input }
+        ensures mode { self.new.mode ≡ self.old.mode }
+    {
+        let tick = self.bench.now();
+        let last = self.kept.last_row();
+        self.bench.apply_telling(input, &last, &mut self.news)?;
+        self.keep(&input, tick)
     }
 
     /// Keeps the input that the bench has just taken, with this tick in force before it. Where there is no memory to keep
@@ -177,6 +197,7 @@ impl Course {
     }
 
     /// Says the events of the newest input, where they are told.
+    #[inline(always)]
     pub fn say_news<W: Write>(
         &self,
         pending: &mut Pending,

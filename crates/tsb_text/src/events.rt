@@ -14,7 +14,8 @@ use tsb_types::Event;
 /// The greatest length of the line of an event, without its line feed, in bytes.
 const LINE: usize = 63;
 
-/// Says the lines of events.
+/// Says the lines of events. It is a function of its own because few sessions have them told.
+#[inline(never)]
 pub(crate) fn say_events<W: Write>(
     events: &[Event],
     pending: &mut Pending,
