@@ -1,9 +1,10 @@
 -- The monitor's cells: what a row says that was written from a lamp and a trip.
-use Rattle.std.proofs.Common.{◌≡◌, ℕ, ◌≤◌, List, ◌++◌, slice_index, Option, Some, None, sym, ap, subst, ◌∙◌, refl, arith, false, ◌==◌, inl, inr}
+use Rattle.std.proofs.Common.{◌≡◌, ℕ, ◌+◌, ◌-◌, ◌≤◌, List, ◌++◌, length, take, drop, slice_index, Option, Some, None, sym, ap, subst, ◌∙◌, refl, arith, false, ◌==◌, inl, inr}
 use Rattle.std.specs.Prelude.{IfSome, replicate}
 use Rattle.std.proofs.lemmas.Bool.{cases_Bool, eqb-true}
 use Rattle.std.proofs.lemmas.Bool.Decides.{nat_tests}
-use Rattle.tsb_cells.specs.Row.{row_at}
+use Rattle.std.proofs.lemmas.List.{append-nil, drop_all, length-append, length-drop, take-append-le, take_all}
+use Rattle.tsb_cells.specs.Row.{row_at, with_row}
 use Rattle.tsb_heads.specs.declared.monitor.Trip.{Trip}
 use Rattle.tsb_heads.specs.declared.monitor.Trip.TheVariants.{Conflict, GreenToRed}
 use Rattle.tsb_types.specs.declared.lamp.Lamp.{Lamp}
@@ -70,3 +71,21 @@ set-some now lamp cause new trip lit caused read is =
 -- a row that was cleared
 pub cleared : (now : ℕ) (row : List ℕ) → row ≡ replicate MONITOR_CELLS 0 → Says now None None row
 cleared now row is = says now None None row tt tt is
+
+-- all cells where both rows are put, the trip's and the lamp's
+pub both-rows : (cells trip lamp : List ℕ) → length cells ≡ 7 → length trip ≡ 4 → length lamp ≡ 3 → with_row (with_row cells 0 trip) 4 lamp ≡ trip ++ lamp
+both-rows cells trip lamp full long short =
+    ap (λ (xs : List ℕ). xs ++ lamp ++ drop (4 + length lamp) (trip ++ rest)) begin
+    ∙ ap (λ (xs : List ℕ). trip ++ lamp ++ xs) (drop_all (4 + length lamp) (trip ++ rest) end)
+    ∙ append-nil (trip ++ lamp)
+  where
+    rest : List ℕ
+    rest = drop (0 + length trip) cells
+
+    begin : take 4 (trip ++ rest) ≡ trip
+    begin = ap (λ (n : ℕ). take n (trip ++ rest)) (sym long) ∙ take-append-le (length trip) trip rest (omega arith) ∙ take_all (length trip) trip (omega arith)
+
+    end : length (trip ++ rest) ≤ 4 + length lamp
+    end = let both : length (trip ++ rest) ≡ length trip + length rest = length-append trip rest in
+        let left : length rest ≡ length cells - (0 + length trip) = length-drop (0 + length trip) cells in
+        omega (arith, both, left, full, long, short)

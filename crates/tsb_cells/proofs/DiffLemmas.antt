@@ -1,6 +1,6 @@
 -- The difference of two rows, step by step: what it is within, that rows that agree have none, and that it
 -- gives back what the row was.
-use Rattle.std.proofs.Common.{◌≡◌, ◌≢◌, ℕ, ◌+◌, ◌<◌, ◌≤◌, ◌==◌, List, [], ◌∷◌, ◌++◌, length, true, false, if◌then◌else◌, get_or, set, refl, sym, ◌∙◌, ap, arith, append_assoc, inl, inr, zero, suc, eq-eqb, length-set}
+use Rattle.std.proofs.Common.{◌≡◌, ℕ, ◌+◌, ◌<◌, ◌≤◌, ◌==◌, List, [], ◌∷◌, ◌++◌, length, true, false, if◌then◌else◌, set, refl, sym, ◌∙◌, ap, arith, append_assoc, inl, inr, eq-eqb, length-set}
 use Rattle.std.proofs.lemmas.Bool.Decides.{eqb_tells}
 use Rattle.std.proofs.lemmas.Grind.{common_steps}
 use Rattle.std.proofs.lemmas.List.{set_at, length_push}
@@ -75,37 +75,6 @@ diff_from-same i (x ∷ row) = rw (eq-eqb x x refl) (diff_from-same (i + 1) row)
 pub diff-same : (row : List ℕ) → diff row row ≡ []
 diff-same row = diff_from-same 0 row
 
--- where the first cell that differs is kept, its entry goes and the others stay
-diff_from-settle : (o i : ℕ) (before now : List ℕ) → length before ≡ length now → i < length before →
-    ((k : ℕ) → k < i → get_or now k 0 ≡ get_or before k 0) → get_or before i 0 ≢ get_or now i 0 →
-    diff_from o before now ≡ (o + i, get_or before i 0) ∷ diff_from o (set before i (get_or now i 0)) now
-diff_from-settle o i [] now l h same differs = absurd (omega arith)
-diff_from-settle o i (x ∷ before) [] l h same differs = absurd (omega arith)
-diff_from-settle o zero (x ∷ before) (y ∷ now) l h same differs =
-    elim (eqb_tells x y) [
-      | inl is ↦ absurd (differs is.1)
-      | inr other ↦ let index : o ≡ o + 0 = omega arith in rw (other.0, eq-eqb y y refl) (ap (λ (j : ℕ). (j, x) ∷ diff_from (o + 1) before now) index)
-    ]
-diff_from-settle o (suc i) (x ∷ before) (y ∷ now) l h same differs =
-    let first : y ≡ x = same 0 (omega arith) in
-    let rest : diff_from (o + 1) before now ≡ (o + 1 + i, get_or before i 0) ∷ diff_from (o + 1) (set before i (get_or now i 0)) now =
-    diff_from-settle (o + 1) i before now (omega arith) (omega arith) (λ k b. same (suc k) (omega arith)) differs in
-    let index : o + suc i ≡ o + 1 + i = omega arith in
-    rw (index, eq-eqb x y (sym first)) rest
-
-pub diff-settle : (i : ℕ) (before now : List ℕ) → length before ≡ length now → i < length before →
-    ((k : ℕ) → k < i → get_or now k 0 ≡ get_or before k 0) → get_or before i 0 ≢ get_or now i 0 →
-    diff before now ≡ (i, get_or before i 0) ∷ diff (set before i (get_or now i 0)) now
-diff-settle i before now l h same differs = diff_from-settle 0 i before now l h same differs ∙ (let e : 0 + i ≡ i = omega arith in ap (λ (j : ℕ). (j, get_or before i 0) ∷ diff (set before i (get_or now i 0)) now) e)
-
--- the same, behind a list to which the entry is added
-pub settled : (es : List (ℕ × ℕ)) (offset i : ℕ) (before now : List ℕ) → length before ≡ length now → i < length before →
-    ((k : ℕ) → k < i → get_or now k 0 ≡ get_or before k 0) → get_or before i 0 ≢ get_or now i 0 →
-    (es ++ (offset + i, get_or before i 0) ∷ []) ++ shifted offset (diff (set before i (get_or now i 0)) now) ≡ es ++ shifted offset (diff before now)
-settled es offset i before now l h same differs =
-    append_assoc es ((offset + i, get_or before i 0) ∷ []) (shifted offset (diff (set before i (get_or now i 0)) now))
-    ∙ ap (λ (ds : List (ℕ × ℕ)). es ++ shifted offset ds) (sym (diff-settle i before now l h same differs))
-
 -- two lists that are each followed by a difference are as long with it
 pub length-followed : (es first ds whole : List (ℕ × ℕ)) (offset : ℕ) → es ++ shifted offset ds ≡ first ++ shifted offset whole →
     length es + length ds ≡ length first + length whole
@@ -113,13 +82,3 @@ length-followed es first ds whole offset found = sym (both es ds) ∙ ap length 
   where
     both : (xs ys : List (ℕ × ℕ)) → length (xs ++ shifted offset ys) ≡ length xs + length ys
     both xs ys = grind (arith, common_steps)
-
--- there is room for the entry of a cell that differs, where there was room for the whole difference
-pub room-left : (es first whole : List (ℕ × ℕ)) (offset i m : ℕ) (before now : List ℕ) → length before ≡ length now → i < length before →
-    ((k : ℕ) → k < i → get_or now k 0 ≡ get_or before k 0) → get_or before i 0 ≢ get_or now i 0 →
-    es ++ shifted offset (diff before now) ≡ first ++ shifted offset whole → length first + length whole ≤ m → length es < m
-room-left es first whole offset i m before now l h same differs found room =
-    let later : List (ℕ × ℕ) = diff (set before i (get_or now i 0)) now in
-    let left : length (diff before now) ≡ length ((i, get_or before i 0) ∷ later) = ap length (diff-settle i before now l h same differs) in
-    let lens : length es + length (diff before now) ≡ length first + length whole = length-followed es first (diff before now) whole offset found in
-    omega (arith, left, lens, room)

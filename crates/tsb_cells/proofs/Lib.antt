@@ -1,4 +1,5 @@
 pub mod BlockLemmas
+mod BlockChangeLemmas
 pub mod ChangeLemmas
 pub mod DiffLemmas
 pub mod PartLemmas

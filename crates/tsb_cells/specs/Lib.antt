@@ -4,7 +4,7 @@ pub mod Diff
 pub mod DiffLaws
 -- the cells of a layer, now and at the last `open`
 pub mod Bank
--- which cells of a bank were written, by the word that marks their blocks
+-- which cells of a bank were written, by the word that marks their blocks, and what they held
 pub mod Blocks
 -- one value among the cells of a bank
 pub mod Row

@@ -1,7 +1,7 @@
 //! A row of cells that knows which part of it was written.
 ghost use Rattle.std.specs.Prelude.{◌≡◌, ◌≢◌, ℕ, ◌+◌, ◌*◌, ◌/◌, ◌^◌, ◌<◌, ◌≤◌, ◌++◌, true, false, length, slice_index, slice_set, replicate, take, drop};
 ghost use Rattle.arrayvec.specs.ArrayVec.{array_vec_len};
-ghost use Rattle.tsb_cells.specs.Blocks.{is_unmarked};
+ghost use Rattle.tsb_cells.specs.Blocks.{is_unmarked, kept_in, block_changes};
 ghost use Rattle.tsb_cells.specs.Diff.{diff, shifted};
 ghost use Rattle.tsb_cells.specs.Row.{row_at, with_row};
 
@@ -14,19 +14,21 @@ const BLOCKS: usize = 64;
 
 /// `N` cells, and what they held at the last `open`.
 ///
-/// A cell can differ from the one kept only where `written` marks its block, so that `open` copies nothing and `close`
-/// compares only the cells of these blocks.
+/// What the cells of a block held is kept when the first of them is written, and `written` marks the block. So `open`
+/// copies nothing, `close` compares only the cells of these blocks, and an undo writes each cell once.
 #[derive(Clone, Copy)]
 pub struct Bank<const N: usize> {
     cells: [u32; N],
-    kept: [u32; N],
+    /// What the cells of the blocks that `written` marks held at the last `open`.
+    before: [u32; N],
     written: u64,
     is_open: bool,
     ghost indexed: { N ≤ 65536 },
     ghost cells_full: { length cells ≡ N },
-    ghost kept_full: { length kept ≡ N },
-    ghost same_unmarked: { (k : ℕ) → is_unmarked N written k ≡ true → slice_index cells k ≡ slice_index kept k },
-    ghost same_closed: { is_open ≡ false → cells ≡ kept },
+    ghost before_full: { length before ≡ N },
+    ghost kept_full: { length (kept_in N written cells before) ≡ N },
+    ghost none_closed: { is_open ≡ false → written ≡ 0 },
+    ghost same_closed: { is_open ≡ false → cells ≡ kept_in N written cells before },
 }
 
 impl<const N: usize> Bank<N> {
@@ -40,7 +42,7 @@ impl<const N: usize> Bank<N> {
     {
         Bank {
             cells: [0; N],
-            kept: [0; N],
+            before: [0; N],
             written: 0,
             is_open: false,
         }
@@ -65,8 +67,8 @@ impl<const N: usize> Bank<N> {
         ensures opened { is_open self.new ≡ true }
     {
         if self.cells[at] != value {
+            self.keep_block(at / Self::block());
             self.cells[at] = value;
-            self.written |= 1 << (at / Self::block());
         }
     }
 
@@ -118,9 +120,10 @@ impl<const N: usize> Bank<N> {
         let mut rest = self.written;
         while rest != 0 {
             let block = rest.trailing_zeros();
-            self.close_block(block as usize, out, offset);
+            self.add_block(block as usize, out, offset);
             rest &= !(1 << block);
         }
+        self.written = 0;
         self.is_open = false;
     }
 
@@ -132,43 +135,58 @@ impl<const N: usize> Bank<N> {
         N / BLOCKS + 1
     }
 
-    /// Adds each cell of the block `block` that differs to `out`, and keeps what it holds. No cell before the block may
-    /// differ.
+    /// Keeps what the cells of a block hold, and marks it, unless it is marked already.
     #[inline(always)]
-    fn close_block<const M: usize>(
-        &mut self,
+    fn keep_block(&mut self, block: usize)
+        requires opened { is_open self.old ≡ true }
+        requires within { block < 64 }
+        ensures marked { (k : ℕ) → k / (N / 64 + 1) ≡ block → is_unmarked N self.new.written k ≡ false }
+        ensures cells { cells_of self.new ≡ cells_of self.old }
+        ensures kept { kept_of self.new ≡ kept_of self.old }
+        ensures opened { is_open self.new ≡ true }
+    {
+        if (self.written >> block) & 1 != 0 {
+            return;
+        }
+        let first = block * Self::block();
+        for k in 0..Self::block() {
+            let i = first + k;
+            if i < N {
+                self.before[i] = self.cells[i];
+            }
+        }
+        self.written |= 1 << block;
+    }
+
+    /// Adds each cell of the block `block` that differs from what is kept of it to `out`, with what is kept.
+    #[inline(always)]
+    fn add_block<const M: usize>(
+        &self,
         block: usize,
         out: &mut ArrayVec<(u16, u32), M>,
         offset: u16,
     )
-        requires opened { is_open self.old ≡ true }
         requires within { block < 64 }
         requires fits { offset + N ≤ 2 ^ 16 }
-        requires room { array_vec_len out.old + length (diff (kept_of self.old) (cells_of self.old)) ≤ M }
-        requires before { (k : ℕ) → k < block * (N / 64 + 1) → slice_index (cells_of self.old) k ≡ slice_index (kept_of self.old) k }
-        ensures changes { out.new.items ++ shifted offset (diff (kept_of self.new) (cells_of self.new))
-            ≡ out.old.items ++ shifted offset (diff (kept_of self.old) (cells_of self.old)) }
-        ensures here { (k : ℕ) → k / (N / 64 + 1) ≡ block → slice_index (cells_of self.new) k ≡ slice_index (kept_of self.new) k }
-        ensures others { (k : ℕ) → slice_index (cells_of self.old) k ≡ slice_index (kept_of self.old) k →
-            slice_index (cells_of self.new) k ≡ slice_index (kept_of self.new) k }
-        ensures cells { cells_of self.new ≡ cells_of self.old }
-        ensures opened { is_open self.new ≡ true }
+        requires room { array_vec_len out.old + length (block_changes N block self.now.before self.now.cells) ≤ M }
+        ensures { out.new.items ≡ out.old.items ++ shifted offset (block_changes N block self.now.before self.now.cells) }
     {
         let first = block * Self::block();
         for k in 0..Self::block() {
             let i = first + k;
-            if i < N && self.kept[i] != self.cells[i] {
-                out.push((offset + i as u16, self.kept[i]));
-                self.kept[i] = self.cells[i];
+            if i < N && self.before[i] != self.cells[i] {
+                out.push((offset + i as u16, self.before[i]));
             }
         }
     }
 }
 
 impl<const N: usize> Reversible<N> for Bank<N> {
+    ghost use Rattle.tsb_cells.specs.Bank.{kept_of};
+
     ghost cells = { λ b. b.cells };
 
-    ghost kept = { λ b. b.kept };
+    ghost kept = { λ b. kept_of b };
 
     ghost is_open = { λ b. b.is_open };
 
@@ -185,7 +203,6 @@ impl<const N: usize> Reversible<N> for Bank<N> {
     ghost kept_allowed = { λ b. b.kept_full };
 
     fn open(&mut self) {
-        self.written = 0;
         self.is_open = true;
     }
 
@@ -204,6 +221,5 @@ impl<const N: usize> Reversible<N> for Bank<N> {
     #[inline(always)]
     fn undo_cell(&mut self, at: usize, old: u32) {
         self.cells[at] = old;
-        self.kept[at] = old;
     }
 }
