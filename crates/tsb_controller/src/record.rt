@@ -1,5 +1,5 @@
 //! The record of what changes in the layers, and how it is put back.
-ghost use Rattle.std.specs.Prelude.{◌≡◌, ◌+◌, ◌<◌, ◌≤◌, ◌++◌, ◌∷◌, [], true};
+ghost use Rattle.std.specs.Prelude.{◌≡◌, ◌+◌, ◌≤◌, ◌&&◌, ◌++◌, ◌∷◌, [], nat_le, nat_lt};
 ghost use Rattle.arrayvec.specs.ArrayVec.{array_vec_len};
 ghost use Rattle.tsb_step.specs.declared.first_cell.TheConstants.{DETECTORS, LAYER_CELLS, MONITOR};
 ghost use Rattle.tsb_controller.specs.Records.{changes, put_back};
@@ -53,8 +53,7 @@ impl Controller {
         requires closed { IsClosed self.old }
         ensures rows { rows_of self.new ≡ put_back (rows_of self.old) ((cell, old) ∷ []) }
         ensures closed { IsClosed self.new }
-        ensures from { result ≡ true → DETECTORS ≤ cell }
-        ensures below { result ≡ true → cell < MONITOR }
+        ensures is { result ≡ (nat_le DETECTORS cell && nat_lt cell MONITOR) }
     {
         // Most entries are of detectors.
         if DETECTORS <= cell && cell < CALLS {
