@@ -271,7 +271,9 @@ fn due_of(now: u32, plan: &Plan, conditions: &Conditions, p: Phase, was: &PhaseR
 impl Phases {
     ghost use Rattle.tsb_phase.specs.Layer.{cells_of};
 
-    /// The tick up to which what is said of red revert timers stays the same.
+    /// The tick up to which what is said of red revert timers stays the same, by each of them. It stays out of line:
+    /// mostly none is left to reach its time.
+    #[inline(never)]
     fn due_to_revert(&self, now: u32, plan: &Plan) -> u32
         requires fits { now + 1 < 2 ^ 32 }
         ensures { (t p : ℕ) → t < result → 1 ≤ p → p ≤ 16 → StaysReverted (plan_of plan.now) (cells_of self.now) now t p }
@@ -287,6 +289,19 @@ impl Phases {
         due
     }
 
+    /// The tick up to which what is said of red revert timers stays the same.
+    #[inline(always)]
+    fn reverts_due(&self, now: u32, plan: &Plan) -> u32
+        requires fits { now + 1 < 2 ^ 32 }
+        ensures { (t p : ℕ) → t < result → 1 ≤ p → p ≤ 16 → StaysReverted (plan_of plan.now) (cells_of self.now) now t p }
+    {
+        if self.may_revert(now, plan) {
+            self.due_to_revert(now, plan)
+        } else {
+            u32::MAX
+        }
+    }
+
     /// The tick up to which all phases are still.
     pub(crate) fn still_until(&self, now: u32, conditions: &Conditions, plan: &Plan) -> u32
         requires fits { now + 1 < 2 ^ 32 }
@@ -294,7 +309,7 @@ impl Phases {
         ensures { (t p : ℕ) → now < t → t < result → 1 ≤ p → p ≤ 16 →
             IsStill (plan_of plan.now) (given_of conditions.now) p (row_in (cells_of self.now) p) now t }
     {
-        let mut due = self.due_to_revert(now, plan);
+        let mut due = self.reverts_due(now, plan);
         let mut rest = self.in_service();
         while let Some(p) = rest.pop() {
             let was = self.load(p);

@@ -76,7 +76,9 @@ impl Phases {
         }
     }
 
-    /// The phases whose red revert timer is Off or has reached its time.
+    /// The phases whose red revert timer is Off or has reached its time, by each of them. It stays out of line: mostly
+    /// none is left to reach its time.
+    #[inline(never)]
     #[tactic(auto, unfolding(crate::specs::Cells::row_in))]
     fn reverted(&self, now: u32, plan: &Checked) -> PhaseSet
         requires { now + 1 < 2 ^ 32 }
@@ -91,6 +93,20 @@ impl Phases {
             reverted = reverted.joined(p, is_off_or_past(now, cell, time));
         }
         reverted
+    }
+
+    /// The phases whose red revert timer is Off or has reached its time.
+    #[inline(always)]
+    fn red_revert_passed(&self, now: u32, plan: &Checked) -> PhaseSet
+        requires { now + 1 < 2 ^ 32 }
+        ensures { (p : ℕ) → 1 ≤ p → p ≤ 16 →
+            has result p ≡ has_passed (timer_at now (row_in (cells_of self.now) p).red_revert) (red_revert (checked_plan plan.now) p) }
+    {
+        if self.may_revert(now, plan.plan()) {
+            self.reverted(now, plan)
+        } else {
+            PhaseSet::from_list(u16::MAX)
+        }
     }
 
     /// The phases in service.
@@ -115,7 +131,7 @@ impl Phases {
         let mut timing = Timing {
             ready: PhaseSet::empty(),
             over: PhaseSet::empty(),
-            red_revert_passed: self.reverted(now, plan),
+            red_revert_passed: self.red_revert_passed(now, plan),
             gapped: PhaseSet::empty(),
             walks: PhaseSet::empty(),
         };

@@ -18,7 +18,7 @@ loop-p-init c = λ t q after soon from within out.
     let row : PhaseRow = row_in (cells_of c.args.self.now) q in
     let by : IsRowBy now row = c.requires.by q from within in
     red-still (plan_of c.args.plan.now) (given_of c.args.conditions.now) q row now t (sym (c.in_service-rest.ensures q) ∙ out)
-    (later now t row (omega (arith, after)) by) (c.due_to_revert-due.ensures t q soon from within (omega (arith, after)) by.red_revert)
+    (later now t row (omega (arith, after)) by) (c.reverts_due-due.ensures t q soon from within (omega (arith, after)) by.red_revert)
 
 pub loop-p-preserved : goal.loop-p-preserved
 loop-p-preserved c = λ t q after soon from within out.
