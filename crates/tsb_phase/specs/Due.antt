@@ -38,7 +38,10 @@ pub record IsKept (plan : Plan) (given : Given) (p : ℕ) (r : PhaseRow) (now : 
   pub gapped : r.gapped ≡ gapped_latch plan given p (held_of (phase_of now r))
   pub forced : r.forced ≡ forced_latch plan given p (held_of (phase_of now r))
 
--- at tick t the red revert timer of phase p has reached its time exactly when it has at tick `now`
+-- at tick t the red revert timer of a row has reached its time exactly when it has at tick `now`
+abbrev pub IsRevertedAs : Plan → ℕ → PhaseRow → ℕ → ℕ → Type 0
+IsRevertedAs plan p r now t = has_reached (timer_at t r.red_revert) (red_revert plan p) ≡ has_reached (timer_at now r.red_revert) (red_revert plan p)
+
+-- so is that of phase p
 abbrev pub StaysReverted : Plan → List ℕ → ℕ → ℕ → ℕ → Type 0
-StaysReverted plan cells now t p = now ≤ t → (row_in cells p).red_revert ≤ now + 1 →
-    has_reached (timer_at t (row_in cells p).red_revert) (red_revert plan p) ≡ has_reached (timer_at now (row_in cells p).red_revert) (red_revert plan p)
+StaysReverted plan cells now t p = now ≤ t → (row_in cells p).red_revert ≤ now + 1 → IsRevertedAs plan p (row_in cells p) now t

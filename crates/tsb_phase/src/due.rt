@@ -9,7 +9,7 @@ ghost use Rattle.tsb_phase.specs.Phase.{Given};
 ghost use Rattle.tsb_phase.specs.Pedestrian.{ended_by, pedestrian_now};
 ghost use Rattle.tsb_phase.specs.Promises.{given_of};
 ghost use Rattle.tsb_phase.specs.Cells.{row_in, phase_of, interval_of_row, pedestrian_of_row, IsRowBy};
-ghost use Rattle.tsb_phase.specs.Due.{least_of, has_expired, IsKept, IsStill, StaysReverted};
+ghost use Rattle.tsb_phase.specs.Due.{least_of, has_expired, IsKept, IsStill, IsRevertedAs, StaysReverted};
 
 use crate::conditions::Conditions;
 use crate::dynamic::acting_maximum;
@@ -189,7 +189,8 @@ fn due_kept(now: u32, plan: &Plan, conditions: &Conditions, p: Phase, was: &Phas
     requires by { IsRowBy now was.now }
     requires is { interval_of_row was.now ≡ Green }
     requires kept { IsKept (plan_of plan.now) (given_of conditions.now) p was.now now }
-    ensures { (t : ℕ) → now < t → t < result → IsStill (plan_of plan.now) (given_of conditions.now) p was.now now t }
+    ensures { (t : ℕ) → now < t → t < result → IsRevertedAs (plan_of plan.now) p was.now now t →
+        IsStill (plan_of plan.now) (given_of conditions.now) p was.now now t }
 {
     let part = due_pedestrian(plan, conditions, p, was);
     let initial = due_initial(now, plan, conditions, p, was.timer);
@@ -201,12 +202,9 @@ fn due_kept(now: u32, plan: &Plan, conditions: &Conditions, p: Phase, was: &Phas
     let most = turn_some(now, was.conflict, maximum);
     let split = floating_time(plan, conditions, p);
     let floating = turn_some(now, was.timer, split);
-    let time = plan.red_revert(p);
-    let revert = turn(now, was.red_revert, time);
     part.min(initial)
         .min(gap.min(before))
         .min(most.min(floating))
-        .min(revert)
 }
 
 /// The tick up to which a Green phase is still: no further tick, where tick `now` changes its timers or latches.
@@ -215,7 +213,8 @@ fn due_green(now: u32, plan: &Plan, conditions: &Conditions, p: Phase, was: &Pha
     requires fits { now + 1 < 2 ^ 32 }
     requires by { IsRowBy now was.now }
     requires is { interval_of_row was.now ≡ Green }
-    ensures { (t : ℕ) → now < t → t < result → IsStill (plan_of plan.now) (given_of conditions.now) p was.now now t }
+    ensures { (t : ℕ) → now < t → t < result → IsRevertedAs (plan_of plan.now) p was.now now t →
+        IsStill (plan_of plan.now) (given_of conditions.now) p was.now now t }
 {
     if is_kept(now, plan, conditions, p, was) {
         return due_kept(now, plan, conditions, p, was);
@@ -225,17 +224,13 @@ fn due_green(now: u32, plan: &Plan, conditions: &Conditions, p: Phase, was: &Pha
 
 /// The tick up to which a Yellow phase is still.
 #[inline(always)]
-fn due_yellow(now: u32, plan: &Plan, p: Phase, was: &PhaseRow) -> u32
-    requires fits { now + 1 < 2 ^ 32 }
-    requires by { IsRowBy now was.now }
-    requires is { interval_of_row was.now ≡ Yellow }
-    ensures { (given : Given) (t : ℕ) → now < t → t < result → IsStill (plan_of plan.now) given p was.now now t }
+fn due_yellow(plan: &Plan, p: Phase, was: &PhaseRow) -> u32
+    requires { interval_of_row was.now ≡ Yellow }
+    ensures { (given : Given) (now t : ℕ) → IsRowBy now was.now → now < t → t < result → IsRevertedAs (plan_of plan.now) p was.now now t →
+        IsStill (plan_of plan.now) given p was.now now t }
 {
     let change = plan.yellow_change(p);
-    let done = until(was.timer, change);
-    let time = plan.red_revert(p);
-    let revert = turn(now, was.red_revert, time);
-    done.min(revert)
+    until(was.timer, change)
 }
 
 /// The tick up to which a phase in red clearance is still.
@@ -244,25 +239,25 @@ fn due_red_clear(now: u32, plan: &Plan, p: Phase, was: &PhaseRow) -> u32
     requires fits { now + 1 < 2 ^ 32 }
     requires by { IsRowBy now was.now }
     requires is { interval_of_row was.now ≡ RedClear }
-    ensures { (given : Given) (t : ℕ) → now < t → t < result → IsStill (plan_of plan.now) given p was.now now t }
+    ensures { (given : Given) (t : ℕ) → now < t → t < result → IsRevertedAs (plan_of plan.now) p was.now now t →
+        IsStill (plan_of plan.now) given p was.now now t }
 {
     let clear = plan.red_clear(p);
-    let over = turn(now, was.timer, clear);
-    let time = plan.red_revert(p);
-    let revert = turn(now, was.red_revert, time);
-    over.min(revert)
+    turn(now, was.timer, clear)
 }
 
-/// The tick up to which a phase in service is still.
+/// The tick up to which a phase in service is still, while what is said of its red revert timer stays the same: that is
+/// asked of all phases at once.
 #[inline(always)]
 fn due_of(now: u32, plan: &Plan, conditions: &Conditions, p: Phase, was: &PhaseRow) -> u32
     requires fits { now + 1 < 2 ^ 32 }
     requires by { IsRowBy now was.now }
-    ensures { (t : ℕ) → now < t → t < result → IsStill (plan_of plan.now) (given_of conditions.now) p was.now now t }
+    ensures { (t : ℕ) → now < t → t < result → IsRevertedAs (plan_of plan.now) p was.now now t →
+        IsStill (plan_of plan.now) (given_of conditions.now) p was.now now t }
 {
     match interval_of(was) {
         Interval::Green => due_green(now, plan, conditions, p, was),
-        Interval::Yellow => due_yellow(now, plan, p, was),
+        Interval::Yellow => due_yellow(plan, p, was),
         Interval::RedClear => due_red_clear(now, plan, p, was),
         Interval::Red => now,
     }

@@ -12,7 +12,7 @@ use Rattle.tsb_phase.proofs.DueLemmas.{green-still, at-limit, at-some-limit}
 use Rattle.tsb_phase.proofs.due.due_kept.Goals as goal
 
 pub returns : goal.returns
-returns c = λ t after soon.
+returns c = λ t after soon reverts.
     let now : ℕ = c.args.now in
     let was : PhaseRow = c.args.was.now in
     let plan : Plan = plan_of c.args.plan.now in
@@ -28,4 +28,4 @@ returns c = λ t after soon.
     (at-some-limit (timer_at t was.conflict) (timer_at now was.conflict) c.acting_maximum-maximum.result _ (c.acting_maximum-maximum.ensures ∙ ap (λ (o : Option ℕ). acting_maximum plan given.runs c.args.p o) c.number_in-running.ensures)
     (c.turn_some-most.ensures t by.conflict (omega (arith, after)) (omega (arith, soon))))
     (at-some-limit (timer_at t was.timer) (timer_at now was.timer) c.floating_time-split.result _ c.floating_time-split.ensures (c.turn_some-floating.ensures t by.timer (omega (arith, after)) (omega (arith, soon))))
-    (at-limit (timer_at t was.red_revert) (timer_at now was.red_revert) c.red_revert-time.result _ c.red_revert-time.ensures (c.turn-revert.ensures t by.red_revert (omega (arith, after)) (omega (arith, soon))))
+    reverts

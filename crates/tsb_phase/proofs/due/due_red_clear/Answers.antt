@@ -8,10 +8,10 @@ use Rattle.tsb_phase.proofs.DueLemmas.{red_clear-still, at-limit}
 use Rattle.tsb_phase.proofs.due.due_red_clear.Goals as goal
 
 pub returns : goal.returns
-returns c = λ given t after soon.
+returns c = λ given t after soon reverts.
     let now : ℕ = c.args.now in
     let was : PhaseRow = c.args.was.now in
     let by : IsRowBy now was = c.requires.by in
     red_clear-still (plan_of c.args.plan.now) given c.args.p was now t c.requires.is (later now t was (omega (arith, after)) by)
-    (at-limit (timer_at t was.timer) (timer_at now was.timer) c.red_clear-clear.result _ c.red_clear-clear.ensures.value (c.turn-over.ensures t by.timer (omega (arith, after)) (omega (arith, soon))))
-    (at-limit (timer_at t was.red_revert) (timer_at now was.red_revert) c.red_revert-time.result _ c.red_revert-time.ensures (c.turn-revert.ensures t by.red_revert (omega (arith, after)) (omega (arith, soon))))
+    (at-limit (timer_at t was.timer) (timer_at now was.timer) c.red_clear-clear.result _ c.red_clear-clear.ensures.value (c.turn.ensures t by.timer (omega (arith, after)) soon))
+    reverts
