@@ -11,11 +11,12 @@ use Rattle.tsb_types.specs.Sets.{names, has_number, list_in, set_of_list}
 use Rattle.tsb_types.proofs.SetLemmas.{names-zero, same-list_of}
 use Rattle.tsb_objects.specs.tsb_plan.Plan.{Plan}
 use Rattle.tsb_preempt.specs.declared.orders.PreemptOrders.{PreemptOrders}
-use Rattle.tsb_preempt.specs.Preempts.{Preempts, next_from_read}
+use Rattle.tsb_preempt.specs.Preempts.{Preempts, wanted_by, next_from_read}
 use Rattle.tsb_preempt.specs.Cells.{service_in, preempts_in, IsBy}
 use Rattle.tsb_preempt.specs.Promises.{given_by, IsSame, IsTicked, AreOrders, AreOrdered}
 use Rattle.tsb_preempt.specs.Rows.{delay_cell, requests_by}
 use Rattle.tsb_preempt.specs.Done.{IsDone, IsIdle}
+use Rattle.tsb_preempt.specs.Due.{AreStanding}
 use Rattle.tsb_preempt.proofs.ReadLemmas.{switches-told, stays-by, read}
 use Rattle.tsb_preempt.proofs.ServiceLemmas.{four}
 use Rattle.tsb_preempt.proofs.SetLemmas.{names-low}
@@ -117,3 +118,14 @@ module _ (now : ℕ) (plan : Plan) (row : Row) (intervals : Intervals) (cells : 
   idle-ticked =
       subst (λ (w : Preempts). IsSame (preempts_in now cells) (next_from_read plan (given_by row intervals) w)) (sym (read now cells begun by))
       (idle-done now plan row intervals cells inputs nothing late told idle (record { target_is = refl; must_end_is = λ p from within. names-zero p; ended_is = refl })).state
+
+  -- orders that stand, at whatever tick they are read, are what it answers
+  pub idle-standing : (m : ℕ) (orders : PreemptOrders) → AreStanding m plan cells orders → AreOrdered now row intervals plan cells orders
+  unfolding preempts_in service_in
+  idle-standing m orders standing =
+      idle-ordered orders
+      (record {
+        target_is = standing.target ∙ ap (wanted_by plan) (sym (none-serves m cells idle.serving));
+        must_end_is = standing.must_end;
+        ended_is = standing.ended;
+      })
