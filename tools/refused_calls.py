@@ -38,10 +38,13 @@ INPUTS = [
 KINDS = ["step", "pattern", "preempt", "fault", "reset", "begin", "set", "verify", "commit", "abort"]
 WAY_BACK = ["show", "undo", "undo", "when interval 2", "back 3", "seek 1", "show", "undo", "undo", "show"]
 
-# The first input asks for memory, and later ones do as the history grows: so each kind comes first, or behind one that
-# asks for less.
-FIRST = [INPUTS[k:] + INPUTS for k in range(len(INPUTS))]
-BEHIND = [["begin 1", "verify 1"], ["begin 1", "abort 1"], ["begin 1", "set 1 phaseMaximum1 2 30", "abort 1"]]
+# The history has some 2,000 bytes of room from the start, and a commit asks for more. Any other input does where less
+# is left than a record of 218 cells can take: behind `NEARLY`, the third input. So each kind is the third there.
+NEARLY = ["begin 1", "abort 1"] * 24
+FIRST = [[*NEARLY, "begin 1", "abort 1", *INPUTS[k:], *INPUTS] for k in range(len(INPUTS))]
+BEHIND = [[*NEARLY, "begin 1", "set 1 phaseMaximum1 2 30", "verify 1"],
+          [*NEARLY, "begin 1", "set 1 phaseMaximum1 2 30", "abort 1"],
+          [*NEARLY, "begin 1", "verify 1", "set 1 phaseMaximum1 2 30"]]
 LATE = [[f"step {count}", *INPUTS * 3] for count in (1, 10, 100, 1000, 10000)]
 
 # Two worked examples. On the built-in plan of two phases: a long run, wound back and run again.

@@ -11,7 +11,7 @@ import pathlib
 import sys
 import tempfile
 
-from refused_calls import (BEHIND, INPUTS, LATE, PLAN, REFUSED, WAY_BACK, Differences, Program, answers_of,
+from refused_calls import (BEHIND, INPUTS, LATE, NEARLY, PLAN, REFUSED, WAY_BACK, Differences, Program, answers_of,
                            before_answers, built, pieces, reads, text_of, writes)
 from run_program import INPUT, not_read
 
@@ -22,8 +22,8 @@ BAD = [["--what", PLAN], [PLAN, PLAN]]
 # Lines of each kind, none of them refused after any of the others. Each has one answer, but for steps.
 ROW, OTHER = "0100000000000001 00000100 0000", "0000010000000000 00000000 0010"
 LINES = [ROW, "changes 1", *INPUTS, "status", OTHER, "edits", "plan"]
-# Each line comes first once, as the first that asks for memory, or behind one that asks for less.
-FIRST = [LINES[place:] + LINES[:place] for place in range(len(LINES))]
+# Each line comes first once, where the room of the history is used up, or behind one that asks for less.
+FIRST = [[*NEARLY, "begin 1", "abort 1", *LINES[place:], *LINES[:place]] for place in range(len(LINES))]
 SESSIONS = [*FIRST, *BEHIND, *LATE]
 # Inputs that tell their events, and answers behind their commands; of a line each answer but those of `save` is short.
 ALONE = [it for it in INPUTS if not it.startswith("step")]

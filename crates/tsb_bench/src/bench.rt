@@ -147,18 +147,19 @@ impl Bench {
     /// The greatest number of a tick: 6,000,000.
     pub const TICKS: u32 = limits::TICKS;
 
-    /// A bench at power-up, which runs this plan: all phases Red, at tick 0. `Memory`, where there is none for the
-    /// desk's edits, is its only refusal. Nothing is said of the room of its history: the first input asks for memory.
+    /// A bench at power-up, which runs this plan: all phases Red, at tick 0. `Memory`, where there is none for the first
+    /// room of its history, is its only refusal. Nothing is said of that room: the next input may ask for more.
     pub fn power_up(alloc: Global, plan: Checked) -> Result<Bench, Refusal>
         ensures { MatchResult result (λ b. whole b ≡ record { state = start (checked_plan plan); records = [] }) (λ e. e ≡ Memory) }
     {
-        let Ok(cabinet) = Cabinet::new(alloc, plan) else {
+        let mut history = History::new(alloc);
+        let Ok(()) = history.reserve(0) else {
             return Err(Refusal::Memory);
         };
         Ok(Bench {
             tick: 0,
-            cabinet,
-            history: History::new(alloc),
+            cabinet: Cabinet::new(plan),
+            history,
             changes: ArrayVec::new(),
             shown: None,
         })
@@ -393,12 +394,9 @@ impl Bench {
         let Ok(history) = self.history.clone_in(alloc) else {
             return Err(Refusal::Memory);
         };
-        let Ok(cabinet) = self.cabinet.clone_in(alloc) else {
-            return Err(Refusal::Memory);
-        };
         Ok(Bench {
             tick: self.tick,
-            cabinet,
+            cabinet: self.cabinet.copy(),
             history,
             changes: ArrayVec::new(),
             shown: None,

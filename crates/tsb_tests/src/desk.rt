@@ -1,4 +1,4 @@
-//! The desk, with ample memory and with none.
+//! The desk when it is full, and when a change of it is abandoned.
 ghost use Rattle.std.specs.Prelude.{◌≡◌, true, false};
 ghost use Rattle.tsb_transact.specs.Layer.{is_open};
 
@@ -62,10 +62,8 @@ fn abandons_an_abort(desk: &mut Desk, station: Station) -> bool
 }
 
 #[test]
-fn keeps_its_room_through_undo(rt: HostRuntime) {
-    let Ok(mut desk) = Desk::new(rt.alloc()) else {
-        panic!(rt; "no memory");
-    };
+fn keeps_its_edits_through_undo(rt: HostRuntime) {
+    let mut desk = Desk::new();
     let s = Station::of(1);
     assert!(rt; begins(&mut desk, s) && is_filled(&mut desk, s));
     assert!(rt; is_full(&desk, s) && takes_again(&desk, s));

@@ -1,5 +1,5 @@
 //! Edits as the cells have them: listed, laid over a plan, and what they would change there.
-ghost use Rattle.std.specs.Prelude.{◌≡◌, ◌&&◌, ◌≤◌, true, slice_index};
+ghost use Rattle.std.specs.Prelude.{◌≡◌, ◌+◌, ◌*◌, ◌&&◌, ◌≤◌, true, slice_index};
 ghost use Rattle.tsb_cells.specs.Bank.{cells_of};
 ghost use Rattle.tsb_plan.specs.Objects.{has_index};
 ghost use Rattle.tsb_plan.specs.PlanOf.{plan_of};
@@ -17,6 +17,22 @@ use arrayvec::ArrayVec;
 use tsb_cells::Bank;
 use tsb_objects::{Object, Plan, is_structural};
 
+/// The cell of the place of edit `k`, from 1.
+pub fn place_cell(k: usize) -> usize
+    requires { k ≤ MOST_EDITS }
+    ensures { result ≡ 2 * k + 2 }
+{
+    2 * k + 2
+}
+
+/// The cell of the value of edit `k`, from 1.
+pub fn value_cell(k: usize) -> usize
+    requires { k ≤ MOST_EDITS }
+    ensures { result ≡ 2 * k + 3 }
+{
+    2 * k + 3
+}
+
 /// Edit `k`, from 1.
 pub fn edit(bank: &Bank<CELLS>, k: usize) -> Edit
     requires from { 1 ≤ k }
@@ -24,8 +40,8 @@ pub fn edit(bank: &Bank<CELLS>, k: usize) -> Edit
     ensures { result ≡ edit_in (cells_of bank.now) k }
 {
     Edit {
-        id: id_at(bank.get(2 * k + 2)),
-        value: bank.get(2 * k + 3),
+        id: id_at(bank.get(place_cell(k))),
+        value: bank.get(value_cell(k)),
     }
 }
 
@@ -51,8 +67,8 @@ pub fn laid(bank: &Bank<CELLS>, plan: &Plan) -> Plan
     let mut laid = *plan;
     let count = bank.get(COUNT) as usize;
     for k in 1..count + 1 {
-        let place = bank.get(2 * k + 2) as usize;
-        laid.put_cell(place - 1, bank.get(2 * k + 3));
+        let place = bank.get(place_cell(k)) as usize;
+        laid.put_cell(place - 1, bank.get(value_cell(k)));
     }
     laid
 }

@@ -13,8 +13,7 @@ pub const STATE: usize = 1;
 /// The cell of the rule that is kept: its number, 0 for none.
 pub const RULE: usize = 2;
 
-/// The cell that says how many edits there are. After it, edit `k` of 1 to 64 has its place in cell `2 * k + 2` and its
-/// value in cell `2 * k + 3`.
+/// The cell that says how many edits there are. After it each edit has two cells, for its place and its value.
 pub const COUNT: usize = 3;
 
 /// The state Transaction in its cell.
