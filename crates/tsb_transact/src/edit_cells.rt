@@ -1,11 +1,11 @@
 //! Edits put into the cells of an open transaction, in which they are found by their places.
-ghost use Rattle.std.specs.Prelude.{◌≡◌, ◌+◌, ◌≤◌, true, false, is_some, None, MatchOption, slice_index};
+ghost use Rattle.std.specs.Prelude.{◌≡◌, ◌≢◌, ℕ, ◌+◌, ◌<◌, ◌≤◌, true, false, is_some, None, MatchOption, slice_index};
 ghost use Rattle.tsb_cells.specs.Bank.{cells_of, kept_of, is_open};
 ghost use Rattle.tsb_plan.specs.PlanOf.{put_refusal};
 ghost use Rattle.tsb_transact.specs.declared.TheConstants.{MOST_EDITS};
 ghost use Rattle.tsb_transact.specs.Calls.{has_no_room, with_set};
 ghost use Rattle.tsb_transact.specs.Cells.{desk_in};
-ghost use Rattle.tsb_transact.specs.Rows.{IsRow, Leaves, IsFirstAt, HasNoneBefore};
+ghost use Rattle.tsb_transact.specs.Rows.{IsRow, Leaves, IsFirstAt, HasNoneBefore, place_in};
 
 use crate::CELLS;
 use crate::edit_list::{place_cell, value_cell};
@@ -14,13 +14,43 @@ use crate::places::place;
 use tsb_cells::Bank;
 use tsb_objects::ObjectId;
 
-/// The edit of a place, by its number from 1. The edits are gone through in order.
+/// The edit of a place, by its number from 1. Four edits are looked at together, which takes less than one by one.
 pub fn find_edit(bank: &Bank<CELLS>, place: u32) -> Option<usize>
     requires { slice_index (cells_of bank.now) 3 ≤ MOST_EDITS }
     ensures { MatchOption result (HasNoneBefore (cells_of bank.now) place (slice_index (cells_of bank.now) 3 + 1))
         (λ k. IsFirstAt (cells_of bank.now) place k) }
 {
-    for k in 1..bank.get(COUNT) as usize + 1 {
+    let count = bank.get(COUNT) as usize;
+    for four in 0..(count + 3) / 4 {
+        let k = 4 * four + 1;
+        if is_one_of_four(bank, k, place) {
+            return find_from(bank, k, place);
+        }
+    }
+    None
+}
+
+/// Whether one of the four edits from edit `k` on has the place.
+fn is_one_of_four(bank: &Bank<CELLS>, k: usize, place: u32) -> bool
+    requires { k + 3 ≤ MOST_EDITS }
+    ensures { result ≡ false → (j : ℕ) → k ≤ j → j < k + 4 → place_in (cells_of bank.now) j ≢ place }
+{
+    bank.get(place_cell(k)) == place
+        || bank.get(place_cell(k + 1)) == place
+        || bank.get(place_cell(k + 2)) == place
+        || bank.get(place_cell(k + 3)) == place
+}
+
+/// The edit of a place, where no edit before edit `from` has it.
+fn find_from(bank: &Bank<CELLS>, from: usize, place: u32) -> Option<usize>
+    requires few { slice_index (cells_of bank.now) 3 ≤ MOST_EDITS }
+    requires from { 1 ≤ from }
+    requires to { from ≤ slice_index (cells_of bank.now) 3 }
+    requires before { HasNoneBefore (cells_of bank.now) place from }
+    ensures { MatchOption result (HasNoneBefore (cells_of bank.now) place (slice_index (cells_of bank.now) 3 + 1))
+        (λ k. IsFirstAt (cells_of bank.now) place k) }
+{
+    for k in from..bank.get(COUNT) as usize + 1 {
         if bank.get(place_cell(k)) == place {
             return Some(k);
         }

@@ -1,8 +1,9 @@
+use Rattle.std.proofs.Common.{◌+◌, ◌*◌}
 use Rattle.tsb_cells.specs.Bank.{cells_of}
 use Rattle.tsb_transact.specs.Rows.{HasNoneBefore}
 use Rattle.tsb_transact.proofs.edit_cells.find_edit.Given as goal
 
-abbrev pub invariant-loop-k : goal.invariant-loop-k
-invariant-loop-k l = record {
-  none : HasNoneBefore (cells_of l.bank) l.place l.k;
+abbrev pub invariant-loop-four : goal.invariant-loop-four
+invariant-loop-four l = record {
+  none : HasNoneBefore (cells_of l.bank) l.place (4 * l.four + 1);
 }
