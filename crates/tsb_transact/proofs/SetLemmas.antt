@@ -1,6 +1,6 @@
 -- What `set` writes, and what comes of it: an edit that is found by its place takes a value, and one of a new place goes
 -- last.
-use Rattle.std.proofs.Common.{zero, suc, ◌≡◌, ◌≢◌, ℕ, ◌+◌, ◌-◌, ◌*◌, ◌<◌, ◌≤◌, true, false, true≢false, Bool, List, [], ◌∷◌, length, map, slice_index, Option, None, Some, MatchOption, is_some, refl, arith, sym, ◌∙◌, ap, subst, inl, inr, AllPairs, nat_le, not, ◌&&◌, ◌||◌}
+use Rattle.std.proofs.Common.{zero, suc, ◌≡◌, ◌≢◌, ℕ, ◌+◌, ◌-◌, ◌*◌, ◌<◌, ◌≤◌, true, false, true≢false, Bool, List, [], ◌∷◌, length, map, slice_index, Option, None, Some, is_some, refl, arith, sym, ◌∙◌, ap, subst, inl, inr, AllPairs, nat_le, not, ◌&&◌, ◌||◌}
 use Rattle.std.proofs.lemmas.Bool.Decides.{eqb_tells, nat_tests}
 use Rattle.std.proofs.lemmas.Bool.{cases_lt}
 use Rattle.std.specs.List.{list_any}
@@ -17,7 +17,7 @@ use Rattle.tsb_transact.specs.declared.edit.Edit.{Edit}
 use Rattle.tsb_transact.specs.Calls.{with_set, has_no_room}
 use Rattle.tsb_transact.specs.Cells.{IsBy, IsEditRow, IsBlankRow, desk_in, edit_in, id_at, nth_rule, place_of, rules, state_of}
 use Rattle.tsb_transact.specs.Desk.{Desk, is_of, is_open, is_refused, has_edit_of, with_edit}
-use Rattle.tsb_transact.specs.Rows.{IsRow, Leaves, place_in, HasNoneBefore, IsFirstAt}
+use Rattle.tsb_transact.specs.Rows.{IsRow, Leaves, place_in, HasNoneBefore, IsFirstAt, Finds}
 use Rattle.tsb_transact.proofs.DeskLemmas.{desk-is, owner-is, edit-row, index-taken, value-taken}
 use Rattle.tsb_transact.proofs.EditLemmas.{edit-at, length-edits, same-run, edits-count, edits-few, edits-taken}
 use Rattle.tsb_transact.proofs.PlaceLemmas.{IsPlace, place-at, at-place, place-from, place-within}
@@ -89,10 +89,6 @@ pub has-none : (row : List ℕ) → IsBy row → (id : ObjectId) → has_index i
 unfolding desk_in
 has-none row by id h none =
     absent-run id row 1 (slice_index row 3) (λ k from below. none-of row by id (slice_index row 3 + 1) k h none (omega arith) from (omega (arith, below)))
-
--- what a search for a place finds
-abbrev pub Finds : List ℕ → ℕ → Option ℕ → Type 0
-Finds row p found = MatchOption found (HasNoneBefore row p (slice_index row 3 + 1)) (λ k. IsFirstAt row p k)
 
 pub finds-none : (row : List ℕ) (id : ObjectId) (p : ℕ) (found : Option ℕ) → p ≡ place_of id → Finds row p found → found ≡ None → HasNoneBefore row (place_of id) (slice_index row 3 + 1)
 finds-none row id p found at f is = subst (λ (q : ℕ). HasNoneBefore row q (slice_index row 3 + 1)) at (subst (Finds row p) is f)

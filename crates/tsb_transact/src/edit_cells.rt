@@ -1,11 +1,11 @@
 //! Edits put into the cells of an open transaction, in which they are found by their places.
-ghost use Rattle.std.specs.Prelude.{◌≡◌, ◌≢◌, ℕ, ◌+◌, ◌<◌, ◌≤◌, true, false, is_some, None, MatchOption, slice_index};
+ghost use Rattle.std.specs.Prelude.{◌≡◌, ◌≢◌, ℕ, ◌+◌, ◌<◌, ◌≤◌, true, false, is_some, None, slice_index};
 ghost use Rattle.tsb_cells.specs.Bank.{cells_of, kept_of, is_open};
 ghost use Rattle.tsb_plan.specs.PlanOf.{put_refusal};
 ghost use Rattle.tsb_transact.specs.declared.TheConstants.{MOST_EDITS};
 ghost use Rattle.tsb_transact.specs.Calls.{has_no_room, with_set};
 ghost use Rattle.tsb_transact.specs.Cells.{desk_in};
-ghost use Rattle.tsb_transact.specs.Rows.{IsRow, Leaves, IsFirstAt, HasNoneBefore, place_in};
+ghost use Rattle.tsb_transact.specs.Rows.{IsRow, Leaves, Finds, HasNoneBefore, place_in};
 
 use crate::CELLS;
 use crate::edit_list::{place_cell, value_cell};
@@ -17,8 +17,7 @@ use tsb_objects::ObjectId;
 /// The edit of a place, by its number from 1. Four edits are looked at together, which takes less than one by one.
 pub fn find_edit(bank: &Bank<CELLS>, place: u32) -> Option<usize>
     requires { slice_index (cells_of bank.now) 3 ≤ MOST_EDITS }
-    ensures { MatchOption result (HasNoneBefore (cells_of bank.now) place (slice_index (cells_of bank.now) 3 + 1))
-        (λ k. IsFirstAt (cells_of bank.now) place k) }
+    ensures { Finds (cells_of bank.now) place result }
 {
     let count = bank.get(COUNT) as usize;
     for four in 0..(count + 3) / 4 {
@@ -47,8 +46,7 @@ fn find_from(bank: &Bank<CELLS>, from: usize, place: u32) -> Option<usize>
     requires from { 1 ≤ from }
     requires to { from ≤ slice_index (cells_of bank.now) 3 }
     requires before { HasNoneBefore (cells_of bank.now) place from }
-    ensures { MatchOption result (HasNoneBefore (cells_of bank.now) place (slice_index (cells_of bank.now) 3 + 1))
-        (λ k. IsFirstAt (cells_of bank.now) place k) }
+    ensures { Finds (cells_of bank.now) place result }
 {
     for k in from..bank.get(COUNT) as usize + 1 {
         if bank.get(place_cell(k)) == place {
