@@ -176,7 +176,7 @@ impl Cabinet {
             return;
         }
         undo_plan(&mut self.plan, &change);
-        undo_desk(&mut self.desk, &change);
+        put_back_desk(&mut self.desk, change.entries());
         undo_rest(&mut self.controller, &mut self.monitor.bank, entries);
     }
 }
@@ -250,21 +250,8 @@ fn put_back_plan(plan: &mut Checked, entries: Entries<'_>)
     plan.renew(&before);
 }
 
-/// Puts back what a record holds of the desk.
-#[inline(always)]
-fn undo_desk(desk: &mut Desk, change: &Record<'_>)
-    requires shut { is_open desk.old ≡ false }
-    requires few { HasFew change.now.entries }
-    requires row { IsRow (apply_diff (cells_of desk.old) (part DESK DESK_CELLS change.now.entries)) }
-    ensures cells { cells_of desk.new ≡ apply_diff (cells_of desk.old) (part DESK DESK_CELLS change.now.entries) }
-    ensures shut { is_open desk.new ≡ false }
-{
-    if touches(change, DESK, tsb_transact::CELLS) {
-        put_back_desk(desk, change.entries());
-    }
-}
-
-/// Makes the desk as it was, in a function of its own for the same reason.
+/// Puts back what these entries hold of the desk, in a function of its own for the same reason. It is not asked first
+/// whether they hold any: a commit changes the desk too, so those that have cells of the plan do.
 #[inline(never)]
 #[tactic(auto, using(crate::proofs::PartLemmas::parts))]
 fn put_back_desk(desk: &mut Desk, entries: Entries<'_>)
