@@ -24,7 +24,7 @@ ghost use Rattle.tsb_bench.specs.Held.{state_of, whole, ticks, memory};
 ghost use Rattle.tsb_bench.specs.Shown.{IsShown};
 
 use crate::cabinet::{Cabinet, Changes, MOST_CELLS};
-use crate::shown::keep_shown;
+use crate::shown::{forget_shown, keep_shown};
 use crate::watched::Watched;
 use arrayvec::ArrayVec;
 use std::alloc::Global;
@@ -292,7 +292,7 @@ impl Bench {
         };
         let kind = change.kind();
         self.cabinet.undo(change);
-        self.shown = None;
+        forget_shown(&mut self.shown);
         self.tick -= ticks_of(kind);
         self.history.pop(start);
         Ok(kind)

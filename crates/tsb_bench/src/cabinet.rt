@@ -175,7 +175,26 @@ impl Cabinet {
         if undo_layers(&mut self.controller, &mut self.monitor.bank, &mut entries) {
             return;
         }
-        undo_plan(&mut self.plan, &change);
+        self.undo_others(&change, entries);
+    }
+
+    /// Puts back what a record holds of plan and desk, and what these entries, those that are left of it, hold of the
+    /// layers and the monitor. It is out of line: few records have such entries.
+    #[inline(never)]
+    fn undo_others(&mut self, change: &Record<'_>, entries: Entries<'_>)
+        requires shut { IsShut self.old }
+        requires few { HasFew change.now.entries }
+        requires ranged { AreInRange (apply_diff (rows_of self.old).plan (part 0 PLAN_CELLS change.now.entries)) }
+        requires passed { first_broken (plan_in (apply_diff (rows_of self.old).plan (part 0 PLAN_CELLS change.now.entries))) ≡ None }
+        requires desk { IsRow (apply_diff (rows_of self.old).desk (part DESK DESK_CELLS change.now.entries)) }
+        ensures plan { (rows_of self.new).plan ≡ apply_diff (rows_of self.old).plan (part 0 PLAN_CELLS change.now.entries) }
+        ensures desk { (rows_of self.new).desk ≡ apply_diff (rows_of self.old).desk (part DESK DESK_CELLS change.now.entries) }
+        ensures layers { (rows_of self.new).layers ≡ records.put_back (rows_of self.old).layers entries.entry }
+        ensures monitor { (rows_of self.new).monitor ≡ apply_diff (rows_of self.old).monitor (part MONITOR MONITOR_CELLS entries.entry) }
+        ensures shut { IsShut self.new }
+        ensures passing { self.new.passing ≡ self.old.passing }
+    {
+        undo_plan(&mut self.plan, change);
         put_back_desk(&mut self.desk, change.entries());
         undo_rest(&mut self.controller, &mut self.monitor.bank, entries);
     }
@@ -193,7 +212,6 @@ fn undo_layers(
     requires monitor { bank.is_open monitor.old ≡ false }
     ensures others { result ≡ true → part 0 DETECTORS entries.old ≡ [] }
     ensures all { result ≡ true → entries.new ≡ [] }
-    ensures fewer { result ≡ false → length entries.new < length entries.old }
     ensures layers { records.put_back (layers.rows_of controller.new) entries.new ≡ records.put_back (layers.rows_of controller.old) entries.old }
     ensures monitor { apply_diff (bank.cells_of monitor.new) (part MONITOR MONITOR_CELLS entries.new)
         ≡ apply_diff (bank.cells_of monitor.old) (part MONITOR MONITOR_CELLS entries.old) }
@@ -223,7 +241,14 @@ fn undo_rest(
     ensures closed { IsClosed controller.new }
     ensures shut { bank.is_open monitor.new ≡ false }
 {
-    while !undo_layers(controller, monitor, &mut entries) {}
+    while let Some((cell, old)) = entries.next() {
+        if cell < DETECTORS {
+            continue;
+        }
+        if !controller.undo_entry(cell, old) {
+            undo_entry(monitor, cell, old, MONITOR);
+        }
+    }
 }
 
 /// Puts back what a record holds of the plan.

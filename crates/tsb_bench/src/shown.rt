@@ -1,7 +1,7 @@
 //! What the heads show. It is found once, and kept while no cell changes.
 #![tactic(auto, unfolding(tsb_objects::specs::Checked::checked_plan, tsb_plan::specs::PlanOf::plan_of))]
 
-ghost use Rattle.std.specs.Prelude.{◌≡◌, ℕ, Some};
+ghost use Rattle.std.specs.Prelude.{◌≡◌, ℕ, None, Some};
 ghost use Rattle.tsb_heads.specs.Promises.{IsSame};
 ghost use Rattle.tsb_heads.specs.Reading.{heads_of};
 ghost use Rattle.tsb_step.specs.Signs.{display, IsSafe};
@@ -19,6 +19,15 @@ pub(crate) fn keep_shown(shown: &mut Option<Display>, changes: &Changes)
     ensures { shown.new ≡ still_shown changes.now.items shown.old }
 {
     if !changes.is_empty() {
+        forget_shown(shown);
+    }
+}
+
+/// Forgets what was found of the heads. Mostly nothing is kept, and then nothing is written.
+pub(crate) fn forget_shown(shown: &mut Option<Display>)
+    ensures { shown.new ≡ None }
+{
+    if shown.is_some() {
         *shown = None;
     }
 }

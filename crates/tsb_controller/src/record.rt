@@ -55,18 +55,17 @@ impl Controller {
         ensures closed { IsClosed self.new }
         ensures is { result ≡ (nat_le DETECTORS cell && nat_lt cell MONITOR) }
     {
-        // Most entries are of detectors.
+        // Most entries are of detectors. Each test but the last says where cells begin and end, so that LLVM makes it
+        // one comparison.
         if DETECTORS <= cell && cell < CALLS {
             undo_entry(&mut self.detectors, cell, old, DETECTORS)
-        } else if cell < DETECTORS {
-            false
-        } else if cell < PHASES {
+        } else if DETECTORS <= cell && cell < PHASES {
             undo_entry(&mut self.calls, cell, old, CALLS)
-        } else if cell < RINGS {
+        } else if DETECTORS <= cell && cell < RINGS {
             undo_entry(&mut self.phases, cell, old, PHASES)
-        } else if cell < COORD {
+        } else if DETECTORS <= cell && cell < COORD {
             undo_entry(&mut self.rings, cell, old, RINGS)
-        } else if cell < PREEMPTS {
+        } else if DETECTORS <= cell && cell < PREEMPTS {
             undo_entry(&mut self.coord, cell, old, COORD)
         } else {
             undo_entry(&mut self.preempts, cell, old, PREEMPTS)

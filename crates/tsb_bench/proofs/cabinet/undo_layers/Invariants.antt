@@ -1,4 +1,4 @@
-use Rattle.std.proofs.Common.{◌≡◌, ◌≤◌, false, length}
+use Rattle.std.proofs.Common.{◌≡◌, false, length}
 use Rattle.tsb_cells.specs.Bank as bank
 use Rattle.tsb_cells.specs.Diff.{apply_diff, part}
 use Rattle.tsb_step.specs.declared.TheConstants.{MONITOR_CELLS}
@@ -12,7 +12,6 @@ use Rattle.tsb_bench.proofs.cabinet.undo_layers.Given as goal
 abbrev pub invariant-loop-cell : goal.invariant-loop-cell
 invariant-loop-cell l = record {
   others : part 0 DETECTORS l.entries ≡ part 0 DETECTORS l.initial.entries;
-  fewer : length l.entries ≤ length l.initial.entries;
   layers : records.put_back (layers.rows_of l.controller) l.entries ≡ records.put_back (layers.rows_of l.initial.controller) l.initial.entries;
   monitor : apply_diff (bank.cells_of l.monitor) (part MONITOR MONITOR_CELLS l.entries) ≡
       apply_diff (bank.cells_of l.initial.monitor) (part MONITOR MONITOR_CELLS l.initial.entries);

@@ -9,8 +9,8 @@ use Rattle.tsb_controller.specs.Records as records
 use Rattle.tsb_bench.proofs.cabinet.undo_rest.Given as goal
 
 -- what is left to be put back leads to what all of it leads to
-abbrev pub invariant-loop-entries : goal.invariant-loop-entries
-invariant-loop-entries l = record {
+abbrev pub invariant-loop-cell : goal.invariant-loop-cell
+invariant-loop-cell l = record {
   layers : records.put_back (layers.rows_of l.controller) l.entries ≡ records.put_back (layers.rows_of l.initial.controller) l.initial.entries;
   monitor : apply_diff (bank.cells_of l.monitor) (part MONITOR MONITOR_CELLS l.entries) ≡
       apply_diff (bank.cells_of l.initial.monitor) (part MONITOR MONITOR_CELLS l.initial.entries);
@@ -18,5 +18,5 @@ invariant-loop-entries l = record {
   shut : bank.is_open l.monitor ≡ false;
 }
 
-abbrev pub decreases-loop-entries : goal.decreases-loop-entries
-decreases-loop-entries l = length l.entries
+abbrev pub decreases-loop-cell : goal.decreases-loop-cell
+decreases-loop-cell l = length l.entries

@@ -4,6 +4,7 @@ use Rattle.tsb_controller.specs.Whole.{All, all_in, all_put_back}
 use Rattle.tsb_step.specs.Past.{ticks_of, taken_back}
 use Rattle.tsb_bench.specs.Cabinet.{rows_of}
 use Rattle.tsb_bench.specs.Held.{Held, state_of, memory, IsHeld, HasSoundPast}
+use Rattle.tsb_bench.specs.Shown.{IsShown}
 use Rattle.tsb_bench.proofs.HeldLemmas.{IsNewest, newest-is, newest-told, start-told, sound-held}
 use Rattle.tsb_bench.proofs.RoomLemmas.{more-left}
 use Rattle.tsb_bench.proofs.bench.Bench.undo.Goals as goal
@@ -43,7 +44,7 @@ invariant_of-self c = (
       (subst (λ (rs : List Change). HasSoundPast (c.self.inside.tick - ticks_of c.in-Some.change.kind) (all_put_back (rows_of c.self.inside.cabinet) c.in-Some.change.entries) rs) (sym c.pop.ensures.rest)
       (newest c).before)),
   c.undo.ensures.passing (c.self.inside.tick - c.ticks_of.result),
-  tt,
+  subst (IsShown (rows_of c.undo.new.self)) (sym c.forget_shown.ensures) tt,
 )
 
 pub returns-clause-ok : goal.returns-clause-ok
