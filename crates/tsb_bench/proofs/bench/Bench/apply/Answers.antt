@@ -97,6 +97,10 @@ invariant_of-self-2 c = (
   c.work-self-inside.ensures.shown,
 )
 
+pub returns-clause-allowed : goal.returns-clause-allowed
+returns-clause-allowed c =
+    sym (ap (λ (h : Held). verdict (state_of h) c.args.input) c.self.view_is) ∙ sym c.refusal.ensures ∙ no_refusal c.refusal.result c.in_default-refusal.not-Some
+
 pub returns-clause-records : goal.returns-clause-records
 returns-clause-records c =
     records-taken c.args.input c.self.inside.tick c.work-self-inside.result c.self.inside.cabinet c.work-self-inside.new.cabinet (all_changes (rows_of c.self.inside.cabinet) (rows_of c.work-self-inside.new.cabinet)) c.self.inside.history.records

@@ -1,4 +1,4 @@
-use Rattle.std.proofs.Common.{◌≡◌, ◌≤◌, ◌<◌, ◌-◌, ◌∷◌, ℕ, List, ap, arith, drop, refl, sym, subst, ◌∙◌}
+use Rattle.std.proofs.Common.{◌≡◌, ◌≤◌, ◌<◌, ◌-◌, ◌∷◌, ℕ, suc, List, length, ap, arith, drop, length-drop, refl, sym, subst, ◌∙◌}
 use Rattle.tsb_history.specs.History.{Change, quiet_ticks}
 use Rattle.tsb_types.specs.declared.watch.Watch.{Watch}
 use Rattle.tsb_controller.specs.Whole.{all_put_back}
@@ -20,6 +20,15 @@ behind k h w x tick value was left all rest at = subst (λ (rs : List Change). I
 -- there are no more of them than ticks
 within : (k : ℕ) (h : Held) (w : Watch) (x : Watched) (tick : ℕ) (value : Value) (was : List Change) → k ≡ quiet_ticks was → IsAt h w x tick value was → k ≤ tick
 within k h w x tick value was all at = (are-quiet k tick at.rows was at.sound (omega (arith, all))).within
+
+-- each turn leaves fewer records
+smaller : (was left rest : List Change) (k : ℕ) (x : Change) → left ≡ drop k was → left ≡ x ∷ rest → length rest < length was
+smaller was left rest k x cut steps =
+    let e : suc (length rest) ≡ length was - k = sym (ap length steps) ∙ ap length cut ∙ length-drop k was in
+    omega (arith, e)
+
+pub loop-change-smaller : goal.loop-change-smaller
+loop-change-smaller c = smaller c.loop-change.records c.skip_quiet.new.self c.next.new.self c.skip_quiet.result c.in-Some.change c.skip_quiet.ensures.rest c.in-Some.ensures.steps
 
 pub value-value-requires : goal.value-value-requires
 value-value-requires c = record { held = (c.args.watch, c.self.inside.tick, rows_of c.self.inside.cabinet, c.of-watched.ensures, (sound-held _ _ _ c.self.invariant.1).by) }
