@@ -49,14 +49,15 @@ LATE = [[f"step {count}", *INPUTS * 3] for count in (1, 10, 100, 1000, 10000)]
 
 # Two worked examples. On the built-in plan of two phases: a long run, wound back and run again.
 LONG = ["step 1000", "when interval 2", "back 400", "when interval 2", "step 400"]
-# On that of eight, at tick 0: a transaction with what is refused in it. It ends with a commit, or with one too late.
+# On that of eight, at tick 0: a transaction with what is refused in it, where the room of the history is used up. It
+# ends with a commit, or with one too late.
 DESK = [
     "begin 1", "begin 2", "set 2 phaseMaximum1 2 30", "set 1 phaseMaximum1 17 30", "set 1 phaseMaximum1 2 256",
     "set 1 phaseMaximum1 2 30", "set 1 phaseMaximum1 2 40", "undo", "undo", "commit 1", "set 1 phaseConcurrency 1 32",
     "verify 1", "set 1 phaseConcurrency 5 2", "verify 1",
 ]
 QUAD = ["run", PLAN, "examples/empty.log"]
-WORKED = [([], LONG), (QUAD, [*DESK, "commit 1", "abort 1"]), (QUAD, [*DESK, "step 1", "commit 1"])]
+WORKED = [([], LONG), (QUAD, [*NEARLY, *DESK, "commit 1", "abort 1"]), (QUAD, [*NEARLY, *DESK, "step 1", "commit 1"])]
 
 # Bytes that a read or a write moves at most, so that there are many of them.
 PIECE = 16
