@@ -287,9 +287,10 @@ impl Bench {
         ensures room { self.old.room ≤ self.new.room }
         ensures memory { memory self.new ≡ memory self.old }
     {
-        let Some((change, start)) = self.history.last() else {
+        if self.history.is_empty() {
             return Err(Nothing);
-        };
+        }
+        let (change, start) = self.history.newest();
         let kind = change.kind();
         self.cabinet.undo(change);
         forget_shown(&mut self.shown);

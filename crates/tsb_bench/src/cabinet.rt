@@ -175,26 +175,26 @@ impl Cabinet {
         if undo_layers(&mut self.controller, &mut self.monitor.bank, &mut entries) {
             return;
         }
-        self.undo_others(&change, entries);
+        self.undo_others(change, entries);
     }
 
     /// Puts back what a record holds of plan and desk, and what these entries, those that are left of it, hold of the
     /// layers and the monitor. It is out of line: few records have such entries.
     #[inline(never)]
-    fn undo_others(&mut self, change: &Record<'_>, entries: Entries<'_>)
+    fn undo_others(&mut self, change: Record<'_>, entries: Entries<'_>)
         requires shut { IsShut self.old }
-        requires few { HasFew change.now.entries }
-        requires ranged { AreInRange (apply_diff (rows_of self.old).plan (part 0 PLAN_CELLS change.now.entries)) }
-        requires passed { first_broken (plan_in (apply_diff (rows_of self.old).plan (part 0 PLAN_CELLS change.now.entries))) ≡ None }
-        requires desk { IsRow (apply_diff (rows_of self.old).desk (part DESK DESK_CELLS change.now.entries)) }
-        ensures plan { (rows_of self.new).plan ≡ apply_diff (rows_of self.old).plan (part 0 PLAN_CELLS change.now.entries) }
-        ensures desk { (rows_of self.new).desk ≡ apply_diff (rows_of self.old).desk (part DESK DESK_CELLS change.now.entries) }
+        requires few { HasFew change.entries }
+        requires ranged { AreInRange (apply_diff (rows_of self.old).plan (part 0 PLAN_CELLS change.entries)) }
+        requires passed { first_broken (plan_in (apply_diff (rows_of self.old).plan (part 0 PLAN_CELLS change.entries))) ≡ None }
+        requires desk { IsRow (apply_diff (rows_of self.old).desk (part DESK DESK_CELLS change.entries)) }
+        ensures plan { (rows_of self.new).plan ≡ apply_diff (rows_of self.old).plan (part 0 PLAN_CELLS change.entry.entries) }
+        ensures desk { (rows_of self.new).desk ≡ apply_diff (rows_of self.old).desk (part DESK DESK_CELLS change.entry.entries) }
         ensures layers { (rows_of self.new).layers ≡ records.put_back (rows_of self.old).layers entries.entry }
         ensures monitor { (rows_of self.new).monitor ≡ apply_diff (rows_of self.old).monitor (part MONITOR MONITOR_CELLS entries.entry) }
         ensures shut { IsShut self.new }
         ensures passing { self.new.passing ≡ self.old.passing }
     {
-        undo_plan(&mut self.plan, change);
+        undo_plan(&mut self.plan, &change);
         put_back_desk(&mut self.desk, change.entries());
         undo_rest(&mut self.controller, &mut self.monitor.bank, entries);
     }

@@ -75,10 +75,11 @@ fn is_quiet(bytes: &[u8], end: usize) -> bool
     requires whole { IsRecordAt bytes.now end }
     ensures { result ≡ is_quiet (change_at bytes.now end) }
 {
-    match Kind::of_code(bytes[end - 3]) {
-        Kind::Tick => two(bytes, end - 2) == 0,
-        _ => false,
+    // Most other records have entries.
+    if two(bytes, end - 2) != 0 {
+        return false;
     }
+    matches!(Kind::of_code(bytes[end - 3]), Kind::Tick)
 }
 
 // How many of the `count` records that end before a place, the newest ones first, are those of quiet ticks; at most

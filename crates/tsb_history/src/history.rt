@@ -1,4 +1,4 @@
-ghost use Rattle.std.specs.Prelude.{◌≡◌, ◌+◌, ◌<◌, ◌≤◌, ◌↔◌, ◌∷◌, [], All, Some, drop, length, min, OnOk, OnErr, IfOk, IsTrue};
+ghost use Rattle.std.specs.Prelude.{◌≡◌, ◌≢◌, ◌+◌, ◌<◌, ◌≤◌, ◌↔◌, ◌∷◌, [], All, Some, drop, length, min, OnOk, OnErr, IfOk, IsTrue};
 ghost use Rattle.tsb_history.specs.Bytes.{bytes_of};
 ghost use Rattle.tsb_history.specs.History.{newest_at, newest_start, older, quiet_ticks, record_size, size_of, FitsRecord};
 
@@ -78,19 +78,29 @@ impl History {
         write_record(&mut self.bytes, kind, entries);
     }
 
-    /// The newest record, with the place of its first byte in `bytes`, or `None` where there is no record.
+    /// The newest record, with the place of its first byte in `bytes`. There has to be one.
+    #[inline(always)]
+    pub fn newest(&self) -> (Record<'_>, usize)
+        requires { self.now.records ≢ [] }
+        ensures newest { newest_at self.now.records ≡ Some result }
+        ensures fits { All FitsRecord self.now.records }
+    {
+        read_record(&self.bytes, self.bytes.len())
+    }
+
+    /// The newest record, as `newest` gives it, or `None` where there is no record.
     #[inline(always)]
     pub fn last(&self) -> Option<(Record<'_>, usize)>
         ensures newest { result ≡ newest_at self.now.records }
         ensures fits { All FitsRecord self.now.records }
     {
-        if self.count == 0 {
+        if self.is_empty() {
             return None;
         }
-        Some(read_record(&self.bytes, self.bytes.len()))
+        Some(self.newest())
     }
 
-    /// Takes the newest record away, which begins at that place, as `last` says. It takes no memory, and gives none
+    /// Takes the newest record away, which begins at that place, as `newest` says. It takes no memory, and gives none
     /// back: there is more room, by the bytes of the record.
     #[inline(always)]
     pub fn pop(&mut self, start: usize)

@@ -11,37 +11,37 @@ use Rattle.tsb_bench.proofs.bench.Bench.undo.Goals as goal
 
 -- the rows before the newest input are such as a bench may have
 pub undo-requires-clause-few : goal.undo-requires-clause-few
-undo-requires-clause-few c = (newest-is _ _ _ c.in-Some.change c.self.invariant.1 (newest-told _ _ _ (sym c.in-Some.ensures.newest))).can.few
+undo-requires-clause-few c = (newest-is _ _ _ c.newest-change.result.0 c.self.invariant.1 (newest-told _ _ _ c.newest-change.ensures.newest)).can.few
 
 pub undo-requires-clause-ranged : goal.undo-requires-clause-ranged
-undo-requires-clause-ranged c = (sound-held _ _ _ (newest-is _ _ _ c.in-Some.change c.self.invariant.1 (newest-told _ _ _ (sym c.in-Some.ensures.newest))).before).ranged
+undo-requires-clause-ranged c = (sound-held _ _ _ (newest-is _ _ _ c.newest-change.result.0 c.self.invariant.1 (newest-told _ _ _ c.newest-change.ensures.newest)).before).ranged
 
 pub undo-requires-clause-passed : goal.undo-requires-clause-passed
-undo-requires-clause-passed c = (sound-held _ _ _ (newest-is _ _ _ c.in-Some.change c.self.invariant.1 (newest-told _ _ _ (sym c.in-Some.ensures.newest))).before).good.plan.rules
+undo-requires-clause-passed c = (sound-held _ _ _ (newest-is _ _ _ c.newest-change.result.0 c.self.invariant.1 (newest-told _ _ _ c.newest-change.ensures.newest)).before).good.plan.rules
 
 pub undo-requires-clause-desk : goal.undo-requires-clause-desk
 undo-requires-clause-desk c =
-    let held : IsHeld (c.self.inside.tick - ticks_of c.in-Some.change.kind) (all_put_back (rows_of c.self.inside.cabinet) c.in-Some.change.entries) =
-    sound-held _ _ _ (newest-is _ _ _ c.in-Some.change c.self.invariant.1 (newest-told _ _ _ (sym c.in-Some.ensures.newest))).before in
+    let held : IsHeld (c.self.inside.tick - ticks_of c.newest-change.result.0.kind) (all_put_back (rows_of c.self.inside.cabinet) c.newest-change.result.0.entries) =
+    sound-held _ _ _ (newest-is _ _ _ c.newest-change.result.0 c.self.invariant.1 (newest-told _ _ _ c.newest-change.ensures.newest)).before in
     record { by = held.by.desk; sound = held.desk }
 
 -- the record begins where the history says
 pub pop-requires : goal.pop-requires
-pop-requires c = record { start = start-told _ _ _ (sym c.in-Some.ensures.newest) }
+pop-requires c = record { start = start-told _ _ _ c.newest-change.ensures.newest }
 
 -- what the record says, of the state that was
-newest : (c : goal.After-pop) → IsNewest c.self.inside.tick (rows_of c.self.inside.cabinet) c.self.inside.history.records c.in-Some.change
-newest c = newest-is _ _ _ c.in-Some.change c.self.invariant.1 (newest-told _ _ _ (sym c.in-Some.ensures.newest))
+newest : (c : goal.After-pop) → IsNewest c.self.inside.tick (rows_of c.self.inside.cabinet) c.self.inside.history.records c.newest-change.result.0
+newest c = newest-is _ _ _ c.newest-change.result.0 c.self.invariant.1 (newest-told _ _ _ c.newest-change.ensures.newest)
 
-ticks-are : (c : goal.After-pop) → c.ticks_of.result ≡ ticks_of c.in-Some.change.kind
+ticks-are : (c : goal.After-pop) → c.ticks_of.result ≡ ticks_of c.newest-change.result.0.kind
 ticks-are c = c.ticks_of.ensures ∙ ap ticks_of c.kind-kind.ensures
 
 pub invariant_of-self : goal.invariant_of-self
 invariant_of-self c = (
   c.undo.ensures.shut,
   subst (λ (t : ℕ). HasSoundPast (c.self.inside.tick - t) (rows_of c.undo.new.self) c.pop.new.self.records) (sym (ticks-are c))
-      (subst (λ (a : All). HasSoundPast (c.self.inside.tick - ticks_of c.in-Some.change.kind) a c.pop.new.self.records) (sym c.undo.ensures.rows)
-      (subst (λ (rs : List Change). HasSoundPast (c.self.inside.tick - ticks_of c.in-Some.change.kind) (all_put_back (rows_of c.self.inside.cabinet) c.in-Some.change.entries) rs) (sym c.pop.ensures.rest)
+      (subst (λ (a : All). HasSoundPast (c.self.inside.tick - ticks_of c.newest-change.result.0.kind) a c.pop.new.self.records) (sym c.undo.ensures.rows)
+      (subst (λ (rs : List Change). HasSoundPast (c.self.inside.tick - ticks_of c.newest-change.result.0.kind) (all_put_back (rows_of c.self.inside.cabinet) c.newest-change.result.0.entries) rs) (sym c.pop.ensures.rest)
       (newest c).before)),
   c.undo.ensures.passing (c.self.inside.tick - c.ticks_of.result),
   subst (IsShown (rows_of c.undo.new.self)) (sym c.forget_shown.ensures) tt,
