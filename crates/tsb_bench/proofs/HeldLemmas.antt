@@ -180,7 +180,7 @@ pub record GoesBack (t : ℕ) (h new : Held) : Type 0 where
   pub same : sought t (state_of new) new.records ≡ sought t (state_of h) h.records
   pub smaller : length new.records < length h.records
 
--- an undo that answers Ok, at a tick number above t
+-- an undo at a tick number above t
 goes-on : (t : ℕ) (h new : Held) → t < h.tick → HasSoundPast h.tick h.rows h.records → 0 < length h.records → whole new ≡ taken_back (state_of h) h.records → GoesBack t h new
 goes-on t h new above sound some is = record {
   ahead = (let tick_is : new.tick ≡ (taken_back (state_of h) h.records).state.now = ap (λ (w : Whole). w.state.now) is in rw tick_is (at h.records sound));
@@ -202,14 +202,17 @@ sound-some : (now : ℕ) (a : All) (rs : List Change) → HasSoundPast now a rs 
 sound-some now a [] sound less = absurd (omega (arith, sound.1))
 sound-some now a (r ∷ rs) sound less = omega arith
 
-pub goes-back : {K N : Type 0} (t : ℕ) (h new : Held) (answer : Result K N) → HasSoundPast h.tick h.rows h.records → t ≤ h.tick → (h.tick ≡ t → ⊥) →
-    OnOk answer (whole new ≡ taken_back (state_of h) h.records) → OnErr answer (h.records ≡ []) → GoesBack t h new
-goes-back t h new (Ok k) sound ahead other is none =
+pub goes-back : (t : ℕ) (h new : Held) → HasSoundPast h.tick h.rows h.records → t ≤ h.tick → (h.tick ≡ t → ⊥) →
+    whole new ≡ taken_back (state_of h) h.records → GoesBack t h new
+goes-back t h new sound ahead other is =
     let above : t < h.tick = omega arith in goes-on t h new above sound (sound-some h.tick h.rows h.records sound (omega arith)) is
-goes-back t h new (Err e) sound ahead other is none =
+
+-- behind a tick there is an input
+pub some-input : (t : ℕ) (h : Held) → HasSoundPast h.tick h.rows h.records → t ≤ h.tick → (h.tick ≡ t → ⊥) → h.records ≡ [] → ⊥
+some-input t h sound ahead other none =
     let some : 0 < length h.records = sound-some h.tick h.rows h.records sound (omega arith) in
     let empty : length h.records ≡ 0 = ap length none in
-    absurd (omega arith)
+    omega (arith, some, empty)
 
 -- ## Quiet ticks, taken back at once
 

@@ -1,7 +1,7 @@
 //! The whole controller, which can be wound back.
 #![tactic(auto, unfolding(tsb_objects::specs::Checked::checked_plan, tsb_plan::specs::PlanOf::plan_of))]
 
-ghost use Rattle.std.specs.Prelude.{◌≡◌, ℕ, ◌+◌, ◌-◌, ◌<◌, ◌≤◌, [], ◌∷◌, drop, length, min, None, Some, Err, option_map, OnOk, OnErr, IfOk, IfErr, MatchResult};
+ghost use Rattle.std.specs.Prelude.{◌≡◌, ◌≢◌, ℕ, ◌+◌, ◌-◌, ◌<◌, ◌≤◌, [], ◌∷◌, drop, length, min, None, Some, Err, option_map, OnOk, OnErr, IfOk, IfErr, MatchResult};
 ghost use Rattle.tsb_history.specs.declared.kinds.Kind.{Kind as KindValue};
 ghost use Rattle.tsb_history.specs.History.{newest_kind, quiet_ticks, record_size};
 ghost use Rattle.tsb_objects.specs.Checked.{checked_plan};
@@ -147,8 +147,8 @@ impl Bench {
     /// The greatest number of a tick: 6,000,000.
     pub const TICKS: u32 = limits::TICKS;
 
-    /// A bench at power-up, which runs this plan: all phases Red, at tick 0. `Memory`, where there is none for the first
-    /// room of its history, is its only refusal. Nothing is said of that room: the next input may ask for more.
+    /// A bench at power-up, which runs this plan: all phases Red, at tick 0. `Memory`, where there is none for the
+    /// first room of its history, is its only refusal. Nothing is said of that room: the next input may ask for more.
     pub fn power_up(alloc: Global, plan: Checked) -> Result<Bench, Refusal>
         ensures { MatchResult result (λ b. whole b ≡ record { state = start (checked_plan plan); records = [] }) (λ e. e ≡ Memory) }
     {
@@ -290,13 +290,25 @@ impl Bench {
         if self.history.is_empty() {
             return Err(Nothing);
         }
+        Ok(self.undo_newest())
+    }
+
+    /// Takes the newest input back, where there is one, and gives its kind.
+    #[inline(always)]
+    fn undo_newest(&mut self) -> Kind
+        requires { self.old.records ≢ [] }
+        ensures kind { newest_kind self.old.records ≡ Some result }
+        ensures back { whole self.new ≡ earlier (whole self.old) 1 }
+        ensures room { self.old.room ≤ self.new.room }
+        ensures memory { memory self.new ≡ memory self.old }
+    {
         let (change, start) = self.history.newest();
         let kind = change.kind();
         self.cabinet.undo(change);
         forget_shown(&mut self.shown);
         self.tick -= ticks_of(kind);
         self.history.pop(start);
-        Ok(kind)
+        kind
     }
 
     /// Goes back to a tick number: it takes back the fewest inputs that lead there. Inputs that were taken at that tick
@@ -319,7 +331,7 @@ impl Bench {
         }
         while self.tick != tick {
             if self.undo_quiet(self.tick - tick) == 0 {
-                let _ = self.undo();
+                self.undo_newest();
             }
         }
         Ok(())

@@ -1,7 +1,7 @@
 //! The cabinet: the controller with its plan, its desk and its monitor, and what each input does to them.
 #![tactic(auto, unfolding(tsb_objects::specs::Checked::checked_plan, tsb_plan::specs::PlanOf::plan_of))]
 
-ghost use Rattle.std.specs.Prelude.{◌≡◌, ℕ, ◌+◌, ◌-◌, ◌<◌, ◌≤◌, [], length, true, false, None, Some, if◌then◌else◌, nat_lt};
+ghost use Rattle.std.specs.Prelude.{◌≡◌, ℕ, ◌+◌, ◌-◌, ◌<◌, ◌≤◌, [], true, false, None, Some, if◌then◌else◌, nat_lt};
 ghost use Rattle.arrayvec.specs.ArrayVec.{array_vec_len};
 ghost use Rattle.tsb_cells.specs.Bank as bank;
 ghost use Rattle.tsb_cells.specs.Diff.{apply_diff, part};
@@ -275,8 +275,8 @@ fn put_back_plan(plan: &mut Checked, entries: Entries<'_>)
     plan.renew(&before);
 }
 
-/// Puts back what these entries hold of the desk, in a function of its own for the same reason. It is not asked first
-/// whether they hold any: a commit changes the desk too, so those that have cells of the plan do.
+/// Puts back what these entries hold of the desk, out of line as `put_back_plan` is. It is not asked first whether they
+/// hold any: what comes here has an entry of plan or desk, and a commit changes the desk too.
 #[inline(never)]
 #[tactic(auto, using(crate::proofs::PartLemmas::parts))]
 fn put_back_desk(desk: &mut Desk, entries: Entries<'_>)

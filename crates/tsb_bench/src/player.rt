@@ -65,7 +65,7 @@ fn answer_all(alloc: Global, bench: &mut Bench, commands: &[Cmd]) -> Result<Vec<
 }
 
 /// Runs commands from power-up, and gives the bench then with the answer to each command. The only `Err` is
-/// `Refusal::Memory`: there was no memory for the desk or for the answers.
+/// `Refusal::Memory`: there was no memory for the first room of the history or for the answers.
 pub fn play(alloc: Global, plan: Checked, commands: &[Cmd]) -> Result<(Bench, Vec<Answer>), Refusal>
     ensures memory { IfErr result (λ e. e ≡ Memory) }
     // There are as many answers as commands, and each is right in its place.

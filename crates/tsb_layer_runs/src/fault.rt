@@ -1,6 +1,5 @@
 //! Why a line of a run does not pass.
 
-use std::alloc::AllocError;
 use thiserror::Error;
 
 /// Why a line of a run does not pass.
@@ -12,18 +11,9 @@ pub enum Fault {
     /// The layer answers, refuses or changes something other than the line says.
     #[error("differs")]
     Differs,
-    /// There is no memory for it.
-    #[error("memory")]
-    Memory,
 }
 
 /// Passes where what a layer answers is the same as the line says.
 pub fn same(is_same: bool) -> Result<(), Fault> {
     if is_same { Ok(()) } else { Err(Fault::Differs) }
-}
-
-impl From<AllocError> for Fault {
-    fn from(_error: AllocError) -> Fault {
-        Fault::Memory
-    }
 }

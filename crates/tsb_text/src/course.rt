@@ -119,8 +119,8 @@ impl Course {
         }
     }
 
-    /// Takes an input, and keeps it. It is a function of its own because a session keeps none, and the room for it on the
-    /// stack takes long to clear.
+    /// Takes an input, and keeps it. A session keeps none, so this is out of line: its room on the stack takes long to
+    /// clear.
     #[inline(never)]
     fn take_keeping(&mut self, input: Input) -> Result<(), Refusal>
         requires keeping { self.old.mode ≡ modes.Keeping }

@@ -1,4 +1,4 @@
-use Rattle.std.proofs.Common.{◌≡◌, ◌∷◌, ◌∙◌, List, ℕ, sym, ap}
+use Rattle.std.proofs.Common.{◌∙◌, List, ℕ, sym, ap}
 use Rattle.tsb_cells.specs.Bank as bank
 use Rattle.tsb_cells.specs.Diff.{apply_diff, part}
 use Rattle.tsb_step.specs.declared.TheConstants.{MONITOR_CELLS}

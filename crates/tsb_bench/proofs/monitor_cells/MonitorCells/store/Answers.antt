@@ -1,4 +1,4 @@
-use Rattle.std.proofs.Common.{◌≡◌, ◌∙◌, ap, arith, length, List, ℕ}
+use Rattle.std.proofs.Common.{◌∙◌, ap, arith, List, ℕ}
 use Rattle.tsb_cells.specs.Bank.{cells_of}
 use Rattle.tsb_cells.specs.Row.{with_row}
 use Rattle.tsb_bench.proofs.MonitorCellLemmas.{both-rows}

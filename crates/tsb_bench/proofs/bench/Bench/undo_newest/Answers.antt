@@ -7,7 +7,7 @@ use Rattle.tsb_bench.specs.Held.{Held, state_of, memory, IsHeld, HasSoundPast}
 use Rattle.tsb_bench.specs.Shown.{IsShown}
 use Rattle.tsb_bench.proofs.HeldLemmas.{IsNewest, newest-is, newest-told, start-told, sound-held}
 use Rattle.tsb_bench.proofs.RoomLemmas.{more-left}
-use Rattle.tsb_bench.proofs.bench.Bench.undo.Goals as goal
+use Rattle.tsb_bench.proofs.bench.Bench.undo_newest.Goals as goal
 
 -- the rows before the newest input are such as a bench may have
 pub undo-requires-clause-few : goal.undo-requires-clause-few
@@ -47,8 +47,8 @@ invariant_of-self c = (
   subst (IsShown (rows_of c.undo.new.self)) (sym c.forget_shown.ensures) tt,
 )
 
-pub returns-clause-ok : goal.returns-clause-ok
-returns-clause-ok c =
+pub returns-clause-back : goal.returns-clause-back
+returns-clause-back c =
     (λ i. record {
       state = ap₂ (λ (t : ℕ) (a : All). all_in (c.self.inside.tick - t) a) (ticks-are c) c.undo.ensures.rows i;
       records = c.pop.ensures.rest i;
