@@ -1,7 +1,7 @@
 -- What tables of a plan are read from: values at numbers from 1 on.
-use Rattle.std.proofs.Common.{◌≡◌, ℕ, zero, suc, ◌<◌, ◌≤◌, ◌==◌, nat_le, Bool, true, false, List, None, refl, arith, sym, ◌∙◌, inl, inr}
+use Rattle.std.proofs.Common.{◌≡◌, ℕ, zero, suc, ◌≢◌, ◌+◌, ◌<◌, ◌≤◌, ◌==◌, max, nat_le, Bool, true, false, List, None, refl, arith, sym, subst, ◌∙◌, inl, inr}
 use Rattle.std.proofs.lemmas.Bool.{cases_lt}
-use Rattle.std.proofs.lemmas.Bool.Decides.{nat_tests}
+use Rattle.std.proofs.lemmas.Bool.Decides.{nat_tests, eqb_tells}
 use Rattle.tsb_plan.specs.declared.object.Object.{Object}
 use Rattle.tsb_plan.specs.declared.object.Object.TheVariants.{PhaseConcurrency}
 use Rattle.tsb_plan.specs.Objects.{AreInRange, indices, has_index, value_in}
@@ -49,4 +49,13 @@ named-back cells ranged none q (suc k) from within =
           let outside : has_index PhaseConcurrency (suc k) ≡ false = grind (arith, nat_tests) in
           named-outside (value_in cells PhaseConcurrency q) (suc k) (ranged.each PhaseConcurrency q) (omega arith)
           ∙ sym (rw outside (names-zero q))
+    ]
+
+-- one phase more, whose time is no longer than the longest so far
+pub one-longer : (f : ℕ → ℕ) (longest time n new : ℕ) → new ≡ max longest time → time ≡ f n → ((p : ℕ) → 1 ≤ p → p < n → f p ≤ longest) →
+    (p : ℕ) → 1 ≤ p → p < n + 1 → f p ≤ new
+one-longer f longest time n new e is told p from within =
+    elim (eqb_tells p n) [
+      | inl same ↦ subst (λ (k : ℕ). f k ≤ new) (sym same.1) (subst (λ (k : ℕ). k ≤ new) is (omega (arith, e)))
+      | inr other ↦ (let apart : p ≢ n = other.1 in let before : f p ≤ longest = told p from (omega (arith, within, apart)) in omega (arith, before, e))
     ]

@@ -1,7 +1,8 @@
 //! Plans that may be run.
 #![tactic(auto, unfolding(tsb_plan::specs::PlanOf::plan_of))]
 
-ghost use Rattle.std.specs.Prelude.{◌≡◌, None};
+ghost use Rattle.std.specs.Prelude.{◌≡◌, ℕ, ◌≤◌, None};
+ghost use Rattle.tsb_plan.specs.Plan.{red_revert};
 ghost use Rattle.tsb_plan.specs.PlanOf.{plan_of};
 ghost use Rattle.tsb_rules.specs.Rules.{first_broken};
 ghost use Rattle.tsb_objects.specs.PatternTables.{ArePatternTables};
@@ -14,6 +15,7 @@ mod phases;
 
 use crate::detector_tables::DetectorTables;
 use crate::pattern_tables::PatternTables;
+use crate::red_reverts::longest_red_revert;
 use crate::tables::PhaseTables;
 use crate::union_tables::UnionTables;
 use tsb_plan::Plan;
@@ -30,11 +32,13 @@ pub struct Checked {
     detector_tables: DetectorTables,
     pattern_tables: PatternTables,
     union_tables: UnionTables,
+    longest_red_revert: u32,
     ghost passed: { first_broken (plan_of plan) ≡ None },
     ghost phases_are: { ArePhaseTables (plan_of plan) phase_tables },
     ghost detectors_are: { AreDetectorTables (plan_of plan) detector_tables },
     ghost patterns_are: { ArePatternTables (plan_of plan) pattern_tables },
     ghost unions_are: { AreUnionTables (plan_of plan) union_tables },
+    ghost reverts_are: { (p : ℕ) → 1 ≤ p → p ≤ 16 → red_revert (plan_of plan) p ≤ longest_red_revert },
 }
 
 impl Checked {
@@ -64,6 +68,7 @@ impl Checked {
             detector_tables: DetectorTables::of(&plan),
             pattern_tables: PatternTables::of(&plan),
             union_tables: UnionTables::of(&plan),
+            longest_red_revert: longest_red_revert(&plan),
         }
     }
 
@@ -79,7 +84,18 @@ impl Checked {
         self.detector_tables.renew(&self.plan, plan);
         self.pattern_tables.renew(&self.plan, plan);
         self.union_tables.renew(&self.plan, plan);
+        self.longest_red_revert = longest_red_revert(plan);
         self.plan = *plan;
+    }
+
+    /// A time, in tenths of a second, that no phase's red revert is longer than: the longest of them. The clause asks
+    /// only that it is no shorter.
+    #[inline(always)]
+    #[tactic(auto, unfolding(tsb_plan::specs::PlanOf::plan_of, crate::specs::Checked::checked_plan))]
+    pub fn longest_red_revert(&self) -> u32
+        ensures { (p : ℕ) → 1 ≤ p → p ≤ 16 → red_revert (checked_plan self.now) p ≤ result }
+    {
+        self.longest_red_revert
     }
 
     /// The plan that was checked.

@@ -12,6 +12,7 @@ mod instants;
 mod late_ends;
 mod pattern_tables;
 mod recycle;
+mod red_reverts;
 mod tables;
 mod union_tables;
 mod unions;
