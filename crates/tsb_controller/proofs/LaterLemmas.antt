@@ -138,7 +138,7 @@ module _ (now : ℕ) (plan : Plan) (cells : List ℕ) (given : phase.Given) (m :
   older : (phase_in now cells p).timer ≡ On 0 → ⊥
   unfolding phase_in row_in
   older e = elim (cases_Bool (is_phase p)) [
-    | inl on ↦ (let here : timer_at now (slice_index cells (7 + p)) ≡ On 0 = rw on at e in not-begun now (slice_index cells (7 + p)) one (by.each p (among_16 p on).from (among_16 p on).to).timer here)
+    | inl on ↦ (let here : timer_at now (slice_index cells (3 + p)) ≡ On 0 = rw on at e in not-begun now (slice_index cells (3 + p)) one (by.each p (among_16 p on).from (among_16 p on).to).timer here)
     | inr out ↦ (let no : Off ≡ On 0 = rw out at e in absurd cc)
   ]
 

@@ -94,7 +94,7 @@ pub timer-read : (now : ℕ) (row : List ℕ) (p : ℕ) → 1 ≤ now → 1 ≤ 
     (phase_in now row p).timer ≡ (as_read (phase_in (now - 1) row p)).timer
 unfolding phase_in row_in
 timer-read now row p one from to by =
-    rw (is_phase_from p from to) (timer_at-this now (slice_index row (7 + p)) one (by.each p from to).timer)
+    rw (is_phase_from p from to) (timer_at-this now (slice_index row (3 + p)) one (by.each p from to).timer)
 
 -- the green timer of the phase that a detector calls, as of all phases
 pub called-green : (t : State) (o : Option ℕ) → of_called (λ p. tick.green_timer t (Some p)) o ≡ tick.green_timer t o

@@ -69,14 +69,14 @@ one-more P due turns n new e told here t p soon from within =
       | inr other ↦ (let apart : p ≢ n = other.1 in told t p (omega (arith, e, soon)) from (omega (arith, within, apart)))
     ]
 
-pub reverts-here : (plan : Plan) (cells : List ℕ) (now t n p cell limit : ℕ) → p ≡ n → cell ≡ slice_index cells (7 + 16 * 5 + p) → limit ≡ red_revert plan p →
+pub reverts-here : (plan : Plan) (cells : List ℕ) (now t n p cell limit : ℕ) → p ≡ n → cell ≡ slice_index cells (3 + 16 * 5 + p) → limit ≡ red_revert plan p →
     (cell ≤ now + 1 → now ≤ t → has_reached (timer_at t cell) limit ≡ has_reached (timer_at now cell) limit) → StaysReverted plan cells now t n
 unfolding row_in
 reverts-here plan cells now t n p cell limit same e f h =
     subst (λ (k : ℕ). StaysReverted plan cells now t k) same (λ after within.
-    (let by_cell : slice_index cells (87 + p) ≤ now + 1 → now ≤ t → has_reached (timer_at t (slice_index cells (87 + p))) limit ≡ has_reached (timer_at now (slice_index cells (87 + p))) limit =
+    (let by_cell : slice_index cells (83 + p) ≤ now + 1 → now ≤ t → has_reached (timer_at t (slice_index cells (83 + p))) limit ≡ has_reached (timer_at now (slice_index cells (83 + p))) limit =
     subst (λ (c : ℕ). c ≤ now + 1 → now ≤ t → has_reached (timer_at t c) limit ≡ has_reached (timer_at now c) limit) e h in
-    at-limit (timer_at t (slice_index cells (87 + p))) (timer_at now (slice_index cells (87 + p))) limit (red_revert plan p) f (by_cell within after)))
+    at-limit (timer_at t (slice_index cells (83 + p))) (timer_at now (slice_index cells (83 + p))) limit (red_revert plan p) f (by_cell within after)))
 
 -- ## The gap
 

@@ -1,19 +1,10 @@
 -- Red revert timers that are Off, or have run for the longest time that a phase has.
-use Rattle.std.proofs.Common.{◌≡◌, ◌≢◌, ℕ, ◌+◌, ◌-◌, ◌<◌, ◌≤◌, max, nat_le, true, refl, sym, ap, subst, ◌∙◌, inl, inr, arith}
+use Rattle.std.proofs.Common.{◌≡◌, ◌≢◌, ℕ, ◌+◌, ◌-◌, ◌≤◌, nat_le, true, refl, ap, ◌∙◌, inl, inr, arith}
 use Rattle.std.proofs.lemmas.Bool.Decides.{nat_tests, eqb_tells}
 use Rattle.tsb_cells.specs.declared.timer.Timer.{Timer}
 use Rattle.tsb_cells.specs.Timer.{timer_at}
 use Rattle.tsb_cells.proofs.TimerLemmas.{timer_at-on}
 use Rattle.tsb_phase.specs.Ready.{has_passed}
-
--- one phase more, whose time is no longer than the longest so far
-pub one-longer : (f : ℕ → ℕ) (longest time n new : ℕ) → new ≡ max longest time → time ≡ f n → ((p : ℕ) → 1 ≤ p → p < n → f p ≤ longest) →
-    (p : ℕ) → 1 ≤ p → p < n + 1 → f p ≤ new
-one-longer f longest time n new e is told p from within =
-    elim (eqb_tells p n) [
-      | inl same ↦ subst (λ (k : ℕ). f k ≤ new) (sym same.1) (subst (λ (k : ℕ). k ≤ new) is (omega (arith, e)))
-      | inr other ↦ (let apart : p ≢ n = other.1 in let before : f p ≤ longest = told p from (omega (arith, within, apart)) in omega (arith, before, e))
-    ]
 
 -- such a timer keeps no phase from starting
 pub past-passed : (now cell limit : ℕ) → cell ≤ now + 1 - limit → has_passed (timer_at now cell) limit ≡ true

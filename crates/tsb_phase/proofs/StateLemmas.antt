@@ -1,5 +1,5 @@
 -- The table of phases in range is read as them, and is a row that the phases can hold.
-use Rattle.std.proofs.Common.{zero, suc, ◌≡◌, ℕ, ◌+◌, ◌-◌, ◌%◌, ◌<◌, ◌≤◌, ◌==◌, Bool, true, false, if◌then◌else◌, Option, Some, None, List, [], ◌∷◌, ◌++◌, length, get_or, slice_index, map, refl, sym, ap, subst, ◌∙◌, inl, inr, arith, length-append}
+use Rattle.std.proofs.Common.{zero, suc, ◌≡◌, ℕ, ◌+◌, ◌-◌, ◌/◌, ◌%◌, ◌<◌, ◌≤◌, ◌==◌, Bool, true, false, if◌then◌else◌, Option, Some, None, List, [], ◌∷◌, ◌++◌, length, get_or, slice_index, map, refl, sym, ap, subst, ◌∙◌, inl, inr, arith, length-append}
 use Rattle.std.proofs.Math.Path.{fun_ext}
 use Rattle.std.proofs.lemmas.List.{get_or_append_left, get_or-append_right}
 use Rattle.std.proofs.lemmas.Bool.{cases_Bool}
@@ -12,7 +12,7 @@ use Rattle.tsb_objects.specs.tsb_types.declared.interval.PedestrianInterval.{Ped
 use Rattle.tsb_objects.specs.tsb_types.declared.interval.PedestrianInterval.TheVariants.{DontWalk, Walk, PedestrianClear}
 use Rattle.tsb_objects.specs.tsb_types.Intervals.{is_green, in_service, is_walk, is_clearance, is_dont_walk}
 use Rattle.tsb_objects.specs.tsb_types.Lists.{run_from}
-use Rattle.tsb_objects.specs.tsb_types.Sets.{names, list_of, list_in, is_phase}
+use Rattle.tsb_objects.specs.tsb_types.Sets.{names, list_of, is_phase}
 use Rattle.tsb_objects.proofs.tsb_types.RunLemmas.{at-run}
 use Rattle.tsb_objects.proofs.tsb_types.SetLemmas.{names-list_of, list_of-below}
 use Rattle.tsb_objects.proofs.tsb_types.ClipLemmas.{IsAmong, among_16}
@@ -22,7 +22,7 @@ use Rattle.tsb_phase.specs.declared.ending.Ending.TheVariants.{MaxOut, GapOut}
 use Rattle.tsb_phase.specs.declared.phase_row.PhaseRow.{PhaseRow}
 use Rattle.tsb_phase.specs.DynamicMaximum.{is_same}
 use Rattle.tsb_phase.specs.Phase.{Phase, at_power_up}
-use Rattle.tsb_phase.specs.Cells.{has_way, is_clearing, number_in, number_cell, phase_in, phases_cells, IsBy, row_in, phase_of, IsRowBy}
+use Rattle.tsb_phase.specs.Cells.{has_way, is_clearing, pair, number_in, number_cell, phase_in, phases_cells, IsBy, row_in, phase_of, IsRowBy}
 use Rattle.tsb_phase.specs.Laws.{IsInRange, AreInRange, StatesAreRead}
 use Rattle.tsb_phase.proofs.GreenLemmas.{part-told, same_phase}
 use Rattle.tsb_phase.proofs.RowLemmas.{same_values}
@@ -159,94 +159,101 @@ before xs f n k v long below e = get_or_append_left xs (column f) 0 k (omega (ar
 longer : (xs : List ℕ) (f : ℕ → ℕ) (n m : ℕ) → length xs ≡ n → n + 16 ≡ m → length (xs ++ column f) ≡ m
 longer xs f n m long e = omega (arith, length-append xs (column f), long-column f, long, e)
 
--- eight cells and seven columns
-module _ (eight : List ℕ) (a b c d e f g : ℕ → ℕ) (long : length eight ≡ 8) where
-  long-1 : length (eight ++ column a) ≡ 24
-  long-1 = longer (eight) a 8 24 long refl
+-- four cells and seven columns
+module _ (four : List ℕ) (a b c d e f g : ℕ → ℕ) (long : length four ≡ 4) where
+  long-1 : length (four ++ column a) ≡ 20
+  long-1 = longer (four) a 4 20 long refl
 
-  long-2 : length (eight ++ column a ++ column b) ≡ 40
-  long-2 = longer (eight ++ column a) b 24 40 long-1 refl
+  long-2 : length (four ++ column a ++ column b) ≡ 36
+  long-2 = longer (four ++ column a) b 20 36 long-1 refl
 
-  long-3 : length (eight ++ column a ++ column b ++ column c) ≡ 56
-  long-3 = longer (eight ++ column a ++ column b) c 40 56 long-2 refl
+  long-3 : length (four ++ column a ++ column b ++ column c) ≡ 52
+  long-3 = longer (four ++ column a ++ column b) c 36 52 long-2 refl
 
-  long-4 : length (eight ++ column a ++ column b ++ column c ++ column d) ≡ 72
-  long-4 = longer (eight ++ column a ++ column b ++ column c) d 56 72 long-3 refl
+  long-4 : length (four ++ column a ++ column b ++ column c ++ column d) ≡ 68
+  long-4 = longer (four ++ column a ++ column b ++ column c) d 52 68 long-3 refl
 
-  long-5 : length (eight ++ column a ++ column b ++ column c ++ column d ++ column e) ≡ 88
-  long-5 = longer (eight ++ column a ++ column b ++ column c ++ column d) e 72 88 long-4 refl
+  long-5 : length (four ++ column a ++ column b ++ column c ++ column d ++ column e) ≡ 84
+  long-5 = longer (four ++ column a ++ column b ++ column c ++ column d) e 68 84 long-4 refl
 
-  long-6 : length (eight ++ column a ++ column b ++ column c ++ column d ++ column e ++ column f) ≡ 104
-  long-6 = longer (eight ++ column a ++ column b ++ column c ++ column d ++ column e) f 88 104 long-5 refl
+  long-6 : length (four ++ column a ++ column b ++ column c ++ column d ++ column e ++ column f) ≡ 100
+  long-6 = longer (four ++ column a ++ column b ++ column c ++ column d ++ column e) f 84 100 long-5 refl
 
-  long-all : length (eight ++ column a ++ column b ++ column c ++ column d ++ column e ++ column f ++ column g) ≡ CELLS
-  long-all = longer (eight ++ column a ++ column b ++ column c ++ column d ++ column e ++ column f) g 104 CELLS long-6 refl
+  long-all : length (four ++ column a ++ column b ++ column c ++ column d ++ column e ++ column f ++ column g) ≡ CELLS
+  long-all = longer (four ++ column a ++ column b ++ column c ++ column d ++ column e ++ column f) g 100 CELLS long-6 refl
 
   module _ (p : ℕ) (from : 1 ≤ p) (to : p ≤ 16) where
-    at-a : get_or (eight ++ column a ++ column b ++ column c ++ column d ++ column e ++ column f ++ column g) (7 + p) 0 ≡ a p
+    at-a : get_or (four ++ column a ++ column b ++ column c ++ column d ++ column e ++ column f ++ column g) (3 + p) 0 ≡ a p
     at-a =
-        before (eight ++ column a ++ column b ++ column c ++ column d ++ column e ++ column f) g 104 (7 + p) _ long-6 (omega (arith, to))
-        (before (eight ++ column a ++ column b ++ column c ++ column d ++ column e) f 88 (7 + p) _ long-5 (omega (arith, to))
-        (before (eight ++ column a ++ column b ++ column c ++ column d) e 72 (7 + p) _ long-4 (omega (arith, to))
-        (before (eight ++ column a ++ column b ++ column c) d 56 (7 + p) _ long-3 (omega (arith, to))
-        (before (eight ++ column a ++ column b) c 40 (7 + p) _ long-2 (omega (arith, to))
-        (before (eight ++ column a) b 24 (7 + p) _ long-1 (omega (arith, to))
-        (at-column (eight) a 8 (7 + p) p long (omega arith) from to))))))
+        before (four ++ column a ++ column b ++ column c ++ column d ++ column e ++ column f) g 100 (3 + p) _ long-6 (omega (arith, to))
+        (before (four ++ column a ++ column b ++ column c ++ column d ++ column e) f 84 (3 + p) _ long-5 (omega (arith, to))
+        (before (four ++ column a ++ column b ++ column c ++ column d) e 68 (3 + p) _ long-4 (omega (arith, to))
+        (before (four ++ column a ++ column b ++ column c) d 52 (3 + p) _ long-3 (omega (arith, to))
+        (before (four ++ column a ++ column b) c 36 (3 + p) _ long-2 (omega (arith, to))
+        (before (four ++ column a) b 20 (3 + p) _ long-1 (omega (arith, to))
+        (at-column (four) a 4 (3 + p) p long (omega arith) from to))))))
 
-    at-b : get_or (eight ++ column a ++ column b ++ column c ++ column d ++ column e ++ column f ++ column g) (23 + p) 0 ≡ b p
+    at-b : get_or (four ++ column a ++ column b ++ column c ++ column d ++ column e ++ column f ++ column g) (19 + p) 0 ≡ b p
     at-b =
-        before (eight ++ column a ++ column b ++ column c ++ column d ++ column e ++ column f) g 104 (23 + p) _ long-6 (omega (arith, to))
-        (before (eight ++ column a ++ column b ++ column c ++ column d ++ column e) f 88 (23 + p) _ long-5 (omega (arith, to))
-        (before (eight ++ column a ++ column b ++ column c ++ column d) e 72 (23 + p) _ long-4 (omega (arith, to))
-        (before (eight ++ column a ++ column b ++ column c) d 56 (23 + p) _ long-3 (omega (arith, to))
-        (before (eight ++ column a ++ column b) c 40 (23 + p) _ long-2 (omega (arith, to))
-        (at-column (eight ++ column a) b 24 (23 + p) p long-1 (omega arith) from to)))))
+        before (four ++ column a ++ column b ++ column c ++ column d ++ column e ++ column f) g 100 (19 + p) _ long-6 (omega (arith, to))
+        (before (four ++ column a ++ column b ++ column c ++ column d ++ column e) f 84 (19 + p) _ long-5 (omega (arith, to))
+        (before (four ++ column a ++ column b ++ column c ++ column d) e 68 (19 + p) _ long-4 (omega (arith, to))
+        (before (four ++ column a ++ column b ++ column c) d 52 (19 + p) _ long-3 (omega (arith, to))
+        (before (four ++ column a ++ column b) c 36 (19 + p) _ long-2 (omega (arith, to))
+        (at-column (four ++ column a) b 20 (19 + p) p long-1 (omega arith) from to)))))
 
-    at-c : get_or (eight ++ column a ++ column b ++ column c ++ column d ++ column e ++ column f ++ column g) (39 + p) 0 ≡ c p
+    at-c : get_or (four ++ column a ++ column b ++ column c ++ column d ++ column e ++ column f ++ column g) (35 + p) 0 ≡ c p
     at-c =
-        before (eight ++ column a ++ column b ++ column c ++ column d ++ column e ++ column f) g 104 (39 + p) _ long-6 (omega (arith, to))
-        (before (eight ++ column a ++ column b ++ column c ++ column d ++ column e) f 88 (39 + p) _ long-5 (omega (arith, to))
-        (before (eight ++ column a ++ column b ++ column c ++ column d) e 72 (39 + p) _ long-4 (omega (arith, to))
-        (before (eight ++ column a ++ column b ++ column c) d 56 (39 + p) _ long-3 (omega (arith, to))
-        (at-column (eight ++ column a ++ column b) c 40 (39 + p) p long-2 (omega arith) from to))))
+        before (four ++ column a ++ column b ++ column c ++ column d ++ column e ++ column f) g 100 (35 + p) _ long-6 (omega (arith, to))
+        (before (four ++ column a ++ column b ++ column c ++ column d ++ column e) f 84 (35 + p) _ long-5 (omega (arith, to))
+        (before (four ++ column a ++ column b ++ column c ++ column d) e 68 (35 + p) _ long-4 (omega (arith, to))
+        (before (four ++ column a ++ column b ++ column c) d 52 (35 + p) _ long-3 (omega (arith, to))
+        (at-column (four ++ column a ++ column b) c 36 (35 + p) p long-2 (omega arith) from to))))
 
-    at-d : get_or (eight ++ column a ++ column b ++ column c ++ column d ++ column e ++ column f ++ column g) (55 + p) 0 ≡ d p
+    at-d : get_or (four ++ column a ++ column b ++ column c ++ column d ++ column e ++ column f ++ column g) (51 + p) 0 ≡ d p
     at-d =
-        before (eight ++ column a ++ column b ++ column c ++ column d ++ column e ++ column f) g 104 (55 + p) _ long-6 (omega (arith, to))
-        (before (eight ++ column a ++ column b ++ column c ++ column d ++ column e) f 88 (55 + p) _ long-5 (omega (arith, to))
-        (before (eight ++ column a ++ column b ++ column c ++ column d) e 72 (55 + p) _ long-4 (omega (arith, to))
-        (at-column (eight ++ column a ++ column b ++ column c) d 56 (55 + p) p long-3 (omega arith) from to)))
+        before (four ++ column a ++ column b ++ column c ++ column d ++ column e ++ column f) g 100 (51 + p) _ long-6 (omega (arith, to))
+        (before (four ++ column a ++ column b ++ column c ++ column d ++ column e) f 84 (51 + p) _ long-5 (omega (arith, to))
+        (before (four ++ column a ++ column b ++ column c ++ column d) e 68 (51 + p) _ long-4 (omega (arith, to))
+        (at-column (four ++ column a ++ column b ++ column c) d 52 (51 + p) p long-3 (omega arith) from to)))
 
-    at-e : get_or (eight ++ column a ++ column b ++ column c ++ column d ++ column e ++ column f ++ column g) (71 + p) 0 ≡ e p
+    at-e : get_or (four ++ column a ++ column b ++ column c ++ column d ++ column e ++ column f ++ column g) (67 + p) 0 ≡ e p
     at-e =
-        before (eight ++ column a ++ column b ++ column c ++ column d ++ column e ++ column f) g 104 (71 + p) _ long-6 (omega (arith, to))
-        (before (eight ++ column a ++ column b ++ column c ++ column d ++ column e) f 88 (71 + p) _ long-5 (omega (arith, to))
-        (at-column (eight ++ column a ++ column b ++ column c ++ column d) e 72 (71 + p) p long-4 (omega arith) from to))
+        before (four ++ column a ++ column b ++ column c ++ column d ++ column e ++ column f) g 100 (67 + p) _ long-6 (omega (arith, to))
+        (before (four ++ column a ++ column b ++ column c ++ column d ++ column e) f 84 (67 + p) _ long-5 (omega (arith, to))
+        (at-column (four ++ column a ++ column b ++ column c ++ column d) e 68 (67 + p) p long-4 (omega arith) from to))
 
-    at-f : get_or (eight ++ column a ++ column b ++ column c ++ column d ++ column e ++ column f ++ column g) (87 + p) 0 ≡ f p
+    at-f : get_or (four ++ column a ++ column b ++ column c ++ column d ++ column e ++ column f ++ column g) (83 + p) 0 ≡ f p
     at-f =
-        before (eight ++ column a ++ column b ++ column c ++ column d ++ column e ++ column f) g 104 (87 + p) _ long-6 (omega (arith, to))
-        (at-column (eight ++ column a ++ column b ++ column c ++ column d ++ column e) f 88 (87 + p) p long-5 (omega arith) from to)
+        before (four ++ column a ++ column b ++ column c ++ column d ++ column e ++ column f) g 100 (83 + p) _ long-6 (omega (arith, to))
+        (at-column (four ++ column a ++ column b ++ column c ++ column d ++ column e) f 84 (83 + p) p long-5 (omega arith) from to)
 
-    at-g : get_or (eight ++ column a ++ column b ++ column c ++ column d ++ column e ++ column f ++ column g) (103 + p) 0 ≡ g p
+    at-g : get_or (four ++ column a ++ column b ++ column c ++ column d ++ column e ++ column f ++ column g) (99 + p) 0 ≡ g p
     at-g =
-        at-column (eight ++ column a ++ column b ++ column c ++ column d ++ column e ++ column f) g 104 (103 + p) p long-6 (omega arith) from to
+        at-column (four ++ column a ++ column b ++ column c ++ column d ++ column e ++ column f) g 100 (99 + p) p long-6 (omega arith) from to
 
--- a list that is made of a test
-list-read : (cells : List ℕ) (k p : ℕ) (test : ℕ → Bool) → slice_index cells k ≡ list_of 16 test → 1 ≤ p → p ≤ 16 → names (list_in cells k) p ≡ test p
-list-read cells k p test e from to =
-    let small : list_of 16 test < 65536 = list_of-below 16 test in
-    let whole_list : list_of 16 test % 65536 ≡ list_of 16 test = omega (arith, small) in
-    ap (λ (n : ℕ). names (n % 65536) p) e ∙ ap (λ (n : ℕ). names n p) whole_list ∙ names-list_of 16 p test from to
+-- a list that is made of a test, beside another one in its cell
+module _ (cells : List ℕ) (c : ℕ) (low high : ℕ → Bool) (e : slice_index cells c ≡ pair (list_of 16 low) (list_of 16 high)) (p : ℕ) (from : 1 ≤ p) (to : p ≤ 16) where
+  low-read : names (slice_index cells c % 65536) p ≡ low p
+  low-read =
+      let small : list_of 16 low < 65536 = list_of-below 16 low in
+      let list : slice_index cells c % 65536 ≡ list_of 16 low = omega (arith, small, e) in
+      ap (λ (n : ℕ). names n p) list ∙ names-list_of 16 p low from to
+
+  high-read : names (slice_index cells c / 65536) p ≡ high p
+  high-read =
+      let small : list_of 16 low < 65536 = list_of-below 16 low in
+      let list : slice_index cells c / 65536 ≡ list_of 16 high = omega (arith, small, e) in
+      ap (λ (n : ℕ). names n p) list ∙ names-list_of 16 p high from to
 
 -- ## The table
 
 abbrev listed : (ℕ → Phase) → List ℕ
 listed f =
-    list_of 16 (λ p. has_way (f p).interval) ∷ list_of 16 (λ p. is_clearing (f p).interval) ∷
-    list_of 16 (λ p. is_walk (f p).pedestrian) ∷ list_of 16 (λ p. is_clearance (f p).pedestrian) ∷
-    list_of 16 (λ p. (f p).gapped) ∷ list_of 16 (λ p. (f p).forced) ∷
-    list_of 16 (λ p. is_same MaxOut (f p).last_ending) ∷ list_of 16 (λ p. is_same GapOut (f p).last_ending) ∷ []
+    pair (list_of 16 (λ p. has_way (f p).interval)) (list_of 16 (λ p. is_clearing (f p).interval)) ∷
+    pair (list_of 16 (λ p. is_walk (f p).pedestrian)) (list_of 16 (λ p. is_clearance (f p).pedestrian)) ∷
+    pair (list_of 16 (λ p. (f p).gapped)) (list_of 16 (λ p. (f p).forced)) ∷
+    pair (list_of 16 (λ p. is_same MaxOut (f p).last_ending)) (list_of 16 (λ p. is_same GapOut (f p).last_ending)) ∷ []
 
 module _ (now : ℕ) (f : ℕ → Phase) where
   abbrev timers : ℕ → ℕ
@@ -278,14 +285,14 @@ module _ (now : ℕ) (f : ℕ → Phase) where
   unfolding row_in row_of column
   row-read p from to =
       same_values _ _ _ _ _ _ _ _ _ _ _ _ _ _ _ _ _ _ _ _ _ _ _ _ _ _ _ _ _ _
-      (list-read (phases_cells now f) 0 p (λ q. has_way (f q).interval) refl from to)
-      (list-read (phases_cells now f) 1 p (λ q. is_clearing (f q).interval) refl from to)
-      (list-read (phases_cells now f) 2 p (λ q. is_walk (f q).pedestrian) refl from to)
-      (list-read (phases_cells now f) 3 p (λ q. is_clearance (f q).pedestrian) refl from to)
-      (list-read (phases_cells now f) 4 p (λ q. (f q).gapped) refl from to)
-      (list-read (phases_cells now f) 5 p (λ q. (f q).forced) refl from to)
-      (list-read (phases_cells now f) 6 p (λ q. is_same MaxOut (f q).last_ending) refl from to)
-      (list-read (phases_cells now f) 7 p (λ q. is_same GapOut (f q).last_ending) refl from to)
+      (low-read (phases_cells now f) 0 (λ q. has_way (f q).interval) (λ q. is_clearing (f q).interval) refl p from to)
+      (high-read (phases_cells now f) 0 (λ q. has_way (f q).interval) (λ q. is_clearing (f q).interval) refl p from to)
+      (low-read (phases_cells now f) 1 (λ q. is_walk (f q).pedestrian) (λ q. is_clearance (f q).pedestrian) refl p from to)
+      (high-read (phases_cells now f) 1 (λ q. is_walk (f q).pedestrian) (λ q. is_clearance (f q).pedestrian) refl p from to)
+      (low-read (phases_cells now f) 2 (λ q. (f q).gapped) (λ q. (f q).forced) refl p from to)
+      (high-read (phases_cells now f) 2 (λ q. (f q).gapped) (λ q. (f q).forced) refl p from to)
+      (low-read (phases_cells now f) 3 (λ q. is_same MaxOut (f q).last_ending) (λ q. is_same GapOut (f q).last_ending) refl p from to)
+      (high-read (phases_cells now f) 3 (λ q. is_same MaxOut (f q).last_ending) (λ q. is_same GapOut (f q).last_ending) refl p from to)
       (at-a (listed f) timers pedestrian_timers passages conflicts reductions red_reverts maximums refl p from to)
       (at-b (listed f) timers pedestrian_timers passages conflicts reductions red_reverts maximums refl p from to)
       (at-c (listed f) timers pedestrian_timers passages conflicts reductions red_reverts maximums refl p from to)
@@ -294,16 +301,18 @@ module _ (now : ℕ) (f : ℕ → Phase) where
       (at-f (listed f) timers pedestrian_timers passages conflicts reductions red_reverts maximums refl p from to)
       (at-g (listed f) timers pedestrian_timers passages conflicts reductions red_reverts maximums refl p from to)
 
-lists-small : (now : ℕ) (f : ℕ → Phase) (k : ℕ) → k < 8 → slice_index (phases_cells now f) k < 65536
-lists-small now f zero below = list_of-below 16 (λ p. has_way (f p).interval)
-lists-small now f (suc zero) below = list_of-below 16 (λ p. is_clearing (f p).interval)
-lists-small now f (suc (suc zero)) below = list_of-below 16 (λ p. is_walk (f p).pedestrian)
-lists-small now f (suc (suc (suc zero))) below = list_of-below 16 (λ p. is_clearance (f p).pedestrian)
-lists-small now f (suc (suc (suc (suc zero)))) below = list_of-below 16 (λ p. (f p).gapped)
-lists-small now f (suc (suc (suc (suc (suc zero))))) below = list_of-below 16 (λ p. (f p).forced)
-lists-small now f (suc (suc (suc (suc (suc (suc zero)))))) below = list_of-below 16 (λ p. is_same MaxOut (f p).last_ending)
-lists-small now f (suc (suc (suc (suc (suc (suc (suc zero))))))) below = list_of-below 16 (λ p. is_same GapOut (f p).last_ending)
-lists-small now f (suc (suc (suc (suc (suc (suc (suc (suc k)))))))) below = absurd (omega (arith, below))
+pair-small : (low high : ℕ → Bool) → pair (list_of 16 low) (list_of 16 high) < 4294967296
+pair-small low high =
+    let one : list_of 16 low < 65536 = list_of-below 16 low in
+    let other : list_of 16 high < 65536 = list_of-below 16 high in
+    omega (arith, one, other)
+
+lists-small : (now : ℕ) (f : ℕ → Phase) (k : ℕ) → k < 4 → slice_index (phases_cells now f) k < 4294967296
+lists-small now f zero below = pair-small (λ p. has_way (f p).interval) (λ p. is_clearing (f p).interval)
+lists-small now f (suc zero) below = pair-small (λ p. is_walk (f p).pedestrian) (λ p. is_clearance (f p).pedestrian)
+lists-small now f (suc (suc zero)) below = pair-small (λ p. (f p).gapped) (λ p. (f p).forced)
+lists-small now f (suc (suc (suc zero))) below = pair-small (λ p. is_same MaxOut (f p).last_ending) (λ p. is_same GapOut (f p).last_ending)
+lists-small now f (suc (suc (suc (suc k)))) below = absurd (omega (arith, below))
 
 state-by : (now : ℕ) (f : ℕ → Phase) → AreInRange now f → IsBy now (phases_cells now f)
 state-by now f are = record {

@@ -1,5 +1,5 @@
 -- A row that the phases can hold at a tick is the table of what it says.
-use Rattle.std.proofs.Common.{◌≡◌, ℕ, ◌+◌, ◌-◌, ◌≤◌, ◌==◌, Bool, true, false, if◌then◌else◌, List, [], ◌∷◌, length, take, slice_index, refl, sym, ◌∙◌, inl, inr, arith, Some, None}
+use Rattle.std.proofs.Common.{◌≡◌, ℕ, ◌+◌, ◌-◌, ◌/◌, ◌%◌, ◌<◌, ◌≤◌, ◌==◌, Bool, true, false, if◌then◌else◌, List, [], ◌∷◌, length, take, slice_index, refl, sym, ◌∙◌, inl, inr, arith, Some, None}
 use Rattle.std.proofs.lemmas.Bool.{cases_Bool, eqb-true}
 use Rattle.std.proofs.lemmas.Bool.Decides.{nat_tests}
 use Rattle.tsb_cells.specs.Timer.{timer_cell}
@@ -8,14 +8,15 @@ use Rattle.tsb_cells.proofs.RowLemmas.{take-whole}
 use Rattle.tsb_objects.specs.tsb_types.declared.interval.Interval.TheVariants.{Red, Green, Yellow, RedClear}
 use Rattle.tsb_objects.specs.tsb_types.declared.interval.PedestrianInterval.TheVariants.{DontWalk, Walk, PedestrianClear}
 use Rattle.tsb_objects.specs.tsb_types.Intervals.{is_walk, is_clearance}
-use Rattle.tsb_objects.specs.tsb_types.Sets.{list_of}
+use Rattle.tsb_objects.specs.tsb_types.Sets.{names, list_of}
 use Rattle.tsb_objects.proofs.tsb_types.ClipLemmas.{is_phase_from}
+use Rattle.tsb_objects.proofs.tsb_types.SetLemmas.{list_of-names_within, same-list_of}
 use Rattle.tsb_phase.specs.declared.TheConstants.{CELLS}
 use Rattle.tsb_phase.specs.declared.ending.Ending.TheVariants.{MaxOut, GapOut}
 use Rattle.tsb_phase.specs.DynamicMaximum.{is_same}
-use Rattle.tsb_phase.specs.Cells.{has_way, is_clearing, number_in, number_cell, phase_in, row_in, phases_cells, IsBy}
+use Rattle.tsb_phase.specs.Cells.{has_way, is_clearing, pair, number_in, number_cell, phase_in, row_in, phases_cells, IsBy}
 use Rattle.tsb_phase.specs.Laws.{RowsAreTold}
-use Rattle.tsb_cells.proofs.TableLemmas.{list-told, more, column}
+use Rattle.tsb_cells.proofs.TableLemmas.{more, column}
 
 -- ## What the lists tell
 
@@ -59,48 +60,56 @@ number-told n = elim (cases_Bool (n == 0)) [
   | inr some ↦ (let e : n - 1 + 1 ≡ n = grind (arith, nat_tests, some) in rw some e)
 ]
 
-eight : (row : List ℕ) → 8 ≤ length row → (slice_index row 0 ∷ slice_index row 1 ∷ slice_index row 2 ∷ slice_index row 3 ∷ slice_index row 4 ∷ slice_index row 5 ∷ slice_index row 6 ∷ slice_index row 7 ∷ []) ≡ take 8 row
-eight (a ∷ (b ∷ (c ∷ (d ∷ (e ∷ (f ∷ (g ∷ (h ∷ rest)))))))) full = refl
-eight row full = absurd (omega arith)
+-- two lists in a cell are what they name
+pair-told : (cell : ℕ) (low high : ℕ → Bool) → cell < 4294967296 → ((p : ℕ) → 1 ≤ p → p ≤ 16 → low p ≡ names (cell % 65536) p) →
+    ((p : ℕ) → 1 ≤ p → p ≤ 16 → high p ≡ names (cell / 65536) p) → pair (list_of 16 low) (list_of 16 high) ≡ cell
+pair-told cell low high small lows highs =
+    let one : list_of 16 low ≡ cell % 65536 = same-list_of 16 low (names (cell % 65536)) lows ∙ list_of-names_within 16 (cell % 65536) (omega arith) in
+    let other : list_of 16 high ≡ cell / 65536 = same-list_of 16 high (names (cell / 65536)) highs ∙ list_of-names_within 16 (cell / 65536) (omega (arith, small)) in
+    omega (arith, one, other)
+
+four : (row : List ℕ) → 4 ≤ length row → (slice_index row 0 ∷ slice_index row 1 ∷ slice_index row 2 ∷ slice_index row 3 ∷ []) ≡ take 4 row
+four (a ∷ (b ∷ (c ∷ (d ∷ rest)))) full = refl
+four row full = absurd (omega arith)
 
 module _ (now : ℕ) (row : List ℕ) (by : IsBy now row) where
   full : length row ≡ CELLS
   full = by.full
 
-  lists : (list_of 16 (λ p. has_way (phase_in now row p).interval) ∷ list_of 16 (λ p. is_clearing (phase_in now row p).interval) ∷
-      list_of 16 (λ p. is_walk (phase_in now row p).pedestrian) ∷ list_of 16 (λ p. is_clearance (phase_in now row p).pedestrian) ∷
-      list_of 16 (λ p. (phase_in now row p).gapped) ∷ list_of 16 (λ p. (phase_in now row p).forced) ∷
-      list_of 16 (λ p. is_same MaxOut (phase_in now row p).last_ending) ∷ list_of 16 (λ p. is_same GapOut (phase_in now row p).last_ending) ∷ []) ≡ take 8 row
+  lists : (pair (list_of 16 (λ p. has_way (phase_in now row p).interval)) (list_of 16 (λ p. is_clearing (phase_in now row p).interval)) ∷
+      pair (list_of 16 (λ p. is_walk (phase_in now row p).pedestrian)) (list_of 16 (λ p. is_clearance (phase_in now row p).pedestrian)) ∷
+      pair (list_of 16 (λ p. (phase_in now row p).gapped)) (list_of 16 (λ p. (phase_in now row p).forced)) ∷
+      pair (list_of 16 (λ p. is_same MaxOut (phase_in now row p).last_ending)) (list_of 16 (λ p. is_same GapOut (phase_in now row p).last_ending)) ∷ []) ≡ take 4 row
   unfolding phase_in row_in
   lists =
       rw (
-        list-told row 0 (λ p. has_way (phase_in now row p).interval) (by.lists 0 (omega arith)) (λ p from to. rw (is_phase_from p from to) (way-by _ _)),
-        list-told row 1 (λ p. is_clearing (phase_in now row p).interval) (by.lists 1 (omega arith)) (λ p from to. rw (is_phase_from p from to) (clearing-by _ _)),
-        list-told row 2 (λ p. is_walk (phase_in now row p).pedestrian) (by.lists 2 (omega arith)) (λ p from to. rw (is_phase_from p from to) (walk-by _ _)),
-        list-told row 3 (λ p. is_clearance (phase_in now row p).pedestrian) (by.lists 3 (omega arith)) (λ p from to. rw (is_phase_from p from to) (clear-by _ _ (by.each p from to).walk_clearance)),
-        list-told row 4 (λ p. (phase_in now row p).gapped) (by.lists 4 (omega arith)) (λ p from to. rw (is_phase_from p from to) refl),
-        list-told row 5 (λ p. (phase_in now row p).forced) (by.lists 5 (omega arith)) (λ p from to. rw (is_phase_from p from to) refl),
-        list-told row 6 (λ p. is_same MaxOut (phase_in now row p).last_ending) (by.lists 6 (omega arith)) (λ p from to. rw (is_phase_from p from to) (max-by _ _)),
-        list-told row 7 (λ p. is_same GapOut (phase_in now row p).last_ending) (by.lists 7 (omega arith)) (λ p from to. rw (is_phase_from p from to) (gap-by _ _ (by.each p from to).endings)),
-      ) (eight row (omega (arith, full)))
+        pair-told (slice_index row 0) (λ p. has_way (phase_in now row p).interval) (λ p. is_clearing (phase_in now row p).interval) (by.lists 0 (omega arith))
+            (λ p from to. rw (is_phase_from p from to) (way-by _ _)) (λ p from to. rw (is_phase_from p from to) (clearing-by _ _)),
+        pair-told (slice_index row 1) (λ p. is_walk (phase_in now row p).pedestrian) (λ p. is_clearance (phase_in now row p).pedestrian) (by.lists 1 (omega arith))
+            (λ p from to. rw (is_phase_from p from to) (walk-by _ _)) (λ p from to. rw (is_phase_from p from to) (clear-by _ _ (by.each p from to).walk_clearance)),
+        pair-told (slice_index row 2) (λ p. (phase_in now row p).gapped) (λ p. (phase_in now row p).forced) (by.lists 2 (omega arith))
+            (λ p from to. rw (is_phase_from p from to) refl) (λ p from to. rw (is_phase_from p from to) refl),
+        pair-told (slice_index row 3) (λ p. is_same MaxOut (phase_in now row p).last_ending) (λ p. is_same GapOut (phase_in now row p).last_ending) (by.lists 3 (omega arith))
+            (λ p from to. rw (is_phase_from p from to) (max-by _ _)) (λ p from to. rw (is_phase_from p from to) (gap-by _ _ (by.each p from to).endings)),
+      ) (four row (omega (arith, full)))
 
   phases-told : phases_cells now (phase_in now row) ≡ row
   unfolding phase_in row_in
   phases-told =
-      more row 104 (λ p. number_cell (phase_in now row p).running_maximum) _
-      (more row 88 (λ p. timer_cell now (phase_in now row p).red_revert) _
-      (more row 72 (λ p. timer_cell now (phase_in now row p).reduction) _
-      (more row 56 (λ p. timer_cell now (phase_in now row p).conflict) _
-      (more row 40 (λ p. timer_cell now (phase_in now row p).passage) _
-      (more row 24 (λ p. timer_cell now (phase_in now row p).pedestrian_timer) _
-      (more row 8 (λ p. timer_cell now (phase_in now row p).timer) _ lists
-      (column row 8 _ (omega (arith, full)) (omega arith) (λ p from to. rw (is_phase_from p from to) (timer_cell-timer_at now _ (by.each p from to).timer))))
-      (column row 24 _ (omega (arith, full)) (omega arith) (λ p from to. rw (is_phase_from p from to) (timer_cell-timer_at now _ (by.each p from to).pedestrian_timer))))
-      (column row 40 _ (omega (arith, full)) (omega arith) (λ p from to. rw (is_phase_from p from to) (timer_cell-timer_at now _ (by.each p from to).passage))))
-      (column row 56 _ (omega (arith, full)) (omega arith) (λ p from to. rw (is_phase_from p from to) (timer_cell-timer_at now _ (by.each p from to).conflict))))
-      (column row 72 _ (omega (arith, full)) (omega arith) (λ p from to. rw (is_phase_from p from to) (timer_cell-timer_at now _ (by.each p from to).reduction))))
-      (column row 88 _ (omega (arith, full)) (omega arith) (λ p from to. rw (is_phase_from p from to) (timer_cell-timer_at now _ (by.each p from to).red_revert))))
-      (column row 104 _ (omega (arith, full)) (omega arith) (λ p from to. rw (is_phase_from p from to) (number-told _)))
+      more row 100 (λ p. number_cell (phase_in now row p).running_maximum) _
+      (more row 84 (λ p. timer_cell now (phase_in now row p).red_revert) _
+      (more row 68 (λ p. timer_cell now (phase_in now row p).reduction) _
+      (more row 52 (λ p. timer_cell now (phase_in now row p).conflict) _
+      (more row 36 (λ p. timer_cell now (phase_in now row p).passage) _
+      (more row 20 (λ p. timer_cell now (phase_in now row p).pedestrian_timer) _
+      (more row 4 (λ p. timer_cell now (phase_in now row p).timer) _ lists
+      (column row 4 _ (omega (arith, full)) (omega arith) (λ p from to. rw (is_phase_from p from to) (timer_cell-timer_at now _ (by.each p from to).timer))))
+      (column row 20 _ (omega (arith, full)) (omega arith) (λ p from to. rw (is_phase_from p from to) (timer_cell-timer_at now _ (by.each p from to).pedestrian_timer))))
+      (column row 36 _ (omega (arith, full)) (omega arith) (λ p from to. rw (is_phase_from p from to) (timer_cell-timer_at now _ (by.each p from to).passage))))
+      (column row 52 _ (omega (arith, full)) (omega arith) (λ p from to. rw (is_phase_from p from to) (timer_cell-timer_at now _ (by.each p from to).conflict))))
+      (column row 68 _ (omega (arith, full)) (omega arith) (λ p from to. rw (is_phase_from p from to) (timer_cell-timer_at now _ (by.each p from to).reduction))))
+      (column row 84 _ (omega (arith, full)) (omega arith) (λ p from to. rw (is_phase_from p from to) (timer_cell-timer_at now _ (by.each p from to).red_revert))))
+      (column row 100 _ (omega (arith, full)) (omega arith) (λ p from to. rw (is_phase_from p from to) (number-told _)))
       ∙ take-whole row CELLS full
 
 pub rows-told : RowsAreTold

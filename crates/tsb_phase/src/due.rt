@@ -3,6 +3,7 @@ ghost use Rattle.std.specs.Prelude.{◌≡◌, ℕ, ◌+◌, ◌-◌, ◌<◌, �
 ghost use Rattle.tsb_cells.specs.Timer.{timer_at, has_reached};
 ghost use Rattle.tsb_objects.specs.tsb_types.declared.interval.Interval.TheVariants.{Green, Yellow, RedClear};
 ghost use Rattle.tsb_objects.specs.tsb_types.declared.interval.PedestrianInterval.TheVariants.{Walk, PedestrianClear};
+ghost use Rattle.tsb_objects.specs.tsb_plan.Plan.{red_revert};
 ghost use Rattle.tsb_objects.specs.tsb_plan.PlanOf.{plan_of};
 ghost use Rattle.tsb_phase.specs.Green.{initial, gap, has_reached_some};
 ghost use Rattle.tsb_phase.specs.Phase.{Given};
@@ -20,13 +21,13 @@ use crate::green::{
 use crate::pedestrian::{
     clearance_time, ended_by, is_resting_in_walk, may_walk_again, pedestrian_of, walk_time,
 };
-use crate::phase_row::{PhaseRow, interval_of};
+use crate::phase_row::PhaseRow;
 use crate::phases::Phases;
 use crate::rows::RED_REVERTS;
 use crate::times::{gap, initial, ticks_to_gap};
 use crate::visit::{held, number_in};
 use tsb_cells::Timer;
-use tsb_objects::{Interval, PedestrianInterval, Phase, Plan};
+use tsb_objects::{PedestrianInterval, Phase, Plan};
 
 /// The tick up to which a timer that is On, as its cell tells, has not reached a limit.
 #[inline(always)]
@@ -182,7 +183,8 @@ fn turn_gap(now: u32, plan: &Plan, p: Phase, was: &PhaseRow) -> u32
     now.saturating_add(ticks)
 }
 
-/// The tick up to which a green is still, where tick `now` leaves its timers and latches as they were.
+/// The tick up to which a green is still but for its red revert, where tick `now` leaves its timers and latches as they
+/// were.
 #[inline(always)]
 fn due_kept(now: u32, plan: &Plan, conditions: &Conditions, p: Phase, was: &PhaseRow) -> u32
     requires fits { now + 1 < 2 ^ 32 }
@@ -207,7 +209,8 @@ fn due_kept(now: u32, plan: &Plan, conditions: &Conditions, p: Phase, was: &Phas
         .min(most.min(floating))
 }
 
-/// The tick up to which a Green phase is still: no further tick, where tick `now` changes its timers or latches.
+/// The tick up to which a Green phase is still but for its red revert: no further tick, where tick `now` changes its
+/// timers or latches.
 #[inline(always)]
 fn due_green(now: u32, plan: &Plan, conditions: &Conditions, p: Phase, was: &PhaseRow) -> u32
     requires fits { now + 1 < 2 ^ 32 }
@@ -222,7 +225,7 @@ fn due_green(now: u32, plan: &Plan, conditions: &Conditions, p: Phase, was: &Pha
     now
 }
 
-/// The tick up to which a Yellow phase is still.
+/// The tick up to which a Yellow phase is still but for its red revert.
 #[inline(always)]
 fn due_yellow(plan: &Plan, p: Phase, was: &PhaseRow) -> u32
     requires { interval_of_row was.now ≡ Yellow }
@@ -233,7 +236,7 @@ fn due_yellow(plan: &Plan, p: Phase, was: &PhaseRow) -> u32
     until(was.timer, change)
 }
 
-/// The tick up to which a phase in red clearance is still.
+/// The tick up to which a phase in red clearance is still but for its red revert.
 #[inline(always)]
 fn due_red_clear(now: u32, plan: &Plan, p: Phase, was: &PhaseRow) -> u32
     requires fits { now + 1 < 2 ^ 32 }
@@ -255,11 +258,14 @@ fn due_of(now: u32, plan: &Plan, conditions: &Conditions, p: Phase, was: &PhaseR
     ensures { (t : ℕ) → now < t → t < result → IsRevertedAs (plan_of plan.now) p was.now now t →
         IsStill (plan_of plan.now) (given_of conditions.now) p was.now now t }
 {
-    match interval_of(was) {
-        Interval::Green => due_green(now, plan, conditions, p, was),
-        Interval::Yellow => due_yellow(plan, p, was),
-        Interval::RedClear => due_red_clear(now, plan, p, was),
-        Interval::Red => now,
+    if was.right_of_way && !was.clearing {
+        due_green(now, plan, conditions, p, was)
+    } else if was.right_of_way {
+        due_yellow(plan, p, was)
+    } else if was.clearing {
+        due_red_clear(now, plan, p, was)
+    } else {
+        now
     }
 }
 
@@ -284,27 +290,35 @@ impl Phases {
         due
     }
 
-    /// The tick up to which what is said of red revert timers stays the same.
+    /// The tick up to which what is said of red revert timers stays the same. No phase's time is over `longest`.
     #[inline(always)]
-    fn reverts_due(&self, now: u32, plan: &Plan) -> u32
+    fn reverts_due(&self, now: u32, plan: &Plan, longest: u32) -> u32
         requires fits { now + 1 < 2 ^ 32 }
+        requires longest { (p : ℕ) → 1 ≤ p → p ≤ 16 → red_revert (plan_of plan.now) p ≤ longest }
         ensures { (t p : ℕ) → t < result → 1 ≤ p → p ≤ 16 → StaysReverted (plan_of plan.now) (cells_of self.now) now t p }
     {
-        if self.may_revert(now, plan) {
+        if self.may_revert(now, longest) {
             self.due_to_revert(now, plan)
         } else {
             u32::MAX
         }
     }
 
-    /// The tick up to which all phases are still.
-    pub(crate) fn still_until(&self, now: u32, conditions: &Conditions, plan: &Plan) -> u32
+    /// The tick up to which all phases are still. No red revert time of a phase is over `longest`.
+    pub(crate) fn still_until(
+        &self,
+        now: u32,
+        conditions: &Conditions,
+        plan: &Plan,
+        longest: u32,
+    ) -> u32
         requires fits { now + 1 < 2 ^ 32 }
+        requires longest { (p : ℕ) → 1 ≤ p → p ≤ 16 → red_revert (plan_of plan.now) p ≤ longest }
         requires by { (p : ℕ) → 1 ≤ p → p ≤ 16 → IsRowBy now (row_in (cells_of self.now) p) }
         ensures { (t p : ℕ) → now < t → t < result → 1 ≤ p → p ≤ 16 →
             IsStill (plan_of plan.now) (given_of conditions.now) p (row_in (cells_of self.now) p) now t }
     {
-        let mut due = self.reverts_due(now, plan);
+        let mut due = self.reverts_due(now, plan, longest);
         let mut rest = self.in_service();
         while let Some(p) = rest.pop() {
             let was = self.load(p);

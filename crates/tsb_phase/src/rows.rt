@@ -1,16 +1,15 @@
 //! Rows of phases in the cells: how they are read, and written where they change.
 ghost use Rattle.std.specs.Prelude.{◌≡◌, ◌≢◌, ℕ, ◌+◌, ◌*◌, ◌<◌, ◌≤◌, true, false, slice_index};
-ghost use Rattle.tsb_objects.specs.tsb_types.Sets.{has, names, list_in};
-ghost use Rattle.tsb_cells.specs.Lists.{Elsewhere};
-ghost use Rattle.tsb_phase.specs.Cells.{row_in};
-ghost use Rattle.tsb_phase.specs.Rows.{list_of_row, cell_of_row, with_list, with_cell, with_lists};
+ghost use Rattle.tsb_objects.specs.tsb_types.Sets.{has, names};
+ghost use Rattle.tsb_phase.specs.Cells.{half, list_at, row_in};
+ghost use Rattle.tsb_phase.specs.Rows.{ChangesList, list_of_row, cell_of_row, with_list, with_cell, with_lists};
 
 use crate::phase_row::PhaseRow;
 use crate::phases::Phases;
-use tsb_cells::lists::{phases, put_phases};
 use tsb_objects::{Phase, PhaseSet};
 
-/// The list of the phases that have right of way, in Green or Yellow. Each list is in the cell of its number.
+/// The list of the phases that have right of way, in Green or Yellow. Lists 0 and 1 share the cell 0, lists 2 and 3 the
+/// cell 1, and so on; the even one is its low half.
 pub(crate) const RIGHT_OF_WAY: usize = 0;
 
 /// The list of those that are clearing, in Yellow or RedClear.
@@ -44,17 +43,48 @@ pub(crate) const RED_REVERTS: usize = 5;
 pub(crate) const RUNNING_MAXIMUMS: usize = 6;
 
 /// The cell of the interval timer of phase 1.
-pub(crate) const FIRST_TIMER: usize = 8;
+pub(crate) const FIRST_TIMER: usize = 4;
+
+/// How many lists there are of 16 phases.
+const LISTS: u32 = 65_536;
 
 /// The cell of kind `k` of a phase.
 #[inline(always)]
 fn place(k: usize, p: Phase) -> usize
     requires { k < 7 }
-    ensures at { result ≡ 7 + 16 * k + p }
+    ensures at { result ≡ 3 + 16 * k + p }
     ensures from { 1 ≤ p }
     ensures within { p ≤ 16 }
 {
-    7 + 16 * k + usize::from(p.number())
+    FIRST_TIMER - 1 + 16 * k + usize::from(p.number())
+}
+
+/// The list in half `h` of a cell.
+#[inline(always)]
+fn half(cell: u32, h: usize) -> u16
+    requires { h < 2 }
+    ensures { result ≡ half h cell }
+{
+    if h == 0 {
+        (cell % LISTS) as u16
+    } else {
+        (cell / LISTS) as u16
+    }
+}
+
+/// A cell with another list in its half `h`.
+#[inline(always)]
+fn with_half(cell: u32, h: usize, list: u16) -> u32
+    requires { h < 2 }
+    ensures own { half h result ≡ list }
+    ensures other { (i : ℕ) → i < 2 → i ≢ h → half i result ≡ half i cell }
+{
+    let list = u32::from(list);
+    if h == 0 {
+        cell / LISTS * LISTS + list
+    } else {
+        list * LISTS + cell % LISTS
+    }
 }
 
 impl Phases {
@@ -64,9 +94,33 @@ impl Phases {
     #[inline(always)]
     pub(crate) fn cell(&self, k: usize, p: Phase) -> u32
         requires { k < 7 }
-        ensures { result ≡ slice_index (cells_of self.now) (7 + 16 * k + p) }
+        ensures { result ≡ slice_index (cells_of self.now) (3 + 16 * k + p) }
     {
         self.bank.get(place(k, p))
+    }
+
+    /// The phases in list `k`.
+    #[inline(always)]
+    pub(crate) fn list(&self, k: usize) -> PhaseSet
+        requires { k < 8 }
+        ensures { (p : ℕ) → has result p ≡ names (list_at (cells_of self.now) k) p }
+    {
+        PhaseSet::from_list(half(self.bank.get(k / 2), k % 2))
+    }
+
+    /// Puts a set of phases into list `k`.
+    #[inline(always)]
+    fn put(&mut self, k: usize, set: PhaseSet)
+        requires in_range { k < 8 }
+        requires opened { is_open self.old ≡ true }
+        ensures told { (p : ℕ) → names (list_at (cells_of self.new) k) p ≡ has set p }
+        ensures others { ChangesList k (cells_of self.old) (cells_of self.new) }
+        ensures lists { KeepsLists (cells_of self.old) (cells_of self.new) }
+        ensures kept { kept_of self.new ≡ kept_of self.old }
+        ensures opened { is_open self.new ≡ true }
+    {
+        let cell = self.bank.get(k / 2);
+        self.bank.put(k / 2, with_half(cell, k % 2, set.list()));
     }
 
     /// The row of a phase.
@@ -76,14 +130,14 @@ impl Phases {
         ensures { result ≡ row_in (cells_of self.now) p }
     {
         PhaseRow {
-            right_of_way: phases(&self.bank, RIGHT_OF_WAY).contains(p),
-            clearing: phases(&self.bank, CLEARING).contains(p),
-            walk: phases(&self.bank, WALKS).contains(p),
-            clearance: phases(&self.bank, CLEARANCES).contains(p),
-            gapped: phases(&self.bank, GAPPED).contains(p),
-            forced: phases(&self.bank, FORCED).contains(p),
-            max_out: phases(&self.bank, MAX_OUTS).contains(p),
-            gap_out: phases(&self.bank, GAP_OUTS).contains(p),
+            right_of_way: self.list(RIGHT_OF_WAY).contains(p),
+            clearing: self.list(CLEARING).contains(p),
+            walk: self.list(WALKS).contains(p),
+            clearance: self.list(CLEARANCES).contains(p),
+            gapped: self.list(GAPPED).contains(p),
+            forced: self.list(FORCED).contains(p),
+            max_out: self.list(MAX_OUTS).contains(p),
+            gap_out: self.list(GAP_OUTS).contains(p),
             timer: self.cell(TIMERS, p),
             pedestrian_timer: self.cell(PEDESTRIAN_TIMERS, p),
             passage: self.cell(PASSAGES, p),
@@ -123,21 +177,21 @@ impl Phases {
         ensures opened { is_open self.new ≡ true }
     {
         p.known();
-        let changed = phases(&self.bank, k).with(p, on);
-        put_phases(&mut self.bank, k, changed);
+        let changed = self.list(k).with(p, on);
+        self.put(k, changed);
     }
 
     /// Takes all phases out of list `k`.
     pub(crate) fn empty_list(&mut self, k: usize)
         requires in_range { k < 8 }
         requires opened { is_open self.old ≡ true }
-        ensures none { (p : ℕ) → names (list_in (cells_of self.new) k) p ≡ false }
-        ensures small { slice_index (cells_of self.new) k < 65536 }
-        ensures others { Elsewhere k (cells_of self.old) (cells_of self.new) }
+        ensures none { (p : ℕ) → names (list_at (cells_of self.new) k) p ≡ false }
+        ensures others { ChangesList k (cells_of self.old) (cells_of self.new) }
+        ensures lists { KeepsLists (cells_of self.old) (cells_of self.new) }
         ensures kept { kept_of self.new ≡ kept_of self.old }
         ensures opened { is_open self.new ≡ true }
     {
-        put_phases(&mut self.bank, k, PhaseSet::empty());
+        self.put(k, PhaseSet::empty());
     }
 
     /// Puts a value into the cell of kind `k` of a phase, where that is a change.

@@ -11,12 +11,10 @@ ghost use Rattle.tsb_phase.specs.Cells.{row_in, interval_of_row, IsRowBy};
 ghost use Rattle.tsb_phase.specs.Rows.{IsVisit, IsFresh, IsToldAs, told};
 
 use crate::conditions::Conditions;
-use crate::phase_row::interval_of;
 use crate::phases::Phases;
 use crate::rows::{CLEARING, RED_REVERTS, RIGHT_OF_WAY};
 use crate::visit::{visit_green, visit_red_clear, visit_yellow};
-use tsb_cells::lists::phases;
-use tsb_objects::{Checked, Interval, Phase, PhaseSet, Timing};
+use tsb_objects::{Checked, Phase, PhaseSet, Timing};
 
 /// Whether the timer of a cell is Off or has reached the limit at tick `now`. Both are always tested: so a loop over
 /// all phases has no branch, and takes several of them at a time.
@@ -54,25 +52,20 @@ impl Phases {
         ensures opened { is_open self.new ≡ true }
     {
         let was = self.load(p);
-        match interval_of(&was) {
-            Interval::Green => {
-                let visit = visit_green(now, plan, conditions, p, &was);
-                self.store(p, &was, &visit.row);
-                timing.ready = timing.ready.joined(p, visit.ready);
-                timing.gapped = timing.gapped.joined(p, visit.gapped);
-                timing.walks = timing.walks.joined(p, visit.walks);
-            }
-            Interval::Yellow => {
-                let visit = visit_yellow(now, plan.plan(), conditions, p, &was);
-                self.store(p, &was, &visit.row);
-                timing.over = timing.over.joined(p, visit.over);
-                timing.red_revert_passed = timing.red_revert_passed.with(p, visit.reverted);
-            }
-            Interval::RedClear => {
-                let visit = visit_red_clear(now, plan.plan(), conditions, p, &was);
-                timing.over = timing.over.joined(p, visit.over);
-            }
-            Interval::Red => {}
+        if was.right_of_way && !was.clearing {
+            let visit = visit_green(now, plan, conditions, p, &was);
+            self.store(p, &was, &visit.row);
+            timing.ready = timing.ready.joined(p, visit.ready);
+            timing.gapped = timing.gapped.joined(p, visit.gapped);
+            timing.walks = timing.walks.joined(p, visit.walks);
+        } else if was.right_of_way {
+            let visit = visit_yellow(now, plan.plan(), conditions, p, &was);
+            self.store(p, &was, &visit.row);
+            timing.over = timing.over.joined(p, visit.over);
+            timing.red_revert_passed = timing.red_revert_passed.with(p, visit.reverted);
+        } else if was.clearing {
+            let visit = visit_red_clear(now, plan.plan(), conditions, p, &was);
+            timing.over = timing.over.joined(p, visit.over);
         }
     }
 
@@ -102,7 +95,7 @@ impl Phases {
         ensures { (p : ℕ) → 1 ≤ p → p ≤ 16 →
             has result p ≡ has_passed (timer_at now (row_in (cells_of self.now) p).red_revert) (red_revert (checked_plan plan.now) p) }
     {
-        if self.may_revert(now, plan.plan()) {
+        if self.may_revert(now, plan.longest_red_revert()) {
             self.reverted(now, plan)
         } else {
             PhaseSet::from_list(u16::MAX)
@@ -114,7 +107,7 @@ impl Phases {
     pub(crate) fn in_service(&self) -> PhaseSet
         ensures { (p : ℕ) → has result p ≡ in_service (interval_of_row (row_in (cells_of self.now) p)) }
     {
-        phases(&self.bank, RIGHT_OF_WAY).union(phases(&self.bank, CLEARING))
+        self.list(RIGHT_OF_WAY).union(self.list(CLEARING))
     }
 
     /// The times of phases run.

@@ -143,27 +143,27 @@ module _ (c : ℕ) (row : List ℕ) (f : ℕ → Phase) (by : phases.IsBy c row)
   phase-kept : phases.phase_of c (phases.row_in row p) ≡ f p
   phase-kept = sym (phase_in-row c row p from to) ∙ ap (λ (g : ℕ → Phase). g p) read
 
-  keeps-timer : Keeps c (slice_index row (7 + p)) (f p).timer
+  keeps-timer : Keeps c (slice_index row (3 + p)) (f p).timer
   unfolding phases.row_in
   keeps-timer = keeps c _ _ (by.each p from to).timer (ap (λ (x : Phase). x.timer) phase-kept)
 
-  keeps-pedestrian : Keeps c (slice_index row (23 + p)) (f p).pedestrian_timer
+  keeps-pedestrian : Keeps c (slice_index row (19 + p)) (f p).pedestrian_timer
   unfolding phases.row_in
   keeps-pedestrian = keeps c _ _ (by.each p from to).pedestrian_timer (ap (λ (x : Phase). x.pedestrian_timer) phase-kept)
 
-  keeps-passage : Keeps c (slice_index row (39 + p)) (f p).passage
+  keeps-passage : Keeps c (slice_index row (35 + p)) (f p).passage
   unfolding phases.row_in
   keeps-passage = keeps c _ _ (by.each p from to).passage (ap (λ (x : Phase). x.passage) phase-kept)
 
-  keeps-conflict : Keeps c (slice_index row (55 + p)) (f p).conflict
+  keeps-conflict : Keeps c (slice_index row (51 + p)) (f p).conflict
   unfolding phases.row_in
   keeps-conflict = keeps c _ _ (by.each p from to).conflict (ap (λ (x : Phase). x.conflict) phase-kept)
 
-  keeps-reduction : Keeps c (slice_index row (71 + p)) (f p).reduction
+  keeps-reduction : Keeps c (slice_index row (67 + p)) (f p).reduction
   unfolding phases.row_in
   keeps-reduction = keeps c _ _ (by.each p from to).reduction (ap (λ (x : Phase). x.reduction) phase-kept)
 
-  keeps-red_revert : Keeps c (slice_index row (87 + p)) (f p).red_revert
+  keeps-red_revert : Keeps c (slice_index row (83 + p)) (f p).red_revert
   unfolding phases.row_in
   keeps-red_revert = keeps c _ _ (by.each p from to).red_revert (ap (λ (x : Phase). x.red_revert) phase-kept)
 
@@ -251,12 +251,12 @@ module _ (s : State) (is : IsOfRun s) where
   place-keeps : (w : Place) → IsPlace w → Keeps (clock s) (slice_index (cells_of s) (cell_of w)) (timer_of w s)
   place-keeps (Change d) at = detector-there (21 + d) _ (omega (arith, at.1)) (keeps-change (clock s) row-detect s.detectors by-detect read-detect d at.0 at.1)
   place-keeps (Extend d) at = detector-there (37 + d) _ (omega (arith, at.1)) (keeps-extend (clock s) row-detect s.detectors by-detect read-detect d at.0 at.1)
-  place-keeps (Interval p) at = phase-there (7 + p) _ (omega (arith, at.1)) (keeps-timer (clock s) row-phases s.phases by-phases read-phases p at.0 at.1)
-  place-keeps (Pedestrian p) at = phase-there (23 + p) _ (omega (arith, at.1)) (keeps-pedestrian (clock s) row-phases s.phases by-phases read-phases p at.0 at.1)
-  place-keeps (Passage p) at = phase-there (39 + p) _ (omega (arith, at.1)) (keeps-passage (clock s) row-phases s.phases by-phases read-phases p at.0 at.1)
-  place-keeps (Conflict p) at = phase-there (55 + p) _ (omega (arith, at.1)) (keeps-conflict (clock s) row-phases s.phases by-phases read-phases p at.0 at.1)
-  place-keeps (Reduction p) at = phase-there (71 + p) _ (omega (arith, at.1)) (keeps-reduction (clock s) row-phases s.phases by-phases read-phases p at.0 at.1)
-  place-keeps (RedRevert p) at = phase-there (87 + p) _ (omega (arith, at.1)) (keeps-red_revert (clock s) row-phases s.phases by-phases read-phases p at.0 at.1)
+  place-keeps (Interval p) at = phase-there (3 + p) _ (omega (arith, at.1)) (keeps-timer (clock s) row-phases s.phases by-phases read-phases p at.0 at.1)
+  place-keeps (Pedestrian p) at = phase-there (19 + p) _ (omega (arith, at.1)) (keeps-pedestrian (clock s) row-phases s.phases by-phases read-phases p at.0 at.1)
+  place-keeps (Passage p) at = phase-there (35 + p) _ (omega (arith, at.1)) (keeps-passage (clock s) row-phases s.phases by-phases read-phases p at.0 at.1)
+  place-keeps (Conflict p) at = phase-there (51 + p) _ (omega (arith, at.1)) (keeps-conflict (clock s) row-phases s.phases by-phases read-phases p at.0 at.1)
+  place-keeps (Reduction p) at = phase-there (67 + p) _ (omega (arith, at.1)) (keeps-reduction (clock s) row-phases s.phases by-phases read-phases p at.0 at.1)
+  place-keeps (RedRevert p) at = phase-there (83 + p) _ (omega (arith, at.1)) (keeps-red_revert (clock s) row-phases s.phases by-phases read-phases p at.0 at.1)
   place-keeps (Delay n) at = preempt-there (1 + n) _ (omega (arith, at.1)) (keeps-delay (clock s) row-preempts s.preempts by-preempts read-preempts n at.0 at.1)
   place-keeps Served at = preempt-there 8 _ (omega arith) (keeps-served (clock s) row-preempts s.preempts by-preempts read-preempts)
   place-keeps Track at = preempt-there 9 _ (omega arith) (keeps-tracked (clock s) row-preempts s.preempts by-preempts read-preempts)

@@ -82,18 +82,18 @@ unfolding run_from number_of_bits phase_in row_in
 is_told = refl
 
 -- read at tick 40, when its timer has not begun
-begins_50 : slice_index later 8 ≡ 50
+begins_50 : slice_index later 4 ≡ 50
 unfolding run_from number_of_bits
 begins_50 = refl
 
-would_begin_41 : slice_index (phases_cells 40 (phase_in 40 later)) 8 ≡ 41
+would_begin_41 : slice_index (phases_cells 40 (phase_in 40 later)) 4 ≡ 41
 unfolding run_from number_of_bits phase_in row_in
 would_begin_41 = refl
 
 -- ## Rows stay by: a bound on how long the interval of phase 1 has lasted
 
 abbrev pub is_recent : ℕ → List ℕ → Bool
-is_recent now row = nat_le (now + 1 - slice_index row 8) 2550
+is_recent now row = nat_le (now + 1 - slice_index row 4) 2550
 
 is_recent_yet : is_recent 2599 later ≡ true
 unfolding run_from number_of_bits

@@ -65,7 +65,7 @@ unfolding opened busy
 how_many = refl
 
 first_cells : DESK ∷ DETECTORS ∷ CALLS ∷ PHASES ∷ RINGS ∷ COORD ∷ PREEMPTS ∷ MONITOR ∷ ALL_CELLS ∷ [] ≡
-    1282 ∷ 1414 ∷ 1468 ∷ 1486 ∷ 1606 ∷ 1612 ∷ 1615 ∷ 1625 ∷ 1632 ∷ []
+    1282 ∷ 1414 ∷ 1468 ∷ 1486 ∷ 1602 ∷ 1608 ∷ 1611 ∷ 1621 ∷ 1628 ∷ []
 first_cells = refl
 
 -- the plan: phaseEnabled of phase 8, and sequenceData at its index 20, which is phase 8
@@ -73,18 +73,18 @@ plan_cells_stand : slice_index (cells_of busy) 7 ∷ slice_index (cells_of busy)
 unfolding opened busy
 plan_cells_stand = refl
 
--- the desk's owner, the last timer of the detectors, the last count, the list of the phases that are clearing
-ends_stand : slice_index (cells_of busy) 1282 ∷ slice_index (cells_of busy) 1485 ∷ slice_index (cells_of busy) 1487 ∷ [] ≡ 3 ∷ 5 ∷ 32768 ∷ []
+-- the desk's owner, the last timer of the detectors, the last count, the cell of two lists, right of way and clearing
+ends_stand : slice_index (cells_of busy) 1282 ∷ slice_index (cells_of busy) 1485 ∷ slice_index (cells_of busy) 1486 ∷ [] ≡ 3 ∷ 5 ∷ 2147516416 ∷ []
 unfolding opened busy
 ends_stand = refl
 
 -- the rings' side, the pattern, the preempt in service
-more_stand : slice_index (cells_of busy) 1610 ∷ slice_index (cells_of busy) 1612 ∷ slice_index (cells_of busy) 1621 ∷ [] ≡ 1 ∷ 2 ∷ 4 ∷ []
+more_stand : slice_index (cells_of busy) 1606 ∷ slice_index (cells_of busy) 1608 ∷ slice_index (cells_of busy) 1617 ∷ [] ≡ 1 ∷ 2 ∷ 4 ∷ []
 unfolding opened busy
 more_stand = refl
 
 -- since when the local counter comes into step, and how far it was ahead then
-its_counter_stands : slice_index (cells_of busy) 1613 ∷ slice_index (cells_of busy) 1614 ∷ [] ≡ 30 ∷ 7 ∷ []
+its_counter_stands : slice_index (cells_of busy) 1609 ∷ slice_index (cells_of busy) 1610 ∷ [] ≡ 30 ∷ 7 ∷ []
 unfolding opened busy
 its_counter_stands = refl
 

@@ -1,5 +1,5 @@
-use Rattle.std.proofs.Common.{◌-◌, subst, arith}
-use Rattle.tsb_objects.specs.tsb_plan.Plan.{Plan}
+use Rattle.std.proofs.Common.{◌-◌, ◌≤◌, sym, subst, arith}
+use Rattle.tsb_objects.specs.tsb_plan.Plan.{Plan, red_revert}
 use Rattle.tsb_objects.specs.tsb_plan.PlanOf.{plan_of}
 use Rattle.tsb_phase.specs.Promises.{IsQuiet, KeepsReady, KeepsOver, KeepsRedRevertPassed, KeepsGapped}
 use Rattle.tsb_phase.specs.Layer.{cells_of}
@@ -10,6 +10,10 @@ use Rattle.tsb_phase.proofs.phases.Phases.due.Goals as goal
 pub still_until-requires-clause-by : goal.still_until-requires-clause-by
 still_until-requires-clause-by c = λ p from within.
     later (c.args.now - 1) c.args.now _ (omega arith) (c.requires.by.each p from within)
+
+pub still_until-requires-clause-longest : goal.still_until-requires-clause-longest
+still_until-requires-clause-longest c = λ p from within.
+    subst (λ (q : Plan). red_revert q p ≤ c.longest_red_revert-longest.result) (sym c.plan.ensures.plan) (c.longest_red_revert-longest.ensures p from within)
 
 pub returns-clause-quiet : goal.returns-clause-quiet
 returns-clause-quiet c =

@@ -3,7 +3,7 @@ use Rattle.std.proofs.lemmas.Bool.Decides.{eqb_tells, leb_tells}
 use Rattle.tsb_objects.specs.tsb_types.Sets.{has}
 use Rattle.tsb_phase.specs.Rows.{counted, cars_in}
 use Rattle.tsb_phase.proofs.CarLemmas.{cars-none, cars-taken}
-use Rattle.tsb_phase.proofs.green.cars_of.Goals as goal
+use Rattle.tsb_phase.proofs.green.cars_in.Goals as goal
 
 not_both : (b : Bool) → b ≡ false → b ≡ true → ⊥
 not_both b p q = grind arith
