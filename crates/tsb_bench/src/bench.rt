@@ -16,10 +16,11 @@ ghost use Rattle.tsb_step.specs.Signs.{display, local, stage, IsSafe};
 ghost use Rattle.tsb_step.specs.State.{Tripped, start};
 ghost use Rattle.tsb_step.specs.Step.{step, verdict, kind_of, last_tick};
 ghost use Rattle.tsb_step.specs.Watches.{TellsLastChange};
+ghost use Rattle.tsb_step.specs.declared.inputs.Input.TheVariants as inputs;
 ghost use Rattle.tsb_transact.specs.Cells.{desk_in};
 ghost use Rattle.tsb_transact.specs.Layer.{cells_of};
 ghost use Rattle.tsb_controller.specs.Whole.{AreAllBy, all_in, all_changes};
-ghost use Rattle.tsb_bench.specs.Cabinet.{rows_of, IsShut, IsDone, MayPass, next_tick, most_cells};
+ghost use Rattle.tsb_bench.specs.Cabinet.{rows_of, IsShut, IsDone, MayPass, Passes, next_tick, most_cells};
 ghost use Rattle.tsb_bench.specs.Held.{state_of, whole, ticks, memory};
 ghost use Rattle.tsb_bench.specs.Shown.{IsShown};
 
@@ -31,7 +32,7 @@ use std::alloc::Global;
 use std::marker::Model;
 use tsb_heads::{Display, Trip};
 use tsb_history::{History, Kind};
-use tsb_objects::{Checked, Plan, Preempt, Refusal, Stage, limits};
+use tsb_objects::{Checked, Plan, Preempt, Refusal, Row, Stage, limits};
 use tsb_step::Input;
 use tsb_step::first_cell::ALL_CELLS;
 use tsb_transact::Desk;
@@ -110,7 +111,7 @@ fn most_cells(kind: Kind) -> usize
 /// Takes an input at tick number `tick` which is not refused, with its record, and gives the tick number after it.
 /// The cells that it changes take the place of those in `changes`. What was found of the heads stays only where no
 /// cell changes.
-#[inline(never)]
+#[inline(always)]
 fn work(
     cabinet: &mut Cabinet,
     history: &mut History,
@@ -137,7 +138,7 @@ fn work(
     ensures shown { IsShown (rows_of cabinet.new) shown.new }
 {
     changes.clear();
-    let tick = cabinet.step(tick, input, changes);
+    let tick = cabinet.advance(tick, input, changes);
     history.push(kind_of(input), changes);
     keep_shown(shown, changes);
     tick
@@ -233,6 +234,7 @@ impl Bench {
     /// The comment on each input says what a refusal of it means. `Memory` says that memory ran out, and comes only
     /// where there is no other refusal and the history had to grow. A refused input leaves the bench as it was. One
     /// that is taken leaves less room by no more than the bytes of its record.
+    #[inline(always)]
     pub fn apply(&mut self, input: Input) -> Result<(), Refusal>
         ensures allowed { OnOk result (verdict (state_of self.old) input ≡ None) }
         ensures state { OnOk result (state_of self.new ≡ step (state_of self.old) input) }
@@ -250,17 +252,90 @@ impl Bench {
             ≤ self.new.room + record_size (length (record_of input (state_of self.old) (state_of self.new)).entries)) }
     {
         if self.cabinet.passes(self.tick, &input) {
-            let Ok(()) = self.history.reserve(0) else {
-                return Err(Refusal::Memory);
-            };
-            self.tick += 1;
-            self.history.push(Kind::Tick, &[]);
-            return Ok(());
+            return self.pass_over(&input);
         }
-        if let Some(refusal) = self.cabinet.refusal(self.tick, &input) {
+        match input {
+            Input::Tick(row) => self.take_tick(row),
+            _ => self.take_other(input),
+        }
+    }
+
+    /// Takes a tick that is not passed over. It is out of line, as all inputs are but ticks that are passed over.
+    #[inline(never)]
+    fn take_tick(&mut self, row: Row) -> Result<(), Refusal>
+        ensures allowed { OnOk result (verdict (state_of self.old) (inputs.Tick row) ≡ None) }
+        ensures state { OnOk result (state_of self.new ≡ step (state_of self.old) (inputs.Tick row)) }
+        ensures records { OnOk result (self.new.records ≡ record_of (inputs.Tick row) (state_of self.old) (state_of self.new) ∷ self.old.records) }
+        ensures back { OnOk result (earlier (whole self.new) 1 ≡ whole self.old) }
+        ensures refused { IfErr result (IsRefusal (verdict (state_of self.old) (inputs.Tick row))) }
+        ensures err { OnErr result (self.new ≡ self.old) }
+        ensures few { OnOk result (length (record_of (inputs.Tick row) (state_of self.old) (state_of self.new)).entries ≤ most_cells (kind_of (inputs.Tick row))) }
+        ensures wanting { result ≡ Err Memory → self.old.room < record_size (most_cells (kind_of (inputs.Tick row))) }
+        ensures room { OnOk result (self.old.room
+            ≤ self.new.room + record_size (length (record_of (inputs.Tick row) (state_of self.old) (state_of self.new)).entries)) }
+    {
+        self.take(&Input::Tick(row))
+    }
+
+    /// Takes an input that is no tick; a tick as well, but slower.
+    #[inline(never)]
+    fn take_other(&mut self, input: Input) -> Result<(), Refusal>
+        ensures allowed { OnOk result (verdict (state_of self.old) input ≡ None) }
+        ensures state { OnOk result (state_of self.new ≡ step (state_of self.old) input) }
+        ensures records { OnOk result (self.new.records ≡ record_of input (state_of self.old) (state_of self.new) ∷ self.old.records) }
+        ensures back { OnOk result (earlier (whole self.new) 1 ≡ whole self.old) }
+        ensures refused { IfErr result (IsRefusal (verdict (state_of self.old) input)) }
+        ensures err { OnErr result (self.new ≡ self.old) }
+        ensures few { OnOk result (length (record_of input (state_of self.old) (state_of self.new)).entries ≤ most_cells (kind_of input)) }
+        ensures wanting { result ≡ Err Memory → self.old.room < record_size (most_cells (kind_of input)) }
+        ensures room { OnOk result (self.old.room
+            ≤ self.new.room + record_size (length (record_of input (state_of self.old) (state_of self.new)).entries)) }
+    {
+        self.take(&input)
+    }
+
+    /// Takes a tick that changes nothing but the tick number. It is part of `apply`, so that a tick that is passed over
+    /// costs no more than its record.
+    #[inline(always)]
+    fn pass_over(&mut self, input: &Input) -> Result<(), Refusal>
+        requires { Passes input.now self.old.tick self.old.rows }
+        ensures allowed { OnOk result (verdict (state_of self.old) input.now ≡ None) }
+        ensures state { OnOk result (state_of self.new ≡ step (state_of self.old) input.now) }
+        ensures records { OnOk result (self.new.records ≡ record_of input.now (state_of self.old) (state_of self.new) ∷ self.old.records) }
+        ensures back { OnOk result (earlier (whole self.new) 1 ≡ whole self.old) }
+        ensures refused { IfErr result (IsRefusal (verdict (state_of self.old) input.now)) }
+        ensures err { OnErr result (self.new ≡ self.old) }
+        ensures few { OnOk result (length (record_of input.now (state_of self.old) (state_of self.new)).entries ≤ most_cells (kind_of input.now)) }
+        ensures wanting { result ≡ Err Memory → self.old.room < record_size (most_cells (kind_of input.now)) }
+        ensures room { OnOk result (self.old.room
+            ≤ self.new.room + record_size (length (record_of input.now (state_of self.old) (state_of self.new)).entries)) }
+    {
+        let Ok(()) = self.history.reserve(0) else {
+            return Err(Refusal::Memory);
+        };
+        self.tick += 1;
+        self.history.push(Kind::Tick, &[]);
+        Ok(())
+    }
+
+    /// Takes an input that is not passed over.
+    #[inline(always)]
+    fn take(&mut self, input: &Input) -> Result<(), Refusal>
+        ensures allowed { OnOk result (verdict (state_of self.old) input.now ≡ None) }
+        ensures state { OnOk result (state_of self.new ≡ step (state_of self.old) input.now) }
+        ensures records { OnOk result (self.new.records ≡ record_of input.now (state_of self.old) (state_of self.new) ∷ self.old.records) }
+        ensures back { OnOk result (earlier (whole self.new) 1 ≡ whole self.old) }
+        ensures refused { IfErr result (IsRefusal (verdict (state_of self.old) input.now)) }
+        ensures err { OnErr result (self.new ≡ self.old) }
+        ensures few { OnOk result (length (record_of input.now (state_of self.old) (state_of self.new)).entries ≤ most_cells (kind_of input.now)) }
+        ensures wanting { result ≡ Err Memory → self.old.room < record_size (most_cells (kind_of input.now)) }
+        ensures room { OnOk result (self.old.room
+            ≤ self.new.room + record_size (length (record_of input.now (state_of self.old) (state_of self.new)).entries)) }
+    {
+        if let Some(refusal) = self.cabinet.refusal(self.tick, input) {
             return Err(refusal);
         }
-        let Ok(()) = self.history.reserve(most_cells(kind_of(&input))) else {
+        let Ok(()) = self.history.reserve(most_cells(kind_of(input))) else {
             return Err(Refusal::Memory);
         };
         self.tick = work(
@@ -269,7 +344,7 @@ impl Bench {
             &mut self.changes,
             &mut self.shown,
             self.tick,
-            &input,
+            input,
         );
         Ok(())
     }

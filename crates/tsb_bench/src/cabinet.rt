@@ -92,6 +92,7 @@ impl Cabinet {
     }
 
     /// Why an input is refused at tick number `tick`, but for memory.
+    #[inline(always)]
     pub(crate) fn refusal(&self, tick: u32, input: &Input) -> Option<Refusal>
         requires by { AreAllBy tick (rows_of self.now) }
         ensures { result ≡ verdict (all_in tick (rows_of self.now)) input.now }
@@ -112,8 +113,32 @@ impl Cabinet {
 
     /// Takes an input at tick number `tick`, and gives the tick number after it. The cells that change go to `out`. After
     /// a tick that changes nothing some ticks may be passed over; after all else none.
+    #[inline(always)]
+    pub(crate) fn advance(&mut self, tick: u32, input: &Input, out: &mut Changes) -> u32
+        requires shut { IsShut self.old }
+        requires by { AreAllBy tick (rows_of self.old) }
+        requires limit { tick ≤ last_tick }
+        requires good { IsGood (all_in tick (rows_of self.old)) }
+        requires allowed { verdict (all_in tick (rows_of self.old)) input.now ≡ None }
+        requires empty { out.old.items ≡ [] }
+        ensures next { result ≡ next_tick tick input.now }
+        ensures done { IsDone input.now tick (rows_of self.old) (rows_of self.new) out.new.items }
+        ensures few { array_vec_len out.new ≤ most_cells (kind_of input.now) }
+        ensures shut { IsShut self.new }
+        ensures passing { MayPass result self.new }
+    {
+        if let Input::Tick(row) = input {
+            self.work_tick(tick, row, out);
+            return tick + 1;
+        }
+        self.step(tick, input, out)
+    }
+
+    /// Takes an input, as `advance` does. It is out of line: what it needs of the stack takes long to reach, and no tick
+    /// needs it.
+    #[inline(never)]
     #[tactic(auto, using(crate::proofs::PassingLemmas::may_none))]
-    pub(crate) fn step(&mut self, tick: u32, input: &Input, out: &mut Changes) -> u32
+    fn step(&mut self, tick: u32, input: &Input, out: &mut Changes) -> u32
         requires shut { IsShut self.old }
         requires by { AreAllBy tick (rows_of self.old) }
         requires limit { tick ≤ last_tick }

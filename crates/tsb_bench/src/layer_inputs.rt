@@ -42,7 +42,7 @@ impl Cabinet {
         self.controller.open();
         let found = self
             .controller
-            .watched_tick(tick + 1, row, &lamp, &self.plan);
+            .watched_tick(tick + 1, row, lamp, &self.plan);
         self.controller.close_onto(out);
         if found.is_some() {
             self.monitor.set(&lamp, &found, tick + 1, out);

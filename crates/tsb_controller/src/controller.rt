@@ -34,6 +34,7 @@ impl Controller {
     ghost use Rattle.tsb_controller.specs.Layer.{rows_of, kept_of, IsOpen};
 
     /// Tick `now`, a tenth of a second, with the inputs of `row` on, of a controller that has not tripped.
+    #[inline(always)]
     pub fn tick(&mut self, now: u32, row: &Row, plan: &Checked)
         requires opened { IsOpen self.old }
         requires begun { 1 ≤ now }
@@ -52,6 +53,7 @@ impl Controller {
 
     /// What the tick finds before the calls: it sees the phases as they were, runs preempts and detectors, and asks
     /// coordination.
+    #[inline(always)]
     pub(crate) fn sense(&mut self, now: u32, row: &Row, plan: &Checked) -> Sensed
         requires opened { IsOpen self.old }
         requires begun { 1 ≤ now }

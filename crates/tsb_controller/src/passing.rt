@@ -86,7 +86,7 @@ impl Controller {
 
     /// The tick up to which phases stay as tick `now` left them, and report the same. The tick set no memory and
     /// counted no vehicle, so that calls are found from those that stand.
-    #[inline(never)]
+    #[inline(always)]
     fn phases_due(&self, now: u32, row: &Row, plan: &Checked) -> u32
         requires begun { 1 ≤ now }
         requires in_time { now ≤ last_tick }

@@ -1,5 +1,5 @@
 //! What the heads show, and the inputs that the monitor judges: a tick and a fault.
-ghost use Rattle.std.specs.Prelude.{◌≡◌, ◌-◌, ◌≤◌, false, IfSome};
+ghost use Rattle.std.specs.Prelude.{◌≡◌, ◌-◌, ◌≤◌, false, None, IfSome};
 ghost use Rattle.tsb_objects.specs.Checked.{checked_plan};
 ghost use Rattle.tsb_ring.specs.Cells as rings;
 ghost use Rattle.tsb_heads.specs.Promises.{Flashes, AreApart, NamesOverlaps};
@@ -52,34 +52,48 @@ impl Controller {
         Field::new(self.heads(false, plan), *lamp)
     }
 
+    /// What the lamps show, where a fault has lit one.
+    #[inline(always)]
+    fn lit_field(&self, lamp: Option<Lamp>, plan: &Checked) -> Option<Field>
+        requires rings_by { rings.IsBy (rows_of self.now).rings }
+        ensures none { result ≡ None → lamp ≡ None }
+        ensures shown { IfSome result (λ field. ShowsField (checked_plan plan.now) lamp (rows_of self.now) field) }
+    {
+        if lamp.is_none() {
+            None
+        } else {
+            Some(self.field(&lamp, plan))
+        }
+    }
+
     /// Tick `now` of a controller that has not tripped, with what the monitor finds when it compares what the lamps
     /// showed before with what they show then: why the controller trips, if it does. While no lamp is lit it finds
     /// nothing, so that the heads need not be compared.
+    #[inline(always)]
     pub fn watched_tick(
         &mut self,
         now: u32,
         row: &Row,
-        lamp: &Option<Lamp>,
+        lamp: Option<Lamp>,
         plan: &Checked,
     ) -> Option<Trip>
         requires opened { IsOpen self.old }
         requires begun { 1 ≤ now }
         requires in_time { now ≤ last_tick }
         requires by { AreBy (now - 1) (rows_of self.old) }
-        requires good { (desk : Desk) × IsGood (state_of (now - 1) (untripped (checked_plan plan.now) desk lamp.now) (rows_of self.old)) }
-        ensures state { IsWatchedTick now row.now lamp.now (checked_plan plan.now) (rows_of self.old) (rows_of self.new) result }
+        requires good { (desk : Desk) × IsGood (state_of (now - 1) (untripped (checked_plan plan.now) desk lamp) (rows_of self.old)) }
+        ensures state { IsWatchedTick now row.now lamp (checked_plan plan.now) (rows_of self.old) (rows_of self.new) result }
         ensures cause { IfSome result IsCause }
         ensures by { AreBy now (rows_of self.new) }
         ensures kept { kept_of self.new ≡ kept_of self.old }
         ensures opened { IsOpen self.new }
     {
-        if lamp.is_none() {
-            self.tick(now, row, plan);
-            return None;
-        }
-        let before = self.field(lamp, plan);
+        let before = self.lit_field(lamp, plan);
         self.tick(now, row, plan);
-        Monitor::judge(&before, &self.field(lamp, plan), plan)
+        match before {
+            None => None,
+            Some(before) => Monitor::judge(&before, &self.field(&lamp, plan), plan),
+        }
     }
 
     /// What the monitor finds when a fault lights `lamp` in place of the one before, or takes that one out: why the

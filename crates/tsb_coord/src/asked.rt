@@ -57,8 +57,9 @@ fn forced(plan: &Checked, n: Pattern, correction: Correction, before: u32, now: 
     forced
 }
 
-/// What the local counter of a pattern asks in tick `now`. No phase may walk again while it comes into step.
-#[inline(always)]
+/// What the local counter of a pattern asks in tick `now`. No phase may walk again while it comes into step. It stays
+/// out of line: in free operation it is not asked.
+#[inline(never)]
 pub(crate) fn asked_in(plan: &Checked, n: Pattern, correction: Correction, now: u32) -> Asked
     requires used { is_used (checked_plan plan.now) n ≡ true }
     requires since { correction.since ≤ TICKS }

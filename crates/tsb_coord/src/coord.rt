@@ -184,6 +184,7 @@ impl Coord {
     }
 
     /// What coordination says in tick `now`, at most the last that there is.
+    #[inline(always)]
     pub fn orders(&self, now: u32, plan: &Checked) -> Coordination
         requires by { IsBy (cells_of self.now) }
         requires in_time { now ≤ TICKS }
