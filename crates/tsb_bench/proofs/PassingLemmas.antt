@@ -1,7 +1,6 @@
 -- Ticks that are passed over: what is asked of the layers once, and what it says of each of them.
-use Rattle.std.proofs.Common.{◌≡◌, ℕ, ◌+◌, ◌-◌, ◌<◌, ◌≤◌, List, [], ◌++◌, length, Option, None, sym, ap, ap₂, subst, ◌∙◌, refl, arith, true, false, ◌==◌, ◌∷◌, is_some}
+use Rattle.std.proofs.Common.{◌≡◌, ℕ, ◌+◌, ◌-◌, ◌<◌, ◌≤◌, List, [], ◌++◌, Option, None, sym, ap, ap₂, subst, ◌∙◌, refl, arith, true, false, ◌∷◌, is_some}
 use Rattle.std.proofs.lemmas.Bool.Decides.{nat_tests}
-use Rattle.std.proofs.lemmas.List.{length-append, nil_from_length}
 use Rattle.tsb_cells.specs.Diff.{diff, shifted}
 use Rattle.tsb_cells.proofs.DiffLemmas.{diff-same}
 use Rattle.tsb_history.specs.History.{Change}
@@ -15,16 +14,17 @@ use Rattle.tsb_step.specs.MonitorCells.{lamp_in, trip_in}
 use Rattle.tsb_step.specs.Past.{record_of, taken_back}
 use Rattle.tsb_step.specs.State.{Tripped}
 use Rattle.tsb_step.specs.Step.{verdict, kind_of, last_tick}
-use Rattle.tsb_step.specs.declared.first_cell.TheConstants.{DESK, MONITOR}
+use Rattle.tsb_step.specs.declared.first_cell.TheConstants.{DESK, MONITOR, PHASES}
 use Rattle.tsb_step.specs.declared.inputs.Input.{Input}
 use Rattle.tsb_step.specs.declared.inputs.Input.TheVariants as inputs
 use Rattle.tsb_step.proofs.MonitorLemmas as monitor
-use Rattle.tsb_controller.specs.Passing.{AreQuietUntil, UnchangedRowsAreSame, WatchedTicksPass}
+use Rattle.tsb_controller.specs.Passing.{AreQuietUntil, EarlyRecordsLeavePhases, IsSettled, LeavesPhases, WatchedTicksAreTicked, WatchedTicksPass, ends_before_phases}
 use Rattle.tsb_controller.specs.Promises.{IsWatchedTick}
 use Rattle.tsb_controller.specs.Records.{changes}
 use Rattle.tsb_controller.specs.Rows.{Rows, AreBy}
 use Rattle.tsb_controller.specs.Whole.{All, AreAllBy, all_in, all_changes}
 use Rattle.tsb_controller.proofs.ChangeLemmas.{rows-stay}
+use Rattle.tsb_controller.proofs.EarlyLemmas.{first-before, rest-before, shifted-from}
 use Rattle.tsb_bench.specs.Cabinet.{rows_of, IsDone, Passes, MayPass, next_tick}
 use Rattle.tsb_bench.specs.Held.{HasSoundPast}
 use Rattle.tsb_bench.specs.declared.cabinet.Cabinet.{Cabinet}
@@ -54,44 +54,35 @@ may-later now n c later may = record { within = may.within; quiet = λ t from to
 pub may_none : (now : ℕ) (c : Cabinet) → c.passing.last ≡ 0 → MayPass now c
 may_none now c none = record { within = omega (arith, none); quiet = λ t from to. absurd (omega (arith, none)) }
 
--- ## After a tick that changed nothing
+-- ## After a tick that left the phases as they were
 
--- where nothing differs, nothing differs in the layers
-layers-none : (old new : All) → all_changes old new ≡ [] → changes old.layers new.layers ≡ []
-layers-none old new e =
-    let none : length (all_changes old new) ≡ 0 = ap length e in
-    nil_from_length (changes old.layers new.layers)
-    (omega (
-      arith,
-      none,
-      length-append (diff old.plan new.plan) (shifted DESK (diff old.desk new.desk) ++ (changes old.layers new.layers ++ shifted MONITOR (diff old.monitor new.monitor))),
-      length-append (shifted DESK (diff old.desk new.desk)) (changes old.layers new.layers ++ shifted MONITOR (diff old.monitor new.monitor)),
-      length-append (changes old.layers new.layers) (shifted MONITOR (diff old.monitor new.monitor)),
-    ))
+-- a record that ends before the phases has entries of the layers alone, and these end so
+layers-early : (old new : All) → ends_before_phases (all_changes old new) ≡ true → ends_before_phases (changes old.layers new.layers) ≡ true
+layers-early old new early =
+    first-before (changes old.layers new.layers) (shifted MONITOR (diff old.monitor new.monitor)) (shifted-from PHASES MONITOR (diff old.monitor new.monitor) (omega arith))
+    (rest-before (shifted DESK (diff old.desk new.desk)) _ (rest-before (diff old.plan new.plan) _ early))
 
-pub nothing-out : (es : List (ℕ × ℕ)) → (length es == 0) ≡ true → es ≡ []
-nothing-out es h = nil_from_length es (grind (arith, nat_tests))
+-- what the monitor watched, where it found nothing
+pub watched-here : (tick : ℕ) (row : Row) (old new : All) → is_some (trip_in new.monitor) ≡ false →
+    (trip_in new.monitor ≡ None → IsWatchedTick (tick + 1) row (lamp_in new.monitor) (plan_in new.plan) old.layers new.layers None) →
+    IsWatchedTick (tick + 1) row (lamp_in new.monitor) (plan_in new.plan) old.layers new.layers None
+watched-here tick row old new off watched = watched (is-none (trip_in new.monitor) off)
 
-module _ (tick : ℕ) (row : Row) (old new : All) (entries : List (ℕ × ℕ)) (same : UnchangedRowsAreSame) (by : AreAllBy tick old) (done : IsDone (inputs.Tick row) tick old new entries)
-    (empty : entries ≡ []) where
-  -- so the layers are as they were
-  layers-same : old.layers ≡ new.layers
-  layers-same = same tick (tick + 1) old.layers new.layers (by-now tick old by) (by-now (tick + 1) new done.by) (layers-none old new (sym done.entries_are ∙ empty))
+module _ (tick : ℕ) (row : Row) (old new : All) (entries : List (ℕ × ℕ)) (leave : EarlyRecordsLeavePhases) (by : AreAllBy tick old) (done : IsDone (inputs.Tick row) tick old new entries)
+    (early : ends_before_phases entries ≡ true) where
+  pub rest : LeavesPhases old.layers new.layers
+  rest = leave tick (tick + 1) old.layers new.layers (by-now tick old by) (by-now (tick + 1) new done.by) (layers-early old new (ap ends_before_phases (sym done.entries_are) ∙ early))
 
-  pub by-before : AreBy (tick + 1 - 1) new.layers
-  by-before =
-      let back : tick ≡ tick + 1 - 1 = omega arith in
-      subst (λ (n : ℕ). AreBy n new.layers) back (subst (AreBy tick) layers-same (by-now tick old by))
+  pub settled-here : WatchedTicksAreTicked → IsWatchedTick (tick + 1) row (lamp_in new.monitor) (plan_in new.plan) old.layers new.layers None →
+      IsSettled (tick + 1) row (plan_in new.plan) new.layers
+  settled-here are watched = record {
+    old = old.layers;
+    by = (let back : tick ≡ tick + 1 - 1 = omega arith in subst (λ (n : ℕ). AreBy n old.layers) back (by-now tick old by));
+    ticked = are (tick + 1) row (lamp_in new.monitor) (plan_in new.plan) old.layers new.layers None watched;
+    rest = rest;
+  }
 
-  -- and the monitor has watched them as they are
-  pub watched-here : is_some (trip_in new.monitor) ≡ false →
-      (trip_in new.monitor ≡ None → IsWatchedTick (tick + 1) row (lamp_in new.monitor) (plan_in new.plan) old.layers new.layers None) →
-      IsWatchedTick (tick + 1) row (lamp_in new.monitor) (plan_in new.plan) new.layers new.layers None
-  watched-here off watched =
-      subst (λ (r : Rows). IsWatchedTick (tick + 1) row (lamp_in new.monitor) (plan_in new.plan) r new.layers None) layers-same
-      (watched (is-none (trip_in new.monitor) off))
-
-module _ (now : ℕ) (a : All) (row : Row) (by : AreAllBy now a) (off : is_some (trip_in a.monitor) ≡ false) where
+module _ (now : ℕ) (was : Rows) (a : All) (row : Row) (by : AreAllBy now a) (off : is_some (trip_in a.monitor) ≡ false) where
   none : trip_in a.monitor ≡ None
   none = is-none (trip_in a.monitor) off
 
@@ -105,11 +96,11 @@ module _ (now : ℕ) (a : All) (row : Row) (by : AreAllBy now a) (off : is_some 
   }
 
   -- each tick before the one that is due changes nothing
-  pub quiet-done : (due : ℕ) → WatchedTicksPass → IsWatchedTick now row (lamp_in a.monitor) (plan_in a.plan) a.layers a.layers None →
+  pub quiet-done : (due : ℕ) → WatchedTicksPass → LeavesPhases was a.layers → IsWatchedTick now row (lamp_in a.monitor) (plan_in a.plan) was a.layers None →
       AreQuietUntil now row (plan_in a.plan) a.layers due → (t : ℕ) → now ≤ t → t < due - 1 → IsDone (inputs.Tick row) t a a []
-  quiet-done due pass watched quiet t from to =
+  quiet-done due pass rest watched quiet t from to =
       tick-done t a a row None [] (stays t from) none
-      (pass now (t + 1) row (lamp_in a.monitor) (plan_in a.plan) a.layers watched (quiet (t + 1) (omega arith) (omega arith)))
+      (pass now (t + 1) row (lamp_in a.monitor) (plan_in a.plan) was a.layers rest watched (quiet (t + 1) (omega arith) (omega arith)))
       (rows-stay now (t + 1) a.layers (omega arith) (by-now now a by)) refl refl refl none (monitor.rows-stay now (t + 1) a.monitor (omega arith) by.monitor)
       (sym (ap₂ (λ (es fs : List (ℕ × ℕ)). es ++ shifted MONITOR fs) (no-changes a.layers) (diff-same a.monitor)))
 

@@ -6,14 +6,16 @@ ghost use Rattle.arrayvec.specs.ArrayVec.{array_vec_len};
 ghost use Rattle.tsb_step.specs.Good.{IsGood};
 ghost use Rattle.tsb_step.specs.Step.{verdict};
 ghost use Rattle.tsb_step.specs.declared.inputs.Input.TheVariants as inputs;
+ghost use Rattle.tsb_controller.specs.Passing.{ends_before_phases};
 ghost use Rattle.tsb_controller.specs.Whole.{AreAllBy, all_in};
 ghost use Rattle.tsb_bench.specs.Cabinet.{rows_of, IsShut, IsDone, Passes, MayPass};
 ghost use Rattle.tsb_bench.specs.declared.cabinet.TheConstants.{MOST_CELLS};
 
 use crate::cabinet::{Cabinet, Changes};
-use tsb_controller::passing::{unchanged_rows_are_same, watched_ticks_pass};
+use tsb_controller::passing::{early_records_leave_phases, watched_ticks_pass};
 use tsb_objects::Row;
 use tsb_step::Input;
+use tsb_step::first_cell::PHASES;
 
 /// Which ticks may be passed over.
 #[derive(Clone, Copy)]
@@ -44,6 +46,17 @@ impl Passing {
     }
 }
 
+/// Whether the last of these entries is of a cell of detectors or calls, or there is none: so no other cell changed.
+#[inline(always)]
+fn ends_before_phases(changes: &Changes) -> bool
+    ensures { result ≡ ends_before_phases changes.now.items }
+{
+    match changes.last() {
+        None => true,
+        Some((cell, _)) => *cell < PHASES,
+    }
+}
+
 impl Cabinet {
     /// Whether an input at tick number `tick` is a tick that changes nothing but the tick number.
     #[inline(always)]
@@ -57,8 +70,8 @@ impl Cabinet {
         }
     }
 
-    /// Works out the tick after tick number `tick`. Where it changes nothing, those after it with the same inputs may
-    /// be passed over, up to the one that is due.
+    /// Works out the tick after tick number `tick`. Where it changes no cell but of detectors and calls, those after it
+    /// with the same inputs may be passed over, up to the one that is due.
     pub(crate) fn work_tick(&mut self, tick: u32, row: &Row, out: &mut Changes)
         requires shut { IsShut self.old }
         requires by { AreAllBy tick (rows_of self.old) }
@@ -71,11 +84,11 @@ impl Cabinet {
         ensures passing { MayPass (tick + 1) self.new }
     {
         self.tick(tick, row, out);
-        if !out.is_empty() || self.monitor.is_tripped() {
+        if !ends_before_phases(out) || self.monitor.is_tripped() {
             self.passing = Passing::none();
             return;
         }
-        unchanged_rows_are_same();
+        early_records_leave_phases();
         watched_ticks_pass();
         let due = self.controller.due(tick + 1, row, &self.plan);
         self.passing = Passing {

@@ -1,5 +1,7 @@
--- A tick that left the rows as they were: nothing moved in it, and it set no memory and counted no vehicle.
-use Rattle.std.proofs.Common.{◌≡◌, ℕ, ◌-◌, ◌≤◌, Bool, true, false, not, ◌&&◌, ◌||◌, if◌then◌else◌, Option, is_some, is_none, refl, sym, ap, ◌∙◌, inl, inr}
+-- A tick that left the phases as they were: nothing moved in it, and where no output rose in it another one would set no
+-- memory and count no vehicle.
+use Rattle.std.proofs.Common.{◌≡◌, ℕ, ◌+◌, ◌-◌, ◌≤◌, min, Bool, true, false, not, ◌&&◌, ◌||◌, if◌then◌else◌, List, Option, is_some, is_none, refl, sym, ap, subst, ◌∙◌, inl, inr, arith}
+use Rattle.std.proofs.Math.Path.{fun_ext}
 use Rattle.std.proofs.lemmas.Bool.{cases_Bool, true≢false}
 use Rattle.tsb_step.specs.tsb_types.declared.flow.Called.{Called}
 use Rattle.tsb_step.specs.tsb_types.declared.lamp.Lamp.{Lamp}
@@ -13,9 +15,10 @@ use Rattle.tsb_detect.specs.Cells.{detector_in}
 use Rattle.tsb_detect.specs.Detector.{Detector}
 use Rattle.tsb_calls.specs.Cells.{memories_in}
 use Rattle.tsb_calls.specs.Looks as calls_looks
-use Rattle.tsb_calls.specs.Memories.{Memories, Given, as_set}
+use Rattle.tsb_calls.specs.Memories.{Memories, Given, actuations, as_set, calls as calls_phase, counted, pedestrian_memory, vehicle_memory, was_green}
 use Rattle.tsb_calls.specs.Promises as calls
 use Rattle.tsb_calls.specs.Settled as settled
+use Rattle.tsb_calls.proofs.CountLemmas.{count-none, count-same}
 use Rattle.tsb_calls.proofs.LookLemmas.{look-alike}
 use Rattle.tsb_phase.specs.Cells.{phase_in}
 use Rattle.tsb_phase.specs.Next as phase_next
@@ -33,7 +36,7 @@ use Rattle.tsb_step.specs.Tick.{preempts_given, calls_given, phases_given, rings
 use Rattle.tsb_step.proofs.ClipLemmas.{clipped_holds}
 use Rattle.tsb_controller.specs.declared.values.Sensed.{Sensed}
 use Rattle.tsb_controller.specs.Found.{observed}
-use Rattle.tsb_controller.specs.Passing.{IsSeen}
+use Rattle.tsb_controller.specs.Passing.{IsSeen, NoneRose}
 use Rattle.tsb_controller.specs.Promises.{IsTicked}
 use Rattle.tsb_controller.specs.Rows.{Rows, AreBy, untripped, state_of}
 use Rattle.tsb_controller.proofs.PlacedLemmas.{IsPlaced}
@@ -52,13 +55,37 @@ kept-pedestrian starts gives walks false unstarted unwalked = refl
 kept-count : (ends : Bool) (count : ℕ) → ends ≡ false → (if ends then 0 else count) ≡ count
 kept-count ends count unended = rw unended refl
 
-module _ (now : ℕ) (plan : Plan) (desk : Desk) (lamp : Option Lamp) (row : Row) (r : Rows) (one : 1 ≤ now) (by : AreBy (now - 1) r) (still : IsTicked now row plan r r) where
+-- set once more they are as they were set
+twice : (memory sets : Bool) → ((memory || sets) || sets) ≡ (memory || sets)
+twice true sets = refl
+twice false true = refl
+twice false false = refl
+
+-- a count with no actuations
+abbrev with_none : Bool → ℕ → ℕ
+with_none green count = if green then count else min 255 (count + 0)
+
+none-twice : (green : Bool) (count : ℕ) → with_none green (with_none green count) ≡ with_none green count
+none-twice true count = refl
+none-twice false count = omega arith
+
+and-false : (b : Bool) → (b && false) ≡ false
+and-false true = refl
+and-false false = refl
+
+-- The rows before tick `now` are `r` but for detectors and calls.
+module _ (now : ℕ) (plan : Plan) (desk : Desk) (lamp : Option Lamp) (row : Row) (detectors calls_row : List ℕ) (r : Rows) (one : 1 ≤ now)
+    (by : AreBy (now - 1) (record r { detectors = detectors; calls = calls_row })) (settled_by : IsTicked now row plan (record r { detectors = detectors; calls = calls_row }) r) where
   -- the state before the tick
   abbrev s : State
-  s = state_of (now - 1) (untripped plan desk lamp) r
+  s = state_of (now - 1) (untripped plan desk lamp) (record r { detectors = detectors; calls = calls_row })
+
+  -- what calls were told
+  abbrev given : Given
+  given = calls_given s row
 
   pub here : state_of now (untripped plan desk lamp) r ≡ next s row
-  here = still desk lamp
+  here = settled_by desk lamp
 
   -- ## Nothing moved
 
@@ -103,27 +130,56 @@ module _ (now : ℕ) (plan : Plan) (desk : Desk) (lamp : Option Lamp) (row : Row
       ap (λ (x : Preempts). is_some (service_as_read (preempts_in (now - 1) r.preempts).service) && is_none x.service) (sym preempts_now)
       ∙ not-ended (now - 1) now r.preempts
 
-  memories_now : memories_in r.calls ≡ settled.next plan (calls_given s row) (done s row) (memories_in r.calls)
-  memories_now = ap (λ (x : State). x.memories) here
+  -- ## The memories
 
-  -- it set no memory, and counted no vehicle
-  kept : calls_looks.AreAlike (memories_in r.calls) (tick.set s row)
-  kept = record {
-    vehicle = λ p from to.
-        ap (λ (m : Memories). m.vehicle p) memories_now
-        ∙ kept-vehicle (is_started (moves s row) p) (is_ended (moves s row) p) ((done s row).gapped p) ((tick.set s row).vehicle p) (starts_none p) (ends_none p);
-    pedestrian = λ p from to.
-        ap (λ (m : Memories). m.pedestrian p) memories_now
-        ∙ kept-pedestrian (is_started (moves s row) p) (gives_walk (tick.pedestrian_call s row p) (done s row).service) (clipped (walks_again s row) p) ((tick.set s row).pedestrian p) (starts_none p) (walks_none p);
-    count = λ p from to. ap (λ (m : Memories). m.count p) memories_now ∙ kept-count (is_ended (moves s row) p) ((tick.set s row).count p) (ends_none p);
+  -- nothing moved any
+  pub unmoved : (w : Memories) → settled.next plan given (done s row) w ≡ as_set plan given w
+  unmoved w = λ i. record {
+    vehicle = fun_ext (λ p. kept-vehicle (is_started (moves s row) p) (is_ended (moves s row) p) ((done s row).gapped p) (vehicle_memory plan given w p) (starts_none p) (ends_none p)) i;
+    pedestrian = fun_ext (λ p. kept-pedestrian (is_started (moves s row) p) (gives_walk (settled.pedestrian_call plan given w p) (done s row).service) (clipped (walks_again s row) p) (pedestrian_memory plan given w p) (starts_none p) (walks_none p)) i;
+    count = fun_ext (λ p. kept-count (is_ended (moves s row) p) (counted plan given w p) (ends_none p)) i;
   }
+
+  pub memories_now : memories_in r.calls ≡ tick.set s row
+  memories_now = ap (λ (x : State). x.memories) here ∙ unmoved s.memories
+
+  module _ (calm : NoneRose now r) where
+    none_actuated : (p : ℕ) → actuations plan given p ≡ 0
+    unfolding actuations
+    none_actuated p =
+        count-same (λ d. calls_phase plan d p && given.actuated d) (λ d. false) 1 16 (λ d from to. ap (λ (b : Bool). calls_phase plan d p && b) (rose d from (omega (arith, to))) ∙ and-false (calls_phase plan d p))
+        ∙ count-none (λ d. false) 1 16 (λ d. refl)
+      where
+        rose : (d : ℕ) → 1 ≤ d → d ≤ 16 → given.actuated d ≡ false
+        rose d from to = ap (λ (f : ℕ → Detector). (f d).actuated) (sym detectors_now) ∙ calm d from to
+
+    -- what was set once is set
+    pub set_twice : (w : Memories) → as_set plan given (as_set plan given w) ≡ as_set plan given w
+    unfolding vehicle_memory pedestrian_memory counted
+    set_twice w = λ i. record {
+      vehicle = fun_ext (λ p. vehicles p) i;
+      pedestrian = fun_ext (λ p. pedestrians p) i;
+      count = fun_ext (λ p. counts p) i;
+    }
+      where
+        vehicles : (p : ℕ) → vehicle_memory plan given (as_set plan given w) p ≡ vehicle_memory plan given w p
+        vehicles p = twice (w.vehicle p) _
+
+        pedestrians : (p : ℕ) → pedestrian_memory plan given (as_set plan given w) p ≡ pedestrian_memory plan given w p
+        pedestrians p = twice (w.pedestrian p) _
+
+        counts : (p : ℕ) → counted plan given (as_set plan given w) p ≡ counted plan given w p
+        counts p = rw (none_actuated p) (none-twice (was_green given p) (w.count p))
+
+    pub stands : as_set plan given (memories_in r.calls) ≡ memories_in r.calls
+    stands = ap (as_set plan given) memories_now ∙ set_twice s.memories ∙ sym memories_now
 
   module _ (placed : IsPlaced plan) (sensed : Sensed) (seen : IsSeen now plan r sensed) where
     -- what the calls were told, by what was seen
     abbrev told : Given
     told = calls.given_of (observed row sensed)
 
-    pub calls_alike : calls_looks.AgreeOnPhases told (calls_given s row)
+    pub calls_alike : calls_looks.AgreeOnPhases told given
     calls_alike = record {
       output = λ d from to. seen.outputs_are now d from to ∙ ap (λ (f : ℕ → Detector). (f d).output) detectors_now;
       actuated = λ d from to. seen.actuated_are now d from to ∙ ap (λ (f : ℕ → Detector). (f d).actuated) detectors_now;
@@ -135,47 +191,51 @@ module _ (now : ℕ) (plan : Plan) (desk : Desk) (lamp : Option Lamp) (row : Row
       service_ended = seen.standing.ended ∙ sym ended_now;
     }
 
-    pub look : calls_looks.LookAlike plan told (calls_given s row)
-    look = look-alike plan told (calls_given s row) placed.count calls_alike
+    pub look : calls_looks.LookAlike plan told given
+    look = look-alike plan told given placed.count calls_alike
 
-    pub as_sets : calls_looks.AreAlike (as_set plan told s.memories) (tick.set s row)
-    as_sets = look.sets s.memories s.memories (alike-own s.memories)
+    module _ (calm : NoneRose now r) where
+      -- the memories as they stand are those that are set
+      pub as_sets : calls_looks.AreAlike (as_set plan told (memories_in r.calls)) (memories_in r.calls)
+      as_sets =
+          subst (calls_looks.AreAlike (as_set plan told (memories_in r.calls))) (stands calm)
+          (look.sets (memories_in r.calls) (memories_in r.calls) (alike-own (memories_in r.calls)))
 
-    pub sets : calls.IsSet (observed row sensed) plan r.calls r.calls
-    sets p from to = record {
-      vehicle = kept.vehicle p from to ∙ sym (as_sets.vehicle p from to);
-      pedestrian = kept.pedestrian p from to ∙ sym (as_sets.pedestrian p from to);
-      count = kept.count p from to ∙ sym (as_sets.count p from to);
-    }
+      pub sets : calls.IsSet (observed row sensed) plan r.calls r.calls
+      sets p from to = record {
+        vehicle = sym (as_sets.vehicle p from to);
+        pedestrian = sym (as_sets.pedestrian p from to);
+        count = sym (as_sets.count p from to);
+      }
 
-    -- so what is called by the memories as they stand is called by those that were set
-    pub calls_told : (called : Called) → ((p : ℕ) → 1 ≤ p → p ≤ 16 → calls.IsCalledAs plan told (memories_in r.calls) called p) →
-        calls.TellsCalled (observed row sensed) plan r.calls called
-    calls_told called stands p from to = record {
-      callable = (stands p from to).callable ∙ alike.callable p from to;
-      conflict = (stands p from to).conflict ∙ alike.conflict p from to;
-      pedestrian = (stands p from to).pedestrian ∙ alike.pedestrian p from to;
-      output = (stands p from to).output;
-    }
-      where
-        set_alike : calls_looks.AreAlike (memories_in r.calls) (as_set plan told (memories_in r.calls))
-        set_alike = record {
-          vehicle = λ q low high. (sets q low high).vehicle;
-          pedestrian = λ q low high. (sets q low high).pedestrian;
-          count = λ q low high. (sets q low high).count;
-        }
+      -- so what is called by the memories as they stand is called by those that are set
+      pub calls_told : (called : Called) → ((p : ℕ) → 1 ≤ p → p ≤ 16 → calls.IsCalledAs plan told (memories_in r.calls) called p) →
+          calls.TellsCalled (observed row sensed) plan r.calls called
+      calls_told called stands p from to = record {
+        callable = (stands p from to).callable ∙ alike.callable p from to;
+        conflict = (stands p from to).conflict ∙ alike.conflict p from to;
+        pedestrian = (stands p from to).pedestrian ∙ alike.pedestrian p from to;
+        output = (stands p from to).output;
+      }
+        where
+          set_alike : calls_looks.AreAlike (memories_in r.calls) (as_set plan told (memories_in r.calls))
+          set_alike = record {
+            vehicle = λ q low high. (sets q low high).vehicle;
+            pedestrian = λ q low high. (sets q low high).pedestrian;
+            count = λ q low high. (sets q low high).count;
+          }
 
-        own : calls_looks.AgreeOnPhases told told
-        own = record {
-          output = λ d low high. refl;
-          actuated = λ d low high. refl;
-          button = λ d low high. refl;
-          interval = λ q low high. refl;
-          pedestrian_part = λ q low high. refl;
-          runs = refl;
-          omitted = λ q low high. refl;
-          service_ended = refl;
-        }
+          own : calls_looks.AgreeOnPhases told told
+          own = record {
+            output = λ d low high. refl;
+            actuated = λ d low high. refl;
+            button = λ d low high. refl;
+            interval = λ q low high. refl;
+            pedestrian_part = λ q low high. refl;
+            runs = refl;
+            omitted = λ q low high. refl;
+            service_ended = refl;
+          }
 
-        alike : calls_looks.AreCalledAlike plan told told (memories_in r.calls) (as_set plan told (memories_in r.calls))
-        alike = (look-alike plan told told placed.count own).called (memories_in r.calls) (as_set plan told (memories_in r.calls)) set_alike
+          alike : calls_looks.AreCalledAlike plan told told (memories_in r.calls) (as_set plan told (memories_in r.calls))
+          alike = (look-alike plan told told placed.count own).called (memories_in r.calls) (as_set plan told (memories_in r.calls)) set_alike

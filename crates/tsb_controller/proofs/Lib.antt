@@ -9,7 +9,7 @@ mod LaterLemmas
 mod KeptLemmas
 mod PassLemmas
 mod StillLemmas
-mod SameLemmas
+pub mod EarlyLemmas
 pub mod InputLemmas
 mod WatchLemmas
 mod FewLemmas

@@ -1,6 +1,6 @@
--- After a tick that changed no cell each tick with the same inputs finds what that one found, up to the one that is due:
--- so it changes no cell.
-use Rattle.std.proofs.Common.{◌≡◌, ℕ, ◌+◌, ◌-◌, ◌<◌, ◌≤◌, Bool, true, false, ◌&&◌, if◌then◌else◌, List, Option, Some, None, is_some, is_none, refl, sym, ap, ap₂, ◌∙◌, inl, inr, arith, slice_index}
+-- After a tick that left the phases as they were each tick with the same inputs finds what that one found, up to the one
+-- that is due: so it changes no cell.
+use Rattle.std.proofs.Common.{◌≡◌, ℕ, ◌+◌, ◌-◌, ◌<◌, ◌≤◌, Bool, true, false, not, ◌&&◌, if◌then◌else◌, List, Option, Some, None, is_some, is_none, refl, sym, ap, ap₂, subst, ◌∙◌, inl, inr, arith, slice_index}
 use Rattle.std.proofs.Math.Path.{fun_ext}
 use Rattle.std.proofs.lemmas.Bool.{cases_Bool}
 use Rattle.std.proofs.lemmas.Bool.Decides.{nat_tests}
@@ -21,7 +21,7 @@ use Rattle.tsb_step.proofs.tsb_types.ClipLemmas.{among_16, clipped-agrees, clipp
 use Rattle.tsb_step.specs.tsb_plan.Plan.{Plan}
 use Rattle.tsb_step.specs.tsb_plan.Parts.{call_phase}
 use Rattle.tsb_detect.specs.Cells.{detector_in}
-use Rattle.tsb_detect.specs.Detector.{Detector, all_after}
+use Rattle.tsb_detect.specs.Detector.{Detector, all_after, at_power_up, is_detector, next as detector_next, of_called}
 use Rattle.tsb_detect.specs.Promises as detect
 use Rattle.tsb_detect.proofs.StateLemmas.{same-after, ticks-all}
 use Rattle.tsb_calls.specs.Callable as called_words
@@ -62,7 +62,7 @@ use Rattle.tsb_step.specs.State.{State, interval, pedestrian_part}
 use Rattle.tsb_step.specs.Tick as tick
 use Rattle.tsb_step.specs.Tick.{preempts_given, calls_given, phases_given, rings_given, new_detectors, callable, ready, over, reverted, gapped, walks_again, runs, hold, omitted, forced, recycle, service, service_ended, target, moves, moved, done, next}
 use Rattle.tsb_controller.specs.Found.{observed}
-use Rattle.tsb_controller.specs.Passing.{ArePhasesStill, AreOthersStill}
+use Rattle.tsb_controller.specs.Passing.{ArePhasesStill, AreOthersStill, IsSettled, NoneRose}
 use Rattle.tsb_controller.specs.Promises.{IsTicked}
 use Rattle.tsb_controller.specs.Rows.{Rows, AreBy, untripped, state_of}
 use Rattle.tsb_controller.proofs.PlacedLemmas.{IsPlaced}
@@ -73,15 +73,44 @@ use Rattle.tsb_controller.proofs.ChangeLemmas.{rows-stay}
 use Rattle.tsb_controller.proofs.KeptLemmas as kept
 use Rattle.tsb_controller.proofs.LaterLemmas.{part-at, output-at, actuated-at, output_in, actuated_in, number_of, number-at, wanted-at, not-ended, set-has, timing_of}
 
+-- ## No output rose
+
+rises-not : (x y : Bool) → x ≡ y → (x && not y) ≡ false
+rises-not x true same = rw same refl
+rises-not x false same = rw same refl
+
+-- where another tick leaves the detectors as they are
+pub none-rose : (now t : ℕ) (row : Row) (plan : Plan) (r : Rows) (soon : ℕ) → now < t → t < soon → AreOthersStill now row plan r soon → NoneRose now r
+none-rose now t row plan r soon behind sooner o d from to = actuated-at now t r.detectors d ∙ ap (λ (f : ℕ → Detector). (f d).actuated) all ∙ rises
+  where
+    green : ℕ → Timer
+    green e = of_called (detect.green_timer t o.greens) (call_phase plan e)
+
+    all : detector_in t r.detectors ≡ all_after plan t (has_number row.vehicles) green (detector_in (t - 1) r.detectors)
+    all = ticks-all t row o.greens plan r.detectors r.detectors (o.detectors t o.greens behind sooner)
+
+    stays_on : (all_after plan t (has_number row.vehicles) green (detector_in (t - 1) r.detectors) d).output ≡ (detector_in (t - 1) r.detectors d).output
+    stays_on = ap (λ (f : ℕ → Detector). (f d).output) (sym all) ∙ output-at t (t - 1) r.detectors d
+
+    rises : (all_after plan t (has_number row.vehicles) green (detector_in (t - 1) r.detectors) d).actuated ≡ false
+    rises = elim (cases_Bool (is_detector d)) [
+      | inl on ↦
+          ap (λ (b : Bool). (if b then detector_next plan d t (has_number row.vehicles d) (green d) (detector_in (t - 1) r.detectors d) else at_power_up).actuated) on
+          ∙ rises-not _ (detector_in (t - 1) r.detectors d).output (sym (ap (λ (b : Bool). (if b then detector_next plan d t (has_number row.vehicles d) (green d) (detector_in (t - 1) r.detectors d) else at_power_up).output) on) ∙ stays_on)
+      | inr out ↦ rw out refl
+    ]
+
 -- ## Two ticks
 --
--- Tick `now` has left the rows as they were; tick t comes after it and before the ones that are due.
+-- Tick `now` has left the rows `r`, which were the same but for detectors and calls; tick t comes after it and before the
+-- ones that are due.
 
-module _ (now t : ℕ) (plan : Plan) (desk : Desk) (lamp : Option Lamp) (row : Row) (r : Rows) (due soon : ℕ) (one : 1 ≤ now) (behind : now < t) (before : t < due) (sooner : t < soon)
-    (placed : IsPlaced plan) (by : AreBy (now - 1) r) (still : IsTicked now row plan r r) (a : ArePhasesStill now row plan r due) (o : AreOthersStill now row plan r soon) where
+module _ (now t : ℕ) (plan : Plan) (desk : Desk) (lamp : Option Lamp) (row : Row) (detectors calls_row : List ℕ) (r : Rows) (due soon : ℕ) (one : 1 ≤ now) (behind : now < t)
+    (before : t < due) (sooner : t < soon) (placed : IsPlaced plan) (was_by : AreBy (now - 1) (record r { detectors = detectors; calls = calls_row }))
+    (ticked : IsTicked now row plan (record r { detectors = detectors; calls = calls_row }) r) (by : AreBy now r) (a : ArePhasesStill now row plan r due) (o : AreOthersStill now row plan r soon) where
   -- the state before tick `now`, and before tick t
   abbrev s : State
-  s = state_of (now - 1) (untripped plan desk lamp) r
+  s = state_of (now - 1) (untripped plan desk lamp) (record r { detectors = detectors; calls = calls_row })
 
   abbrev u : State
   u = state_of (t - 1) (untripped plan desk lamp) r
@@ -93,13 +122,13 @@ module _ (now t : ℕ) (plan : Plan) (desk : Desk) (lamp : Option Lamp) (row : R
   t_is = omega arith
 
   here : state_of now (untripped plan desk lamp) r ≡ next s row
-  here = kept.here now plan desk lamp row r one by still
+  here = kept.here now plan desk lamp row detectors calls_row r one was_by ticked
 
   by_before : AreBy (t - 1) r
-  by_before = rows-stay (now - 1) (t - 1) r (omega arith) by
+  by_before = rows-stay now (t - 1) r (omega arith) by
 
   by_then : AreBy t r
-  by_then = rows-stay (now - 1) t r (omega arith) by
+  by_then = rows-stay now t r (omega arith) by
 
   -- ### Detectors
 
@@ -123,7 +152,7 @@ module _ (now t : ℕ) (plan : Plan) (desk : Desk) (lamp : Option Lamp) (row : R
       (fun_ext (λ d. called-green u (call_phase plan d)))
 
   detectors_now : detector_in now r.detectors ≡ new_detectors s row
-  detectors_now = kept.detectors_now now plan desk lamp row r one by still
+  detectors_now = kept.detectors_now now plan desk lamp row detectors calls_row r one was_by ticked
 
   -- ### Preempts
 
@@ -139,7 +168,7 @@ module _ (now t : ℕ) (plan : Plan) (desk : Desk) (lamp : Option Lamp) (row : R
       (o.preempts t behind sooner)
 
   preempts_now : preempts_in now r.preempts ≡ preempts_words.next plan (preempts_given s row) (preempts_in (now - 1) r.preempts)
-  preempts_now = kept.preempts_now now plan desk lamp row r one by still
+  preempts_now = kept.preempts_now now plan desk lamp row detectors calls_row r one was_by ticked
 
   -- what is asked by a service is the same
   same-by : {A : Type 0} (f : Option Service → A) → f (preempts_in t r.preempts).service ≡ f (preempts_in now r.preempts).service →
@@ -158,7 +187,7 @@ module _ (now t : ℕ) (plan : Plan) (desk : Desk) (lamp : Option Lamp) (row : R
   target_same = same-by (wanted_by plan) (wanted-at t now plan r.preempts)
 
   ended_now : service_ended s row ≡ false
-  ended_now = kept.ended_now now plan desk lamp row r one by still
+  ended_now = kept.ended_now now plan desk lamp row detectors calls_row r one was_by ticked
 
   ended_then : service_ended u row ≡ false
   ended_then =
@@ -196,6 +225,16 @@ module _ (now t : ℕ) (plan : Plan) (desk : Desk) (lamp : Option Lamp) (row : R
     service_ended = ended_same i;
   }
 
+  -- what tick `now` set is set again
+  calm : NoneRose now r
+  calm = none-rose now t row plan r soon behind sooner o
+
+  set_same : tick.set u row ≡ tick.set s row
+  set_same =
+      ap (λ (g : memories_words.Given). as_set plan g (memories_in r.calls)) calls_same
+      ∙ kept.stands now plan desk lamp row detectors calls_row r one was_by ticked calm
+      ∙ kept.memories_now now plan desk lamp row detectors calls_row r one was_by ticked
+
   -- ### What phase timing is told
 
   forced_agree : Agree (forced u) (forced s)
@@ -222,10 +261,10 @@ module _ (now t : ℕ) (plan : Plan) (desk : Desk) (lamp : Option Lamp) (row : R
   unfolding phases_given
   phases_same = λ i. record {
     output = clipped (has_output plan (calls_same i));
-    conflict = clipped (called_words.has_conflict plan (calls_same i) (as_set plan (calls_same i) (memories_in r.calls)));
-    callable = clipped (called_words.is_callable plan (calls_same i) (as_set plan (calls_same i) (memories_in r.calls)));
-    pedestrian_call = clipped (settled.pedestrian_call plan (calls_same i) (memories_in r.calls));
-    count = within 0 (as_set plan (calls_same i) (memories_in r.calls)).count;
+    conflict = clipped (called_words.has_conflict plan (calls_same i) (set_same i));
+    callable = clipped (called_words.is_callable plan (calls_same i) (set_same i));
+    pedestrian_call = clipped (called_words.has_pedestrian_call plan (calls_same i) (set_same i));
+    count = within 0 (set_same i).count;
     runs = runs s;
     service = service_same i;
     hold = clipped (hold s);
@@ -237,14 +276,16 @@ module _ (now t : ℕ) (plan : Plan) (desk : Desk) (lamp : Option Lamp) (row : R
   -- ### What tick `now` told, by what was seen
 
   look : calls_looks.LookAlike plan (calls.given_of (observed row a.sensed)) (calls_given s row)
-  look = kept.look now plan desk lamp row r one by still placed a.sensed a.seen
+  look = kept.look now plan desk lamp row detectors calls_row r one was_by ticked placed a.sensed a.seen
 
-  as_sets : calls_looks.AreAlike (as_set plan (calls.given_of (observed row a.sensed)) s.memories) (tick.set s row)
-  as_sets = kept.as_sets now plan desk lamp row r one by still placed a.sensed a.seen
+  as_sets : calls_looks.AreAlike (as_set plan (calls.given_of (observed row a.sensed)) (memories_in r.calls)) (tick.set s row)
+  as_sets =
+      subst (calls_looks.AreAlike (as_set plan (calls.given_of (observed row a.sensed)) (memories_in r.calls))) (kept.memories_now now plan desk lamp row detectors calls_row r one was_by ticked)
+      (kept.as_sets now plan desk lamp row detectors calls_row r one was_by ticked placed a.sensed a.seen calm)
 
   called_alike : calls_looks.AreCalledAlike plan (calls.given_of (observed row a.sensed)) (calls_given s row)
-      (as_set plan (calls.given_of (observed row a.sensed)) s.memories) (tick.set s row)
-  called_alike = look.called (as_set plan (calls.given_of (observed row a.sensed)) s.memories) (tick.set s row) as_sets
+      (as_set plan (calls.given_of (observed row a.sensed)) (memories_in r.calls)) (tick.set s row)
+  called_alike = look.called (as_set plan (calls.given_of (observed row a.sensed)) (memories_in r.calls)) (tick.set s row) as_sets
 
   phases_alike : phase_laws.AgreeOnPhases (phases.given_of a.conditions) (phases_given s row)
   unfolding phases_given tick.new_service
@@ -337,7 +378,7 @@ module _ (now t : ℕ) (plan : Plan) (desk : Desk) (lamp : Option Lamp) (row : R
   rings_same = λ i. record {
     interval = intervals_same i;
     sequence = λ x. coordination.serving_order plan (pattern_in r.pattern) (number x);
-    callable = clipped (called_words.is_callable plan (calls_same i) (as_set plan (calls_same i) (memories_in r.calls)));
+    callable = clipped (called_words.is_callable plan (calls_same i) (set_same i));
     omitted = clipped (omitted s);
     ready = ready_same i;
     over = over_same i;
@@ -365,16 +406,17 @@ module _ (now t : ℕ) (plan : Plan) (desk : Desk) (lamp : Option Lamp) (row : R
 
   memories_then : memories_in r.calls ≡ settled.next plan (calls_given u row) (done u row) (memories_in r.calls)
   memories_then =
-      ap (λ (x : State). x.memories) here
+      sym (kept.stands now plan desk lamp row detectors calls_row r one was_by ticked calm)
+      ∙ sym (kept.unmoved now plan desk lamp row detectors calls_row r one was_by ticked (memories_in r.calls))
       ∙ sym (ap₂ (λ (g : memories_words.Given) (d : settled.Done). settled.next plan g d (memories_in r.calls)) calls_same done_same)
 
   -- ### Phases
 
   none-moves : (p : ℕ) → MoveAlike none_moved (moved u row) p
   none-moves p = record {
-    ends = sym (ap (λ (x : Moves). is_ended x p) moves_same ∙ kept.ends_none now plan desk lamp row r one by still p);
-    clears = sym (ap (λ (x : Moves). is_cleared x p) moves_same ∙ kept.clears_none now plan desk lamp row r one by still p);
-    starts = sym (ap (λ (x : Moves). is_started x p) moves_same ∙ kept.starts_none now plan desk lamp row r one by still p);
+    ends = sym (ap (λ (x : Moves). is_ended x p) moves_same ∙ kept.ends_none now plan desk lamp row detectors calls_row r one was_by ticked p);
+    clears = sym (ap (λ (x : Moves). is_cleared x p) moves_same ∙ kept.clears_none now plan desk lamp row detectors calls_row r one was_by ticked p);
+    starts = sym (ap (λ (x : Moves). is_started x p) moves_same ∙ kept.starts_none now plan desk lamp row detectors calls_row r one was_by ticked p);
   }
 
   phases_then : phase_in t r.phases ≡ (λ p. phase_next.next plan (phases_given u row) (moved u row) p (phase_in (t - 1) r.phases p))
@@ -412,8 +454,9 @@ module _ (now t : ℕ) (plan : Plan) (desk : Desk) (lamp : Option Lamp) (row : R
     trip = None;
   }
 
--- Each tick after one that left the rows as they were leaves them so, before the phases and the others are due.
-pub passes : (now : ℕ) (plan : Plan) (row : Row) (r : Rows) (due soon t : ℕ) → 1 ≤ now → IsPlaced plan → AreBy (now - 1) r → IsTicked now row plan r r →
+-- Each tick after one that left the phases as they were leaves all rows so, before the phases and the others are due.
+pub passes : (now : ℕ) (plan : Plan) (row : Row) (r : Rows) (due soon t : ℕ) → 1 ≤ now → IsPlaced plan → AreBy now r → IsSettled now row plan r →
     ArePhasesStill now row plan r due → AreOthersStill now row plan r soon → now < t → t < due → t < soon → IsTicked t row plan r r
-passes now plan row r due soon t one placed by still a o behind before sooner desk lamp =
-    passed now t plan desk lamp row r due soon one behind before sooner placed by still a o
+passes now plan row r due soon t one placed by it a o behind before sooner desk lamp =
+    passed now t plan desk lamp row it.old.detectors it.old.calls r due soon one behind before sooner placed
+    (subst (AreBy (now - 1)) it.rest it.by) (subst (λ (rows : Rows). IsTicked now row plan rows r) it.rest it.ticked) by a o

@@ -1,5 +1,5 @@
--- The monitor in ticks that leave the rows as they were: the field is the one that it was, so that it finds what it found.
-use Rattle.std.proofs.Common.{◌≡◌, ℕ, ◌+◌, ◌-◌, Option, Some, None, option_map, refl, sym, ap, ap₂, ◌∙◌}
+-- The monitor in ticks that leave the phases as they were: the field is the one that it was, so that it finds what it found.
+use Rattle.std.proofs.Common.{◌≡◌, ℕ, ◌+◌, ◌-◌, List, Option, Some, None, option_map, refl, sym, ap, ap₂, subst, ◌∙◌}
 use Rattle.std.proofs.Math.Path.{fun_ext}
 use Rattle.tsb_step.specs.tsb_types.declared.lamp.Lamp.{Lamp}
 use Rattle.tsb_step.specs.tsb_types.declared.row.Row.{Row}
@@ -50,26 +50,33 @@ found-none : (now : ℕ) (o : Option Trip) → None ≡ tripped_at now o → o �
 found-none now None e = refl
 found-none now (Some cause) e = absurd cc
 
-module _ (now t : ℕ) (row : Row) (lamp : Option Lamp) (plan : Plan) (r : Rows) (desk : Desk)
-    (seen : IsWatchedTick now row lamp plan r r None) (then : IsTicked t row plan r r) where
-  abbrev at_tick : ℕ → State
-  at_tick n = state_of n (untripped plan desk lamp) r
+module _ (now t : ℕ) (row : Row) (lamp : Option Lamp) (plan : Plan) (detectors calls : List ℕ) (r : Rows) (desk : Desk)
+    (seen : IsWatchedTick now row lamp plan (record r { detectors = detectors; calls = calls }) r None) (then : IsTicked t row plan r r) where
+  -- the rows before tick `now`
+  abbrev was : Rows
+  was = record r { detectors = detectors; calls = calls }
 
-  found-now : judge plan (field (at_tick (now - 1))) (field (next (at_tick (now - 1)) row)) ≡ None
+  abbrev at_tick : ℕ → Rows → State
+  at_tick n rows = state_of n (untripped plan desk lamp) rows
+
+  found-now : judge plan (field (at_tick (now - 1) was)) (field (next (at_tick (now - 1) was) row)) ≡ None
   unfolding watched
   found-now = found-none (now - 1 + 1) _ (ap (λ (x : State). x.trip) (seen desk))
 
-  found-then : judge plan (field (at_tick (t - 1))) (field (at_tick t)) ≡ None
+  found-then : judge plan (field (at_tick (t - 1) r)) (field (at_tick t r)) ≡ None
+  unfolding field
   found-then =
       ap₂ (judge plan) (field-at (t - 1) (now - 1) plan desk lamp r)
-      (field-at t now plan desk lamp r ∙ ap field (watched-ticks_are now row lamp plan r r None seen desk lamp))
+      (field-at t now plan desk lamp r ∙ ap field (watched-ticks_are now row lamp plan was r None seen desk lamp))
       ∙ found-now
 
-  pub watched-then : state_of t (untripped plan desk lamp) r ≡ ticked row (at_tick (t - 1))
+  pub watched-then : state_of t (untripped plan desk lamp) r ≡ ticked row (at_tick (t - 1) r)
   unfolding watched
   watched-then =
-      ap (λ (o : Option Trip). record (at_tick t) { trip = tripped_at t o }) (sym found-then)
-      ∙ ap (watched (at_tick (t - 1))) (then desk lamp)
+      ap (λ (o : Option Trip). record (at_tick t r) { trip = tripped_at t o }) (sym found-then)
+      ∙ ap (watched (at_tick (t - 1) r)) (then desk lamp)
 
 pub watched-pass : WatchedTicksPass
-watched-pass now t row lamp plan r seen then desk = watched-then now t row lamp plan r desk seen then
+watched-pass now t row lamp plan old r rest seen then desk =
+    watched-then now t row lamp plan old.detectors old.calls r desk
+    (subst (λ (rows : Rows). IsWatchedTick now row lamp plan rows r None) rest seen) then

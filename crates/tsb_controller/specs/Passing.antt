@@ -1,6 +1,6 @@
--- Ticks that may be passed over: what a tick finds that leaves the rows as they were, and that ticks after it with the
+-- Ticks that may be passed over: what a tick finds that leaves the phases as they were, and that ticks after it with the
 -- same inputs find and leave the same.
-use Rattle.std.specs.Prelude.{◌≡◌, ℕ, ◌<◌, Bool, List, [], Option, Some, None, option_map}
+use Rattle.std.specs.Prelude.{◌≡◌, ℕ, ◌-◌, ◌<◌, ◌≤◌, nat_lt, Bool, true, false, List, length, slice_get, Option, Some, None, option_map}
 use Rattle.tsb_step.specs.tsb_types.declared.flow.Called.{Called}
 use Rattle.tsb_step.specs.tsb_types.declared.flow.Intervals.{Intervals}
 use Rattle.tsb_step.specs.tsb_types.declared.lamp.Lamp.{Lamp}
@@ -8,6 +8,7 @@ use Rattle.tsb_step.specs.tsb_types.declared.row.Row.{Row}
 use Rattle.tsb_step.specs.tsb_types.declared.stage.Stage.{Stage}
 use Rattle.tsb_step.specs.tsb_plan.Plan.{Plan}
 use Rattle.tsb_detect.specs.declared.greens.Greens.{Greens}
+use Rattle.tsb_detect.specs.Cells.{detector_in}
 use Rattle.tsb_detect.specs.Promises as detect
 use Rattle.tsb_calls.specs.Promises as calls
 use Rattle.tsb_phase.specs.declared.conditions.Conditions.{Conditions}
@@ -18,6 +19,7 @@ use Rattle.tsb_coord.specs.Promises as coord
 use Rattle.tsb_preempt.specs.Cells.{preempts_in}
 use Rattle.tsb_preempt.specs.Due as preempts_due
 use Rattle.tsb_preempt.specs.Service.{Service, stage_phases}
+use Rattle.tsb_step.specs.declared.first_cell.TheConstants.{PHASES}
 use Rattle.tsb_controller.specs.declared.values.Sensed.{Sensed}
 use Rattle.tsb_controller.specs.Found.{observed, AreConditions}
 use Rattle.tsb_controller.specs.Promises.{IsTicked, IsWatchedTick}
@@ -29,6 +31,23 @@ use Rattle.tsb_controller.specs.Rows.{Rows, AreBy}
 abbrev pub AreQuietUntil : ℕ → Row → Plan → Rows → ℕ → Type 0
 AreQuietUntil now row plan rows due = (t : ℕ) → now < t → t < due → IsTicked t row plan rows rows
 
+-- ## The tick before them
+
+-- no row changed but those of detectors and calls
+abbrev pub LeavesPhases : Rows → Rows → Type 0
+LeavesPhases old new = old ≡ record new { detectors = old.detectors; calls = old.calls }
+
+-- tick `now` left these rows, and the phases with what comes behind them as they were
+pub record IsSettled (now : ℕ) (row : Row) (plan : Plan) (rows : Rows) : Type 0 where
+  pub old : Rows
+  pub by : AreBy (now - 1) old
+  pub ticked : IsTicked now row plan old rows
+  pub rest : LeavesPhases old rows
+
+-- no output of a detector rose in it
+abbrev pub NoneRose : ℕ → Rows → Type 0
+NoneRose now rows = (d : ℕ) → 1 ≤ d → d ≤ 16 → (detector_in now rows.detectors d).actuated ≡ false
+
 -- ## Of phases
 
 -- the phases that a stage of a preempt wants served; no stage wants any
@@ -36,7 +55,7 @@ abbrev pub wanted_in : Plan → Option (ℕ × Stage) → Option (ℕ → Bool)
 wanted_in plan None = None
 wanted_in plan (Some x) = Some (stage_phases plan x.0 x.1)
 
--- what tick `now` finds before the calls, read in rows that it leaves as they were: no service ends
+-- what tick `now` finds before the calls, read in the rows that it leaves, the phases as they were: no service ends
 pub record IsSeen (now : ℕ) (plan : Plan) (rows : Rows) (s : Sensed) : Type 0 where
   pub shown : phases.TellsIntervals rows.phases s.intervals
   pub walking : phases.TellsPedestrians rows.phases s.pedestrians
@@ -84,16 +103,26 @@ pub record AreOthersStill (now : ℕ) (row : Row) (plan : Plan) (rows : Rows) (d
 
 -- ## With the record and the monitor
 
--- rows of which no cell differs are the same: so it is where the record of a tick is empty
-abbrev pub UnchangedRowsAreSame : Type 0
-UnchangedRowsAreSame = (m n : ℕ) (old new : Rows) → AreBy m old → AreBy n new → changes old new ≡ [] → old ≡ new
+-- the cell of the entry comes before those of phases, or there is no entry
+abbrev pub is_before_phases : Option (ℕ × ℕ) → Bool
+is_before_phases None = true
+is_before_phases (Some e) = nat_lt e.0 PHASES
+
+-- the last entry is of a cell of detectors or calls, which come before those of phases, or there is no entry
+abbrev pub ends_before_phases : List (ℕ × ℕ) → Bool
+ends_before_phases es = is_before_phases (slice_get es (length es - 1))
+
+-- where a tick's record ends before the cells of phases, no row changed but those of detectors and calls
+abbrev pub EarlyRecordsLeavePhases : Type 0
+EarlyRecordsLeavePhases = (m n : ℕ) (old new : Rows) → AreBy m old → AreBy n new → ends_before_phases (changes old new) ≡ true → LeavesPhases old new
 
 -- a tick that the monitor watched, whatever it found, is a tick
 abbrev pub WatchedTicksAreTicked : Type 0
 WatchedTicksAreTicked = (now : ℕ) (row : Row) (lamp : Option Lamp) (plan : Plan) (old new : Rows) (found : Option Trip) →
     IsWatchedTick now row lamp plan old new found → IsTicked now row plan old new
 
--- where the monitor found nothing in a tick that left the rows as they were it finds nothing in another that does
+-- where the monitor found nothing in a tick that left the phases as they were, it finds nothing in one that leaves all
+-- rows as they are
 abbrev pub WatchedTicksPass : Type 0
-WatchedTicksPass = (now t : ℕ) (row : Row) (lamp : Option Lamp) (plan : Plan) (rows : Rows) →
-    IsWatchedTick now row lamp plan rows rows None → IsTicked t row plan rows rows → IsWatchedTick t row lamp plan rows rows None
+WatchedTicksPass = (now t : ℕ) (row : Row) (lamp : Option Lamp) (plan : Plan) (old rows : Rows) → LeavesPhases old rows →
+    IsWatchedTick now row lamp plan old rows None → IsTicked t row plan rows rows → IsWatchedTick t row lamp plan rows rows None

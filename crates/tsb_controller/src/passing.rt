@@ -1,5 +1,5 @@
 //! Ticks that may be passed over, as they change nothing while the inputs stay.
-ghost use Rattle.std.specs.Prelude.{◌≡◌, ℕ, ◌+◌, ◌-◌, ◌<◌, ◌≤◌, false, Some, None};
+ghost use Rattle.std.specs.Prelude.{◌≡◌, ℕ, ◌+◌, ◌<◌, ◌≤◌, false, Some, None};
 ghost use Rattle.tsb_objects.specs.Checked.{checked_plan};
 ghost use Rattle.tsb_step.specs.tsb_plan.PlanOf.{plan_of};
 ghost use Rattle.tsb_step.specs.tsb_types.Flow.{target_of};
@@ -8,8 +8,7 @@ ghost use Rattle.tsb_coord.specs.Cells as coord;
 ghost use Rattle.tsb_preempt.specs.Preempts.{is_outside};
 ghost use Rattle.tsb_step.specs.Step.{last_tick};
 ghost use Rattle.tsb_controller.specs.Rows.{AreBy};
-ghost use Rattle.tsb_controller.specs.Promises.{IsTicked};
-ghost use Rattle.tsb_controller.specs.Passing.{wanted_in, IsSeen, ArePhasesStill, AreOthersStill, AreQuietUntil, UnchangedRowsAreSame, WatchedTicksAreTicked, WatchedTicksPass};
+ghost use Rattle.tsb_controller.specs.Passing.{wanted_in, IsSettled, NoneRose, IsSeen, ArePhasesStill, AreOthersStill, AreQuietUntil, EarlyRecordsLeavePhases, WatchedTicksAreTicked, WatchedTicksPass};
 
 use crate::controller::Controller;
 use crate::values::Sensed;
@@ -65,7 +64,7 @@ fn standing(plan: &Plan, stage: Option<(Preempt, Stage)>) -> PreemptOrders
 impl Controller {
     ghost use Rattle.tsb_controller.specs.Layer.{rows_of, IsClosed};
 
-    /// What a tick finds before the calls, where it leaves the rows as they were.
+    /// What a tick finds before the calls, where it leaves the phases as they were.
     fn seen(&self, now: u32, plan: &Checked) -> Sensed
         requires in_time { now ≤ last_tick }
         requires pattern_by { coord.IsBy (rows_of self.now).pattern }
@@ -84,14 +83,15 @@ impl Controller {
         }
     }
 
-    /// The tick up to which phases stay as tick `now` left them, and report the same. The tick set no memory and
-    /// counted no vehicle, so that calls are found from those that stand.
+    /// The tick up to which phases stay as tick `now` left them, and report the same. No output of a detector rose in
+    /// that tick, so that another one sets no memory and counts no vehicle: calls are found from those that stand.
     #[inline(always)]
     fn phases_due(&self, now: u32, row: &Row, plan: &Checked) -> u32
         requires begun { 1 ≤ now }
         requires in_time { now ≤ last_tick }
-        requires by { AreBy (now - 1) (rows_of self.now) }
-        requires still { IsTicked now row.now (checked_plan plan.now) (rows_of self.now) (rows_of self.now) }
+        requires by { AreBy now (rows_of self.now) }
+        requires settled { IsSettled now row.now (checked_plan plan.now) (rows_of self.now) }
+        requires calm { NoneRose now (rows_of self.now) }
         ensures later { now < result }
         ensures still { ArePhasesStill now row.now (checked_plan plan.now) (rows_of self.now) result }
     {
@@ -119,14 +119,14 @@ impl Controller {
     }
 
     /// The first tick after `now` that may change something, where tick `now`, with the inputs of `row` on, changed no
-    /// cell: each tick before it with the same inputs changes none either, and may be passed over. It is the next tick
-    /// where something waits to be looked at, and at most the one after the last tick that there is.
+    /// cell but of detectors and calls: each tick before it with the same inputs changes none, and may be passed over.
+    /// It is the next tick where something waits to be looked at, and at most the one after the last tick that there is.
     pub fn due(&self, now: u32, row: &Row, plan: &Checked) -> u32
         requires closed { IsClosed self.now }
         requires begun { 1 ≤ now }
         requires in_time { now ≤ last_tick }
-        requires by { AreBy (now - 1) (rows_of self.now) }
-        requires still { IsTicked now row.now (checked_plan plan.now) (rows_of self.now) (rows_of self.now) }
+        requires by { AreBy now (rows_of self.now) }
+        requires settled { IsSettled now row.now (checked_plan plan.now) (rows_of self.now) }
         ensures quiet { AreQuietUntil now row.now (checked_plan plan.now) (rows_of self.now) result }
         ensures later { now < result }
         ensures within { result ≤ last_tick + 1 }
@@ -141,8 +141,8 @@ impl Controller {
 }
 
 /// A monitor that found nothing finds nothing where nothing changes. A tick that the monitor watched is a tick. Where
-/// it left the rows as they were and the monitor found nothing, the monitor finds nothing in another tick that leaves
-/// them so; the bench passes over such ticks.
+/// it left the phases as they were and the monitor found nothing, the monitor finds nothing in a later tick that leaves
+/// all rows as they are; the bench passes over such ticks.
 ///
 /// Mistake: a monitor that looks from tick 10 on, `judge_from_10` (`would_find_none_at_9`, `would_find_it_at_10`).
 /// Witness: `detectors_run_on`, `phases_stay`, `side_stays` and `trips_not` of Examples, a tick that leaves them so.
@@ -151,10 +151,11 @@ pub fn watched_ticks_pass()
     ensures passed { WatchedTicksPass }
 {}
 
-/// Where a tick's record is empty the rows are as they were.
+/// Where a tick's record ends before the cells of phases, it changed none but those of detectors and calls.
 ///
-/// Mistake: a record without the cells of the preempts, `changes_without` (`has_a_change`, `would_have_none`).
-/// Witness: `can_be` of Examples, with `differs_not`.
-pub fn unchanged_rows_are_same()
-    ensures { UnchangedRowsAreSame }
+/// Mistake: a record without the cells of the preempts, `changes_without` (`has_a_change`, `would_have_none`); one that
+/// is judged by its first entry, `begins_before_phases` (`crosses`, `ends_late`, `would_begin_early`).
+/// Witness: `can_be` of Examples, with `differs_not`; `differs_early` and `ends_early`, where a detector is occupied.
+pub fn early_records_leave_phases()
+    ensures { EarlyRecordsLeavePhases }
 {}

@@ -1,6 +1,6 @@
 -- Rows that meet what the laws of rows and records ask for: of tick 49, as at power-up but for the side that the rings
 -- serve. And a tick of them, by computing.
-use Rattle.std.proofs.Common.{◌≡◌, ℕ, ◌+◌, ◌≤◌, [], ◌∷◌, map, None, refl, arith}
+use Rattle.std.proofs.Common.{◌≡◌, ℕ, ◌+◌, ◌≤◌, true, [], ◌∷◌, drop, map, None, refl, arith}
 use Rattle.tsb_step.specs.tsb_types.Lists.{run_from}
 use Rattle.tsb_step.specs.tsb_types.Sets.{number_of_bits, all_off}
 use Rattle.tsb_step.specs.tsb_plan.Plan.{empty}
@@ -30,13 +30,14 @@ use Rattle.tsb_transact.specs.Cells.{desk_cells}
 use Rattle.tsb_transact.specs.Desk.{closed}
 use Rattle.tsb_transact.proofs.DeskLemmas.{sound-closed}
 use Rattle.tsb_transact.proofs.ToldLemmas.{states_are_read}
-use Rattle.tsb_step.specs.declared.first_cell.TheConstants.{RINGS}
+use Rattle.tsb_step.specs.declared.first_cell.TheConstants.{DETECTORS, RINGS}
 use Rattle.tsb_step.specs.MonitorCells.{monitor_cells}
 use Rattle.tsb_step.specs.State.{State}
 use Rattle.tsb_step.specs.Step.{ticked}
 use Rattle.tsb_step.specs.Tick.{next}
 use Rattle.tsb_step.proofs.Examples.Scenes.{opened}
 use Rattle.tsb_step.proofs.MonitorLemmas.{state-read}
+use Rattle.tsb_controller.specs.Passing.{ends_before_phases}
 use Rattle.tsb_controller.specs.Records.{changes}
 use Rattle.tsb_controller.specs.Rows.{Rows, AreBy, state_of, untripped}
 use Rattle.tsb_controller.specs.Whole.{All, AreAllBy}
@@ -136,6 +137,19 @@ differ = refl
 differs_not : changes (on_side 1) (on_side 1) ≡ []
 unfolding run_from number_of_bits
 differs_not = refl
+
+-- ## A record that ends before the phases: detector 1 is occupied
+
+abbrev pub occupied : ℕ → Rows
+occupied n = record (on_side n) { detectors = 1 ∷ drop 1 (on_side n).detectors }
+
+differs_early : changes (on_side 1) (occupied 1) ≡ (DETECTORS, 0) ∷ []
+unfolding run_from number_of_bits
+differs_early = refl
+
+ends_early : ends_before_phases (changes (on_side 1) (occupied 1)) ≡ true
+unfolding run_from number_of_bits
+ends_early = refl
 
 -- ## A tick that changes nothing but the tick number: with a plan that enables no phase
 

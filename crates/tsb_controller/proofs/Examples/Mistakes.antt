@@ -1,7 +1,7 @@
 -- What the laws of rows, of records and of ticks that pass refuse, by computing: timers read by the tick number in a
 -- controller that has tripped, records that number, list or hold other than they should, a bound on how long timers
 -- run, and a monitor that looks at some ticks only. Beside each stands what the definitions make of the same.
-use Rattle.std.specs.Prelude.{◌≡◌, ℕ, ◌+◌, ◌-◌, nat_le, Bool, true, false, if◌then◌else◌, List, [], ◌∷◌, ◌++◌, length, slice_index, Option, Some, None, refl}
+use Rattle.std.specs.Prelude.{◌≡◌, ℕ, ◌+◌, ◌-◌, nat_le, Bool, true, false, if◌then◌else◌, List, [], ◌∷◌, ◌++◌, length, slice_get, slice_index, Option, Some, None, refl}
 use Rattle.tsb_step.specs.tsb_types.declared.lamp.Lamp.TheVariants as lamps
 use Rattle.tsb_step.specs.tsb_types.declared.lamp.SignalColor.TheVariants as signals
 use Rattle.tsb_step.specs.tsb_types.Lists.{run_from}
@@ -23,10 +23,11 @@ use Rattle.tsb_step.specs.declared.first_cell.TheConstants.{DESK, DETECTORS, CAL
 use Rattle.tsb_step.specs.Cells.{clock}
 use Rattle.tsb_step.specs.Past.{ticks_of}
 use Rattle.tsb_step.specs.State.{State}
+use Rattle.tsb_controller.specs.Passing.{ends_before_phases, is_before_phases}
 use Rattle.tsb_controller.specs.Records.{changes}
 use Rattle.tsb_controller.specs.Rows.{Rows, Beside, state_of}
 use Rattle.tsb_controller.specs.Whole.{All, all_changes, all_put_back}
-use Rattle.tsb_controller.proofs.Examples.Examples.{on_side}
+use Rattle.tsb_controller.proofs.Examples.Examples.{occupied, on_side}
 
 -- ## Rows are told: timers read by the tick number in a controller that has tripped
 
@@ -121,6 +122,22 @@ goes_to_6 = refl
 
 would_be_at_7 : 7 - ticks_of_none kinds.Tick ≡ 7
 would_be_at_7 = refl
+
+-- leaving the phases: a record is judged by its first entry, while detector 1 is occupied and the rings cross
+abbrev pub begins_before_phases : List (ℕ × ℕ) → Bool
+begins_before_phases es = is_before_phases (slice_get es 0)
+
+crosses : changes (on_side 1) (occupied 2) ≡ (DETECTORS, 0) ∷ (RINGS + 4, 1) ∷ []
+unfolding run_from number_of_bits
+crosses = refl
+
+ends_late : ends_before_phases (changes (on_side 1) (occupied 2)) ≡ false
+unfolding run_from number_of_bits
+ends_late = refl
+
+would_begin_early : begins_before_phases (changes (on_side 1) (occupied 2)) ≡ true
+unfolding run_from number_of_bits
+would_begin_early = refl
 
 -- few: a record that has each entry twice
 abbrev pub told_twice : All → All → List (ℕ × ℕ)
