@@ -1,11 +1,10 @@
 -- What a bench keeps: once an input was taken, and once one was taken back.
 use Rattle.std.proofs.Common.{◌≡◌, ℕ, zero, suc, ◌+◌, ◌-◌, ◌<◌, ◌≤◌, Bool, true, false, ◌&&◌, if◌then◌else◌, List, [], ◌∷◌, length, drop, min, inl, inr, Option, Some, None, sym, ap, ap₂, subst, ◌∙◌, refl, arith}
-use Rattle.std.specs.Prelude.{Result, Ok, Err, OnOk, OnErr}
 use Rattle.std.proofs.lemmas.Bool.{cases_Bool, false≢true}
 use Rattle.std.proofs.lemmas.Bool.Decides.{nat_tests}
 use Rattle.tsb_history.specs.declared.kinds.Kind.{Kind}
 use Rattle.tsb_history.specs.declared.kinds.Kind.TheVariants as kinds
-use Rattle.tsb_history.specs.History.{Change, has_none, is_quiet, is_tick, newest, newest_at, newest_start, newest_kind, older, quiet_ticks}
+use Rattle.tsb_history.specs.History.{Change, has_none, is_quiet, is_tick, newest, newest_at, newest_start, older, quiet_ticks}
 use Rattle.tsb_plan.specs.Objects.{AreInRange}
 use Rattle.tsb_transact.specs.Cells.{desk_in}
 use Rattle.tsb_transact.specs.Desk as desk
@@ -139,10 +138,6 @@ newest-told (q ∷ rs) r at is = ap told_record is
 pub start-told : (rs : List Change) (r : Change) (at : ℕ) → newest_at rs ≡ Some (r, at) → newest_start rs ≡ Some at
 start-told [] r at is = ap told_place is
 start-told (q ∷ rs) r at is = ap told_place is
-
-pub kind-newest : (rs : List Change) (r : Change) → newest rs ≡ Some r → newest_kind rs ≡ Some r.kind
-kind-newest [] r is = absurd (cc)
-kind-newest (q ∷ rs) r is = cc
 
 -- ## All that is earlier
 

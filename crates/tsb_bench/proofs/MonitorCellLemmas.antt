@@ -1,6 +1,6 @@
 -- The monitor's cells: what a row says that was written from a lamp and a trip.
 use Rattle.std.proofs.Common.{◌≡◌, ℕ, ◌+◌, ◌-◌, ◌≤◌, List, ◌++◌, length, take, drop, slice_index, Option, Some, None, sym, ap, subst, ◌∙◌, refl, arith, false, ◌==◌, inl, inr}
-use Rattle.std.specs.Prelude.{IfSome, replicate}
+use Rattle.std.specs.Prelude.{replicate}
 use Rattle.std.proofs.lemmas.Bool.{cases_Bool, eqb-true}
 use Rattle.std.proofs.lemmas.Bool.Decides.{nat_tests}
 use Rattle.std.proofs.lemmas.List.{append-nil, drop_all, length-append, length-drop, take-append-le, take_all}
@@ -13,7 +13,6 @@ use Rattle.tsb_step.specs.MonitorCells.{monitor_cells, trip_cells, lamp_cells, l
 use Rattle.tsb_step.specs.MonitorLaws.{IsMonitorBy, IsCause, IsTrip, IsLamp}
 use Rattle.tsb_step.specs.State.{Tripped}
 use Rattle.tsb_step.proofs.MonitorLemmas.{rows-told, state-read}
-use Rattle.tsb_bench.specs.Cabinet.{tripped_by}
 
 -- the first four cells tell the trip
 four : (lamp : Option Lamp) (trip : Option Tripped) → row_at 4 (monitor_cells lamp trip) 0 ≡ trip_cells trip
@@ -42,10 +41,6 @@ is-trip now row by =
           | inl one ↦ rw one (by.first least, by.second (eqb-true (slice_index row 0) 1 one))
           | inr two ↦ rw two (by.first least)
         ]
-
-is-tripped : (found : Option Trip) (now : ℕ) (was : Option Tripped) → IfSome found IsCause → IsTrip now was → IsTrip now (tripped_by found now was)
-is-tripped None now was cause trip = trip
-is-tripped (Some c) now was cause trip = (cause, omega arith)
 
 -- what a row says that was made of a lamp and a trip
 pub record Says (now : ℕ) (lamp : Option Lamp) (trip : Option Tripped) (row : List ℕ) : Type 0 where

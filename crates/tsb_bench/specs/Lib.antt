@@ -4,6 +4,8 @@ pub mod Cabinet
 pub mod Watched
 -- what callers see of a bench, and what it keeps
 pub mod Held
+-- what becomes of a bench that is given an input
+pub mod Applied
 -- what is kept of the cabinet before an input, by which its events are told
 pub mod Telling
 -- what is kept of the heads while no cell changes

@@ -20,6 +20,7 @@ ghost use Rattle.tsb_step.specs.declared.inputs.Input.TheVariants as inputs;
 ghost use Rattle.tsb_transact.specs.Cells.{desk_in};
 ghost use Rattle.tsb_transact.specs.Layer.{cells_of};
 ghost use Rattle.tsb_controller.specs.Whole.{AreAllBy, all_in, all_changes};
+ghost use Rattle.tsb_bench.specs.Applied.{IsApplied};
 ghost use Rattle.tsb_bench.specs.Cabinet.{rows_of, IsShut, IsDone, MayPass, Passes, next_tick, most_cells};
 ghost use Rattle.tsb_bench.specs.Held.{state_of, whole, ticks, memory};
 ghost use Rattle.tsb_bench.specs.Shown.{IsShown};
@@ -263,16 +264,7 @@ impl Bench {
     /// Takes a tick that is not passed over. It is out of line, as all inputs are but ticks that are passed over.
     #[inline(never)]
     fn take_tick(&mut self, row: Row) -> Result<(), Refusal>
-        ensures allowed { OnOk result (verdict (state_of self.old) (inputs.Tick row) ≡ None) }
-        ensures state { OnOk result (state_of self.new ≡ step (state_of self.old) (inputs.Tick row)) }
-        ensures records { OnOk result (self.new.records ≡ record_of (inputs.Tick row) (state_of self.old) (state_of self.new) ∷ self.old.records) }
-        ensures back { OnOk result (earlier (whole self.new) 1 ≡ whole self.old) }
-        ensures refused { IfErr result (IsRefusal (verdict (state_of self.old) (inputs.Tick row))) }
-        ensures err { OnErr result (self.new ≡ self.old) }
-        ensures few { OnOk result (length (record_of (inputs.Tick row) (state_of self.old) (state_of self.new)).entries ≤ most_cells (kind_of (inputs.Tick row))) }
-        ensures wanting { result ≡ Err Memory → self.old.room < record_size (most_cells (kind_of (inputs.Tick row))) }
-        ensures room { OnOk result (self.old.room
-            ≤ self.new.room + record_size (length (record_of (inputs.Tick row) (state_of self.old) (state_of self.new)).entries)) }
+        ensures { IsApplied (inputs.Tick row) self.old self.new result }
     {
         self.take(&Input::Tick(row))
     }
@@ -280,16 +272,7 @@ impl Bench {
     /// Takes an input that is no tick; a tick as well, but slower.
     #[inline(never)]
     fn take_other(&mut self, input: Input) -> Result<(), Refusal>
-        ensures allowed { OnOk result (verdict (state_of self.old) input ≡ None) }
-        ensures state { OnOk result (state_of self.new ≡ step (state_of self.old) input) }
-        ensures records { OnOk result (self.new.records ≡ record_of input (state_of self.old) (state_of self.new) ∷ self.old.records) }
-        ensures back { OnOk result (earlier (whole self.new) 1 ≡ whole self.old) }
-        ensures refused { IfErr result (IsRefusal (verdict (state_of self.old) input)) }
-        ensures err { OnErr result (self.new ≡ self.old) }
-        ensures few { OnOk result (length (record_of input (state_of self.old) (state_of self.new)).entries ≤ most_cells (kind_of input)) }
-        ensures wanting { result ≡ Err Memory → self.old.room < record_size (most_cells (kind_of input)) }
-        ensures room { OnOk result (self.old.room
-            ≤ self.new.room + record_size (length (record_of input (state_of self.old) (state_of self.new)).entries)) }
+        ensures { IsApplied input self.old self.new result }
     {
         self.take(&input)
     }
@@ -299,16 +282,7 @@ impl Bench {
     #[inline(always)]
     fn pass_over(&mut self, input: &Input) -> Result<(), Refusal>
         requires { Passes input.now self.old.tick self.old.rows }
-        ensures allowed { OnOk result (verdict (state_of self.old) input.now ≡ None) }
-        ensures state { OnOk result (state_of self.new ≡ step (state_of self.old) input.now) }
-        ensures records { OnOk result (self.new.records ≡ record_of input.now (state_of self.old) (state_of self.new) ∷ self.old.records) }
-        ensures back { OnOk result (earlier (whole self.new) 1 ≡ whole self.old) }
-        ensures refused { IfErr result (IsRefusal (verdict (state_of self.old) input.now)) }
-        ensures err { OnErr result (self.new ≡ self.old) }
-        ensures few { OnOk result (length (record_of input.now (state_of self.old) (state_of self.new)).entries ≤ most_cells (kind_of input.now)) }
-        ensures wanting { result ≡ Err Memory → self.old.room < record_size (most_cells (kind_of input.now)) }
-        ensures room { OnOk result (self.old.room
-            ≤ self.new.room + record_size (length (record_of input.now (state_of self.old) (state_of self.new)).entries)) }
+        ensures { IsApplied input.now self.old self.new result }
     {
         let Ok(()) = self.history.reserve(0) else {
             return Err(Refusal::Memory);
@@ -321,16 +295,7 @@ impl Bench {
     /// Takes an input that is not passed over.
     #[inline(always)]
     fn take(&mut self, input: &Input) -> Result<(), Refusal>
-        ensures allowed { OnOk result (verdict (state_of self.old) input.now ≡ None) }
-        ensures state { OnOk result (state_of self.new ≡ step (state_of self.old) input.now) }
-        ensures records { OnOk result (self.new.records ≡ record_of input.now (state_of self.old) (state_of self.new) ∷ self.old.records) }
-        ensures back { OnOk result (earlier (whole self.new) 1 ≡ whole self.old) }
-        ensures refused { IfErr result (IsRefusal (verdict (state_of self.old) input.now)) }
-        ensures err { OnErr result (self.new ≡ self.old) }
-        ensures few { OnOk result (length (record_of input.now (state_of self.old) (state_of self.new)).entries ≤ most_cells (kind_of input.now)) }
-        ensures wanting { result ≡ Err Memory → self.old.room < record_size (most_cells (kind_of input.now)) }
-        ensures room { OnOk result (self.old.room
-            ≤ self.new.room + record_size (length (record_of input.now (state_of self.old) (state_of self.new)).entries)) }
+        ensures { IsApplied input.now self.old self.new result }
     {
         if let Some(refusal) = self.cabinet.refusal(self.tick, input) {
             return Err(refusal);

@@ -1,4 +1,4 @@
-use Rattle.std.proofs.Common.{◌≡◌, ◌≤◌, ◌-◌, ◌∙◌, ℕ, sym, ap, subst, rules, arith}
+use Rattle.std.proofs.Common.{◌≡◌, ◌-◌, ◌∙◌, sym, ap, subst, rules, arith}
 use Rattle.tsb_machine.proofs.PastLemmas.{sought-here, sought-least}
 use Rattle.tsb_step.specs.Past.{Whole, controller, sought, IsLeastBack}
 use Rattle.tsb_bench.specs.Held.{Held, state_of, whole, HasSoundPast}

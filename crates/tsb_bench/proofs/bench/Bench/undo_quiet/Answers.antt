@@ -1,5 +1,5 @@
-use Rattle.std.proofs.Common.{◌≡◌, ◌≤◌, ◌-◌, ◌+◌, ℕ, List, ap, arith, drop, sym, subst}
-use Rattle.tsb_history.specs.History.{Change, quiet_ticks}
+use Rattle.std.proofs.Common.{◌≡◌, ◌≤◌, ◌-◌, ◌+◌, ℕ, List, ap, arith, sym, subst}
+use Rattle.tsb_history.specs.History.{Change}
 use Rattle.tsb_controller.specs.Whole.{All}
 use Rattle.tsb_bench.specs.Cabinet.{rows_of}
 use Rattle.tsb_bench.specs.Held.{Held, HasSoundPast}

@@ -1,9 +1,8 @@
-use Rattle.std.proofs.Common.{◌≡◌, ◌≤◌, ◌<◌, ◌-◌, ◌∷◌, ℕ, suc, List, length, ap, arith, drop, length-drop, refl, sym, subst, ◌∙◌}
+use Rattle.std.proofs.Common.{◌≡◌, ◌≤◌, ◌<◌, ◌-◌, ◌∷◌, ℕ, suc, List, length, ap, arith, drop, length-drop, sym, subst, ◌∙◌}
 use Rattle.tsb_history.specs.History.{Change, quiet_ticks}
 use Rattle.tsb_types.specs.declared.watch.Watch.{Watch}
 use Rattle.tsb_controller.specs.Whole.{all_put_back}
 use Rattle.tsb_step.specs.Past.{ticks_of}
-use Rattle.tsb_step.specs.Step.{last_tick}
 use Rattle.tsb_bench.specs.Cabinet.{rows_of}
 use Rattle.tsb_bench.specs.Held.{Held}
 use Rattle.tsb_bench.specs.declared.watched.Watched.{Watched}
