@@ -1,13 +1,16 @@
--- Plans whose cells are the same from the first of one object to the first of another agree on what stands between.
-use Rattle.std.proofs.Common.{◌≡◌, ℕ, ◌+◌, ◌-◌, ◌<◌, ◌≤◌, Bool, true, false, List, get_or, refl, arith, sym, ap, ◌∙◌, inl, inr, if◌then◌else◌}
-use Rattle.std.proofs.lemmas.Bool.{cases_lt}
+-- Plans agree on what stands from one object up to another where their cells there are the same, and nowhere else.
+use Rattle.std.proofs.Common.{◌≡◌, ℕ, ◌+◌, ◌-◌, ◌<◌, ◌≤◌, Bool, true, false, List, length, get_or, refl, arith, sym, ap, ◌∙◌, inl, inr, if◌then◌else◌}
+use Rattle.std.proofs.lemmas.Bool.{cases_lt, cond-true}
 use Rattle.std.proofs.lemmas.Bool.Decides.{nat_tests}
-use Rattle.std.proofs.lemmas.List.Edits.{get_or-between}
+use Rattle.std.proofs.lemmas.List.{ext_get_or}
+use Rattle.std.proofs.lemmas.List.Edits.{get_or-between, length-between}
 use Rattle.std.specs.List.{between}
 use Rattle.tsb_plan.specs.declared.object.Object.{Object}
 use Rattle.tsb_plan.specs.declared.object.TheConstants.{PLAN_CELLS}
+use Rattle.tsb_plan.specs.Laws.{IsCellOf}
 use Rattle.tsb_plan.specs.Objects.{order, indices, first_cell, has_index, value_in}
 use Rattle.tsb_plan.specs.PlanOf.{plan_in}
+use Rattle.tsb_plan.proofs.CellLemmas.{leave_no_cell}
 use Rattle.tsb_plan.proofs.TableLemmas.{order-injective, ends-before, ends-within, index-bounds}
 use Rattle.tsb_objects.specs.Agreement.{Agree, is_between}
 
@@ -54,3 +57,60 @@ value-same cells others from to same o i there = go (has_index o i) refl
 pub agree-between : (cells others : List ℕ) (from to : Object) → between (first_cell from) (first_cell to) cells ≡ between (first_cell from) (first_cell to) others →
     Agree (is_between from to) (plan_in cells) (plan_in others)
 agree-between cells others from to same = record { each = λ o i there. value-same cells others from to same o i there }
+
+-- ## And back
+
+-- the object whose cell stands within the part is between the two
+between-cell : (from to o : Object) (i cell : ℕ) → IsCellOf cell o i → first_cell from ≤ cell → cell < first_cell to → is_between from to o ≡ true
+between-cell from to o i cell is low high =
+    let bounds : (1 ≤ i) × (i ≤ indices o) = index-bounds o i is.has in
+    let at : first_cell o + (i - 1) ≡ cell = is.at in
+    let not_before : order from ≤ order o =
+    elim (cases_lt (order o) (order from)) [
+      | inl below ↦ (let step : first_cell o + indices o ≤ first_cell from = ends-before o from below in absurd (omega arith))
+      | inr above ↦ above
+    ] in
+    let not_behind : order o < order to =
+    elim (cases_lt (order o) (order to)) [
+      | inl below ↦ below
+      | inr above ↦ (let step : first_cell to ≤ first_cell o = first-cells to o above in absurd (omega arith))
+    ] in
+    grind (arith, nat_tests, not_before, not_behind)
+
+-- a cell of the part is the same in plans that agree on the objects between the two
+cell-same : (cells others : List ℕ) (from to : Object) → Agree (is_between from to) (plan_in cells) (plan_in others) →
+    (cell : ℕ) → first_cell from ≤ cell → cell < first_cell to → get_or cells cell 0 ≡ get_or others cell 0
+cell-same cells others from to agree cell low high =
+    let top : first_cell to ≤ PLAN_CELLS = first-cell-within to in
+    let within : cell < PLAN_CELLS = omega arith in
+    let found : (o : Object) × ((i : ℕ) × IsCellOf cell o i) = leave_no_cell cell within in
+    sym (read found.0 found.1.0 found.1.1 cells)
+    ∙ agree.each found.0 found.1.0 (between-cell from to found.0 found.1.0 cell found.1.1 low high)
+    ∙ read found.0 found.1.0 found.1.1 others
+  where
+    read : (o : Object) (i : ℕ) → IsCellOf cell o i → (xs : List ℕ) → value_in xs o i ≡ get_or xs cell 0
+    read o i is xs =
+        cond-true (has_index o i) (get_or xs (first_cell o + (i - 1)) 0) 0 is.has ∙ ap (λ (n : ℕ). get_or xs n 0) is.at
+
+pub between-agree : (cells others : List ℕ) (from to : Object) → length cells ≡ PLAN_CELLS → length others ≡ PLAN_CELLS → order from ≤ order to →
+    Agree (is_between from to) (plan_in cells) (plan_in others) →
+    between (first_cell from) (first_cell to) cells ≡ between (first_cell from) (first_cell to) others
+between-agree cells others from to full full_other before agree =
+    ext_get_or 0 (between first end cells) (between first end others) (many cells full ∙ sym (many others full_other)) each
+  where
+    first : ℕ
+    first = first_cell from
+
+    end : ℕ
+    end = first_cell to
+
+    many : (xs : List ℕ) → length xs ≡ PLAN_CELLS → length (between first end xs) ≡ end - first
+    many xs whole = length-between xs first end (let top : first_cell to ≤ PLAN_CELLS = first-cell-within to in omega (arith, top, whole))
+
+    each : (k : ℕ) → k < length (between first end cells) → get_or (between first end cells) k 0 ≡ get_or (between first end others) k 0
+    each k below =
+        let size : length (between first end cells) ≡ end - first = many cells full in
+        let short : first + k < end = omega (arith, below, size) in
+        get_or-between cells first end k 0 short
+        ∙ cell-same cells others from to agree (first + k) (omega arith) short
+        ∙ sym (get_or-between others first end k 0 short)

@@ -1,7 +1,7 @@
 //! Whether two plans agree on the objects that tables are made from: then the tables of one are those of the other.
 #![tactic(auto, unfolding(tsb_plan::specs::PlanOf::plan_of))]
 
-ghost use Rattle.std.specs.Prelude.{◌≡◌, ◌≤◌, true};
+ghost use Rattle.std.specs.Prelude.{◌≤◌, ◌↔◌, IsTrue};
 ghost use Rattle.tsb_objects.specs.Agreement.{Agree, is_between, is_for_phases, is_for_detectors, is_for_patterns, is_for_unions};
 ghost use Rattle.tsb_plan.specs.Objects.{order};
 ghost use Rattle.tsb_plan.specs.PlanOf.{plan_of};
@@ -12,14 +12,14 @@ use tsb_plan::{Object, Plan};
 #[inline(always)]
 fn agree_between(plan: &Plan, other: &Plan, from: Object, to: Object) -> bool
     requires { order from ≤ order to }
-    ensures { result ≡ true → Agree (is_between from to) (plan_of plan.now) (plan_of other.now) }
+    ensures { IsTrue result ↔ Agree (is_between from to) (plan_of plan.now) (plan_of other.now) }
 {
     plan.has_same_cells(other, from.first_cell(), to.first_cell())
 }
 
 /// Whether two plans agree on what the tables of phases are made from.
 pub(crate) fn agree_for_phases(plan: &Plan, other: &Plan) -> bool
-    ensures { result ≡ true → Agree is_for_phases (plan_of plan.now) (plan_of other.now) }
+    ensures { IsTrue result ↔ Agree is_for_phases (plan_of plan.now) (plan_of other.now) }
 {
     agree_between(
         plan,
@@ -31,7 +31,7 @@ pub(crate) fn agree_for_phases(plan: &Plan, other: &Plan) -> bool
 
 /// Whether two plans agree on what the tables of detectors are made from.
 pub(crate) fn agree_for_detectors(plan: &Plan, other: &Plan) -> bool
-    ensures { result ≡ true → Agree is_for_detectors (plan_of plan.now) (plan_of other.now) }
+    ensures { IsTrue result ↔ Agree is_for_detectors (plan_of plan.now) (plan_of other.now) }
 {
     agree_between(
         plan,
@@ -43,7 +43,7 @@ pub(crate) fn agree_for_detectors(plan: &Plan, other: &Plan) -> bool
 
 /// Whether two plans agree on what the tables of patterns are made from.
 pub(crate) fn agree_for_patterns(plan: &Plan, other: &Plan) -> bool
-    ensures { result ≡ true → Agree is_for_patterns (plan_of plan.now) (plan_of other.now) }
+    ensures { IsTrue result ↔ Agree is_for_patterns (plan_of plan.now) (plan_of other.now) }
 {
     agree_between(plan, other, Object::PhaseEnabled, Object::PhaseConcurrency)
         && agree_between(
@@ -63,7 +63,7 @@ pub(crate) fn agree_for_patterns(plan: &Plan, other: &Plan) -> bool
 
 /// Whether two plans agree on what the unions are made from.
 pub(crate) fn agree_for_unions(plan: &Plan, other: &Plan) -> bool
-    ensures { result ≡ true → Agree is_for_unions (plan_of plan.now) (plan_of other.now) }
+    ensures { IsTrue result ↔ Agree is_for_unions (plan_of plan.now) (plan_of other.now) }
 {
     agree_between(plan, other, Object::PhaseConcurrency, Object::PhaseWalk)
         && agree_between(

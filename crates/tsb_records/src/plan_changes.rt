@@ -1,5 +1,5 @@
 //! The plan's entries in a record: written and put back.
-ghost use Rattle.std.specs.Prelude.{◌≡◌, ℕ, ◌+◌, ◌-◌, ◌<◌, ◌≤◌, ◌%◌, ◌++◌, true, length, drop, get_or};
+ghost use Rattle.std.specs.Prelude.{◌≡◌, ℕ, ◌+◌, ◌-◌, ◌<◌, ◌≤◌, ◌%◌, ◌++◌, ◌↔◌, IsTrue, length, drop, get_or};
 ghost use Rattle.arrayvec.specs.ArrayVec.{array_vec_len};
 ghost use Rattle.tsb_cells.specs.Diff.{diff, diff_from, apply_diff, part};
 ghost use Rattle.tsb_plan.specs.declared.object.TheConstants.{PLAN_CELLS};
@@ -36,7 +36,7 @@ pub fn differences_onto<const M: usize>(
 fn are_same(before: &Plan, after: &Plan, first: usize, end: usize) -> bool
     requires from { first ≤ end }
     requires to { end ≤ PLAN_CELLS }
-    ensures { result ≡ true → (j : ℕ) → first ≤ j → j < end → get_or before.now.values j 0 ≡ get_or after.now.values j 0 }
+    ensures { IsTrue result ↔ ((j : ℕ) → first ≤ j → j < end → get_or before.now.values j 0 ≡ get_or after.now.values j 0) }
 {
     before.has_same_cells(after, first, end)
 }

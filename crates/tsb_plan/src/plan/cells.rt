@@ -1,5 +1,5 @@
 //! The cells of a plan: each object's values, index by index, one object after the other.
-ghost use Rattle.std.specs.Prelude.{◌≡◌, ◌<◌, ◌≤◌, true, slice_index, slice_range, slice_set};
+ghost use Rattle.std.specs.Prelude.{◌≡◌, ◌<◌, ◌≤◌, ◌↔◌, IsTrue, slice_index, slice_range, slice_set};
 ghost use Rattle.tsb_plan.specs.declared.object.TheConstants.{PLAN_CELLS};
 ghost use Rattle.tsb_plan.specs.Objects.{AreInRange};
 
@@ -36,7 +36,7 @@ impl Plan {
     pub fn has_same_cells(&self, other: &Plan, first: usize, end: usize) -> bool
         requires order { first ≤ end }
         requires within { end ≤ PLAN_CELLS }
-        ensures { result ≡ true → slice_range self.now.values first end ≡ slice_range other.now.values first end }
+        ensures { IsTrue result ↔ (slice_range self.now.values first end ≡ slice_range other.now.values first end) }
     {
         let own = &self.values[first..end];
         let others = &other.values[first..end];

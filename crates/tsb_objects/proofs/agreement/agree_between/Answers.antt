@@ -3,7 +3,7 @@ use Rattle.std.specs.List.{between}
 use Rattle.tsb_plan.specs.declared.object.TheConstants.{PLAN_CELLS}
 use Rattle.tsb_plan.specs.Objects.{first_cell}
 use Rattle.tsb_plan.specs.PlanOf.{plan_of}
-use Rattle.tsb_objects.proofs.RangeLemmas.{first-cells, first-cell-within, agree-between}
+use Rattle.tsb_objects.proofs.RangeLemmas.{first-cells, first-cell-within, agree-between, between-agree}
 use Rattle.tsb_objects.proofs.agreement.agree_between.Goals as goal
 
 pub has_same_cells-requires-clause-order : goal.has_same_cells-requires-clause-order
@@ -18,8 +18,14 @@ has_same_cells-requires-clause-within c =
 
 pub returns : goal.returns
 unfolding plan_of
-returns c same =
-    let places : (cells : List ℕ) → between c.first_cell.result c.first_cell-2.result cells ≡ between (first_cell c.args.from) (first_cell c.args.to) cells =
-    λ cells. ap₂ (λ (i j : ℕ). between i j cells) c.first_cell.ensures c.first_cell-2.ensures in
-    agree-between c.args.plan.now.values c.args.other.now.values c.args.from c.args.to
-    (sym (places c.args.plan.now.values) ∙ c.has_same_cells.ensures same ∙ places c.args.other.now.values)
+returns c =
+    let from : ℕ = first_cell c.args.from in
+    let to : ℕ = first_cell c.args.to in
+    let own : List ℕ = c.args.plan.now.values in
+    let others : List ℕ = c.args.other.now.values in
+    let places : (cells : List ℕ) → between c.first_cell.result c.first_cell-2.result cells ≡ between from to cells =
+    λ cells. ap₂ (λ (i j : ℕ). between i j cells) c.first_cell.ensures c.first_cell-2.ensures in (
+      (λ same. agree-between own others c.args.from c.args.to (sym (places own) ∙ c.has_same_cells.ensures.0 same ∙ places others)),
+      (λ agree. c.has_same_cells.ensures.1
+          (places own ∙ between-agree own others c.args.from c.args.to c.args.plan.now.full c.args.other.now.full c.requires agree ∙ sym (places others))),
+    )

@@ -29,7 +29,7 @@ loop-block-preserved g c =
           let whole : first + (end - first) ≡ end = omega (arith, from) in
           let passed : rest first ≡ rest end =
           passed-over (end - first) first before after (omega (arith, whole, top, c.args.before.now.full)) (omega (arith, whole, top, c.args.after.now.full))
-          (λ j since below. c.are_same.ensures w.if-not-are_same.false j since (omega (arith, below, whole)))
+          (λ j since below. c.are_same.ensures.0 w.if-not-are_same.false j since (omega (arith, below, whole)))
           ∙ ap rest whole in
           let stays : length c.if-not-are_same.out.items ≡ length c.loop-block.out.items = ap (λ a. length a.items) w.out-is in
           record {

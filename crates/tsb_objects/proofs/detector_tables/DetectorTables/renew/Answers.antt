@@ -8,4 +8,4 @@ pub returns-else-not-agree_for_detectors : goal.returns-else-not-agree_for_detec
 unfolding plan_of
 returns-else-not-agree_for_detectors c =
     let agree : c.agree_for_detectors.result ≡ true = grind (arith, nat_tests) in
-    same-detectors c.args.before.now.values c.args.plan.now.values c.args.self.now (c.agree_for_detectors.ensures agree) c.requires
+    same-detectors c.args.before.now.values c.args.plan.now.values c.args.self.now (c.agree_for_detectors.ensures.0 agree) c.requires

@@ -8,4 +8,4 @@ pub returns-else-not-agree_for_patterns : goal.returns-else-not-agree_for_patter
 unfolding plan_of
 returns-else-not-agree_for_patterns c =
     let agree : c.agree_for_patterns.result ≡ true = grind (arith, nat_tests) in
-    same-patterns c.args.before.now.values c.args.plan.now.values c.args.self.now (c.agree_for_patterns.ensures agree) c.requires
+    same-patterns c.args.before.now.values c.args.plan.now.values c.args.self.now (c.agree_for_patterns.ensures.0 agree) c.requires

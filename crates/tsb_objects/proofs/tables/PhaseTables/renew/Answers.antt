@@ -8,4 +8,4 @@ pub returns-else-not-agree_for_phases : goal.returns-else-not-agree_for_phases
 unfolding plan_of
 returns-else-not-agree_for_phases c =
     let agree : c.agree_for_phases.result ≡ true = grind (arith, nat_tests) in
-    same-phases c.args.before.now.values c.args.plan.now.values c.args.self.now (c.agree_for_phases.ensures agree) c.requires
+    same-phases c.args.before.now.values c.args.plan.now.values c.args.self.now (c.agree_for_phases.ensures.0 agree) c.requires

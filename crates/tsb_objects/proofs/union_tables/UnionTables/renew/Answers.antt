@@ -8,4 +8,4 @@ pub returns-else-not-agree_for_unions : goal.returns-else-not-agree_for_unions
 unfolding plan_of
 returns-else-not-agree_for_unions c =
     let agree : c.agree_for_unions.result ≡ true = grind (arith, nat_tests) in
-    same-unions c.args.before.now.values c.args.plan.now.values c.args.self.now (c.agree_for_unions.ensures agree) c.requires.before
+    same-unions c.args.before.now.values c.args.plan.now.values c.args.self.now (c.agree_for_unions.ensures.0 agree) c.requires.before

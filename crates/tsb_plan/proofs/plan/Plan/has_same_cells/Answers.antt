@@ -3,4 +3,4 @@ use Rattle.std.proofs.lemmas.Slice.Eq.{slice_eq-Decides}
 use Rattle.tsb_plan.proofs.plan.Plan.has_same_cells.Goals as goal
 
 pub returns : goal.returns
-returns c = (slice_eq-Decides Decides-eqb _ _ _ c.eq.ensures).0
+returns c = slice_eq-Decides Decides-eqb _ _ _ c.eq.ensures
