@@ -1,6 +1,6 @@
 -- What tables of a plan are read from: values at numbers from 1 on.
-use Rattle.std.proofs.Common.{◌≡◌, ℕ, zero, suc, ◌≢◌, ◌+◌, ◌<◌, ◌≤◌, ◌==◌, max, nat_le, Bool, true, false, List, None, refl, arith, sym, subst, ◌∙◌, inl, inr}
-use Rattle.std.proofs.lemmas.Bool.{cases_lt}
+use Rattle.std.proofs.Common.{◌≡◌, ℕ, zero, suc, ◌≢◌, ◌⊎◌, ◌+◌, ◌<◌, ◌≤◌, ◌==◌, max, nat_le, Bool, true, false, List, None, refl, arith, sym, subst, ◌∙◌, inl, inr}
+use Rattle.std.proofs.lemmas.Bool.{cases_lt, eq-eqb}
 use Rattle.std.proofs.lemmas.Bool.Decides.{nat_tests, eqb_tells}
 use Rattle.tsb_plan.specs.declared.object.Object.{Object}
 use Rattle.tsb_plan.specs.declared.object.Object.TheVariants.{PhaseConcurrency}
@@ -9,9 +9,11 @@ use Rattle.tsb_plan.specs.Plan.{is_concurrent}
 use Rattle.tsb_plan.specs.PlanOf.{plan_in}
 use Rattle.tsb_rules.specs.Consistent.{IsPhase}
 use Rattle.tsb_rules.specs.Rules.{first_broken}
+use Rattle.tsb_types.specs.Lists.{some_passes, run_from}
 use Rattle.tsb_types.specs.Sets.{names}
 use Rattle.tsb_types.proofs.SetLemmas.{names-zero, names-above}
 use Rattle.tsb_rules.proofs.ConsistentLemmas.{together}
+use Rattle.tsb_objects.proofs.PassLemmas.{pass-one}
 
 -- after the last index an object has no value but 0
 pub none-behind : (cells : List ℕ) (o : Object) (n wanted : ℕ) → 1 ≤ wanted → indices o < n → (value_in cells o n == wanted) ≡ false
@@ -59,3 +61,22 @@ one-longer f longest time n new e is told p from within =
       | inl same ↦ subst (λ (k : ℕ). f k ≤ new) (sym same.1) (subst (λ (k : ℕ). k ≤ new) is (omega (arith, e)))
       | inr other ↦ (let apart : p ≢ n = other.1 in let before : f p ≤ longest = told p from (omega (arith, within, apart)) in omega (arith, before, e))
     ]
+
+-- and that longest is one of them, once it is not 0
+pub longest-of_some : (f : ℕ → ℕ) (longest time n new : ℕ) → new ≡ max longest time → time ≡ f n → 1 ≤ n → n ≤ 16 →
+    (longest ≡ 0) ⊎ (some_passes (λ p. f p == longest) (run_from 1 16) ≡ true) →
+    (new ≡ 0) ⊎ (some_passes (λ p. f p == new) (run_from 1 16) ≡ true)
+longest-of_some f longest time n new e is from within was =
+    elim (cases_lt longest time) [
+      | inl below ↦
+          let here : f n ≡ new = omega (arith, e, is, below) in
+          inr (pass-one (λ p. f p == new) 1 16 n (eq-eqb (f n) new here) from (omega (arith, within)))
+      | inr above ↦
+          let stays : longest ≡ new = omega (arith, e, above) in
+          subst (λ (m : ℕ). (m ≡ 0) ⊎ (some_passes (λ p. f p == m) (run_from 1 16) ≡ true)) stays was
+    ]
+
+-- where all are 0, the first is the longest
+pub longest-of_first : (f : ℕ → ℕ) (longest : ℕ) → longest ≡ 0 → f 1 ≤ longest → some_passes (λ p. f p == longest) (run_from 1 16) ≡ true
+longest-of_first f longest none first =
+    pass-one (λ p. f p == longest) 1 16 1 (eq-eqb (f 1) longest (omega (arith, none, first))) (omega arith) (omega arith)

@@ -8,6 +8,8 @@ pub mod PatternTables
 pub mod Unions
 -- plans that agree on the objects that tables are made from
 pub mod Agreement
+-- the longest red revert time of a plan
+pub mod RedReverts
 -- the plan of a checked plan
 pub mod Checked
 -- the names of crates below, for those above

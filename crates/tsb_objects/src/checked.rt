@@ -1,11 +1,11 @@
 //! Plans that may be run.
 #![tactic(auto, unfolding(tsb_plan::specs::PlanOf::plan_of))]
 
-ghost use Rattle.std.specs.Prelude.{◌≡◌, ℕ, ◌≤◌, None};
-ghost use Rattle.tsb_plan.specs.Plan.{red_revert};
+ghost use Rattle.std.specs.Prelude.{◌≡◌, None};
 ghost use Rattle.tsb_plan.specs.PlanOf.{plan_of};
 ghost use Rattle.tsb_rules.specs.Rules.{first_broken};
 ghost use Rattle.tsb_objects.specs.PatternTables.{ArePatternTables};
+ghost use Rattle.tsb_objects.specs.RedReverts.{IsLongestRedRevert};
 ghost use Rattle.tsb_objects.specs.Tables.{ArePhaseTables, AreDetectorTables};
 ghost use Rattle.tsb_objects.specs.Unions.{AreUnionTables};
 
@@ -38,7 +38,7 @@ pub struct Checked {
     ghost detectors_are: { AreDetectorTables (plan_of plan) detector_tables },
     ghost patterns_are: { ArePatternTables (plan_of plan) pattern_tables },
     ghost unions_are: { AreUnionTables (plan_of plan) union_tables },
-    ghost reverts_are: { (p : ℕ) → 1 ≤ p → p ≤ 16 → red_revert (plan_of plan) p ≤ longest_red_revert },
+    ghost reverts_are: { IsLongestRedRevert (plan_of plan) longest_red_revert },
 }
 
 impl Checked {
@@ -88,12 +88,11 @@ impl Checked {
         self.plan = *plan;
     }
 
-    /// A time, in tenths of a second, that no phase's red revert is longer than: the longest of them. The clause asks
-    /// only that it is no shorter.
+    /// The longest red revert time that a phase has, in tenths of a second.
     #[inline(always)]
     #[tactic(auto, unfolding(tsb_plan::specs::PlanOf::plan_of, crate::specs::Checked::checked_plan))]
     pub fn longest_red_revert(&self) -> u32
-        ensures { (p : ℕ) → 1 ≤ p → p ≤ 16 → red_revert (checked_plan self.now) p ≤ result }
+        ensures { IsLongestRedRevert (checked_plan self.now) result }
     {
         self.longest_red_revert
     }

@@ -13,7 +13,7 @@ still_until-requires-clause-by c = λ p from within.
 
 pub still_until-requires-clause-longest : goal.still_until-requires-clause-longest
 still_until-requires-clause-longest c = λ p from within.
-    subst (λ (q : Plan). red_revert q p ≤ c.longest_red_revert-longest.result) (sym c.plan.ensures.plan) (c.longest_red_revert-longest.ensures p from within)
+    subst (λ (q : Plan). red_revert q p ≤ c.longest_red_revert-longest.result) (sym c.plan.ensures.plan) (c.longest_red_revert-longest.ensures.none_longer p from within)
 
 pub returns-clause-quiet : goal.returns-clause-quiet
 returns-clause-quiet c =
