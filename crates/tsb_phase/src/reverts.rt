@@ -1,5 +1,5 @@
 //! Red revert timers of all phases at once. Mostly each is Off or has long reached its time: one short loop tells that.
-ghost use Rattle.std.specs.Prelude.{◌≡◌, ℕ, ◌+◌, ◌-◌, ◌<◌, ◌≤◌, ◌^◌, false};
+ghost use Rattle.std.specs.Prelude.{ℕ, ◌+◌, ◌-◌, ◌<◌, ◌≤◌, ◌^◌, ◌↔◌, IsFalse};
 ghost use Rattle.tsb_phase.specs.Cells.{row_in};
 
 use crate::phases::Phases;
@@ -14,7 +14,7 @@ impl Phases {
     #[inline(always)]
     #[tactic(auto, unfolding(crate::specs::Cells::row_in))]
     fn has_revert_over(&self, last: u32) -> bool
-        ensures { result ≡ false → (p : ℕ) → 1 ≤ p → p ≤ 16 → (row_in (cells_of self.now) p).red_revert ≤ last }
+        ensures { IsFalse result ↔ ((p : ℕ) → 1 ≤ p → p ≤ 16 → (row_in (cells_of self.now) p).red_revert ≤ last) }
     {
         let mut is_over = false;
         for number in 1..17u8 {
@@ -29,7 +29,7 @@ impl Phases {
     #[inline(always)]
     pub(crate) fn may_revert(&self, now: u32, longest: u32) -> bool
         requires fits { now + 1 < 2 ^ 32 }
-        ensures { result ≡ false → (p : ℕ) → 1 ≤ p → p ≤ 16 → (row_in (cells_of self.now) p).red_revert ≤ now + 1 - longest }
+        ensures { IsFalse result ↔ ((p : ℕ) → 1 ≤ p → p ≤ 16 → (row_in (cells_of self.now) p).red_revert ≤ now + 1 - longest) }
     {
         self.has_revert_over((now + 1).saturating_sub(longest))
     }

@@ -1,4 +1,4 @@
-use Rattle.std.proofs.Common.{◌≡◌, ℕ, ◌<◌, ◌≤◌, false}
+use Rattle.std.proofs.Common.{ℕ, ◌<◌, ◌≤◌, ◌↔◌, IsFalse}
 use Rattle.tsb_phase.specs.Cells.{row_in}
 use Rattle.tsb_phase.specs.Layer.{cells_of}
 use Rattle.tsb_phase.proofs.phases.Phases.has_revert_over.Given as goal
@@ -6,5 +6,5 @@ use Rattle.tsb_phase.proofs.phases.Phases.has_revert_over.Given as goal
 abbrev pub invariant-loop-number : goal.invariant-loop-number
 invariant-loop-number l = record {
   from : 1 ≤ l.number;
-  told : l.is_over ≡ false → (p : ℕ) → 1 ≤ p → p < l.number → (row_in (cells_of l.self) p).red_revert ≤ l.last;
+  told : IsFalse l.is_over ↔ ((p : ℕ) → 1 ≤ p → p < l.number → (row_in (cells_of l.self) p).red_revert ≤ l.last);
 }
