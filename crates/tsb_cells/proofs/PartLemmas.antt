@@ -95,7 +95,7 @@ part-taken offset n e es a b =
     let test : (leb offset e.0 && ltb e.0 (offset + n)) ≡ true = grind (arith, nat_tests) in
     cond-true _ ((e.0 - offset, e.1) ∷ part offset n es) (part offset n es) test
 
-part-below : (offset n : ℕ) (e : ℕ × ℕ) (es : List (ℕ × ℕ)) → e.0 < offset → part offset n (e ∷ es) ≡ part offset n es
+pub part-below : (offset n : ℕ) (e : ℕ × ℕ) (es : List (ℕ × ℕ)) → e.0 < offset → part offset n (e ∷ es) ≡ part offset n es
 part-below offset n e es a =
     let test : (leb offset e.0 && ltb e.0 (offset + n)) ≡ false = grind (arith, nat_tests) in
     cond-false _ ((e.0 - offset, e.1) ∷ part offset n es) (part offset n es) test
