@@ -20,8 +20,8 @@ pub fn find_edit(bank: &Bank<CELLS>, place: u32) -> Option<usize>
     ensures { Finds (cells_of bank.now) place result }
 {
     let count = bank.get(COUNT) as usize;
-    for four in 0..(count + 3) / 4 {
-        let k = 4 * four + 1;
+    for group in 0..(count + 3) / 4 {
+        let k = 4 * group + 1;
         if is_one_of_four(bank, k, place) {
             return find_from(bank, k, place);
         }
