@@ -141,7 +141,7 @@ block-added out more offset all own rest is grows =
     ∙ ap (λ (es : List (ℕ × ℕ)). out ++ es) (sym (map-append (λ (e : ℕ × ℕ). (offset + e.0, e.1)) own rest))
     ∙ ap (λ (es : List (ℕ × ℕ)). out ++ shifted offset es) (sym is)
 
--- ---- one cell after another of a block: `before` and `now` are the block's cells, the first of which has the number `o`
+-- ---- one cell after another of a block: `before` and `now` are the block's cells, the first of which has number `o`
 
 -- the cell `k` differs, and comes first in what is left
 pub cell-differs : (o k : ℕ) (before now : List ℕ) → k < length before → k < length now → get_or before k 0 ≢ get_or now k 0 →

@@ -1,5 +1,5 @@
--- Which cells of a bank were written since it was opened, as a word tells that has a bit for each of 64 blocks side by
--- side, and what the cells held when it was opened.
+-- Which cells of a bank were written since it was opened, and what they held then. A word tells that: it has a bit for
+-- each of 64 blocks side by side.
 use Rattle.std.specs.Prelude.{ℕ, ◌+◌, ◌*◌, ◌/◌, ◌==◌, Bool, if◌then◌else◌, List, map, slice_index}
 use Rattle.std.specs.Int.{bit_at}
 use Rattle.tsb_types.specs.Lists.{run_from}

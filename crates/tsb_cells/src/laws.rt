@@ -6,8 +6,8 @@ ghost use Rattle.tsb_cells.specs.TimerLaws.{TellTheirCells, AreReadAsTheyWere, A
 /// A difference has an entry for each cell that changed, with what it held before, and no other. The entries come in
 /// ascending order of the cells.
 ///
-/// Mistakes: an entry has what its cell holds now, `diff_of_new` (`differs`, `would_have_5`); the entries of later cells
-/// stand first, `diff_down` (`would_fall`).
+/// Mistakes: an entry has what its cell holds now, `diff_of_new` (`differs`, `would_have_5`); the entries of later
+/// cells stand first, `diff_down` (`would_fall`).
 /// Witness: `differs` of Mistakes.
 pub fn difference_is_what_changed()
     ensures tells { TellsEachChange }

@@ -13,23 +13,23 @@ pub record Agree (test : Object → Bool) (plan other : Plan) : Type 0 where
 abbrev pub is_between : Object → Object → Object → Bool
 is_between from to o = nat_le (order from) (order o) && nat_lt (order o) (order to)
 
--- the tables of phases are made from no other objects
+-- what the tables of phases are made from
 abbrev pub is_for_phases : Object → Bool
 is_for_phases o = is_between PhaseEnabled PhasePedestrianClear o
 
--- nor those of detectors
+-- what the tables of detectors are made from
 abbrev pub is_for_detectors : Object → Bool
 is_for_detectors o = is_between VehicleDetectorDelay VehicleDetectorErraticCounts o
 
--- nor those of patterns: enabled phases, recalls, rings and sides; clearances; patterns, splits and sequences; and the
--- options of coordination
+-- what the tables of patterns are made from: enabled phases, recalls, rings and sides; clearances; patterns, splits and
+-- sequences; and the options of coordination
 abbrev pub is_for_patterns : Object → Bool
 is_for_patterns o =
     is_between PhaseEnabled PhaseConcurrency o ||
     (is_between PhaseYellowChange PhaseRedRevert o ||
     (is_between PatternCycleTime PreemptDelay o || is_between CoordForceMode CoordCorrectionMode o))
 
--- nor the unions
+-- what the unions are made from
 abbrev pub is_for_unions : Object → Bool
 is_for_unions o =
     is_between PhaseConcurrency PhaseWalk o ||

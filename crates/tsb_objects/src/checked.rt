@@ -72,9 +72,10 @@ impl Checked {
         }
     }
 
-    /// Takes the plan, which is known to meet the rules, in place of its own. Tables stay where both plans agree on what
-    /// they are made from; others are made where they stand, as a function pays for all the room that it has on the
-    /// stack.
+    /// Takes the plan, which is known to meet the rules, in place of its own.
+    ///
+    /// Tables stay where both plans agree on what they are made from. Others are made where they stand: a function pays
+    /// for all the room that it has on the stack.
     #[tactic(auto, unfolding(tsb_plan::specs::PlanOf::plan_of, crate::specs::Checked::checked_plan))]
     pub fn renew(&mut self, plan: &Plan)
         requires { first_broken (plan_of plan.now) ≡ None }

@@ -12,8 +12,8 @@ use tsb_plan::{PLAN_CELLS, Plan};
 /// How many cells are compared at once.
 const BLOCK: usize = 64;
 
-/// Adds each cell in which two plans differ to `out`, with what it held in the plan before, in ascending order. Few cells
-/// do, so those of blocks that are the same are passed over.
+/// Adds each cell in which two plans differ to `out`, with what it held in the plan before, in ascending order. Few
+/// cells do, so those of blocks that are the same are passed over.
 pub fn differences_onto<const M: usize>(
     before: &Plan,
     after: &Plan,

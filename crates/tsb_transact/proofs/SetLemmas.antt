@@ -1,5 +1,5 @@
--- What `set` writes, and what comes of it: an edit that is found by its place takes a value, and one of a new place goes
--- last.
+-- What `set` writes, and what comes of it: an edit that is found by its place takes a value, and one of a new place
+-- goes last.
 use Rattle.std.proofs.Common.{zero, suc, ◌≡◌, ◌≢◌, ℕ, ◌+◌, ◌-◌, ◌*◌, ◌<◌, ◌≤◌, true, false, true≢false, Bool, List, [], ◌∷◌, length, map, slice_index, Option, None, Some, is_some, refl, arith, sym, ◌∙◌, ap, subst, inl, inr, AllPairs, nat_le, not, ◌&&◌, ◌||◌}
 use Rattle.std.proofs.lemmas.Bool.Decides.{eqb_tells, nat_tests}
 use Rattle.std.proofs.lemmas.Bool.{cases_lt}

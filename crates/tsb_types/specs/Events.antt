@@ -1,5 +1,5 @@
--- Events, and the words in which crates say which there are. Codes are those of the Indiana Traffic Signal Hi Resolution
--- Data Logger Enumerations.
+-- Events, and the words in which crates say which there are. Codes are those of the Indiana Traffic Signal Hi
+-- Resolution Data Logger Enumerations.
 use Rattle.std.specs.Prelude.{ℕ, Bool, not, ◌&&◌, ◌||◌, List, map, filter}
 use Rattle.tsb_types.specs.Lists.{run_from}
 use Rattle.tsb_types.specs.declared.event.Event.{Event}

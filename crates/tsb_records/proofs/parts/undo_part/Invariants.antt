@@ -2,8 +2,8 @@ use Rattle.std.proofs.Common.{◌≡◌, ◌≢◌, true, false, [], length}
 use Rattle.tsb_cells.specs.Diff.{apply_diff, part}
 use Rattle.tsb_records.proofs.parts.undo_part.Given as goal
 
--- what is left to be put back leads to what all of it leads to; where no entry was of the row, it has stayed, and the
--- record has such an entry where what is left has one
+-- What is left to be put back leads to what all of it leads to. Where no entry so far was of the row, it has stayed.
+-- Where one was, or where what is left has one, the record has an entry of the row.
 abbrev pub invariant-loop-cell : goal.invariant-loop-cell
 invariant-loop-cell g l = record {
   rest : apply_diff (g.R.Reversible.cells l.row) (part l.offset g.row.N l.entries) ≡
