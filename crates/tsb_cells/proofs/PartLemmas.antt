@@ -1,7 +1,7 @@
 -- Differences of rows side by side: how they join, and how each row has its part.
 use Rattle.std.proofs.Common.{◌≡◌, ℕ, ◌+◌, ◌-◌, ◌<◌, ◌≤◌, ◌==◌, ◌&&◌, List, [], ◌∷◌, ◌++◌, length, set, true, false, cond, leb, ltb, if◌then◌else◌, refl, sym, ◌∙◌, ap, subst, arith, suc, append-nil, length-set, ⊎_elim}
-use Rattle.std.proofs.lemmas.List.{set-append_left, set-append_right, map-append}
-use Rattle.std.proofs.lemmas.List.Elements.{All-nil, All-cons, All-head, All-tail, All-map, All-weaker}
+use Rattle.std.proofs.lemmas.List.{set-append_left, set-append_right}
+use Rattle.std.proofs.lemmas.List.Elements.{All-nil, All-cons, All-head, All-tail}
 use Rattle.std.proofs.lemmas.Bool.{cases_lt, cond_both, cond-true, cond-false}
 use Rattle.std.proofs.lemmas.Bool.Decides.{nat_tests}
 use Rattle.tsb_cells.specs.Diff.{diff_from, diff, apply_diff, AreWithin, shifted, part}
@@ -50,29 +50,11 @@ diff-append xs ys vs ws l =
     diff_from-append 0 xs ys vs ws l ∙ ap (λ (n : ℕ). diff xs vs ++ diff_from n ys ws) index
     ∙ ap (λ (es : List (ℕ × ℕ)). diff xs vs ++ es) (diff_from-shifted (length xs) ys ws)
 
-pub shifted-append : (offset : ℕ) (es fs : List (ℕ × ℕ)) → shifted offset (es ++ fs) ≡ shifted offset es ++ shifted offset fs
-shifted-append offset es fs = map-append (λ (e : ℕ × ℕ). (offset + e.0, e.1)) es fs
-
 pub shifted-zero : (es : List (ℕ × ℕ)) → shifted 0 es ≡ es
 shifted-zero [] = refl
 shifted-zero (e ∷ es) =
     let same : 0 + e.0 ≡ e.0 = omega arith in
     ap (λ (n : ℕ). (n, e.1) ∷ shifted 0 es) same ∙ ap (λ (fs : List (ℕ × ℕ)). e ∷ fs) (shifted-zero es)
-
-pub shifted-shifted : (offset k : ℕ) (es : List (ℕ × ℕ)) → shifted offset (shifted k es) ≡ shifted (offset + k) es
-shifted-shifted offset k [] = refl
-shifted-shifted offset k (e ∷ es) =
-    let same : offset + (k + e.0) ≡ offset + k + e.0 = omega arith in
-    ap (λ (n : ℕ). (n, e.1) ∷ shifted offset (shifted k es)) same
-    ∙ ap (λ (fs : List (ℕ × ℕ)). (offset + k + e.0, e.1) ∷ fs) (shifted-shifted offset k es)
-
-pub AreWithin-shifted : (offset n : ℕ) (es : List (ℕ × ℕ)) → AreWithin n es → AreWithin (offset + n) (shifted offset es)
-AreWithin-shifted offset n es h =
-    All-map (λ (e : ℕ × ℕ). e.0 < offset + n) (λ (e : ℕ × ℕ). (offset + e.0, e.1)) es
-    (All-weaker (λ (e : ℕ × ℕ). e.0 < n) (λ (e : ℕ × ℕ). offset + e.0 < offset + n) (λ e l. omega (arith, l)) es h)
-
-pub AreWithin-more : (m n : ℕ) (es : List (ℕ × ℕ)) → m ≤ n → AreWithin m es → AreWithin n es
-AreWithin-more m n es l h = All-weaker (λ (e : ℕ × ℕ). e.0 < m) (λ (e : ℕ × ℕ). e.0 < n) (λ e b. omega (arith, b, l)) es h
 
 -- a part has only the cells of its row
 pub AreWithin-part : (offset n : ℕ) (es : List (ℕ × ℕ)) → AreWithin n (part offset n es)
@@ -81,12 +63,6 @@ AreWithin-part offset n (e ∷ es) =
     cond_both (leb offset e.0 && ltb e.0 (offset + n)) ((e.0 - offset, e.1) ∷ part offset n es) (part offset n es) (AreWithin n)
     (λ taken. All-cons (λ (f : ℕ × ℕ). f.0 < n) (e.0 - offset, e.1) (part offset n es) (grind (arith, nat_tests)) (AreWithin-part offset n es))
     (λ left. AreWithin-part offset n es)
-
-pub length-part : (offset n : ℕ) (es : List (ℕ × ℕ)) → length (part offset n es) ≤ length es
-length-part offset n [] = omega arith
-length-part offset n (e ∷ es) =
-    cond_both (leb offset e.0 && ltb e.0 (offset + n)) ((e.0 - offset, e.1) ∷ part offset n es) (part offset n es) (λ fs. length fs ≤ suc (length es))
-    (λ taken. omega (arith, length-part offset n es)) (λ left. omega (arith, length-part offset n es))
 
 -- an entry of the part comes first in it, and any other entry is passed over
 part-taken : (offset n : ℕ) (e : ℕ × ℕ) (es : List (ℕ × ℕ)) → offset ≤ e.0 → e.0 < offset + n →

@@ -1,10 +1,10 @@
 -- Timers and their cells.
-use Rattle.std.proofs.Common.{◌≡◌, ℕ, ◌+◌, ◌-◌, ◌<◌, ◌≤◌, ◌^◌, true, refl, subst, arith, inl, inr}
+use Rattle.std.proofs.Common.{◌≡◌, ℕ, ◌+◌, ◌-◌, ◌≤◌, true, refl, subst, arith, inl, inr}
 use Rattle.std.proofs.lemmas.Bool.Decides.{nat_tests, eqb_tells}
 use Rattle.tsb_cells.specs.declared.timer.Timer.{Timer}
 use Rattle.tsb_cells.specs.declared.timer.Timer.TheVariants.{Off, On}
 pub use Rattle.tsb_cells.specs.TimerLaws.{timer_at-timer_cell}
-use Rattle.tsb_cells.specs.Timer.{advanced, started, CanAdvance, IsWithin, is_on, timer_cell, timer_at}
+use Rattle.tsb_cells.specs.Timer.{advanced, started, IsWithin, is_on, timer_cell, timer_at}
 
 -- the next tick reads a cell as one tick more
 pub timer_at-next : (now cell : ℕ) → cell ≤ now + 1 → timer_at (now + 1) cell ≡ advanced (timer_at now cell)
@@ -45,15 +45,6 @@ timer_cell-advanced now (On n) = omega arith
 pub IsWithin-advanced : (now : ℕ) (x : Timer) → IsWithin now x → IsWithin (now + 1) (advanced x)
 IsWithin-advanced now Off h = tt
 IsWithin-advanced now (On n) h = omega arith
-
-pub IsWithin-more : (m n : ℕ) (x : Timer) → m ≤ n → IsWithin m x → IsWithin n x
-IsWithin-more m n Off l h = tt
-IsWithin-more m n (On k) l h = omega arith
-
--- a timer that began at tick 0 or later can advance as long as the tick's number can
-pub CanAdvance-IsWithin : (now : ℕ) (x : Timer) → now + 1 < 2 ^ 32 → IsWithin now x → CanAdvance x
-CanAdvance-IsWithin now Off l h = tt
-CanAdvance-IsWithin now (On n) l h = omega arith
 
 -- ## What a cell is read as
 

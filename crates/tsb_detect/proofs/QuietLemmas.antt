@@ -22,9 +22,6 @@ in-minute now wait t within after before =
 pub rows-range : (now : ℕ) (cells : List ℕ) → IsBy now cells → (d : ℕ) → 1 ≤ d → d ≤ 16 → (row_in cells d).change ≤ now + 1
 rows-range now cells by d from to = (by.each d from to).change
 
-pub quiet-next : (now : ℕ) (row : Row) (plan : Plan) (cells : List ℕ) → IsQuiet now (now + 1) row plan cells
-quiet-next now row plan cells t greens after before = absurd (omega (arith, after, before))
-
 pub quiet-ticks : (now wait : ℕ) (row : Row) (plan : Plan) (cells : List ℕ) → IsBy now cells → wait ≤ 600 - now % 600 →
     ((d : ℕ) → IsSettled (has_number row.vehicles d) (row_in cells d)) →
     ((t d : ℕ) → now < t → t < now + wait → 1 ≤ d → d ≤ 16 → is_tested t plan d (has_number row.vehicles d) (row_in cells d).change ≡ false) →

@@ -167,30 +167,6 @@ permissive-end-by-words plan n p m word end one is_cycle is ends =
     ∙ end-by-words (cycle plan n) (yields_for plan n p) word end (force_off plan (Some n) p) is
     (ends ∙ ap (λ (o : Option ℕ). end_behind (cycle plan n) (force_off plan (Some n) p) o (yields_for plan n p)) (coordinated-has-no-end plan n p one))
 
--- a phase that is not coordinated has none
-pub others-have-no-end : (plan : Plan) (n p : ℕ) → is_coordinated_now plan (Some n) p ≡ false → permissive_end plan (Some n) p ≡ None
-others-have-no-end plan n p other =
-    ap (λ (time : ℕ). permissive_end_from (cycle plan n) time (force_off plan (Some n) p)) (others-have-no-time plan n p other) ∙ go (force_off plan (Some n) p)
-  where
-    go : (o : Option ℕ) → permissive_end_from (cycle plan n) 0 o ≡ None
-    go None = refl
-    go (Some i) = refl
-
--- it is below the cycle
-pub permissive-ends-below : (plan : Plan) (n p : ℕ) → is_used plan n ≡ true → IfSome (permissive_end plan (Some n) p) (λ i. i < cycle plan n)
-permissive-ends-below plan n p used = go (force_off plan (Some n) p)
-  where
-    some : 0 < cycle plan n
-    some = grind (arith, nat_tests, used)
-
-    go : (o : Option ℕ) → IfSome (permissive_end_from (cycle plan n) (yields_for plan n p) o) (λ i. i < cycle plan n)
-    go None = tt
-    go (Some i) = choose (nat_lt 0 (yields_for plan n p))
-      where
-        choose : (b : Bool) → IfSome (if b then Some ((i + yields_for plan n p + 1) % cycle plan n) else None) (λ i. i < cycle plan n)
-        choose true = mod-lt (i + yields_for plan n p + 1) some
-        choose false = tt
-
 -- where a pattern waits is below its cycle
 pub waits-below : (plan : Plan) (n : ℕ) → is_used plan n ≡ true → waiting_point plan n < cycle plan n
 waits-below plan n used = go (instant_of plan n (reference plan n))

@@ -32,14 +32,8 @@ off-not t cell limit e = rw e refl
 below : (t cell limit : ℕ) → 1 ≤ cell → cell ≤ t + 1 → t < cell - 1 + limit → nat_le limit (t + 1 - cell) ≡ false
 below t cell limit from within h = grind (arith, nat_tests, from, within, h)
 
-above : (t cell limit : ℕ) → 1 ≤ cell → cell - 1 + limit ≤ t → nat_le limit (t + 1 - cell) ≡ true
-above t cell limit from h = grind (arith, nat_tests, from, h)
-
 pub on-before : (t cell limit : ℕ) → 1 ≤ cell → cell ≤ t + 1 → t < cell - 1 + limit → has_reached (timer_at t cell) limit ≡ false
 on-before t cell limit from within h = ap (λ (x : Timer). has_reached x limit) (timer_at-on t cell from) ∙ below t cell limit from within h
-
-pub on-after : (t cell limit : ℕ) → 1 ≤ cell → cell - 1 + limit ≤ t → has_reached (timer_at t cell) limit ≡ true
-on-after t cell limit from h = ap (λ (x : Timer). has_reached x limit) (timer_at-on t cell from) ∙ above t cell limit from h
 
 pub passed-same : (t n cell limit : ℕ) → has_reached (timer_at t cell) limit ≡ has_reached (timer_at n cell) limit →
     has_passed (timer_at t cell) limit ≡ has_passed (timer_at n cell) limit
@@ -127,14 +121,6 @@ gap-stays plan p now t cell after all =
           let reduced = all some in
           rw on.0 (gap-rests plan p (t + 1 - cell) (now + 1 - cell) (omega (arith, reduced, after)) reduced))
     ]
-
--- the passage timer has not reached the gap before the tick at which it reaches that of tick `now`, if the gap rests
-pub resting-same : (plan : Plan) (p : ℕ) (r : PhaseRow) (now t limit : ℕ) (x : Timer) → x ≡ timer_at now r.reduction → limit ≡ gap plan p x →
-    gap plan p (timer_at t r.reduction) ≡ gap plan p (timer_at now r.reduction) →
-    has_reached (timer_at t r.passage) limit ≡ has_reached (timer_at now r.passage) limit → has_expired plan p r t ≡ has_expired plan p r now
-resting-same plan p r now t limit x e f rests h =
-    let found : limit ≡ gap plan p (timer_at now r.reduction) = f ∙ ap (gap plan p) e in
-    ap (λ (n : ℕ). has_reached (timer_at t r.passage) n) (rests ∙ sym found) ∙ h ∙ ap (λ (n : ℕ). has_reached (timer_at now r.passage) n) found
 
 -- whether it has, as it is found at tick `now`
 pub expired-found : (plan : Plan) (p : ℕ) (r : PhaseRow) (now limit : ℕ) (x : Timer) (b : Bool) → x ≡ timer_at now r.reduction →

@@ -64,15 +64,3 @@ not_ready plan given p w h =
       | inl ready ↦ absurd (no_walk_in_dont_walk (sym (ready_is_in_dont_walk plan given p w ready) ∙ is_in_walk plan given p w h))
       | inr other ↦ other
     ]
-
-none_of : (b : Bool) → (b && false) ≡ false
-none_of true = refl
-none_of false = refl
-
-not_asked : (given : Given) (p : ℕ) (w : Phase) → given.recycle p ≡ false → may_walk_again given p w ≡ false
-not_asked given p w e = rw e (none_of _)
-
--- without the order a phase that was in DontWalk stays in it
-pub stays_in_dont_walk : (plan : Plan) (given : Given) (p : ℕ) (w : Phase) → given.recycle p ≡ false → w.pedestrian ≡ DontWalk →
-    pedestrian_now plan given p w ≡ DontWalk
-stays_in_dont_walk plan given p w e is = from_dont_walk plan given p w false is (sym (not_asked given p w e))

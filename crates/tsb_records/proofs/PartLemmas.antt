@@ -1,7 +1,7 @@
 -- An entry of a row of cells.
 use Rattle.std.proofs.Common.{◌≡◌, ℕ, ◌+◌, ◌-◌, List, [], ◌∷◌, subst, true, leb, ltb, ◌&&◌}
 use Rattle.std.proofs.lemmas.Bool.{cond-true}
-use Rattle.tsb_cells.specs.Diff.{AreWithin, part}
+use Rattle.tsb_cells.specs.Diff.{AreWithin}
 use Rattle.tsb_cells.proofs.PartLemmas.{AreWithin-part}
 
 -- an entry of the row names a cell of it

@@ -1,4 +1,4 @@
-use Rattle.std.proofs.Common.{◌-◌, ◌∷◌, [], List, ℕ, sym, arith, ◌∙◌, true}
+use Rattle.std.proofs.Common.{◌-◌, ◌∷◌, [], List, ℕ, sym, arith, ◌∙◌}
 use Rattle.tsb_cells.specs.Diff.{apply_diff}
 use Rattle.tsb_cells.proofs.DiffLemmas.{length-apply_diff}
 use Rattle.tsb_records.proofs.PartLemmas.{one-within}

@@ -1,4 +1,4 @@
-use Rattle.std.proofs.Common.{◌-◌, ◌∙◌, ap, arith, drop}
+use Rattle.std.proofs.Common.{◌∙◌, ap, arith, drop}
 use Rattle.tsb_history.specs.History.{quiet_ticks}
 use Rattle.tsb_history.proofs.QuietLemmas.{found}
 use Rattle.tsb_history.proofs.walk.WalkBack.skip_quiet.Goals as goal
