@@ -1,4 +1,4 @@
-use Rattle.std.proofs.Common.{ℕ, sym, ◌∙◌, arith}
+use Rattle.std.proofs.Common.{sym, ◌∙◌, arith}
 use Rattle.std.proofs.lemmas.List.{ext_get_or}
 use Rattle.tsb_types.specs.Lists.{run_from}
 use Rattle.tsb_types.proofs.RunLemmas.{length-run_from, get_or-run_from}
