@@ -30,6 +30,8 @@ use Rattle.tsb_step.proofs.GivenLemmas.{enabled_is_listed}
 use Rattle.tsb_step.proofs.GoodLemmas.{good_run}
 use Rattle.tsb_step.proofs.SideRunLemmas.{sided_run}
 use Rattle.tsb_step.proofs.StandLemmas.{rings_then}
+use Rattle.tsb_step.proofs.TellLemmas.{is_in_green}
+use Rattle.tsb_step.proofs.tsb_phase.ReadLemmas.{is-red}
 use Rattle.tsb_laws.specs.CrossingGreens.{IsCalm}
 use Rattle.tsb_laws.specs.Stretches.{IsUntripped, has_held_since}
 use Rattle.tsb_laws.specs.ServedCalls.{is_free, IsFullyConcurrent, is_waiting, HasWaited, TurnsTakeAtMost, turns, order, still_to_come, is_outside, time_to_cross}
@@ -39,8 +41,8 @@ use Rattle.tsb_laws.proofs.safety.EnabledLemmas.{enabled_run}
 use Rattle.tsb_laws.proofs.safety.SideSoughtLemmas.{none_first, found_some}
 use Rattle.tsb_laws.proofs.operation.CalmLemmas.{calm_run}
 use Rattle.tsb_laws.proofs.operation.PhaseTimeLemmas.{left, past, revert_in}
-use Rattle.tsb_laws.proofs.operation.PressedRunLemmas.{timed_run, clock_stays, green_is}
-use Rattle.tsb_laws.proofs.operation.TurnStepLemmas.{red_is, limit_most, past_most, clear_left, back_left, clear_most, back_most, green_most, committed, serving_green, idle, IsFairTick, fair}
+use Rattle.tsb_laws.proofs.operation.PressedRunLemmas.{timed_run, clock_stays}
+use Rattle.tsb_laws.proofs.operation.TurnStepLemmas.{limit_most, past_most, clear_left, back_left, clear_most, back_most, green_most, committed, serving_green, idle, IsFairTick, fair}
 use Rattle.tsb_laws.proofs.operation.TurnRingLemmas.{stays_beside}
 use Rattle.tsb_laws.proofs.operation.TurnLemmas.{callable_enabled, callable_told, IsKeptBy, kept_then, kept_by, left_stays, clear_same, back_same, promise_same, own_before, own_after, interval_same, later_same, plan_same}
 use Rattle.tsb_laws.proofs.operation.BarrierStepLemmas.{Remains, bound_for, clearing_out, Nears, less, joined, nears}
@@ -83,7 +85,7 @@ module _ (s : State) (r : Ring) (k h : ℕ) (good : IsGood s) (calm : IsCalm s.p
   sums_now o e = ap (λ (x : Option ℕ). turns s.plan k s.rings.side (later (or_else x (s.rings.last r)) (order s.plan r))) e
 
   back_now : (p : ℕ) → in_service (interval s p) ≡ false → back_left s.plan p (s.phases p) ≤ k
-  back_now p dark = let at_most = back_most s.plan p (s.phases p) (red_is (interval s p) dark) in let limit = takes.revert p in omega (arith, at_most, limit)
+  back_now p dark = let at_most = back_most s.plan p (s.phases p) (is-red (interval s p) dark) in let limit = takes.revert p in omega (arith, at_most, limit)
 
   clear_now : (p : ℕ) → clear_left s.plan p (s.phases p) ≤ k
   clear_now p = let at_most = clear_most s.plan p (s.phases p) in let limit = takes.clearance p in omega (arith, at_most, limit)
@@ -96,7 +98,7 @@ module _ (s : State) (r : Ring) (k h : ℕ) (good : IsGood s) (calm : IsCalm s.p
   by_interval : (p : ℕ) → s.rings.commitment r ≡ None → in_ring s.plan r p ≡ true → in_service (interval s p) ≡ true → (b : Bool) → is_green (interval s p) ≡ b →
       Remains k s r most
   by_interval p e own serves true g =
-      bound_for (serving_green p e own (green_is (interval s p) g)
+      bound_for (serving_green p e own (is_in_green (interval s p) g)
       (let at_most = green_most s.plan p (s.phases p) in let limit = takes.green p in let sums = sums_now None e in omega (arith, at_most, limit, sums)))
   by_interval p e own serves false g =
       clearing_out p (2 * k + 1) e own serves g

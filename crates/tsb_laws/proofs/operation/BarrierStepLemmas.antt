@@ -1,7 +1,7 @@
 -- What one tick makes of a ring while another side is called, and no crossing begins: it has a tick less to go until it
 -- joins in a crossing, or it joins and wants to cross.
 use Rattle.std.proofs.Common.{◌≡◌, ℕ, ◌+◌, ◌-◌, ◌≤◌, Bool, true, false, not, ◌&&◌, List, Option, Some, None, refl, sym, ap, ◌∙◌, inl, inr, ◌⊎◌, arith}
-use Rattle.std.proofs.lemmas.Bool.{cases_Bool, and_parts, or_cases, eq-eqb, true≢false, false≢true, false_from_ne_true}
+use Rattle.std.proofs.lemmas.Bool.{cases_Bool, and_parts, or_cases, eq-eqb, true≢false, false≢true, false_from_ne_true, and_right}
 use Rattle.tsb_step.specs.tsb_types.declared.interval.Interval.{Interval}
 use Rattle.tsb_step.specs.tsb_types.declared.interval.Interval.TheVariants.{Red, Green, Yellow, RedClear}
 use Rattle.tsb_step.specs.tsb_types.declared.row.Row.{Row}
@@ -27,6 +27,7 @@ use Rattle.tsb_step.specs.Tick.{callable, conflict, phase_read, over, reverted, 
 use Rattle.tsb_step.specs.Good.{IsGood}
 use Rattle.tsb_step.proofs.ClipLemmas.{clipped_holds}
 use Rattle.tsb_step.proofs.GivenLemmas.{listed_is_phase, symmetric, given}
+use Rattle.tsb_step.proofs.tsb_phase.ReadLemmas.{is-red}
 use Rattle.tsb_laws.specs.ServedCalls.{longest_maximum, longest_initial, longest_green, TurnsTakeAtMost, turn, turns, order}
 use Rattle.tsb_laws.proofs.safety.EnabledLemmas.{callable_on, callable_no_green}
 use Rattle.tsb_laws.proofs.safety.SideSoughtLemmas.{Found, some_found}
@@ -35,7 +36,7 @@ use Rattle.tsb_laws.proofs.operation.PressedGreenLemmas.{free_parts, presses_dow
 use Rattle.tsb_laws.proofs.operation.PressedRunLemmas.{is_one}
 use Rattle.tsb_laws.proofs.operation.TurnListLemmas.{turns_later}
 use Rattle.tsb_laws.proofs.operation.TurnRingLemmas.{Candidate, candidate_is, Goes, Wishes, goes, crosses, wishes, starts_none, starts_picked, Delays, clearing, reverting, starts_or_waits, picks_idle, picks_green, stays_beside, last_started, last_stays, promise_kept, promise_stays, promise_made, none_promised}
-use Rattle.tsb_laws.proofs.operation.TurnStepLemmas.{clear_left, back_left, green_left, green_most, clear_most, back_most, red_is, dark_is, IsLeft, committed, serving_green, idle, in_order, IsFairTick, fair, listed, some_phase, once, told_ready, told_over, told_reverted, serves_it, serves_none, served_is, given_green, ended_ready, starts_nothing, starts_it, ends_none, conflicts}
+use Rattle.tsb_laws.proofs.operation.TurnStepLemmas.{clear_left, back_left, green_left, green_most, clear_most, back_most, dark_is, IsLeft, committed, serving_green, idle, in_order, IsFairTick, fair, listed, some_phase, once, told_ready, told_over, told_reverted, serves_it, serves_none, served_is, given_green, ended_ready, starts_nothing, starts_it, ends_none, conflicts}
 
 -- as before, or it clears with no commitment, as where a preempt has ended its green
 pub data Remains (k : ℕ) (s : State) (r : Ring) (n : ℕ) : Type 0 where
@@ -50,10 +51,6 @@ pub data Nears (k : ℕ) (s : State) (row : Row) (r : Ring) (n : ℕ) : Type 0 w
   less : (m : ℕ) → m + 1 ≤ n → Remains k (next s row) r m → Nears k s row r n
   joined : Remains k (next s row) r n → ring_joins s.plan s.rings (rings_given s row) r ≡ true →
       want_of s.plan s.rings (rings_given s row) r ≡ Some Cross → Nears k s row r n
-
-and_false : (b : Bool) → (b && false) ≡ false
-and_false true = refl
-and_false false = refl
 
 pub clear_none : (plan : Plan) (p : ℕ) (s : State) → interval s p ≡ Red → clear_left plan p (s.phases p) ≡ 0
 clear_none plan p s e = rw e refl
@@ -89,7 +86,7 @@ ended_is plan s given p h =
 pub cross_keeps : (plan : Plan) (s : rings.State) (given : Given) (r : Ring) (p : ℕ) → in_ring plan r p ≡ true → want_of plan s given r ≡ Some Cross →
     begins plan s given ≡ false → ends plan s given p ≡ false
 unfolding ends
-cross_keeps plan s given r p own w none = rw (none, ring_of_is plan r p own, w) (and_false (given.ready p))
+cross_keeps plan s given r p own w none = rw (none, ring_of_is plan r p own, w) (and_right (given.ready p) false refl)
 
 -- a ring that clears wants nothing, and takes nothing
 pub picks_clearing : (plan : Plan) (s : rings.State) (given : Given) (r : Ring) (p : ℕ) → serving plan given r ≡ Some p → is_green (given.interval p) ≡ false →
@@ -237,7 +234,7 @@ module _ (s : State) (row : Row) (tick : IsFairTick s row) (away : is_called_els
   red_after : (p : ℕ) → in_ring s.plan r p ≡ true → in_service (interval s p) ≡ false → starting s.plan s.rings (rings_given s row) r ≡ None →
       interval (next s row) p ≡ Red
   red_after p own dark start =
-      let red : interval s p ≡ Red = red_is (interval s p) dark in
+      let red : interval s p ≡ Red = is-red (interval s p) dark in
       let no_start : is_started (moves s row) p ≡ false = starts_nothing s row tick r p own start in
       rw (no_start, red) refl
 
@@ -283,7 +280,7 @@ module _ (s : State) (row : Row) (tick : IsFairTick s row) (away : is_called_els
               let was = clears_in p both.0 in
               omega (arith, left_p, was)
           some_left (reverting h) =
-              let left_c = not_yet_reverted s c (yellow_change s.plan c) (red_revert s.plan c) (omega arith) (red_is (interval s c) dark_c)
+              let left_c = not_yet_reverted s c (yellow_change s.plan c) (red_revert s.plan c) (omega arith) (is-red (interval s c) dark_c)
               (sym (told_reverted s row tick c (tick.good.rings.owned r c e).1) ∙ h) in
               omega (arith, left_c, reverts)
 
@@ -423,7 +420,7 @@ module _ (s : State) (row : Row) (tick : IsFairTick s row) (away : is_called_els
       to_one it to false f =
           let start : starting s.plan s.rings (rings_given s row) r ≡ None =
           start_is ∙ picks_idle s.plan s.rings (rings_given s row) (fair s row tick) r it.one false at_none it.wanted (told_reverted s row tick it.one (listed s row tick it.one to.enabled) ∙ f) in
-          let left_c = not_yet_reverted s it.one (yellow_change s.plan it.one) (red_revert s.plan it.one) (omega arith) (red_is (interval s it.one) (dark it.one to.ringed)) f in
+          let left_c = not_yet_reverted s it.one (yellow_change s.plan it.one) (red_revert s.plan it.one) (omega arith) (is-red (interval s it.one) (dark it.one to.ringed)) f in
           let was = reverts it.one to.ringed in
           less (n - 1) (omega (arith, all, left_c, was)) (bound_for (on_then start (n - 1) (omega (arith, all, left_c, was))))
 

@@ -1,7 +1,7 @@
 -- Rings that want to cross the barrier: what they take and keep, and that a crossing begins where both join. And a ring that
 -- clears with no commitment, as where a preempt has ended its green: it goes Red once it is over, and joins in a crossing.
-use Rattle.std.proofs.Common.{◌≡◌, ℕ, Bool, true, false, ◌&&◌, Option, Some, None, refl, sym, ◌∙◌, inl, inr, ◌||◌}
-use Rattle.std.proofs.lemmas.Bool.{and_parts, or_cases, true≢false, false_from_ne_true, false≢true}
+use Rattle.std.proofs.Common.{◌≡◌, ℕ, true, false, ◌&&◌, Option, Some, None, refl, sym, ◌∙◌, inl, inr}
+use Rattle.std.proofs.lemmas.Bool.{and_parts, or_cases, true≢false, false_from_ne_true, false≢true, or_right, and_right}
 use Rattle.tsb_step.specs.tsb_types.declared.interval.Interval.TheVariants.{Red, Green, Yellow, RedClear}
 use Rattle.tsb_step.specs.tsb_types.declared.row.Row.{Row}
 use Rattle.tsb_step.specs.tsb_types.Intervals.{is_green, in_service}
@@ -44,10 +44,6 @@ pub joins_idle : (plan : Plan) (s : rings.State) (given : Given) (r : Ring) → 
     ring_joins plan s given r ≡ true
 joins_idle plan s given r e w = rw (e, w) refl
 
-and_false : (b : Bool) → (b && false) ≡ false
-and_false true = refl
-and_false false = refl
-
 -- its green ends only as it leaves for a phase, or as a crossing begins
 ended_is : (plan : Plan) (s : rings.State) (given : Given) (p : ℕ) → is_ended (moves_in plan s given) p ≡ true → ends plan s given p ≡ true
 unfolding moves_in
@@ -63,7 +59,7 @@ ended_is plan s given p h =
 cross_keeps : (plan : Plan) (s : rings.State) (given : Given) (r : Ring) (p : ℕ) → in_ring plan r p ≡ true → want_of plan s given r ≡ Some Cross →
     begins plan s given ≡ false → ends plan s given p ≡ false
 unfolding ends
-cross_keeps plan s given r p own w none = rw (none, ring_of_is plan r p own, w) (and_false (given.ready p))
+cross_keeps plan s given r p own w none = rw (none, ring_of_is plan r p own, w) (and_right (given.ready p) false refl)
 
 pub no_end_at : (s : State) (row : Row) (r : Ring) (p : ℕ) → in_ring s.plan r p ≡ true → want_of s.plan s.rings (rings_given s row) r ≡ Some Cross →
     begins s.plan s.rings (rings_given s row) ≡ false → is_ended (moves s row) p ≡ false
@@ -115,16 +111,12 @@ goes_red s row p dark no_start cleared = go (interval s p) refl
 
 -- ## At the barrier
 
-or_true : (b : Bool) → (b || true) ≡ true
-or_true true = refl
-or_true false = refl
-
 -- where both join, a crossing begins
 pub both_join : (s : State) (row : Row) (r : Ring) → IsAtBarrier s row r → ring_joins s.plan s.rings (rings_given s row) (other r) ≡ true →
     begins s.plan s.rings (rings_given s row) ≡ true
 unfolding begins
 both_join s row Ring1 bar joins = rw (bar.joins, joins, bar.wants) refl
-both_join s row Ring2 bar joins = rw (joins, bar.joins, bar.wants) (or_true (wants_cross (want_of s.plan s.rings (rings_given s row) Ring1)))
+both_join s row Ring2 bar joins = rw (joins, bar.joins, bar.wants) (or_right (wants_cross (want_of s.plan s.rings (rings_given s row) Ring1)) true refl)
 
 pub joins_clearing : (plan : Plan) (s : rings.State) (given : Given) (r : Ring) (p : ℕ) → serving plan given r ≡ Some p → in_service (given.interval p) ≡ true →
     is_green (given.interval p) ≡ false → s.commitment r ≡ None → ring_joins plan s given r ≡ true

@@ -1,6 +1,6 @@
 -- What one tick makes of a green that is ready and has a conflict, with no preempt in service, where all phases of one side go
 -- together: it ends, or waits for the other ring at the barrier.
-use Rattle.std.proofs.Common.{◌≡◌, ◌≢◌, ℕ, ◌≤◌, ◌==◌, Bool, true, false, not, ◌&&◌, ◌||◌, if◌then◌else◌, List, [], ◌∷◌, Option, Some, None, refl, sym, ap, arith, ◌∙◌, inl, inr, ◌⊎◌}
+use Rattle.std.proofs.Common.{◌≡◌, ◌≢◌, ℕ, ◌≤◌, ◌==◌, Bool, true, false, not, ◌&&◌, if◌then◌else◌, List, [], ◌∷◌, Option, Some, None, refl, sym, ap, arith, ◌∙◌, inl, inr, ◌⊎◌}
 use Rattle.std.proofs.lemmas.Bool.{cases_Bool, not-true, and_parts, or_cases, or_left, or_right, eqb-true, eq-eqb, true≢false, false≢true, false_from_ne_true}
 use Rattle.std.proofs.lemmas.Bool.Decides.{nat_tests}
 use Rattle.tsb_step.specs.tsb_types.declared.interval.Interval.{Interval}
@@ -13,7 +13,6 @@ use Rattle.tsb_step.specs.tsb_plan.Running.{running, sequence_in_effect}
 use Rattle.tsb_step.specs.tsb_rules.Consistent.{IsPlaced, ListsRing}
 use Rattle.tsb_step.proofs.tsb_rules.ConsistentLemmas.{placed}
 use Rattle.tsb_step.specs.tsb_calls.Callable.{is_callable, has_conflict}
-use Rattle.tsb_step.specs.tsb_phase.Phase.{Phase}
 use Rattle.tsb_step.specs.tsb_ring.declared.want.Want.TheVariants.{Go, Cross}
 use Rattle.tsb_step.specs.tsb_ring.Rings as rings
 use Rattle.tsb_step.specs.tsb_ring.Rings.{Ring, Ring1, Ring2, other, number, in_ring, serving}
@@ -22,7 +21,6 @@ use Rattle.tsb_step.specs.tsb_ring.Crossings.{wants_cross, ring_joins, begins}
 use Rattle.tsb_step.specs.tsb_ring.Moves.{is_ended, is_started}
 use Rattle.tsb_step.specs.tsb_ring.Laws.{IsListed}
 use Rattle.tsb_step.proofs.tsb_ring.WaitLemmas.{is_serving, first-passes}
-use Rattle.tsb_step.proofs.tsb_ring.WantLemmas.{first-among}
 use Rattle.tsb_step.specs.declared.inputs.Input.{Input}
 use Rattle.tsb_step.specs.declared.inputs.Input.TheVariants.{Tick}
 use Rattle.tsb_step.specs.State.{State, interval}
@@ -47,10 +45,6 @@ use Rattle.tsb_laws.proofs.operation.CalmLemmas.{calm_run}
 use Rattle.tsb_laws.proofs.operation.PressLemmas.{serving_is}
 use Rattle.tsb_laws.proofs.operation.TurnRingLemmas.{IsFair, Goes, Wishes, goes, crosses, candidate, want_is, candidate_is, wishes, ends_by_want}
 use Rattle.tsb_laws.proofs.operation.TurnStepLemmas.{target_none}
-
-or_true : (b : Bool) → (b || true) ≡ true
-or_true true = refl
-or_true false = refl
 
 ring_is : (plan : Plan) (p : ℕ) → 1 ≤ ring_of plan p → ring_of plan p ≤ 2 → (r : Ring) × (in_ring plan r p ≡ true)
 ring_is plan p low high =
@@ -120,7 +114,7 @@ module _ (plan : Plan) (s : rings.State) (given : rings.Given) (fair : IsFair pl
       begins plan s given ≡ true
   unfolding begins
   begins_when Ring1 one two w = rw (one, two, w) refl
-  begins_when Ring2 one two w = rw (one, two, w) (or_true (wants_cross (want_of plan s given Ring1)))
+  begins_when Ring2 one two w = rw (one, two, w) (or_right (wants_cross (want_of plan s given Ring1)) true refl)
 
   -- a crossing that a ready green wants begins, or the other ring bars it
   barred : (r : Ring) (p : ℕ) → serving plan given r ≡ Some p → given.interval p ≡ Green → given.ready p ≡ true → want_of plan s given r ≡ Some Cross →

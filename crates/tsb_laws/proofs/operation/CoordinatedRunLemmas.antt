@@ -1,6 +1,6 @@
 -- A green that has had a conflict for long enough in a pattern may end: along a run, over inputs of every kind but those
 -- that select a pattern or commit.
-use Rattle.std.proofs.Common.{◌≡◌, ℕ, ◌+◌, ◌-◌, ◌<◌, ◌≤◌, Bool, true, false, ◌&&◌, if◌then◌else◌, max, List, [], ◌∷◌, ◌++◌, Option, Some, None, is_some, is_none, refl, sym, ap, subst, arith, ◌∙◌, inl, inr}
+use Rattle.std.proofs.Common.{◌≡◌, ℕ, ◌+◌, ◌-◌, ◌<◌, ◌≤◌, Bool, true, false, ◌&&◌, if◌then◌else◌, List, [], ◌∷◌, ◌++◌, Option, Some, None, is_some, is_none, refl, sym, ap, subst, arith, ◌∙◌, inl, inr}
 use Rattle.std.proofs.lemmas.Bool.{cases_Bool, and_parts, true≢false, false≢true}
 use Rattle.tsb_step.specs.tsb_cells.declared.timer.Timer.{Timer}
 use Rattle.tsb_step.specs.tsb_cells.declared.timer.Timer.TheVariants.{Off, On}
@@ -28,14 +28,14 @@ use Rattle.tsb_step.specs.Good.{IsGood}
 use Rattle.tsb_step.specs.TimeLaws.{is_tick}
 use Rattle.tsb_step.proofs.ClearLemmas.{phases_then, one_later, plan_stays}
 use Rattle.tsb_step.proofs.GoodLemmas.{good_run}
-use Rattle.tsb_step.proofs.TellLemmas.{starts_no_green}
+use Rattle.tsb_step.proofs.TellLemmas.{starts_no_green, is_in_green}
 use Rattle.tsb_laws.specs.Stretches.{IsUntripped}
 use Rattle.tsb_laws.specs.ServedCalls.{longest_initial}
 use Rattle.tsb_laws.specs.CoordinatedGreens.{HasGoneOn, is_pressed_in_pattern, IsForcedWithin}
 use Rattle.tsb_laws.proofs.safety.StretchLemmas.{dark_now, at_next}
 use Rattle.tsb_laws.proofs.safety.DueLemmas.{count_run}
 use Rattle.tsb_laws.proofs.operation.PhaseTimeLemmas.{left, walking_in}
-use Rattle.tsb_laws.proofs.operation.PressedRunLemmas.{timed_run, is_one, not_ended, green_is}
+use Rattle.tsb_laws.proofs.operation.PressedRunLemmas.{timed_run, is_one, not_ended}
 use Rattle.tsb_laws.proofs.operation.InStepLemmas.{same_forces}
 use Rattle.tsb_laws.proofs.operation.CoordinatedForceLemmas.{forcing_left, pattern_left, IsAhead, Forces, forces_down, presses_down, ready_then}
 
@@ -106,7 +106,7 @@ pressed_parts s row p h =
     let outer = and_parts (is_green (interval s p) && conflict s row p) (is_some (runs s) && is_none (service s row)) h in
     let inner = and_parts (is_green (interval s p)) (conflict s row p) outer.0 in
     let other = and_parts (is_some (runs s)) (is_none (service s row)) outer.1 in
-    record { green = green_is (interval s p) inner.0; conflict = inner.1; runs = other.0; quiet = none_is (service s row) other.1 }
+    record { green = is_in_green (interval s p) inner.0; conflict = inner.1; runs = other.0; quiet = none_is (service s row) other.1 }
 
 pub left_most : (limit : ℕ) (t : Timer) → left limit t ≤ limit
 left_most limit Off = omega arith

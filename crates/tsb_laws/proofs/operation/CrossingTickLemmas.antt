@@ -22,12 +22,13 @@ use Rattle.tsb_step.specs.Good.{IsGood}
 use Rattle.tsb_step.specs.TimeLaws.{IsSided}
 use Rattle.tsb_step.proofs.GivenLemmas.{symmetric, given}
 use Rattle.tsb_step.proofs.IntervalLemmas.{intervals_after, ended_was_green}
+use Rattle.tsb_step.proofs.tsb_phase.ReadLemmas.{is-red}
 use Rattle.tsb_laws.specs.CrossingGreens.{IsCalm}
 use Rattle.tsb_laws.proofs.safety.CrossingRingLemmas.{begins_no_more, starts_all, none_is_started, is_started_then, goes_on, is_over, side_goes, commitment_stays, WaitsFor, clearance_of, revert_of, waits_for_one}
 use Rattle.tsb_laws.proofs.safety.DueLemmas.{clipped_at}
 use Rattle.tsb_laws.proofs.operation.AcrossLemmas.{GoesAcross, promised_red}
 use Rattle.tsb_laws.proofs.operation.PhaseTimeLemmas.{IsTimed, clears_down, not_yet_over, reverts_down, not_yet_reverted}
-use Rattle.tsb_laws.proofs.operation.TurnStepLemmas.{clear_left, back_left, red_is, dark_is}
+use Rattle.tsb_laws.proofs.operation.TurnStepLemmas.{clear_left, back_left, dark_is}
 
 -- ## The rings as it is completed
 
@@ -144,7 +145,7 @@ module _ (s : State) (row : Row) (good : IsGood s) (few : s.plan.phase_count ≤
             let before = was.clears p in
             omega (arith, left_p, before)
         go (revert_of r c e h) =
-            let left_c = not_yet_reverted s c (yellow_change s.plan c) (red_revert s.plan c) (omega arith) (red_is (interval s c) (red r c e))
+            let left_c = not_yet_reverted s c (yellow_change s.plan c) (red_revert s.plan c) (omega arith) (is-red (interval s c) (red r c e))
             (sym (clipped_at (reverted s) s.plan c few (good.rings.owned r c e).1) ∙ h) in
             let before = was.reverts r c e in
             omega (arith, left_c, before)

@@ -13,7 +13,7 @@ use Rattle.tsb_step.specs.tsb_plan.Plan.{Plan, phases, is_enabled, side_of, disa
 use Rattle.tsb_step.specs.tsb_plan.Running.{is_on_maximum_recall}
 use Rattle.tsb_step.specs.tsb_rules.Consistent.{IsPhase}
 use Rattle.tsb_step.specs.tsb_rules.Rules.{first_broken}
-use Rattle.tsb_step.proofs.tsb_rules.ConsistentLemmas.{together}
+use Rattle.tsb_step.proofs.tsb_rules.ConsistentLemmas.{together, is-off}
 use Rattle.tsb_step.specs.tsb_calls.Memories.{counted}
 use Rattle.tsb_step.specs.tsb_phase.Phase.{Phase, Given, held_of}
 use Rattle.tsb_step.specs.tsb_phase.Green.{initial, gap_has_expired, gapped_latch, initial_has_passed, is_gapped, is_by_gap, conflict_timer, has_reached_some, acting_maximum, has_maxed_out, floats_off, forced_latch}
@@ -197,10 +197,6 @@ data Timed (plan : Plan) (p : ℕ) (is : List Input) (row : Row) : Type 0 where
   by_maximum : IsByMaximum plan p is row → Timed plan p is row
   by_force_off : is_some (runs (replay plan is)) ≡ true → IsByForceOff plan p is row → Timed plan p is row
 
-not_so : (b : Bool) → not b ≡ true → b ≡ false
-not_so true h = absurd (false≢true h)
-not_so false h = refl
-
 module _ (plan : Plan) (p : ℕ) (is : List Input) (row : Row) (ok : IsConsistent plan) (on : is_phase p ≡ true) (taken : AreTaken plan is) (dark : (replay plan is).trip ≡ None) (was_green : is_green (interval (replay plan is) p) ≡ true) where
   abbrev told : Given
   told = phases_given (replay plan is) row
@@ -238,7 +234,7 @@ module _ (plan : Plan) (p : ℕ) (is : List Input) (row : Row) (ok : IsConsisten
       let both = and_parts (is_gapped (replay plan is).plan told p (held_of now)) (not (is_on_maximum_recall (replay plan is).plan told.runs p)) h in
       record {
         free = ap (λ (o : Option ℕ). is_on_maximum_recall (replay plan is).plan o p) (sym runs_told)
-            ∙ not_so (is_on_maximum_recall (replay plan is).plan told.runs p) both.1;
+            ∙ is-off (is_on_maximum_recall (replay plan is).plan told.runs p) both.1;
         gapped = gapped_now both.0;
       }
 

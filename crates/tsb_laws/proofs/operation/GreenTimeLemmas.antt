@@ -35,7 +35,8 @@ use Rattle.tsb_step.proofs.LeaveLemmas.{others_leave}
 use Rattle.tsb_step.proofs.RestLemmas.{rests_run}
 use Rattle.tsb_step.proofs.TellLemmas.{is_in_green, starts_no_green, dark_before, reset_or_not, timers_tell_time}
 use Rattle.tsb_step.proofs.YellowLemmas.{lasted_by}
-use Rattle.tsb_laws.specs.GreenEnds.{in_ticks, ticks_in_green, has_no_output, has_conflict, StandsInGreen, gap_now, GapExpires, HasGappedOut, green_for, HasFloated, keeps_force_off, IsForcedOff, HasBeenForcedOff}
+use Rattle.tsb_step.proofs.tsb_rules.ConsistentLemmas.{is-off}
+use Rattle.tsb_laws.specs.GreenEnds.{in_ticks, ticks_in_green, has_no_output, has_conflict, StandsInGreen, gap_now, GapExpires, HasGappedOut, HasFloated, keeps_force_off, IsForcedOff, HasBeenForcedOff}
 use Rattle.tsb_laws.proofs.safety.StretchLemmas.{at_next}
 
 -- ## Counting
@@ -437,10 +438,6 @@ was_green_then s row p h k = go (is_green (interval s p)) refl
     go true e = e
     go false e = absurd (false≢true (rw (k, e) at h))
 
-not_so : (b : Bool) → not b ≡ true → b ≡ false
-not_so true h = absurd (false≢true h)
-not_so false h = refl
-
 forced_in_tick : (plan : Plan) (p : ℕ) (is : List Input) (row : Row) → IsConsistent plan → AreTaken plan is → (replay plan is).trip ≡ None → ((next (replay plan is) row).phases p).forced ≡ true →
     StandsIn (λ x. x.forced) (IsForcedOff plan p) (keeps_force_off p) plan is row p
 forced_in_tick plan p is row ok taken dark h =
@@ -449,7 +446,7 @@ forced_in_tick plan p is row ok taken dark h =
     let rest = and_parts (not (is_started (moves (replay plan is) row) p)) (forced_latch (replay plan is).plan (phases_given (replay plan is) row) p (held_of (phase_read (replay plan is) p))) both.1 in
     let it : IsForced (replay plan is) row p = forced_by (replay plan is) row p rest.1 in
     let was : is_green (interval (replay plan is) p) ≡ true =
-    was_green_then (replay plan is) row p both.0 (not_so (is_started (moves (replay plan is) row) p) rest.0) in
+    was_green_then (replay plan is) row p both.0 (is-off (is_started (moves (replay plan is) row) p) rest.0) in
     record {
       green = green_then (replay plan is) row p both.0;
       held = it.kept;

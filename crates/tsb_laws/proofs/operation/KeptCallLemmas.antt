@@ -1,5 +1,6 @@
 -- A call that is remembered stands until it is served, input by input and over a run.
 use Rattle.std.proofs.Common.{◌≡◌, ◌≢◌, ℕ, ◌≤◌, Bool, true, false, not, ◌&&◌, ◌||◌, List, [], ◌∷◌, ◌++◌, Option, Some, None, is_some, is_none, refl, sym, ap, ◌∙◌, inl, inr, ◌⊎◌}
+use Rattle.std.proofs.lemmas.Bool.{or_right}
 use Rattle.tsb_step.specs.tsb_types.declared.interval.Interval.TheVariants.{Green}
 use Rattle.tsb_step.specs.tsb_types.declared.interval.PedestrianInterval.{PedestrianInterval}
 use Rattle.tsb_step.specs.tsb_types.declared.interval.PedestrianInterval.TheVariants.{DontWalk, Walk, PedestrianClear}
@@ -31,10 +32,6 @@ use Rattle.tsb_laws.proofs.safety.DueLemmas.{count_run, clipped_at}
 use Rattle.tsb_laws.proofs.operation.RecycledTickLemmas.{Again, again_parts, again_walks}
 use Rattle.tsb_laws.proofs.operation.TickLemmas.{not_green, memories_then, memories_rest, memories_stay, turns_green, started_is_listed}
 
-or_true : (b : Bool) → (b || true) ≡ true
-or_true true = refl
-or_true false = refl
-
 -- ## What is set stands
 
 vehicle_stands : (s : State) (row : Row) (p : ℕ) → s.memories.vehicle p ≡ true → (set s row).vehicle p ≡ true
@@ -45,7 +42,7 @@ vehicle_is_set : (s : State) (row : Row) (p : ℕ) → is_enabled s.plan p ≡ t
     has_output s.plan (calls_given s row) p ≡ true → (set s row).vehicle p ≡ true
 unfolding vehicle_memory
 vehicle_is_set s row p on locks red out =
-    let dark : is_green (interval s p) ≡ false = not_green (interval s p) red in rw (on, locks, dark, out) (or_true (s.memories.vehicle p))
+    let dark : is_green (interval s p) ≡ false = not_green (interval s p) red in rw (on, locks, dark, out) (or_right (s.memories.vehicle p) true refl)
 
 pedestrian_stands : (s : State) (row : Row) (p : ℕ) → s.memories.pedestrian p ≡ true → (set s row).pedestrian p ≡ true
 unfolding pedestrian_memory
@@ -61,7 +58,7 @@ pedestrian_is_set : (s : State) (row : Row) (p : ℕ) → serves_pedestrians s.p
 unfolding pedestrian_memory
 pedestrian_is_set s row p on waits pressed =
     let still : is_walk (pedestrian_part s p) ≡ false = not_walk (pedestrian_part s p) waits in
-    rw (on, pressed, still) (or_true (s.memories.pedestrian p))
+    rw (on, pressed, still) (or_right (s.memories.pedestrian p) true refl)
 
 -- ## In a tick
 

@@ -10,16 +10,17 @@ use Rattle.tsb_step.specs.tsb_ring.Rings as rings
 use Rattle.tsb_step.specs.tsb_ring.Rings.{Ring, Given, in_ring, serving}
 use Rattle.tsb_step.specs.tsb_ring.Wants.{is_candidate, is_called_elsewhere, is_idle_or_green, picked_before, want_of}
 use Rattle.tsb_step.proofs.tsb_ring.WaitLemmas.{first-passes}
+use Rattle.tsb_step.proofs.TellLemmas.{is_in_green}
+use Rattle.tsb_step.proofs.tsb_phase.ReadLemmas.{is-red}
 use Rattle.tsb_step.specs.State.{State, interval}
 use Rattle.tsb_step.specs.Good.{IsGood}
 use Rattle.tsb_step.specs.tsb_plan.Plan.{Plan, side_of}
 use Rattle.tsb_laws.specs.CrossingGreens.{IsCalm}
 use Rattle.tsb_laws.specs.ServedCalls.{TurnsTakeAtMost, turns, order, still_to_come}
 use Rattle.tsb_laws.proofs.safety.SideSoughtLemmas.{none_first}
-use Rattle.tsb_laws.proofs.operation.PressedRunLemmas.{green_is}
 use Rattle.tsb_laws.proofs.operation.TurnListLemmas.{among_tail}
 use Rattle.tsb_laws.proofs.operation.TurnRingLemmas.{IsFair, candidate, Goes, want_is}
-use Rattle.tsb_laws.proofs.operation.TurnStepLemmas.{clear_left, back_left, green_most, clear_most, back_most, red_is, IsLeft, committed, serving_green, idle}
+use Rattle.tsb_laws.proofs.operation.TurnStepLemmas.{clear_left, back_left, green_most, clear_most, back_most, IsLeft, committed, serving_green, idle}
 
 -- ## The two parts of an order
 
@@ -113,7 +114,7 @@ module _ (w k h : ℕ) (s : State) (r : Ring) (good : IsGood s) (calm : IsCalm s
   sums_now o e = ap (λ (x : Option ℕ). turns s.plan w s.rings.side (later (or_else x (s.rings.last r)) (order s.plan r))) e
 
   back_now : (p : ℕ) → in_service (interval s p) ≡ false → back_left s.plan p (s.phases p) ≤ k
-  back_now p dark = let most = back_most s.plan p (s.phases p) (red_is (interval s p) dark) in let limit = takes.revert p in omega (arith, most, limit)
+  back_now p dark = let most = back_most s.plan p (s.phases p) (is-red (interval s p) dark) in let limit = takes.revert p in omega (arith, most, limit)
 
   clear_now : (p : ℕ) → clear_left s.plan p (s.phases p) ≤ k
   clear_now p = let most = clear_most s.plan p (s.phases p) in let limit = takes.clearance p in omega (arith, most, limit)
@@ -126,7 +127,7 @@ module _ (w k h : ℕ) (s : State) (r : Ring) (good : IsGood s) (calm : IsCalm s
   serves_now : (p : ℕ) → s.rings.commitment r ≡ None → in_ring s.plan r p ≡ true → in_service (interval s p) ≡ true → (b : Bool) → is_green (interval s p) ≡ b →
       Standing w s r longest_left
   serves_now p e own serves true g =
-      has_left (serving_green p e own (green_is (interval s p) g)
+      has_left (serving_green p e own (is_in_green (interval s p) g)
       (let most = green_most s.plan p (s.phases p) in let limit = takes.green p in let sums = sums_now None e in omega (arith, most, limit, sums)))
   serves_now p e own serves false g = clears_free p e own serves g
 

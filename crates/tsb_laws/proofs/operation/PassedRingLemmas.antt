@@ -21,6 +21,7 @@ use Rattle.tsb_step.proofs.tsb_ring.WantLemmas.{first-among}
 use Rattle.tsb_step.specs.State.{State, interval}
 use Rattle.tsb_step.specs.Tick.{callable, conflict, reverted, ready, rings_given, moves, next}
 use Rattle.tsb_step.proofs.GivenLemmas.{listed_is_phase, lists_ring}
+use Rattle.tsb_step.proofs.tsb_phase.ReadLemmas.{is-red}
 use Rattle.tsb_laws.specs.ServedCalls.{longest_maximum, longest_initial, longest_green, TurnsTakeAtMost, turn, turns, order, still_to_come}
 use Rattle.tsb_laws.proofs.safety.EnabledLemmas.{callable_on, callable_no_green}
 use Rattle.tsb_laws.proofs.operation.PhaseTimeLemmas.{clears_down, not_yet_over, reverts_down, not_yet_reverted}
@@ -28,7 +29,7 @@ use Rattle.tsb_laws.proofs.operation.PressedGreenLemmas.{free_parts, presses_dow
 use Rattle.tsb_laws.proofs.operation.PressedRunLemmas.{is_one}
 use Rattle.tsb_laws.proofs.operation.TurnListLemmas.{turns_later, still_later}
 use Rattle.tsb_laws.proofs.operation.TurnRingLemmas.{Candidate, candidate_is, candidate, Goes, starts_none, starts_picked, Delays, clearing, reverting, starts_or_waits, picks_idle, picks_green, stays_outside, stays_beside, last_started, last_stays, promise_kept, promise_stays, promise_made, none_promised}
-use Rattle.tsb_laws.proofs.operation.TurnStepLemmas.{clear_left, back_left, green_left, green_most, clear_most, back_most, red_is, dark_is, IsLeft, committed, serving_green, idle, IsComing, Comes, served, comes, IsFairTick, fair, listed, some_phase, once, apart, conflicts, told_callable, told_ready, told_over, told_reverted, serves_it, serves_none, served_is, given_green, ended_ready, starts_nothing, starts_it, ends_none, in_order}
+use Rattle.tsb_laws.proofs.operation.TurnStepLemmas.{clear_left, back_left, green_left, green_most, clear_most, back_most, dark_is, IsLeft, committed, serving_green, idle, IsComing, Comes, served, comes, IsFairTick, fair, listed, some_phase, once, apart, conflicts, told_callable, told_ready, told_over, told_reverted, serves_it, serves_none, served_is, given_green, ended_ready, starts_nothing, starts_it, ends_none, in_order}
 use Rattle.tsb_laws.proofs.operation.BarrierWishLemmas.{IsAtBarrier, picks_cross, joins_green, joins_idle, no_end_at, given_interval}
 use Rattle.tsb_laws.proofs.operation.PassedListLemmas.{Looks, ahead, across, around, looks}
 
@@ -86,7 +87,7 @@ module _ (s : State) (row : Row) (tick : IsFairTick s row) (none : begins s.plan
   red_after : (p : ℕ) → in_ring s.plan r p ≡ true → in_service (interval s p) ≡ false → starting s.plan s.rings (rings_given s row) r ≡ None →
       interval (next s row) p ≡ Red
   red_after p own_p dark start =
-      let red : interval s p ≡ Red = red_is (interval s p) dark in
+      let red : interval s p ≡ Red = is-red (interval s p) dark in
       let no_start : is_started (moves s row) p ≡ false = starts_nothing s row tick r p own_p start in
       rw (no_start, red) refl
 
@@ -216,7 +217,7 @@ module _ (s : State) (row : Row) (tick : IsFairTick s row) (none : begins s.plan
               let was = clears_in p both.0 in
               omega (arith, left_p, was)
           some_left (reverting f) =
-              let left_c = not_yet_reverted s c (yellow_change s.plan c) (red_revert s.plan c) (omega arith) (red_is (interval s c) dark_c)
+              let left_c = not_yet_reverted s c (yellow_change s.plan c) (red_revert s.plan c) (omega arith) (is-red (interval s c) dark_c)
               (sym (told_reverted s row tick c (tick.good.rings.owned r c e).1) ∙ f) in
               omega (arith, left_c, reverts)
 
@@ -404,7 +405,7 @@ module _ (s : State) (row : Row) (tick : IsFairTick s row) (none : begins s.plan
       -- its red revert has not passed
       unreverted : (c : ℕ) → Target c → want_of s.plan s.rings (rings_given s row) r ≡ Some (Go c) → reverted s c ≡ false → Steps m
       unreverted c to w f =
-          let left_c = not_yet_reverted s c (yellow_change s.plan c) (red_revert s.plan c) (omega arith) (red_is (interval s c) (dark c to.ringed)) f in
+          let left_c = not_yet_reverted s c (yellow_change s.plan c) (red_revert s.plan c) (omega arith) (is-red (interval s c) (dark c to.ringed)) f in
           let was = reverts c to.ringed in
           goes_on (omega (arith, left_c, was)) (on_then (pick_is c false to w f))
 

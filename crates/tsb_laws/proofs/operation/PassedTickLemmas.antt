@@ -13,13 +13,14 @@ use Rattle.tsb_step.specs.tsb_ring.Next.{starting}
 use Rattle.tsb_step.specs.tsb_ring.Moves.{is_cleared, is_started}
 use Rattle.tsb_step.specs.State.{State, interval}
 use Rattle.tsb_step.specs.Tick.{over, rings_given, moves, next}
+use Rattle.tsb_step.proofs.tsb_phase.ReadLemmas.{is-red}
 use Rattle.tsb_laws.specs.ServedCalls.{TurnsTakeAtMost, turns, order}
 use Rattle.tsb_laws.proofs.operation.BarrierStepLemmas.{Remains, bound_for, Nears, less, joined, nears}
 use Rattle.tsb_laws.proofs.operation.BarrierWishLemmas.{IsAtBarrier, picks_clearing, clears_over, is_cleared_then, given_dark, goes_red, both_join, joins_clearing, given_serves}
 use Rattle.tsb_laws.proofs.operation.PhaseTimeLemmas.{clears_down, not_yet_over}
 use Rattle.tsb_laws.proofs.operation.StageFactLemmas.{green_after}
 use Rattle.tsb_laws.proofs.operation.TurnRingLemmas.{starts_none, stays_beside, last_stays, promise_made}
-use Rattle.tsb_laws.proofs.operation.TurnStepLemmas.{clear_left, back_most, red_is, IsLeft, idle, IsFairTick, fair, told_over, serves_it, starts_nothing}
+use Rattle.tsb_laws.proofs.operation.TurnStepLemmas.{clear_left, back_most, IsLeft, idle, IsFairTick, fair, told_over, serves_it, starts_nothing}
 use Rattle.tsb_laws.proofs.operation.PassedListLemmas.{Standing, has_left, clears_free, standing, longest_left}
 
 -- ## What comes later is no more than the whole
@@ -74,7 +75,7 @@ module _ (s : State) (row : Row) (tick : IsFairTick s row) (none : begins s.plan
   is_idle : in_service (interval (next s row) p) ≡ false → ClearsOn
   is_idle gone =
       has_cleared (idle k promise dark_all
-      (λ x own_x. (let most = back_most s.plan x ((next s row).phases x) (red_is (interval (next s row) x) (dark_all x own_x)) in
+      (λ x own_x. (let most = back_most s.plan x ((next s row).phases x) (is-red (interval (next s row) x) (dark_all x own_x)) in
       let limit = takes.revert x in omega (arith, most, limit)))
       (let same = sums_then in omega (arith, same)))
     where
@@ -82,7 +83,7 @@ module _ (s : State) (row : Row) (tick : IsFairTick s row) (none : begins s.plan
       dark_all x own_x =
           elim (cases_Bool (in_service (interval s x))) [
             | inl g ↦ (let same : x ≡ p = tick.good.rings.alone r x p own_x own g serves in ap (λ (z : ℕ). in_service (interval (next s row) z)) same ∙ gone)
-            | inr g ↦ (let red : interval s x ≡ Red = red_is (interval s x) g in let still : interval (next s row) x ≡ Red = rw (no_start x own_x, red) refl in ap in_service still)
+            | inr g ↦ (let red : interval s x ≡ Red = is-red (interval s x) g in let still : interval (next s row) x ≡ Red = rw (no_start x own_x, red) refl in ap in_service still)
           ]
 
   still_dark : is_green (interval (next s row) p) ≡ false

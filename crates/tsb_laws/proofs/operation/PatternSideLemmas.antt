@@ -1,6 +1,6 @@
 -- Times summed by sides, whatever time each phase takes: what both orders have of a side, and what is crossed before another.
 use Rattle.std.proofs.Common.{◌≡◌, ◌≢◌, ℕ, ◌+◌, ◌*◌, ◌≤◌, Bool, true, false, not, ◌&&◌, if◌then◌else◌, List, [], ◌∷◌, refl, sym, ap, ◌∙◌, arith}
-use Rattle.std.proofs.lemmas.Bool.{and_parts, eqb-true, true≢false, false_from_ne_true}
+use Rattle.std.proofs.lemmas.Bool.{and_parts, eqb-true, true≢false, false_from_ne_true, and_from}
 use Rattle.std.proofs.lemmas.Nat.{row_fits}
 use Rattle.tsb_step.specs.tsb_types.Lists.{among}
 use Rattle.tsb_step.specs.tsb_plan.declared.object.Object.TheVariants.{PhaseSide}
@@ -14,7 +14,7 @@ use Rattle.tsb_step.specs.Laws.{IsConsistent}
 use Rattle.tsb_step.specs.Good.{IsGood}
 use Rattle.tsb_step.proofs.GivenLemmas.{listed_is_phase}
 use Rattle.tsb_laws.specs.CoordinatedGreens.{times_where, times_on}
-use Rattle.tsb_laws.proofs.operation.SideSumLemmas.{sum_of, and_both, sum_apart, sum_more, sum_within, IsSide, away, away_itself, away_most, away_some, is_here, is_before, is_between, before_is, to_before, way_on, goes_by}
+use Rattle.tsb_laws.proofs.operation.SideSumLemmas.{sum_of, sum_apart, sum_more, sum_within, IsSide, away, away_itself, away_most, away_some, is_here, is_before, is_between, before_is, to_before, way_on, goes_by}
 use Rattle.tsb_laws.proofs.operation.RingPlaceLemmas.{view, order_of}
 use Rattle.tsb_laws.proofs.operation.OpenTickLemmas.{listed, lists}
 
@@ -58,7 +58,7 @@ module _ (time : ℕ → ℕ) (k : ℕ) where
     unfolding within
     placed_here r p h =
         let both = and_parts (among p (order_of (view s) r)) (is_on_side s.plan d p) h in
-        and_both (is_enabled s.plan p) (is_on_side s.plan d p) ((its r).only_enabled p both.0 (some_phase p both.1)) both.1
+        and_from (is_enabled s.plan p) (is_on_side s.plan d p) ((its r).only_enabled p both.0 (some_phase p both.1)) both.1
 
     apart : (p : ℕ) → within Ring1 p ≡ true → within Ring2 p ≡ true → ⊥
     unfolding within
@@ -98,13 +98,13 @@ module _ (time : ℕ → ℕ) (k : ℕ) where
             let parts = and_parts (is_enabled plan p) (is_on_side plan e p) h in
             let same : side_of plan p ≡ e = eqb-true (side_of plan p) e parts.1 in
             let moved : away plan.side_count d (side_of plan p) ≡ away plan.side_count d e = ap (λ (x : ℕ). away plan.side_count d x) same in
-            and_both (is_enabled plan p) (is_before plan.side_count d t (side_of plan p)) parts.0
+            and_from (is_enabled plan p) (is_before plan.side_count d t (side_of plan p)) parts.0
             (to_before plan.side_count d t (side_of plan p) (omega (arith, moved, sooner)))
 
         later_too : (p : ℕ) → among p (phases plan) ≡ true → is_between plan e t p ≡ true → is_between plan d t p ≡ true
         later_too p there h =
             let parts = and_parts (is_enabled plan p) (is_before plan.side_count e t (side_of plan p)) h in
-            and_both (is_enabled plan p) (is_before plan.side_count d t (side_of plan p)) parts.0
+            and_from (is_enabled plan p) (is_before plan.side_count d t (side_of plan p)) parts.0
             (to_before plan.side_count d t (side_of plan p)
             (goes_by plan.side_count d e t (side_of plan p) from on to (side_is p there parts.0) other sooner
             (before_is plan.side_count e t (side_of plan p) parts.1)))
@@ -134,4 +134,4 @@ module _ (time : ℕ → ℕ) (k : ℕ) where
           let before = before_is plan.side_count t t (side_of plan p) parts.1 in
           let moved : away plan.side_count t (side_of plan p) ≡ away plan.side_count t t = ap (λ (x : ℕ). away plan.side_count t x) same in
           omega (arith, before, moved))) in
-          and_both (is_enabled plan p) (not (is_on_side plan t p)) parts.0 (ap not not_here)
+          and_from (is_enabled plan p) (not (is_on_side plan t p)) parts.0 (ap not not_here)

@@ -1,7 +1,7 @@
 -- What one tick makes of a green that a preempt does not want: once it is ready it ends, or waits for a crossing; and what
 -- keeps the crossing from beginning.
 use Rattle.std.proofs.Common.{◌≡◌, ℕ, Bool, true, false, not, ◌&&◌, ◌||◌, if◌then◌else◌, Option, Some, None, is_none, refl, sym, ap, ◌∙◌, inl, inr, ◌⊎◌}
-use Rattle.std.proofs.lemmas.Bool.{and_parts, eq-eqb, eqb-true, true≢false, false≢true, false_from_ne_true}
+use Rattle.std.proofs.lemmas.Bool.{and_parts, eq-eqb, eqb-true, true≢false, false≢true, false_from_ne_true, or_right}
 use Rattle.tsb_step.specs.tsb_types.declared.interval.Interval.{Interval}
 use Rattle.tsb_step.specs.tsb_types.declared.interval.Interval.TheVariants.{Red, Green, Yellow, RedClear}
 use Rattle.tsb_step.specs.tsb_types.Intervals.{is_green, in_service}
@@ -22,14 +22,6 @@ use Rattle.tsb_step.proofs.tsb_ring.WaitLemmas.{first-passes}
 use Rattle.tsb_step.proofs.tsb_ring.WantLemmas.{and_four, first-among}
 use Rattle.tsb_step.proofs.GivenLemmas.{listed_is_phase}
 use Rattle.tsb_laws.proofs.safety.SideSoughtLemmas.{Found, some_found}
-
-or_true : (b : Bool) → (b || true) ≡ true
-or_true true = refl
-or_true false = refl
-
-or_last : (a b : Bool) → b ≡ true → (a || b) ≡ true
-or_last true b x = refl
-or_last false b x = x
 
 -- why a crossing does not begin that some ring wants: a ring is committed, or serves a green that is not ready
 pub data Bars (s : State) (plan : Plan) (given : Given) : Type 0 where
@@ -71,13 +63,13 @@ module _ (plan : Plan) (s : State) (given : Given) (target : ℕ → Bool) (want
   ends_by_want r p w serves own green ready h k = by r serves passes
     where
       passes : is p (if_passes (λ q. is_green (given.interval q) && (begins plan s given || (given.ready q && leaves (want_of plan s given (own_ring plan q))))) (Some p)) ≡ true
-      passes = rw (green, ready, ring_of_is plan r p own, h, k) (rw (or_true (begins plan s given)) (eq-eqb p p refl))
+      passes = rw (green, ready, ring_of_is plan r p own, h, k) (rw (or_right (begins plan s given) true refl) (eq-eqb p p refl))
 
       by : (x : Ring) → serving plan given x ≡ Some p →
           is p (if_passes (λ q. is_green (given.interval q) && (begins plan s given || (given.ready q && leaves (want_of plan s given (own_ring plan q))))) (Some p)) ≡ true →
           is_ended (moves plan s given) p ≡ true
       by Ring1 e l = rw (e, l) refl
-      by Ring2 e l = or_last (is p (ring_moves plan s given Ring1).ends) _ (rw e l)
+      by Ring2 e l = or_right (is p (ring_moves plan s given Ring1).ends) _ (rw e l)
 
   -- it ends, or its ring wants to cross the barrier, and the target is elsewhere
   pub leaves_or_crosses : (r : Ring) (p : ℕ) → serving plan given r ≡ Some p → in_ring plan r p ≡ true → is_green (given.interval p) ≡ true →
@@ -187,4 +179,4 @@ module _ (plan : Plan) (s : State) (given : Given) (target : ℕ → Bool) (want
     where
       crosses : (x : Ring) → want_of plan s given x ≡ Some Cross → (wants_cross (want_of plan s given Ring1) || wants_cross (want_of plan s given Ring2)) ≡ true
       crosses Ring1 e = rw e refl
-      crosses Ring2 e = rw e (or_true (wants_cross (want_of plan s given Ring1)))
+      crosses Ring2 e = rw e (or_right (wants_cross (want_of plan s given Ring1)) true refl)

@@ -1,11 +1,10 @@
 -- A green that has had a conflict for long enough may end: along a run, over inputs of every kind.
 use Rattle.std.proofs.Common.{◌≡◌, ℕ, ◌+◌, ◌-◌, ◌≤◌, Bool, true, false, ◌&&◌, if◌then◌else◌, List, [], ◌∷◌, ◌++◌, None, is_some, refl, sym, ap, arith, ◌∙◌, inl, inr}
-use Rattle.std.proofs.lemmas.Bool.{cases_Bool, and_parts, true≢false, false≢true}
+use Rattle.std.proofs.lemmas.Bool.{cases_Bool, and_parts, true≢false}
 use Rattle.std.proofs.lemmas.Bool.Decides.{nat_tests}
 use Rattle.tsb_step.specs.tsb_cells.declared.timer.Timer.{Timer}
 use Rattle.tsb_step.specs.tsb_cells.declared.timer.Timer.TheVariants.{Off, On}
-use Rattle.tsb_step.specs.tsb_types.declared.interval.Interval.{Interval}
-use Rattle.tsb_step.specs.tsb_types.declared.interval.Interval.TheVariants.{Red, Green, Yellow, RedClear}
+use Rattle.tsb_step.specs.tsb_types.declared.interval.Interval.TheVariants.{Green, Yellow}
 use Rattle.tsb_step.specs.tsb_types.declared.interval.PedestrianInterval.{PedestrianInterval}
 use Rattle.tsb_step.specs.tsb_types.declared.interval.PedestrianInterval.TheVariants.{DontWalk, Walk, PedestrianClear}
 use Rattle.tsb_step.specs.tsb_types.declared.row.Row.{Row}
@@ -30,7 +29,7 @@ use Rattle.tsb_step.proofs.ClearLemmas.{phases_then, one_later}
 use Rattle.tsb_step.proofs.GivenLemmas.{listed_is_phase}
 use Rattle.tsb_step.proofs.GoodLemmas.{good_run}
 use Rattle.tsb_step.proofs.LeaveLemmas.{others_leave}
-use Rattle.tsb_step.proofs.TellLemmas.{starts_no_green, timers_tell_time}
+use Rattle.tsb_step.proofs.TellLemmas.{starts_no_green, timers_tell_time, is_in_green}
 use Rattle.tsb_laws.specs.Stretches.{IsUntripped, largest}
 use Rattle.tsb_laws.specs.ServedCalls.{is_free, is_pressed, HasBeenPressed, longest_maximum, longest_initial, IsDoneWithin}
 use Rattle.tsb_laws.proofs.safety.StretchLemmas.{dark_now, Goes, ticks, stays, goes, at_next}
@@ -116,12 +115,6 @@ not_ended s row p was no_start now = go (is_ended (moves s row) p) refl
         let yellow : interval (next s row) p ≡ Yellow = rw (no_start, was, e) refl in
         absurd (true≢false (sym (ap is_green now) ∙ ap is_green yellow))
 
-pub green_is : (i : Interval) → is_green i ≡ true → i ≡ Green
-green_is Green h = refl
-green_is Red h = absurd (false≢true h)
-green_is Yellow h = absurd (false≢true h)
-green_is RedClear h = absurd (false≢true h)
-
 record Pressed (s : State) (row : Row) (p : ℕ) : Type 0 where
   green : interval s p ≡ Green
   busy : conflict s row p ≡ true
@@ -131,7 +124,7 @@ pressed_parts : (s : State) (row : Row) (p : ℕ) → is_pressed p s (Tick row) 
 pressed_parts s row p h =
     let outer = and_parts (is_green (interval s p) && conflict s row p) (is_free s row) h in
     let inner = and_parts (is_green (interval s p)) (conflict s row p) outer.0 in
-    record { green = green_is (interval s p) inner.0; busy = inner.1; free = outer.1 }
+    record { green = is_in_green (interval s p) inner.0; busy = inner.1; free = outer.1 }
 
 module _ (plan : Plan) (base : List Input) (p n a b : ℕ) (ok : IsConsistent plan) (few : plan.phase_count ≤ 16) (both : a + b ≤ n) where
   few_now : (is : List Input) → (replay plan is).plan.phase_count ≤ 16

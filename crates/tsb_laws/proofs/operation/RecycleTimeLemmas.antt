@@ -2,16 +2,17 @@
 -- ticks.
 use Rattle.std.proofs.Common.{◌≡◌, ℕ, ◌+◌, ◌-◌, ◌*◌, ◌%◌, ◌<◌, ◌≤◌, ◌==◌, nat_le, nat_lt, Bool, true, false, not, ◌&&◌, ◌||◌, Option, Some, None, refl, sym, ap, subst, arith, ◌∙◌, inl, inr, ◌⊎◌}
 use Rattle.std.proofs.Math.Nat.{mod-eq_of_lt, mod-lt, add-mul-mod_self_right}
-use Rattle.std.proofs.lemmas.Bool.{and_parts, and_from, cases_Bool, cases_lt, true≢false, false≢true}
+use Rattle.std.proofs.lemmas.Bool.{and_parts, and_from, cases_lt, true≢false, false≢true}
 use Rattle.std.proofs.lemmas.Bool.Decides.{nat_tests}
 use Rattle.tsb_step.specs.tsb_plan.Parts.{cycle, offset, permissive_time}
 use Rattle.tsb_step.specs.tsb_plan.Plan.{Plan, is_enabled, walk, pedestrian_clear, recycles_walk}
-use Rattle.tsb_step.specs.tsb_plan.Running.{running, is_coordinated_now}
+use Rattle.tsb_step.specs.tsb_plan.Running.{is_coordinated_now}
 use Rattle.tsb_step.specs.tsb_rules.Consistent.{IsWhole}
-use Rattle.tsb_step.specs.tsb_coord.Coordinated.{residue_of_difference, counter, local_in, force_off, agree, is_from_to, late_end, is_late, is_permitted, forces_off, asks_force_off, walk_and_clearance, may_recycle, is_left, recycles, asks_recycle}
+use Rattle.tsb_step.specs.tsb_coord.Coordinated.{residue_of_difference, counter, local_in, force_off, agree, is_from_to, is_late, is_permitted, forces_off, asks_force_off, walk_and_clearance, may_recycle, is_left, recycles, asks_recycle}
 use Rattle.tsb_step.specs.tsb_coord.Correction.{forces}
 use Rattle.tsb_step.proofs.tsb_objects.InstantLemmas.{instants-below, coordinated-has-no-end}
 use Rattle.tsb_step.proofs.tsb_coord.LocalLemmas.{counter_moves_on}
+use Rattle.tsb_step.proofs.tsb_rules.ConsistentLemmas.{is-off}
 use Rattle.tsb_step.specs.State.{State}
 use Rattle.tsb_step.specs.Signs.{IsInStep}
 use Rattle.tsb_step.specs.Tick.{runs, hold, forced, recycle}
@@ -97,10 +98,6 @@ off_is plan n p i l one own =
     (coordinated-has-no-end plan n p one)
     ∙ rw (one, own) refl
 
-not_so : (b : Bool) → not b ≡ true → b ≡ false
-not_so true h = absurd (false≢true h)
-not_so false h = refl
-
 -- what asks for a walk in tick t
 record Recycles (plan : Plan) (n t p : ℕ) : Type 0 where
   recycles : recycles_walk plan p ≡ true
@@ -133,7 +130,7 @@ recycles_so plan n t p h = go (force_off plan (Some n) p) refl inner.1
       coordinated = may.1;
       instant = i;
       own = e;
-      not_now = sym (off_is plan n p i (counter plan n t) may.1 e) ∙ not_so (forces_off plan (Some n) (Some (counter plan n t)) p) inner.0;
+      not_now = sym (off_is plan n p i (counter plan n t) may.1 e) ∙ is-off (forces_off plan (Some n) (Some (counter plan n t)) p) inner.0;
       fits = k;
     }
 
@@ -226,7 +223,7 @@ unforced_now s p h = forces_as s (s.now + 1) p it.in_step (omega arith) ∙ go (
     go (Some n) k =
         let outer = and_parts (may_recycle s.plan (Some n) p) (not (forces_off s.plan (Some n) (Some (counter s.plan n (s.now + 1))) p)
         && is_left (cycle s.plan n) (walk_and_clearance s.plan p) (Some (counter s.plan n (s.now + 1))) (force_off s.plan (Some n) p)) k in
-        not_so (forces_off s.plan (Some n) (Some (counter s.plan n (s.now + 1))) p)
+        is-off (forces_off s.plan (Some n) (Some (counter s.plan n (s.now + 1))) p)
         (and_parts (not (forces_off s.plan (Some n) (Some (counter s.plan n (s.now + 1))) p))
         (is_left (cycle s.plan n) (walk_and_clearance s.plan p) (Some (counter s.plan n (s.now + 1))) (force_off s.plan (Some n) p)) outer.1).0
 

@@ -1,11 +1,10 @@
 -- A tick in which a walk begins within a green, by pedestrian recycle: what it has found, and what it makes of the
 -- phase.
-use Rattle.std.proofs.Common.{◌≡◌, ◌≢◌, ℕ, ◌*◌, ◌≤◌, nat_le, Bool, true, false, not, ◌&&◌, ◌||◌, if◌then◌else◌, Option, Some, None, is_some, is_none, refl, sym, ap, arith, ◌∙◌, inl, inr}
+use Rattle.std.proofs.Common.{◌≡◌, ℕ, ◌≤◌, nat_le, Bool, true, false, not, ◌&&◌, ◌||◌, Option, Some, None, is_none, refl, sym, ap, arith, ◌∙◌, inl, inr}
 use Rattle.std.proofs.lemmas.Bool.{and_parts, cases_Bool, true≢false, false≢true}
 use Rattle.std.proofs.lemmas.Bool.Decides.{nat_tests}
 use Rattle.tsb_step.specs.tsb_types.declared.interval.Interval.TheVariants.{Green}
-use Rattle.tsb_step.specs.tsb_types.declared.interval.PedestrianInterval.{PedestrianInterval}
-use Rattle.tsb_step.specs.tsb_types.declared.interval.PedestrianInterval.TheVariants.{DontWalk, Walk, PedestrianClear}
+use Rattle.tsb_step.specs.tsb_types.declared.interval.PedestrianInterval.TheVariants.{DontWalk, Walk}
 use Rattle.tsb_step.specs.tsb_types.declared.row.Row.{Row}
 use Rattle.tsb_step.specs.tsb_types.Flow.{gives_walk}
 use Rattle.tsb_step.specs.tsb_types.Intervals.{is_green, is_dont_walk}
@@ -25,16 +24,9 @@ use Rattle.tsb_step.specs.Good.{IsGood}
 use Rattle.tsb_step.proofs.ClearLemmas.{phases_then}
 use Rattle.tsb_step.proofs.TellLemmas.{starts_no_green, is_in_green}
 use Rattle.tsb_step.proofs.WaitedLemmas.{ended_has_lasted}
+use Rattle.tsb_step.proofs.tsb_rules.ConsistentLemmas.{is-off}
+use Rattle.tsb_step.proofs.tsb_phase.ReadyLemmas.{is_in_dont_walk}
 use Rattle.tsb_laws.proofs.operation.RecycleTimeLemmas.{unforced_now}
-
-is_dark : (x : PedestrianInterval) → is_dont_walk x ≡ true → x ≡ DontWalk
-is_dark DontWalk h = refl
-is_dark Walk h = absurd (false≢true h)
-is_dark PedestrianClear h = absurd (false≢true h)
-
-is_not : (b : Bool) → not b ≡ true → b ≡ false
-is_not true h = absurd (false≢true h)
-is_not false h = refl
 
 is_nothing : (o : Option ℕ) → is_none o ≡ true → o ≡ None
 is_nothing None h = refl
@@ -91,7 +83,7 @@ again_parts s row p h = record {
   called = called;
   long = (called_walks s row p called).long;
   quiet = is_nothing (service s row) given.1;
-  unforced = is_not stands inner.1;
+  unforced = is-off stands inner.1;
   now = walks_now s row p dark both.1;
 }
   where
@@ -102,7 +94,7 @@ again_parts s row p h = record {
     both = and_parts (is_dont_walk (pedestrian_part s p)) (may_walk_again (phases_given s row) p (phase_read s p)) h
 
     dark : pedestrian_part s p ≡ DontWalk
-    dark = is_dark (pedestrian_part s p) both.0
+    dark = is_in_dont_walk (pedestrian_part s p) both.0
 
     outer : (is_green (interval s p) ≡ true)
         × (((phases_given s row).recycle p && (gives_walk ((phases_given s row).pedestrian_call p) (service s row) && not stands)) ≡ true)

@@ -7,7 +7,6 @@ use Rattle.tsb_step.specs.tsb_types.declared.row.Row.{Row}
 use Rattle.tsb_step.specs.tsb_types.Intervals.{is_green}
 use Rattle.tsb_step.specs.tsb_types.Lists.{among, later}
 use Rattle.tsb_step.specs.tsb_plan.Plan.{phases, is_enabled, side_of, yellow_change, red_clear, red_revert}
-use Rattle.tsb_step.specs.tsb_ring.Rings as rings
 use Rattle.tsb_step.specs.tsb_ring.Rings.{Ring, Ring1, Ring2, in_ring}
 use Rattle.tsb_step.specs.tsb_ring.Wants.{is_on_side}
 use Rattle.tsb_step.specs.tsb_ring.Crossings.{begins, is_called_on, target_side}
@@ -16,12 +15,13 @@ use Rattle.tsb_step.specs.Tick.{callable, rings_given, next}
 use Rattle.tsb_step.specs.Good.{IsGood}
 use Rattle.tsb_step.specs.TimeLaws.{IsSided}
 use Rattle.tsb_step.proofs.GivenLemmas.{given}
+use Rattle.tsb_step.proofs.tsb_phase.ReadLemmas.{is-red}
 use Rattle.tsb_laws.specs.CrossingGreens.{IsCalm}
 use Rattle.tsb_laws.specs.CoordinatedGreens.{times_on}
 use Rattle.tsb_laws.proofs.safety.EnabledLemmas.{AreEnabled, callable_on}
 use Rattle.tsb_laws.proofs.safety.SideSoughtLemmas.{found_some, goes_to_other}
 use Rattle.tsb_laws.proofs.operation.AcrossLemmas.{GoesAcross}
-use Rattle.tsb_laws.proofs.operation.TurnStepLemmas.{back_most, red_is}
+use Rattle.tsb_laws.proofs.operation.TurnStepLemmas.{back_most}
 use Rattle.tsb_laws.proofs.operation.PhaseTimeLemmas.{IsTimed}
 use Rattle.tsb_laws.proofs.operation.BarrierLemmas.{begun_crosses}
 use Rattle.tsb_laws.proofs.operation.CrossingTickLemmas.{IsOverIn, HasEntered, Crosses, crosses_on, has_crossed, crossing_tick}
@@ -180,7 +180,7 @@ module _ (longest : ℕ → ℕ) (Lasts : View → ℕ → ℕ → Type 0) (k h 
         place = None;
         ticks = k;
         near = settled (at_rest k entered.free (entered.idles e).0 (entered.idles e).1
-            (λ p own_p. (let back = back_most s.plan p ((next s row).phases p) (red_is (interval (next s row) p) ((entered.idles e).1 p own_p)) in let limit = it.reverts p in omega (arith, back, limit)))
+            (λ p own_p. (let back = back_most s.plan p ((next s row).phases p) (is-red (interval (next s row) p) ((entered.idles e).1 p own_p)) in let limit = it.reverts p in omega (arith, back, limit)))
             (omega arith));
         most = omega arith;
       }

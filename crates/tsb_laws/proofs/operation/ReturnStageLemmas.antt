@@ -9,9 +9,10 @@ use Rattle.tsb_step.specs.tsb_plan.Plan.{side_of, yellow_change, red_clear, red_
 use Rattle.tsb_step.specs.tsb_ring.Rings.{Ring, Ring1, Ring2, other}
 use Rattle.tsb_step.specs.State.{State, interval}
 use Rattle.tsb_step.specs.Good.{IsGood}
+use Rattle.tsb_step.proofs.tsb_phase.ReadLemmas.{is-red}
 use Rattle.tsb_laws.specs.CoordinatedGreens.{times_on}
 use Rattle.tsb_laws.proofs.operation.SideSumLemmas.{IsSide, away, away_itself, away_other}
-use Rattle.tsb_laws.proofs.operation.TurnStepLemmas.{clear_left, back_left, clear_most, back_most, red_is}
+use Rattle.tsb_laws.proofs.operation.TurnStepLemmas.{clear_left, back_left, clear_most, back_most}
 use Rattle.tsb_laws.proofs.operation.RingPlaceLemmas.{View, view, order_of, later_most, IsAt, IsNear}
 use Rattle.tsb_laws.proofs.operation.PatternSideLemmas.{far_of, both_in_order, nearer_of}
 
@@ -25,7 +26,7 @@ pub over_in : (s : State) (k : ℕ) → ((p : ℕ) → yellow_change s.plan p + 
     ((r : Ring) (c : ℕ) → s.rings.commitment r ≡ Some c → in_service (interval s c) ≡ false) → IsOver k (view s)
 over_in s k clears reverts red = record {
   clears = λ p. (let most = clear_most s.plan p (s.phases p) in let limit = clears p in omega (arith, most, limit));
-  reverts = λ r c e. (let most = back_most s.plan c (s.phases c) (red_is (interval s c) (red r c e)) in let limit = reverts c in omega (arith, most, limit));
+  reverts = λ r c e. (let most = back_most s.plan c (s.phases c) (is-red (interval s c) (red r c e)) in let limit = reverts c in omega (arith, most, limit));
 }
 
 module _ (longest : ℕ → ℕ) (Lasts : View → ℕ → ℕ → Type 0) (k h : ℕ) (r : Ring) (c : ℕ) where

@@ -14,14 +14,15 @@ use Rattle.tsb_step.specs.tsb_ring.Rings as rings
 use Rattle.tsb_step.specs.tsb_ring.Rings.{Ring, number, in_ring}
 use Rattle.tsb_step.specs.tsb_ring.Wants.{is_on_side}
 use Rattle.tsb_step.proofs.tsb_ring.WaitLemmas.{first-passes}
+use Rattle.tsb_step.proofs.TellLemmas.{is_in_green}
+use Rattle.tsb_step.proofs.tsb_phase.ReadLemmas.{is-red}
 use Rattle.tsb_step.specs.State.{State, interval}
 use Rattle.tsb_step.specs.Good.{IsGood}
 use Rattle.tsb_laws.specs.CrossingGreens.{IsCalm}
 use Rattle.tsb_laws.specs.CoordinatedGreens.{times_on}
 use Rattle.tsb_laws.proofs.safety.SideSoughtLemmas.{none_first}
-use Rattle.tsb_laws.proofs.operation.PressedRunLemmas.{green_is}
 use Rattle.tsb_laws.proofs.operation.TurnListLemmas.{after_later, first_before}
-use Rattle.tsb_laws.proofs.operation.TurnStepLemmas.{clear_left, back_left, clear_most, back_most, red_is}
+use Rattle.tsb_laws.proofs.operation.TurnStepLemmas.{clear_left, back_left, clear_most, back_most}
 use Rattle.tsb_laws.proofs.operation.BarrierLemmas.{back_all}
 
 -- ## What is seen of a state
@@ -105,7 +106,7 @@ module _ (longest : ℕ → ℕ) (Lasts : View → ℕ → ℕ → Type 0) where
     clear_now p = let at_most = clear_most s.plan p (s.phases p) in let limit = clears p in omega (arith, at_most, limit)
 
     back_now : (p : ℕ) → in_service (interval s p) ≡ false → back_left s.plan p (s.phases p) ≤ k
-    back_now p dark = let at_most = back_most s.plan p (s.phases p) (red_is (interval s p) dark) in let limit = reverts p in omega (arith, at_most, limit)
+    back_now p dark = let at_most = back_most s.plan p (s.phases p) (is-red (interval s p) dark) in let limit = reverts p in omega (arith, at_most, limit)
 
     at_promise : (c : ℕ) → s.rings.commitment r ≡ Some c → IsNear (view s) r (Some c) (h + 2 * k + 1)
     at_promise c e = settled (bound_to c k e refl (λ p own. clear_now p) (back_now c (calm.fresh outside r c e)) (let limit = most c in omega (arith, limit)))
@@ -113,7 +114,7 @@ module _ (longest : ℕ → ℕ) (Lasts : View → ℕ → ℕ → Type 0) where
     by_interval : (p : ℕ) → s.rings.commitment r ≡ None → in_ring s.plan r p ≡ true → in_service (interval s p) ≡ true → (b : Bool) → is_green (interval s p) ≡ b →
         IsNear (view s) r (s.rings.last r) (h + 2 * k + 1)
     by_interval p e own serves true g =
-        let green : interval s p ≡ Green = green_is (interval s p) g in
+        let green : interval s p ≡ Green = is_in_green (interval s p) g in
         settled (in_green p (longest p) e refl own green (greens p green) (let limit = most p in omega (arith, limit)))
     by_interval p e own serves false g =
         clearing_out p (2 * k + 1) e refl own serves g

@@ -17,13 +17,14 @@ use Rattle.tsb_step.specs.tsb_ring.Next.{starting}
 use Rattle.tsb_step.specs.tsb_ring.Moves.{is_ended, is_cleared, is_started}
 use Rattle.tsb_step.proofs.tsb_ring.StillLemmas.{taken-none}
 use Rattle.tsb_step.proofs.tsb_ring.WaitLemmas.{first-passes}
+use Rattle.tsb_step.proofs.tsb_phase.ReadLemmas.{is-red}
 use Rattle.tsb_step.specs.State.{State, interval}
 use Rattle.tsb_step.specs.Tick.{conflict, over, reverted, ready, rings_given, moves, next}
 use Rattle.tsb_laws.proofs.safety.AllRedRingLemmas.{started_by}
 use Rattle.tsb_laws.proofs.safety.EnabledLemmas.{callable_no_green}
 use Rattle.tsb_laws.proofs.operation.PhaseTimeLemmas.{clears_down, not_yet_over, reverts_down, not_yet_reverted}
 use Rattle.tsb_laws.proofs.operation.TurnRingLemmas.{Candidate, candidate_is, want_is, starts_none, starts_picked, Delays, clearing, reverting, starts_or_waits, picks_idle, picks_green, last_started, last_stays, promise_kept, promise_stays, promise_made, none_promised}
-use Rattle.tsb_laws.proofs.operation.TurnStepLemmas.{clear_left, back_left, clear_most, back_most, red_is, dark_is}
+use Rattle.tsb_laws.proofs.operation.TurnStepLemmas.{clear_left, back_left, clear_most, back_most, dark_is}
 use Rattle.tsb_laws.proofs.operation.BarrierStepLemmas.{picks_cross, joins_green, joins_idle, cross_keeps, picks_clearing, clears_over_one, given_interval, ended_none, cleared_is, cleared_over, cleared_red, still_clearing, clear_none}
 use Rattle.tsb_laws.proofs.operation.RingPlaceLemmas.{View, view, order_of, IsAt, bound_to, in_green, at_rest, IsNear, settled, clearing_out}
 use Rattle.tsb_laws.proofs.operation.OpenTickLemmas.{IsOpenTick, fair, in_sequence, told_ready, told_over, told_reverted, listed, serves_it, serves_none, served_is, given_green, ended_ready, starts_nothing, starts_it, ends_none}
@@ -120,7 +121,7 @@ module _ (longest : ℕ → ℕ) (Lasts : View → ℕ → ℕ → Type 0) where
     red_after : (p : ℕ) → in_ring s.plan r p ≡ true → in_service (interval s p) ≡ false → starting s.plan s.rings (rings_given s row) r ≡ None →
         interval (next s row) p ≡ Red
     red_after p own dark start =
-        let red : interval s p ≡ Red = red_is (interval s p) dark in
+        let red : interval s p ≡ Red = is-red (interval s p) dark in
         let no_start : is_started (moves s row) p ≡ false = starts_nothing s row tick r p own start in
         rw (no_start, red) refl
 
@@ -160,7 +161,7 @@ module _ (longest : ℕ → ℕ) (Lasts : View → ℕ → ℕ → Type 0) where
             let was = clears_in p both.0 in
             omega (arith, left_p, was)
         some_left (reverting h) =
-            let left_c = not_yet_reverted s c (yellow_change s.plan c) (red_revert s.plan c) (omega arith) (red_is (interval s c) dark_c)
+            let left_c = not_yet_reverted s c (yellow_change s.plan c) (red_revert s.plan c) (omega arith) (is-red (interval s c) dark_c)
             (sym (told_reverted s row tick c (tick.good.rings.owned r c e).1) ∙ h) in
             omega (arith, left_c, reverts_in)
 
@@ -283,7 +284,7 @@ module _ (longest : ℕ → ℕ) (Lasts : View → ℕ → ℕ → Type 0) where
         not_reverted : (x : ℕ) → want_of s.plan s.rings (rings_given s row) r ≡ Some (Go x) → Candidate s.plan s.rings (rings_given s row) (fair s row tick) r x → reverted s x ≡ false →
             Goes_on At (s.rings.last r) u
         not_reverted x w to f =
-            let left_x = not_yet_reverted s x (yellow_change s.plan x) (red_revert s.plan x) (omega arith) (red_is (interval s x) (dark x to.ringed)) f in
+            let left_x = not_yet_reverted s x (yellow_change s.plan x) (red_revert s.plan x) (omega arith) (is-red (interval s x) (dark x to.ringed)) f in
             let was = reverts_in x to.ringed in
             let start : starting s.plan s.rings (rings_given s row) r ≡ None =
             start_is ∙ picks_idle s.plan s.rings (rings_given s row) (fair s row tick) r x false at_none w (told x false to f) in

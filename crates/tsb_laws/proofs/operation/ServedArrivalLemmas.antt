@@ -21,6 +21,7 @@ use Rattle.tsb_step.specs.Tick.{callable, rings_given, next}
 use Rattle.tsb_step.specs.Good.{IsGood}
 use Rattle.tsb_step.specs.TimeLaws.{IsSided}
 use Rattle.tsb_step.proofs.GivenLemmas.{listed_is_phase, lists_ring}
+use Rattle.tsb_step.proofs.tsb_phase.ReadLemmas.{is-red}
 use Rattle.tsb_laws.specs.ServedCalls.{TurnsTakeAtMost, longest_green, turn, turns, order}
 use Rattle.tsb_laws.proofs.safety.CrossingRingLemmas.{begins_alone}
 use Rattle.tsb_laws.proofs.safety.EnabledLemmas.{AreEnabled, callable_on}
@@ -28,7 +29,7 @@ use Rattle.tsb_laws.proofs.safety.SideSoughtLemmas.{none_first}
 use Rattle.tsb_laws.proofs.operation.CrossingTickLemmas.{HasEntered}
 use Rattle.tsb_laws.proofs.operation.PressedGreenLemmas.{free_parts}
 use Rattle.tsb_laws.proofs.operation.TurnListLemmas.{turns_later, still_later}
-use Rattle.tsb_laws.proofs.operation.TurnStepLemmas.{green_most, back_most, red_is, IsLeft, committed, serving_green, idle, IsFairTick, listed, some_phase, once, told_callable, in_order}
+use Rattle.tsb_laws.proofs.operation.TurnStepLemmas.{green_most, back_most, IsLeft, committed, serving_green, idle, IsFairTick, listed, some_phase, once, told_callable, in_order}
 
 -- an enabled phase of a ring is in its order
 pub in_its_order : (s : State) → IsGood s → (r : Ring) (c : ℕ) → in_ring s.plan r c ≡ true → IsListed s.plan c → is_enabled s.plan c ≡ true →
@@ -82,7 +83,7 @@ module _ (w k h d : ℕ) (s : State) (row : Row) (good : IsGood s) (sided : IsSi
           let both = entered.idles e in
           let same = side_is ((next s row).rings.last x) None both.0 in
           idle k entered.free both.1
-          (λ p own. (let most = back_most s.plan p ((next s row).phases p) (red_is (interval (next s row) p) (both.1 p own)) in let limit = takes.revert p in omega (arith, most, limit)))
+          (λ p own. (let most = back_most s.plan p ((next s row).phases p) (is-red (interval (next s row) p) (both.1 p own)) in let limit = takes.revert p in omega (arith, most, limit)))
           (omega (arith, same))
 
 -- ## As a crossing begins

@@ -26,6 +26,7 @@ use Rattle.tsb_step.proofs.ClearLemmas.{one_later}
 use Rattle.tsb_step.proofs.GivenLemmas.{listed_is_phase, enabled_is_listed}
 use Rattle.tsb_step.proofs.GoodLemmas.{good_run}
 use Rattle.tsb_step.proofs.SideRunLemmas.{sided_run}
+use Rattle.tsb_step.proofs.tsb_phase.ReadLemmas.{is-red}
 use Rattle.tsb_laws.specs.CrossingGreens.{IsCalm}
 use Rattle.tsb_laws.specs.Stretches.{IsUntripped}
 use Rattle.tsb_laws.specs.ServedCalls.{is_free, IsFullyConcurrent, is_waiting, HasWaited, TurnsTakeAtMost, turns, order, still_to_come, all_turns, places, time_to_serve}
@@ -45,7 +46,7 @@ use Rattle.tsb_laws.proofs.operation.ServedTickLemmas.{home, rest, back, Due, is
 use Rattle.tsb_laws.proofs.operation.SideRangeLemmas.{AreSides, sides_run}
 use Rattle.tsb_laws.proofs.operation.SideSumLemmas.{IsSide, both_orders, here as turns_here, far_most, here_and_between}
 use Rattle.tsb_laws.proofs.operation.TurnLemmas.{callable_enabled, IsKeptBy, kept_then, kept_by, left_stays, coming_stays, clear_same, back_same, promise_same, own_before, own_after, interval_same, later_same, plan_same}
-use Rattle.tsb_laws.proofs.operation.TurnStepLemmas.{green_left, green_unforced, clear_most, back_most, red_is}
+use Rattle.tsb_laws.proofs.operation.TurnStepLemmas.{green_left, green_unforced, clear_most, back_most}
 
 -- ## An input that leaves plan, rings and phases
 
@@ -142,7 +143,7 @@ over_at_once : (k h : ℕ) (s : State) → IsCalm s.plan (interval s) s.rings �
 over_at_once k h s calm sided across takes = record {
   clears = λ p. (let most = clear_most s.plan p (s.phases p) in let limit = takes.clearance p in omega (arith, most, limit));
   reverts = λ r c e.
-      (let most = back_most s.plan c (s.phases c) (red_is (interval s c) (promised_red s r c calm sided across e)) in
+      (let most = back_most s.plan c (s.phases c) (is-red (interval s c) (promised_red s r c calm sided across e)) in
       let limit = takes.revert c in omega (arith, most, limit));
 }
 

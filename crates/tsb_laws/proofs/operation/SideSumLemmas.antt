@@ -1,7 +1,7 @@
 -- Turns summed by sides: what the phases of a side take, and those of the sides that are crossed to before another one. Sides
 -- are crossed to in cyclic order.
 use Rattle.std.proofs.Common.{◌≡◌, ◌≢◌, ℕ, nat_le, ◌+◌, ◌-◌, ◌*◌, ◌≤◌, ◌==◌, Bool, true, false, not, ◌&&◌, if◌then◌else◌, List, [], ◌∷◌, refl, sym, ap, inl, inr, ◌⊎◌, arith, ◌∙◌}
-use Rattle.std.proofs.lemmas.Bool.{and_parts, or_cases, eqb-true, eq-eqb, leb-true, leb-false, lt-leb, true≢false, false≢true, false_from_ne_true}
+use Rattle.std.proofs.lemmas.Bool.{and_parts, or_cases, eqb-true, eq-eqb, leb-true, leb-false, lt-leb, true≢false, false≢true, false_from_ne_true, and_from}
 use Rattle.std.proofs.lemmas.Nat.{mul-le, row_fits}
 use Rattle.tsb_step.specs.tsb_types.Lists.{among}
 use Rattle.tsb_step.specs.tsb_plan.declared.object.Object.TheVariants.{PhaseSide}
@@ -21,9 +21,6 @@ use Rattle.tsb_laws.proofs.operation.TurnListLemmas.{head_once, tail_once, among
 abbrev pub sum_of : (ℕ → Bool) → (ℕ → ℕ) → List ℕ → ℕ
 sum_of test f [] = 0
 sum_of test f (p ∷ ps) = (if test p then f p else 0) + sum_of test f ps
-
-pub and_both : (a b : Bool) → a ≡ true → b ≡ true → (a && b) ≡ true
-and_both a b h k = rw (h, k) refl
 
 -- two tests that nothing passes both
 pub sum_apart : (a b c : ℕ → Bool) (f : ℕ → ℕ) (ps : List ℕ) → ((p : ℕ) → among p ps ≡ true → a p ≡ true → c p ≡ true) →
@@ -67,7 +64,7 @@ sum_within test f base (y ∷ ys) zero_out once there =
     go (sum_within test f base ys zero_out (tail_once y ys once) (λ p k some. there p (among_tail y p ys k) some)) (test y) refl
   where
     wider : (p : ℕ) → (among p ys && test p) ≡ true → (among p (y ∷ ys) && test p) ≡ true
-    wider p h = let both = and_parts (among p ys) (test p) h in and_both (among p (y ∷ ys)) (test p) (among_tail y p ys both.0) both.1
+    wider p h = let both = and_parts (among p ys) (test p) h in and_from (among p (y ∷ ys)) (test p) (among_tail y p ys both.0) both.1
 
     head : (p : ℕ) → (y == p) ≡ true → among p (y ∷ ys) ≡ true
     head p h = rw h refl
@@ -80,7 +77,7 @@ sum_within test f base (y ∷ ys) zero_out once there =
         let some : y ≢ 0 = λ zero_is. true≢false (sym e ∙ ap test zero_is ∙ zero_out) in
         let one = sum_one (λ p. y == p) f y base (there y (head y (eq-eqb y y refl)) some) (eq-eqb y y refl) in
         let both = sum_apart (λ p. y == p) (λ p. among p ys && test p) (λ p. among p (y ∷ ys) && test p) f base
-        (λ p k h. and_both (among p (y ∷ ys)) (test p) (head p h) (ap test (sym (eqb-true y p h)) ∙ e))
+        (λ p k h. and_from (among p (y ∷ ys)) (test p) (head p h) (ap test (sym (eqb-true y p h)) ∙ e))
         (λ p k h. wider p h)
         (λ p h g. true≢false (sym (and_parts (among p ys) (test p) g).0 ∙ ap (λ (x : ℕ). among x ys) (sym (eqb-true y p h)) ∙ head_once y ys some once)) in
         rw e (omega (arith, rest, one, both))
@@ -133,7 +130,7 @@ both_orders plan k d ok some =
     placed_here : (r : Ring) (p : ℕ) → within r p ≡ true → is_here plan d p ≡ true
     placed_here r p h =
         let both = and_parts (among p (order plan r)) (is_on_side plan d p) h in
-        and_both (is_enabled plan p) (is_on_side plan d p) ((lists r).only_enabled p both.0 (some_phase p both.1)) both.1
+        and_from (is_enabled plan p) (is_on_side plan d p) ((lists r).only_enabled p both.0 (some_phase p both.1)) both.1
 
     apart : (p : ℕ) → within Ring1 p ≡ true → within Ring2 p ≡ true → ⊥
     apart p h g =
@@ -357,13 +354,13 @@ module _ (plan : Plan) (k d t : ℕ) (ok : IsConsistent plan) (from : IsSide pla
           let parts = and_parts (is_enabled plan p) (is_on_side plan e p) h in
           let same : side_of plan p ≡ e = eqb-true (side_of plan p) e parts.1 in
           let moved : away plan.side_count d (side_of plan p) ≡ away plan.side_count d e = ap (λ (x : ℕ). away plan.side_count d x) same in
-          and_both (is_enabled plan p) (is_before plan.side_count d t (side_of plan p)) parts.0
+          and_from (is_enabled plan p) (is_before plan.side_count d t (side_of plan p)) parts.0
           (to_before plan.side_count d t (side_of plan p) (omega (arith, moved, sooner)))
 
       later_too : (p : ℕ) → among p (phases plan) ≡ true → is_between plan e t p ≡ true → is_between plan d t p ≡ true
       later_too p listed h =
           let parts = and_parts (is_enabled plan p) (is_before plan.side_count e t (side_of plan p)) h in
-          and_both (is_enabled plan p) (is_before plan.side_count d t (side_of plan p)) parts.0
+          and_from (is_enabled plan p) (is_before plan.side_count d t (side_of plan p)) parts.0
           (to_before plan.side_count d t (side_of plan p)
           (goes_by plan.side_count d e t (side_of plan p) from on to (side_is p listed parts.0) other sooner
           (before_is plan.side_count e t (side_of plan p) parts.1)))

@@ -2,7 +2,7 @@
 -- phases of the stage are Green.
 use Rattle.std.proofs.Common.{◌≡◌, ℕ, zero, suc, ◌+◌, ◌-◌, ◌≤◌, ◌==◌, Bool, true, false, not, ◌||◌, List, [], ◌∷◌, Option, Some, None, refl, sym, ap, ◌∙◌, inl, inr, ◌⊎◌, arith}
 use Rattle.std.specs.List.{list_all}
-use Rattle.std.proofs.lemmas.Bool.{cases_Bool, and_parts, eq-eqb, true≢false}
+use Rattle.std.proofs.lemmas.Bool.{cases_Bool, and_parts, eq-eqb, or_right, or_left}
 use Rattle.tsb_step.specs.tsb_types.declared.interval.Interval.{Interval}
 use Rattle.tsb_step.specs.tsb_types.declared.interval.Interval.TheVariants.{Green}
 use Rattle.tsb_step.specs.tsb_types.declared.row.Row.{Row}
@@ -27,15 +27,17 @@ use Rattle.tsb_step.specs.State.{State, interval}
 use Rattle.tsb_step.specs.Tick.{rings_given, moves, over, reverted, yellow_done, next}
 use Rattle.tsb_step.proofs.GivenLemmas.{listed_is_phase, symmetric, given}
 use Rattle.tsb_step.proofs.IntervalLemmas.{intervals_after}
+use Rattle.tsb_step.proofs.TellLemmas.{is_in_green}
+use Rattle.tsb_step.proofs.tsb_phase.ReadLemmas.{is-red}
 use Rattle.tsb_laws.proofs.safety.AllRedLemmas.{ring_is}
 use Rattle.tsb_laws.proofs.safety.CrossingRingLemmas.{is_over, is_started_then}
 use Rattle.tsb_laws.proofs.safety.DueLemmas.{clipped_at}
 use Rattle.tsb_laws.proofs.operation.AcrossLemmas.{promised_red}
 use Rattle.tsb_laws.proofs.operation.PhaseTimeLemmas.{not_yet_over, not_yet_reverted}
-use Rattle.tsb_laws.proofs.operation.StageFactLemmas.{Limits, Within, clear_of, revert_of, Stays, is_one_green, started_green, still_green, told_list, pairs_list, wanted_stays, green_no_start}
+use Rattle.tsb_laws.proofs.operation.StageFactLemmas.{Limits, Within, clear_of, revert_of, Stays, started_green, still_green, told_list, pairs_list, wanted_stays, green_no_start}
 use Rattle.tsb_laws.proofs.operation.StageRingLemmas.{AreDue, completes_it, free_across, free_here, stays_if_green, starts_wanted, commits_wanted}
 use Rattle.tsb_laws.proofs.operation.StageTickLemmas.{IsClean, IsDirty, clean_tick}
-use Rattle.tsb_laws.proofs.operation.StageDirtyLemmas.{is_one_red, dirty_tick, clean_from}
+use Rattle.tsb_laws.proofs.operation.StageDirtyLemmas.{dirty_tick, clean_from}
 
 -- ## Words
 
@@ -61,25 +63,17 @@ pub data Near (t : Limits) (list : ℕ → Bool) (plan : Plan) (phases : ℕ →
 abbrev pub AreGreen : (ℕ → Bool) → Plan → (ℕ → Phase) → Type 0
 AreGreen list plan phases = (p : ℕ) → IsListed plan p → list p ≡ true → is_green (phases p).interval ≡ true
 
-or_first : (a b : Bool) → a ≡ true → (a || b) ≡ true
-or_first true b h = refl
-or_first false b h = absurd (true≢false (sym h))
-
-or_last : (a b : Bool) → b ≡ true → (a || b) ≡ true
-or_last true b h = refl
-or_last false b h = h
-
 all_among : (test : ℕ → Bool) (ps : List ℕ) → ((p : ℕ) → among p ps ≡ true → test p ≡ true) → list_all test ps ≡ true
 all_among test [] h = refl
 all_among test (q ∷ qs) h =
-    rw (h q (or_first (q == q) (among q qs) (eq-eqb q q refl))) (all_among test qs (λ p k. h p (or_last (q == p) (among p qs) k)))
+    rw (h q (or_left (q == q) (among q qs) (eq-eqb q q refl))) (all_among test qs (λ p k. h p (or_right (q == p) (among p qs) k)))
 
 pub all_are_green : (list : ℕ → Bool) (plan : Plan) (ph : ℕ → Phase) → AreGreen list plan ph → all_green plan (λ p. (ph p).interval) list ≡ true
 unfolding all_green
 all_are_green list plan ph h = all_among (λ p. not (list p) || is_green (ph p).interval) (phases plan) (λ p k. by p k (list p) refl)
   where
     by : (p : ℕ) → among p (phases plan) ≡ true → (b : Bool) → list p ≡ b → (not (list p) || is_green (ph p).interval) ≡ true
-    by p k true e = or_last (not (list p)) (is_green (ph p).interval) (h p k e)
+    by p k true e = or_right (not (list p)) (is_green (ph p).interval) (h p k e)
     by p k false e = rw e refl
 
 none_left : (i : ℕ) → 1 ≤ i → i ≤ 0 → ⊥
@@ -96,21 +90,21 @@ module _ (s : State) (row : Row) (list : ℕ → Bool) (n : ℕ) (x : Stays s ro
   is_start : (r : Ring) (p : ℕ) → starting s.plan s.rings (rings_given s row) r ≡ Some p → is_started (moves s row) p ≡ true
   unfolding moves moving.moves
   is_start Ring1 p e =
-      or_first (is p (starting s.plan s.rings (rings_given s row) Ring1)) (is p (starting s.plan s.rings (rings_given s row) Ring2)) (rw e (eq-eqb p p refl))
+      or_left (is p (starting s.plan s.rings (rings_given s row) Ring1)) (is p (starting s.plan s.rings (rings_given s row) Ring2)) (rw e (eq-eqb p p refl))
   is_start Ring2 p e =
-      or_last (is p (starting s.plan s.rings (rings_given s row) Ring1)) (is p (starting s.plan s.rings (rings_given s row) Ring2)) (rw e (eq-eqb p p refl))
+      or_right (is p (starting s.plan s.rings (rings_given s row) Ring1)) (is p (starting s.plan s.rings (rings_given s row) Ring2)) (rw e (eq-eqb p p refl))
 
   starts_lit : (r : Ring) (p : ℕ) → starting s.plan s.rings (rings_given s row) r ≡ Some p → is_green (interval (next s row) p) ≡ true
   starts_lit r p e = ap is_green (started_green s row p (is_start r p e))
 
   stays_lit : (p : ℕ) → list p ≡ true → is_green (interval s p) ≡ true → is_green (interval (next s row) p) ≡ true
   stays_lit p h lit =
-      let green : interval s p ≡ Green = is_one_green (interval s p) lit in
+      let green : interval s p ≡ Green = is_in_green (interval s p) lit in
       ap is_green (still_green s row p (green_no_start s row list n x p green) (wanted_stays s row list n x p h) green)
 
   module _ (was : IsClean t list s.phases s.rings 0) where
     wanted_lit : (p : ℕ) → is_green (interval s p) ≡ true → list p ≡ true
-    wanted_lit p lit = was.greens p (is_one_green (interval s p) lit)
+    wanted_lit p lit = was.greens p (is_in_green (interval s p) lit)
 
     over_now : (p : ℕ) → in_service (interval s p) ≡ true → is_green (interval s p) ≡ false → over s p ≡ true
     over_now p serves dark =
@@ -124,7 +118,7 @@ module _ (s : State) (row : Row) (list : ℕ → Bool) (n : ℕ) (x : Stays s ro
         elim (cases_Bool (reverted s p)) [
           | inl k ↦ k
           | inr k ↦ absurd (none_left (revert_of t s.phases p)
-              (not_yet_reverted s p (t.yellow p) (t.revert p) (w.revert p) (is_one_red (interval s p) dark) k) (was.reverts p h))
+              (not_yet_reverted s p (t.yellow p) (t.revert p) (w.revert p) (is-red (interval s p) dark) k) (was.reverts p h))
         ]
 
     targeted : (p : ℕ) → is_enabled s.plan p ≡ true → list p ≡ true → is_targeted s.plan list p ≡ true

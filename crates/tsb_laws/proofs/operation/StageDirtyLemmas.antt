@@ -23,21 +23,17 @@ use Rattle.tsb_step.specs.TimeLaws.{IsSided}
 use Rattle.tsb_laws.specs.CrossingGreens.{IsCalm}
 use Rattle.tsb_step.proofs.GivenLemmas.{symmetric, given}
 use Rattle.tsb_step.proofs.IntervalLemmas.{intervals_after}
+use Rattle.tsb_step.proofs.TellLemmas.{is_in_green}
+use Rattle.tsb_step.proofs.tsb_phase.ReadLemmas.{is-red}
 use Rattle.tsb_laws.proofs.safety.CrossingRingLemmas.{begins_ending, starts_all, none_is_started, commitment_stays, WaitsFor, clearance_of, revert_of as reverting, waits_for_one}
 use Rattle.tsb_laws.proofs.safety.DueLemmas.{clipped_at}
 use Rattle.tsb_laws.proofs.safety.RingLemmas.{stays_outside, starts_not}
 use Rattle.tsb_laws.proofs.operation.AcrossLemmas.{GoesAcross, promised_red}
 use Rattle.tsb_laws.proofs.operation.PhaseTimeLemmas.{not_yet_over, not_yet_reverted, not_yet_ready, reverts_down}
 use Rattle.tsb_laws.proofs.operation.PressLemmas.{Bars, committed_to, green_of as barred_by, serving_is, leaves_or_crosses, not_wanted_here, barred}
-use Rattle.tsb_laws.proofs.operation.StageFactLemmas.{Limits, Within, clear_of, revert_of, green_of, green_most, clear_most, revert_most, revert_dark, Stays, is_one_green, green_after, told_list, pairs_list, ends_it, enters, binds, dark_no_end}
+use Rattle.tsb_laws.proofs.operation.StageFactLemmas.{Limits, Within, clear_of, revert_of, green_of, green_most, clear_most, revert_most, revert_dark, Stays, green_after, told_list, pairs_list, ends_it, enters, binds, dark_no_end}
 use Rattle.tsb_laws.proofs.operation.StageRingLemmas.{outside_waits}
 use Rattle.tsb_laws.proofs.operation.StageTickLemmas.{less, IsClean, StartsSoon, IsDirty, wanted_reverts, dark_clears, begun_green, unwanted_down}
-
-pub is_one_red : (i : Interval) → in_service i ≡ false → i ≡ Red
-is_one_red Red h = refl
-is_one_red Green h = absurd (true≢false h)
-is_one_red Yellow h = absurd (true≢false h)
-is_one_red RedClear h = absurd (true≢false h)
 
 dark_of_red : (i : Interval) → in_service i ≡ false → is_green i ≡ false
 dark_of_red Red h = refl
@@ -88,7 +84,7 @@ module _ (s : State) (row : Row) (list : ℕ → Bool) (n : ℕ) (x : Stays s ro
   left_red : (k c : ℕ) (r : Ring) → s.rings.commitment r ≡ Some c → reverted s c ≡ false → revert_of t s.phases c ≤ k → 1 ≤ k
   left_red k c r e h most =
       some_of (revert_of t s.phases c) k
-      (not_yet_reverted s c (t.yellow c) (t.revert c) (w.revert c) (is_one_red (interval s c) (promised_red s r c x.calm x.sided x.across e)) h) most
+      (not_yet_reverted s c (t.yellow c) (t.revert c) (w.revert c) (is-red (interval s c) (promised_red s r c x.calm x.sided x.across e)) h) most
 
   module _ (k : ℕ) (r : Ring) (c : ℕ) (was : s.rings.commitment r ≡ Some c) (soon : StartsSoon t s.plan s.phases s.rings k r c) (none : starting s.plan s.rings (rings_given s row) r ≡ None) where
     -- a phase of the ring that is in service after the tick was so before, and clears
@@ -315,7 +311,7 @@ module _ (s : State) (row : Row) (list : ℕ → Bool) (n : ℕ) (x : Stays s ro
       bars away (barred_by y q e lit unready) =
           let at_q = serving_is s.plan (rings_given s row) y q e in
           let other : list q ≡ false = listed_of q (x.on.serves q at_q.1) (away_unwanted away y q e) in
-          true≢false (sym (is_told q (x.good.rings.listed q at_q.1) ∙ is_ready q (is_one_green (interval s q) lit) other) ∙ unready)
+          true≢false (sym (is_told q (x.good.rings.listed q at_q.1) ∙ is_ready q (is_in_green (interval s q) lit) other) ∙ unready)
 
       crosses : (b : Bool) → begins s.plan s.rings (rings_given s row) ≡ b → want_of s.plan s.rings (rings_given s row) r ≡ Some Cross →
           is_targeted_elsewhere s.plan s.rings list ≡ true → ⊥

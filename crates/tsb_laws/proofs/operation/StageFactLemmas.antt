@@ -145,12 +145,6 @@ pub record Stays (s : State) (row : Row) (list : ℕ → Bool) (n : ℕ) : Type 
   pub serves : service s row ≡ Some n
   pub fits : AreCompatible s.plan list
 
-pub is_one_green : (i : Interval) → is_green i ≡ true → i ≡ Green
-is_one_green Red h = absurd (false≢true h)
-is_one_green Green h = refl
-is_one_green Yellow h = absurd (false≢true h)
-is_one_green RedClear h = absurd (false≢true h)
-
 -- a phase that is Green after a tick has started, or was Green and has not ended
 pub green_after : (s : State) (row : Row) (p : ℕ) → is_green (interval (next s row) p) ≡ true →
     (is_started (moves s row) p ≡ true) ⊎ ((interval s p ≡ Green) × (is_ended (moves s row) p ≡ false))

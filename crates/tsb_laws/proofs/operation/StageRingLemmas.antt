@@ -1,7 +1,7 @@
 -- What the rings do in a tick of a stage once all that clears is over, and what is wanted has reverted: commitments start, over
 -- phases clear, a crossing begins or is completed, and what is wanted starts.
-use Rattle.std.proofs.Common.{◌≡◌, ℕ, Bool, true, false, not, ◌&&◌, ◌||◌, Option, Some, None, is_none, refl, sym, ap, ◌∙◌, inl, inr, ◌⊎◌}
-use Rattle.std.proofs.lemmas.Bool.{cases_Bool, eqb-true, true≢false}
+use Rattle.std.proofs.Common.{◌≡◌, ℕ, Bool, true, false, not, ◌&&◌, Option, Some, None, is_none, refl, sym, ap, ◌∙◌, inl, inr, ◌⊎◌}
+use Rattle.std.proofs.lemmas.Bool.{cases_Bool, eqb-true, true≢false, or_right}
 use Rattle.tsb_step.specs.tsb_types.Intervals.{is_green, in_service}
 use Rattle.tsb_step.specs.tsb_plan.Plan.{Plan, phases, side_of}
 use Rattle.tsb_step.specs.tsb_rules.Rules.{first_broken}
@@ -24,10 +24,6 @@ use Rattle.tsb_laws.proofs.safety.SideSoughtLemmas.{found_some}
 use Rattle.tsb_laws.proofs.operation.TargetLemmas.{found_is}
 use Rattle.tsb_laws.proofs.operation.PressLemmas.{Bars, committed_to, green_of, serving_is, not_wanted_here, wants_to_cross, barred}
 use Rattle.tsb_laws.proofs.operation.WantedStartLemmas.{Blocks, serves_one, commits_one, wanted_alone, enters_it, starts_or_waits}
-
-or_true : (b : Bool) → (b || true) ≡ true
-or_true true = refl
-or_true false = refl
 
 -- outside a crossing a commitment that does not start waits for its ring's clearance or for its red revert
 pub outside_waits : (plan : Plan) (s : State) (given : Given) (r : Ring) (c : ℕ) → IsSound plan given.interval s → s.crossing ≡ None →
@@ -153,7 +149,7 @@ module _ (plan : Plan) (s : State) (given : Given) (yellow_done : ℕ → Bool) 
           true≢false (sym (is_cleared_in plan s given yellow_done symmetric sound ok r p serves done) ∙ stays.kept)
       gone k (Some c) e =
           let done : clears plan s given p ≡ true =
-          rw (ring_of_is plan r p own, due.over p stays.was k, e) (or_true (is_none (committed plan s given r))) in
+          rw (ring_of_is plan r p own, due.over p stays.was k, e) (or_right (is_none (committed plan s given r)) true refl) in
           true≢false (sym (is_cleared_in plan s given yellow_done symmetric sound ok r p serves done) ∙ stays.kept)
 
   -- ## Where no ring is committed, and only greens are in service

@@ -13,8 +13,9 @@ use Rattle.tsb_step.specs.tsb_ring.Rings.{Ring, in_ring}
 use Rattle.tsb_step.specs.tsb_ring.Moves.{is_ended, is_started}
 use Rattle.tsb_step.specs.State.{State, interval}
 use Rattle.tsb_step.specs.Tick.{phases_given, moves, next}
+use Rattle.tsb_step.proofs.TellLemmas.{is_in_green}
 use Rattle.tsb_laws.proofs.operation.PhaseTimeLemmas.{clears_at, reverts_at, clears_down, reverts_down, greens_down, begun_left}
-use Rattle.tsb_laws.proofs.operation.StageFactLemmas.{Limits, Within, clear_of, revert_of, green_of, Stays, is_one_green, green_after, started_green, still_green, wanted_stays, enters, binds, green_no_start, ends_it}
+use Rattle.tsb_laws.proofs.operation.StageFactLemmas.{Limits, Within, clear_of, revert_of, green_of, Stays, green_after, started_green, still_green, wanted_stays, enters, binds, green_no_start, ends_it}
 
 pub less : (a b m : ℕ) → a ≤ b - 1 → b ≤ m → a ≤ m - 1
 less a b m h k = omega (arith, h, k)
@@ -92,7 +93,7 @@ module _ (s : State) (row : Row) (list : ℕ → Bool) (n : ℕ) (x : Stays s ro
       clears : (p : ℕ) (a b : Bool) → is_started (moves s row) p ≡ a → is_green (interval s p) ≡ b → clear_of t (next s row).phases p ≤ m - 1
       clears p true b e k = green_clears (m - 1) p (started_green s row p e)
       clears p false true e k =
-          let green : interval s p ≡ Green = is_one_green (interval s p) k in
+          let green : interval s p ≡ Green = is_in_green (interval s p) k in
           green_clears (m - 1) p (still_green s row p e (wanted_stays s row list n x p (was.greens p green)) green)
       clears p false false e k = dark_clears m p k e (was.clears p)
 

@@ -1,8 +1,7 @@
 -- A called phase that is still to come on the side that is served comes in time: along a run.
-use Rattle.std.proofs.Common.{◌≡◌, ℕ, ◌+◌, ◌≤◌, Bool, true, false, ◌&&◌, if◌then◌else◌, List, [], ◌∷◌, ◌++◌, Option, Some, None, is_some, refl, sym, ap, subst, ◌∙◌, inl, inr, ◌⊎◌, arith}
+use Rattle.std.proofs.Common.{◌≡◌, ℕ, ◌+◌, ◌≤◌, Bool, true, false, ◌&&◌, List, [], ◌∷◌, ◌++◌, Option, Some, None, is_some, refl, sym, ap, subst, ◌∙◌, inl, inr, ◌⊎◌, arith}
 use Rattle.std.proofs.lemmas.Bool.{cases_Bool, and_parts, or_cases, true≢false, false≢true}
 use Rattle.tsb_step.specs.tsb_types.declared.interval.Interval.TheVariants.{Green}
-use Rattle.tsb_step.specs.tsb_types.declared.lamp.Lamp.{Lamp}
 use Rattle.tsb_step.specs.tsb_types.declared.row.Row.{Row}
 use Rattle.tsb_step.specs.tsb_types.Intervals.{is_green, in_service}
 use Rattle.tsb_step.specs.tsb_types.Lists.{first, among, later, or_else}
@@ -20,8 +19,7 @@ use Rattle.tsb_step.specs.declared.inputs.Input.TheVariants as inputs
 use Rattle.tsb_step.specs.declared.inputs.Input.TheVariants.{Tick}
 use Rattle.tsb_step.specs.State.{State, interval}
 use Rattle.tsb_step.specs.Tick.{calls_given, set, callable, rings_given, next}
-use Rattle.tsb_step.specs.Signs.{watched}
-use Rattle.tsb_step.specs.Step.{with_lamp, step}
+use Rattle.tsb_step.specs.Step.{step}
 use Rattle.tsb_step.specs.Runs.{replay, AreTaken}
 use Rattle.tsb_step.specs.Laws.{IsConsistent}
 use Rattle.tsb_step.specs.Good.{IsGood}
@@ -31,7 +29,10 @@ use Rattle.tsb_step.proofs.GivenLemmas.{enabled_is_listed}
 use Rattle.tsb_step.proofs.GoodLemmas.{good_run}
 use Rattle.tsb_step.proofs.LeaveLemmas.{others_leave}
 use Rattle.tsb_step.proofs.SideRunLemmas.{sided_run}
-use Rattle.tsb_step.proofs.StandLemmas.{rings_then}
+use Rattle.tsb_step.proofs.StandLemmas.{rings_then, keeps_lit}
+use Rattle.tsb_step.proofs.TellLemmas.{is_in_green}
+use Rattle.tsb_step.proofs.tsb_phase.ReadLemmas.{is-red}
+use Rattle.tsb_step.proofs.YellowLemmas.{enabled_lit}
 use Rattle.tsb_laws.specs.CrossingGreens.{IsCalm}
 use Rattle.tsb_laws.specs.Stretches.{IsUntripped}
 use Rattle.tsb_laws.specs.ServedCalls.{is_free, IsFullyConcurrent, is_waiting, HasWaited, longest_green, TurnsTakeAtMost, turns, order, still_to_come, IsToCome, time_to_come}
@@ -40,8 +41,8 @@ use Rattle.tsb_laws.proofs.safety.DueLemmas.{count_run, clipped_at}
 use Rattle.tsb_laws.proofs.safety.EnabledLemmas.{callable_no_green, enabled_run}
 use Rattle.tsb_laws.proofs.safety.SideSoughtLemmas.{none_first}
 use Rattle.tsb_laws.proofs.operation.CalmLemmas.{calm_run}
-use Rattle.tsb_laws.proofs.operation.PressedRunLemmas.{timed_run, reset_none, clock_stays, green_is}
-use Rattle.tsb_laws.proofs.operation.TurnStepLemmas.{red_is, green_unforced, clear_left, back_left, green_left, clear_most, back_most, green_most, IsLeft, committed, serving_green, idle, IsComing, Comes, served, comes, IsFairTick, one_tick}
+use Rattle.tsb_laws.proofs.operation.PressedRunLemmas.{timed_run, reset_none, clock_stays}
+use Rattle.tsb_laws.proofs.operation.TurnStepLemmas.{green_unforced, clear_left, back_left, green_left, clear_most, back_most, green_most, IsLeft, committed, serving_green, idle, IsComing, Comes, served, comes, IsFairTick, one_tick}
 
 -- ## What is callable is enabled
 
@@ -83,27 +84,11 @@ reset_is : (s : State) → s.trip ≡ None → step s inputs.Reset ≡ s
 unfolding step
 reset_is s dark = reset_none s dark
 
-lit_plan : (s : State) (lamp : Option Lamp) → (with_lamp lamp s).plan ≡ s.plan
-unfolding watched
-lit_plan s lamp = go (is_some s.trip)
-  where
-    go : (b : Bool) → (if b then record s { lamp = lamp } else watched s (record s { lamp = lamp })).plan ≡ s.plan
-    go true = refl
-    go false = refl
-
-lit_rings : (s : State) (lamp : Option Lamp) → (with_lamp lamp s).rings ≡ s.rings
-unfolding watched
-lit_rings s lamp = go (is_some s.trip)
-  where
-    go : (b : Bool) → (if b then record s { lamp = lamp } else watched s (record s { lamp = lamp })).rings ≡ s.rings
-    go true = refl
-    go false = refl
-
 plan_kept : (s : State) (i : Input) (q : ℕ) → is_tick i ≡ false → is_waiting q s i ≡ true → s.trip ≡ None → (step s i).plan ≡ s.plan
 unfolding step
 plan_kept s (inputs.Tick row) q t w dark = absurd (true≢false t)
 plan_kept s (inputs.Commit station) q t w dark = absurd (false≢true w)
-plan_kept s (inputs.Fault lamp) q t w dark = lit_plan s lamp
+plan_kept s (inputs.Fault lamp) q t w dark = enabled_lit s lamp
 plan_kept s inputs.Reset q t w dark = ap (λ (x : State). x.plan) (reset_none s dark)
 plan_kept s i q t w dark = refl
 
@@ -111,7 +96,7 @@ rings_kept : (s : State) (i : Input) (q : ℕ) → is_tick i ≡ false → is_wa
 unfolding step
 rings_kept s (inputs.Tick row) q t w dark = absurd (true≢false t)
 rings_kept s (inputs.Commit station) q t w dark = absurd (false≢true w)
-rings_kept s (inputs.Fault lamp) q t w dark = lit_rings s lamp
+rings_kept s (inputs.Fault lamp) q t w dark = keeps_lit s lamp
 rings_kept s inputs.Reset q t w dark = ap (λ (x : State). x.rings) (reset_none s dark)
 rings_kept s i q t w dark = refl
 
@@ -199,7 +184,7 @@ module _ (k : ℕ) (s after : State) (r : Ring) (same : IsKeptBy s after) where
 
 module _ (s : State) (r : Ring) (q k h : ℕ) (good : IsGood s) (calm : IsCalm s.plan (interval s) s.rings) (takes : TurnsTakeAtMost s.plan k h) (due : IsToCome s r q) where
   back_now : (p : ℕ) → in_service (interval s p) ≡ false → back_left s.plan p (s.phases p) ≤ k
-  back_now p dark = let most = back_most s.plan p (s.phases p) (red_is (interval s p) dark) in let limit = takes.revert p in omega (arith, most, limit)
+  back_now p dark = let most = back_most s.plan p (s.phases p) (is-red (interval s p) dark) in let limit = takes.revert p in omega (arith, most, limit)
 
   clear_now : (p : ℕ) → clear_left s.plan p (s.phases p) ≤ k
   clear_now p = let most = clear_most s.plan p (s.phases p) in let limit = takes.clearance p in omega (arith, most, limit)
@@ -230,7 +215,7 @@ module _ (s : State) (r : Ring) (q k h : ℕ) (good : IsGood s) (calm : IsCalm s
       test = λ p. in_ring s.plan r p && in_service (interval s p)
 
       by : (p : ℕ) → in_ring s.plan r p ≡ true → in_service (interval s p) ≡ true → (b : Bool) → is_green (interval s p) ≡ b → IsLeft k s r (time_to_come s r k h)
-      by p own serves true g = green_now p e own (green_is (interval s p) g)
+      by p own serves true g = green_now p e own (is_in_green (interval s p) g)
       by p own serves false g =
           (let bad : is_some (s.rings.commitment r) ≡ true = due.bound p own serves g in absurd (false≢true (rw e at bad)))
 

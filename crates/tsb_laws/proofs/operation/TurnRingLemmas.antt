@@ -1,7 +1,7 @@
 -- The rings in a tick by calls, where all phases of one side go together and no crossing is under way: what a ring wants, what
 -- it starts and commits to, and where it stays.
 use Rattle.std.proofs.Common.{◌≡◌, ℕ, Bool, true, false, ◌&&◌, ◌||◌, if◌then◌else◌, Option, Some, None, is_none, refl, sym, ap, ◌∙◌, inl, inr, ◌⊎◌}
-use Rattle.std.proofs.lemmas.Bool.{eqb-true, eq-eqb, true≢false, false≢true, false_from_ne_true}
+use Rattle.std.proofs.lemmas.Bool.{eqb-true, eq-eqb, true≢false, false≢true, false_from_ne_true, or_right, and_right}
 use Rattle.std.proofs.lemmas.Option.{cond_some}
 use Rattle.tsb_step.specs.tsb_types.declared.interval.Interval.{Interval}
 use Rattle.tsb_step.specs.tsb_types.declared.interval.Interval.TheVariants.{Red, Green, Yellow, RedClear}
@@ -25,18 +25,6 @@ use Rattle.tsb_laws.specs.ServedCalls.{IsFullyConcurrent}
 use Rattle.tsb_laws.proofs.safety.RingLemmas.{ring_joins_not}
 use Rattle.tsb_laws.proofs.safety.SideSoughtLemmas.{none_first}
 use Rattle.tsb_laws.proofs.operation.PressLemmas.{serving_is}
-
-or_true : (b : Bool) → (b || true) ≡ true
-or_true true = refl
-or_true false = refl
-
-or_last : (a b : Bool) → b ≡ true → (a || b) ≡ true
-or_last true b x = refl
-or_last false b x = x
-
-and_false : (b : Bool) → (b && false) ≡ false
-and_false true = refl
-and_false false = refl
 
 -- what holds of the rings in such a tick
 pub record IsFair (plan : Plan) (s : State) (given : Given) : Type 0 where
@@ -180,7 +168,7 @@ module _ (plan : Plan) (s : State) (given : Given) (fair : IsFair plan s given) 
     where
       by : (q : ℕ) → serving plan given r ≡ Some q → (i : Interval) → given.interval q ≡ i → is_green i ≡ true → ring_joins plan s given r ≡ false
       by q e Red f k = absurd (false≢true k)
-      by q e Green f k = rw (e, f, w) (and_false (given.ready q))
+      by q e Green f k = rw (e, f, w) (and_right (given.ready q) false refl)
       by q e Yellow f k = absurd (false≢true k)
       by q e RedClear f k = absurd (false≢true k)
 
@@ -252,13 +240,13 @@ module _ (plan : Plan) (s : State) (given : Given) (fair : IsFair plan s given) 
   ends_by_want r p c serves own green ready h = by r serves passes
     where
       passes : is p (if_passes (λ q. is_green (given.interval q) && (begins plan s given || (given.ready q && leaves (want_of plan s given (own_ring plan q))))) (Some p)) ≡ true
-      passes = rw (green, ready, ring_of_is plan r p own, h) (rw (or_true (begins plan s given)) (eq-eqb p p refl))
+      passes = rw (green, ready, ring_of_is plan r p own, h) (rw (or_right (begins plan s given) true refl) (eq-eqb p p refl))
 
       by : (x : Ring) → serving plan given x ≡ Some p →
           is p (if_passes (λ q. is_green (given.interval q) && (begins plan s given || (given.ready q && leaves (want_of plan s given (own_ring plan q))))) (Some p)) ≡ true →
           is_ended (moves plan s given) p ≡ true
       by Ring1 e l = rw (e, l) refl
-      by Ring2 e l = or_last (is p (ring_moves plan s given Ring1).ends) _ (rw e l)
+      by Ring2 e l = or_right (is p (ring_moves plan s given Ring1).ends) _ (rw e l)
 
   -- ## The rings after the tick, where no crossing begins
 

@@ -33,6 +33,7 @@ use Rattle.tsb_step.specs.Good.{IsGood}
 use Rattle.tsb_step.specs.TimeLaws.{IsSided}
 use Rattle.tsb_step.proofs.GivenLemmas.{listed_is_phase, enabled_is_listed, lists_ring, symmetric, given}
 use Rattle.tsb_step.proofs.IntervalLemmas.{ended_was_green}
+use Rattle.tsb_step.proofs.tsb_phase.ReadLemmas.{is-red}
 use Rattle.tsb_laws.specs.CrossingGreens.{IsCalm}
 use Rattle.tsb_laws.specs.ServedCalls.{is_free, longest_maximum, longest_initial, IsFullyConcurrent, longest_green, TurnsTakeAtMost, turn, turns, order, still_to_come}
 use Rattle.tsb_laws.proofs.safety.AllRedRingLemmas.{started_by}
@@ -88,12 +89,6 @@ clear_most plan p x = go x.interval
 -- of a phase that is Red
 pub back_most : (plan : Plan) (p : ℕ) (x : Phase) → x.interval ≡ Red → back_left plan p x ≤ red_revert plan p
 back_most plan p x e = rw e (past_most (red_revert plan p) x.red_revert)
-
-pub red_is : (i : Interval) → in_service i ≡ false → i ≡ Red
-red_is Red h = refl
-red_is Green h = absurd (true≢false h)
-red_is Yellow h = absurd (true≢false h)
-red_is RedClear h = absurd (true≢false h)
 
 pub dark_is : (i : Interval) → in_service i ≡ false → is_green i ≡ false
 dark_is Red h = refl
@@ -434,7 +429,7 @@ module _ (s : State) (row : Row) (tick : IsFairTick s row) where
                     let was = clears p both.0 in
                     omega (arith, left_p, was)
                 go (reverting h) =
-                    let left_c = not_yet_reverted s c (yellow_change s.plan c) (red_revert s.plan c) (omega arith) (red_is (interval s c) dark_c)
+                    let left_c = not_yet_reverted s c (yellow_change s.plan c) (red_revert s.plan c) (omega arith) (is-red (interval s c) dark_c)
                     (sym (told_reverted c listed_c) ∙ h) in
                     omega (arith, left_c, reverts)
 
@@ -521,7 +516,7 @@ module _ (s : State) (row : Row) (tick : IsFairTick s row) where
 
             red_then : interval (next s row) it.one ≡ Red
             red_then =
-                let red : interval s it.one ≡ Red = red_is (interval s it.one) dark_c in
+                let red : interval s it.one ≡ Red = is-red (interval s it.one) dark_c in
                 let no_start : is_started (moves s row) it.one ≡ false = starts_nothing r it.one turns_of_it.ringed start in
                 rw (no_start, red) refl
 
@@ -676,7 +671,7 @@ module _ (s : State) (row : Row) (tick : IsFairTick s row) where
 
             red_then : (p : ℕ) → in_ring s.plan r p ≡ true → interval (next s row) p ≡ Red
             red_then p own_p =
-                let red : interval s p ≡ Red = red_is (interval s p) (dark p own_p) in
+                let red : interval s p ≡ Red = is-red (interval s p) (dark p own_p) in
                 let no_start : is_started (moves s row) p ≡ false = starts_nothing r p own_p start in
                 rw (no_start, red) refl
 
@@ -693,7 +688,7 @@ module _ (s : State) (row : Row) (tick : IsFairTick s row) where
             some : 1 ≤ m
             some =
                 let left_c = not_yet_reverted s it.one (yellow_change s.plan it.one) (red_revert s.plan it.one) (omega arith)
-                (red_is (interval s it.one) (dark it.one turns_of_it.ringed)) h in
+                (is-red (interval s it.one) (dark it.one turns_of_it.ringed)) h in
                 let was = reverts it.one turns_of_it.ringed in
                 omega (arith, left_c, was)
 

@@ -2,7 +2,7 @@
 use Rattle.std.proofs.Common.{◌≡◌, ℕ, ◌≤◌, Bool, true, false, not, ◌&&◌, List, ◌∷◌, Option, Some, None, refl, sym, ap, ◌∙◌, inl, inr, arith}
 use Rattle.std.proofs.lemmas.Bool.{true≢false, false≢true}
 use Rattle.tsb_step.specs.tsb_types.declared.interval.Interval.{Interval}
-use Rattle.tsb_step.specs.tsb_types.declared.interval.Interval.TheVariants.{Red, Green, Yellow, RedClear}
+use Rattle.tsb_step.specs.tsb_types.declared.interval.Interval.TheVariants.{Green}
 use Rattle.tsb_step.specs.tsb_types.declared.row.Row.{Row}
 use Rattle.tsb_step.specs.tsb_types.Intervals.{is_green, in_service}
 use Rattle.tsb_step.specs.tsb_plan.Plan.{Plan, is_enabled}
@@ -29,6 +29,7 @@ use Rattle.tsb_step.proofs.GivenLemmas.{symmetric, given}
 use Rattle.tsb_step.proofs.GoodLemmas.{good_run}
 use Rattle.tsb_step.proofs.IntervalLemmas.{intervals_after}
 use Rattle.tsb_step.proofs.SideRunLemmas.{sided_run}
+use Rattle.tsb_step.proofs.TellLemmas.{is_in_green}
 use Rattle.tsb_laws.specs.CrossingGreens.{IsCalm}
 use Rattle.tsb_laws.specs.UnwantedGreens.{WaitsFor, a_commitment, a_green}
 use Rattle.tsb_laws.proofs.safety.CrossingRingLemmas.{begins_ending}
@@ -37,12 +38,6 @@ use Rattle.tsb_laws.proofs.safety.EnabledLemmas.{callable_no_green}
 use Rattle.tsb_laws.proofs.operation.CalmLemmas.{stays_green, not_started, calm_run}
 use Rattle.tsb_laws.proofs.operation.PreemptEntryLemmas.{Asks, asked, told, pairs}
 use Rattle.tsb_laws.proofs.operation.PressLemmas.{Bars, committed_to, green_of, serving_is, leaves_or_crosses, not_wanted_here, barred}
-
-is_green_one : (i : Interval) → is_green i ≡ true → i ≡ Green
-is_green_one Green h = refl
-is_green_one Red h = absurd (false≢true h)
-is_green_one Yellow h = absurd (false≢true h)
-is_green_one RedClear h = absurd (false≢true h)
 
 not_in : (a b : Bool) → not b ≡ true → (a && b) ≡ false
 not_in false b h = refl
@@ -101,7 +96,7 @@ module _ (s : State) (row : Row) (p : ℕ) (good : IsGood s) (calm : IsCalm s.pl
   waits (committed_to r c e) = a_commitment r c e
   waits (green_of r q e is unready) =
       let here : in_service (interval s q) ≡ true = (serving_is s.plan (rings_given s row) r q e).1 in
-      a_green q (is_green_one (interval s q) is) (sym (is_told q (good.rings.listed q here)) ∙ unready)
+      a_green q (is_in_green (interval s q) is) (sym (is_told q (good.rings.listed q here)) ∙ unready)
 
   unserved : is_targeted_elsewhere s.plan s.rings it.list ≡ true → (r : Ring) (q : ℕ) → serving s.plan (rings_given s row) r ≡ Some q →
       is_targeted s.plan it.list q ≡ false

@@ -1,6 +1,6 @@
 -- A phase that the preempt in service wants, and that may start, starts, or is kept by another phase or by a ring.
-use Rattle.std.proofs.Common.{◌≡◌, ℕ, ◌≤◌, Bool, true, false, not, ◌&&◌, ◌||◌, List, ◌∷◌, Option, Some, None, refl, sym, ap, ◌∙◌, inl, inr, ◌⊎◌, arith}
-use Rattle.std.proofs.lemmas.Bool.{true≢false, eq-eqb}
+use Rattle.std.proofs.Common.{◌≡◌, ℕ, ◌≤◌, Bool, true, false, not, ◌&&◌, List, ◌∷◌, Option, Some, None, refl, sym, ap, ◌∙◌, inl, inr, ◌⊎◌, arith}
+use Rattle.std.proofs.lemmas.Bool.{true≢false, eq-eqb, or_right, or_left}
 use Rattle.tsb_step.specs.tsb_types.declared.interval.Interval.TheVariants.{Green}
 use Rattle.tsb_step.specs.tsb_types.declared.row.Row.{Row}
 use Rattle.tsb_step.specs.tsb_types.Lists.{is}
@@ -34,14 +34,6 @@ is_in true true e h = refl
 is_in true false e h = absurd (true≢false h)
 is_in false b e h = absurd (true≢false (sym e))
 
-or_first : (a b : Bool) → a ≡ true → (a || b) ≡ true
-or_first true b h = refl
-or_first false b h = absurd (true≢false (sym h))
-
-or_last : (a b : Bool) → b ≡ true → (a || b) ≡ true
-or_last true b h = refl
-or_last false b h = h
-
 module _ (s : State) (row : Row) (r : Ring) (p : ℕ) (good : IsGood s) (few : s.plan.phase_count ≤ 16) (dark : s.trip ≡ None) (it : Asks s row) (due : MayStart s row r p) where
   listed : IsListed s.plan p
   listed = enabled_is_listed s.plan good.plan p due.enabled
@@ -65,9 +57,9 @@ module _ (s : State) (row : Row) (r : Ring) (p : ℕ) (good : IsGood s) (few : s
   started : (x : Ring) → starting s.plan s.rings (rings_given s row) x ≡ Some p → is_started (moves s row) p ≡ true
   unfolding moves moving.moves
   started Ring1 e =
-      or_first (is p (starting s.plan s.rings (rings_given s row) Ring1)) (is p (starting s.plan s.rings (rings_given s row) Ring2)) (rw e (eq-eqb p p refl))
+      or_left (is p (starting s.plan s.rings (rings_given s row) Ring1)) (is p (starting s.plan s.rings (rings_given s row) Ring2)) (rw e (eq-eqb p p refl))
   started Ring2 e =
-      or_last (is p (starting s.plan s.rings (rings_given s row) Ring1)) (is p (starting s.plan s.rings (rings_given s row) Ring2)) (rw e (eq-eqb p p refl))
+      or_right (is p (starting s.plan s.rings (rings_given s row) Ring1)) (is p (starting s.plan s.rings (rings_given s row) Ring2)) (rw e (eq-eqb p p refl))
 
   kept : Blocks s.rings s.plan (rings_given s row) p → IsKeptBy s p
   unfolding rings_given
