@@ -1,7 +1,6 @@
 -- The events of a run tell its heads back, as those of its display lines do.
 use Rattle.std.proofs.Common.{◌≡◌, ◌∙◌, ℕ, ◌≤◌, ◌==◌, Bool, true, false, ◌&&◌, List, [], ◌∷◌, ◌++◌, filter, Option, None, is_some, refl, sym, ap, inl, inr, append_assoc}
-use Rattle.std.specs.List.{list_any}
-use Rattle.std.proofs.lemmas.Bool.{cases_Bool}
+use Rattle.std.proofs.lemmas.Bool.{cases_Bool, and_right}
 use Rattle.std.proofs.lemmas.List.{append-nil}
 use Rattle.std.proofs.lemmas.List.Elements.{filter-append}
 use Rattle.tsb_step.specs.tsb_types.Events.{either}
@@ -40,7 +39,7 @@ use Rattle.tsb_field_display.proofs.LawLemmas.{tell-the-heads}
 use Rattle.tsb_field_display.proofs.LetterLemmas.{apart-overlaps, apart-pedestrians}
 use Rattle.tsb_record.specs.Along.{last_row, told_along}
 use Rattle.tsb_laws.specs.Told.{RunsTellTheHeads, is_of_line, shown_in, signals}
-use Rattle.tsb_laws.proofs.events.LineLemmas.{Sees, and-false, by_line, lines-same, lines_of}
+use Rattle.tsb_laws.proofs.events.LineLemmas.{Sees, by_line, lines-same, lines_of}
 use Rattle.tsb_laws.proofs.events.SayLemmas.{at-head, differs, silent}
 use Rattle.tsb_laws.proofs.events.RunLemmas.{run-sees, tell-the-same}
 use Rattle.tsb_laws.proofs.events.SeenLemmas.{preempt-known}
@@ -50,15 +49,15 @@ use Rattle.tsb_laws.proofs.versions.PatternLemmas.{any-never}
 
 kept-none : (plan : Plan) (o : ℕ) → is_kept_green plan (shown (start plan)) o ≡ false
 unfolding is_kept_green
-kept-none plan o = any-never _ (phases plan) (λ p. and-false (is_included plan o p))
+kept-none plan o = any-never _ (phases plan) (λ p. and_right (is_included plan o p) false refl)
 
 yellow-none : (plan : Plan) (o : ℕ) → is_on_yellow plan (shown (start plan)) o ≡ false
 unfolding is_on_yellow
-yellow-none plan o = any-never _ (phases plan) (λ p. and-false (is_included plan o p))
+yellow-none plan o = any-never _ (phases plan) (λ p. and_right (is_included plan o p) false refl)
 
 last-yellow-none : (plan : Plan) (o : ℕ) → is_on_last_yellow plan (shown (start plan)) o ≡ false
 unfolding is_on_last_yellow
-last-yellow-none plan o = any-never _ (phases plan) (λ p. and-false (is_included plan o p))
+last-yellow-none plan o = any-never _ (phases plan) (λ p. and_right (is_included plan o p) false refl)
 
 -- an overlap is red or dark
 unlit : (test : Aspect → Bool) → test Dark ≡ false → test Red ≡ false → (plan : Plan) (o : ℕ) → test (overlap_head plan (shown (start plan)) o) ≡ false
@@ -77,8 +76,8 @@ nothing-seen plan = record {
   yellows = λ p from within. names-zero p;
   walks = λ p from within. names-zero p;
   clearances = λ p from within. names-zero p;
-  overlap_greens = λ o from within. names-zero o ∙ sym (ap (λ (b : Bool). is_overlap o && b) (unlit monitor.is_green refl refl plan o) ∙ and-false (is_overlap o));
-  overlap_yellows = λ o from within. names-zero o ∙ sym (ap (λ (b : Bool). is_overlap o && b) (unlit colours.is_yellow refl refl plan o) ∙ and-false (is_overlap o));
+  overlap_greens = λ o from within. names-zero o ∙ sym (ap (λ (b : Bool). is_overlap o && b) (unlit monitor.is_green refl refl plan o) ∙ and_right (is_overlap o) false refl);
+  overlap_yellows = λ o from within. names-zero o ∙ sym (ap (λ (b : Bool). is_overlap o && b) (unlit colours.is_yellow refl refl plan o) ∙ and_right (is_overlap o) false refl);
   preempt = refl;
   known = tt;
   preempts = refl;

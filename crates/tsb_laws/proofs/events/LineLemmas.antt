@@ -1,6 +1,6 @@
 -- The events of display lines, as the events of the same codes of what a log sees.
 use Rattle.std.proofs.Common.{◌≡◌, ◌∙◌, ◌⊎◌, ℕ, ◌≤◌, ◌==◌, Bool, true, false, not, ◌&&◌, List, [], ◌∷◌, ◌++◌, map, filter, Option, Some, None, IfSome, option_map, if◌then◌else◌, refl, sym, ap, arith, inl, inr, append_assoc}
-use Rattle.std.proofs.lemmas.Bool.{cases_Bool, cases_eq, eq-eqb, ne_eqb}
+use Rattle.std.proofs.lemmas.Bool.{cases_Bool, cases_eq, eq-eqb, ne_eqb, and_right}
 use Rattle.tsb_step.specs.tsb_types.Clip.{Agree}
 use Rattle.tsb_step.specs.tsb_types.Events.{event, told, begins, ends, either, numbers_with}
 use Rattle.tsb_step.specs.tsb_types.Lists.{among, is}
@@ -167,10 +167,6 @@ serves-it (Some x) n = go (x.0 == n)
     go true = refl
     go false = refl
 
-pub and-false : (b : Bool) → (b && false) ≡ false
-and-false true = refl
-and-false false = refl
-
 -- of the preempts that begin, only this can be one
 only-it : (was : Option (ℕ × Stage)) (x : ℕ × Stage) → 1 ≤ x.0 → x.0 ≤ 16 →
     numbers_with (begins (serves (λ k. true) was) (serves (λ k. true) (Some x))) ≡ (if is x.0 (number was) then [] else x.0 ∷ [])
@@ -192,7 +188,7 @@ only-it was x from within = elim (cases_Bool (is x.0 (number was))) [
 
     none : is x.0 (number was) ≡ true → (n : ℕ) → (x.0 ≡ n) ⊎ (x.0 ≡ n → ⊥) → test n ≡ false
     none b n (inl same) =
-        ap (λ (t : Bool). (x.0 == n && true) && not t) (ap (serves (λ k. true) was) (sym same) ∙ serves-it was x.0 ∙ b) ∙ and-false (x.0 == n && true)
+        ap (λ (t : Bool). (x.0 == n && true) && not t) (ap (serves (λ k. true) was) (sym same) ∙ serves-it was x.0 ∙ b) ∙ and_right (x.0 == n && true) false refl
     none b n (inr differs) = other n differs
 
 -- another preempt is in service than before, or none

@@ -49,7 +49,7 @@ dark_is_ordered s h = go (is_some s.trip) h
     go true k = absurd (true≢false k)
     go false k = refl
 
-flashes_no_way : (a : Aspect) → gives_way (flashed a) ≡ true → ⊥
+pub flashes_no_way : (a : Aspect) → gives_way (flashed a) ≡ true → ⊥
 flashes_no_way Dark h = cc
 flashes_no_way Red h = cc
 flashes_no_way Yellow h = cc
@@ -325,7 +325,7 @@ keeper_serves true followed intervals.Green h = refl
 keeper_serves true followed intervals.Yellow h = refl
 keeper_serves true followed intervals.RedClear h = refl
 
-yellow_serves : (i : Interval) → is_yellow i ≡ true → in_service i ≡ true
+pub yellow_serves : (i : Interval) → is_yellow i ≡ true → in_service i ≡ true
 yellow_serves intervals.Yellow h = refl
 yellow_serves i h = cc
 

@@ -40,9 +40,9 @@ use Rattle.tsb_laws.proofs.safety.DueLemmas.{count_run}
 use Rattle.tsb_laws.proofs.safety.EnabledLemmas.{enabled_run}
 use Rattle.tsb_laws.proofs.safety.SideSoughtLemmas.{none_first, found_some}
 use Rattle.tsb_laws.proofs.operation.CalmLemmas.{calm_run}
-use Rattle.tsb_laws.proofs.operation.PhaseTimeLemmas.{left, past, revert_in}
+use Rattle.tsb_laws.proofs.operation.PhaseTimeLemmas.{left, past, revert_in, left_most, past_most}
 use Rattle.tsb_laws.proofs.operation.PressedRunLemmas.{timed_run, clock_stays}
-use Rattle.tsb_laws.proofs.operation.TurnStepLemmas.{limit_most, past_most, clear_left, back_left, clear_most, back_most, green_most, committed, serving_green, idle, IsFairTick, fair}
+use Rattle.tsb_laws.proofs.operation.TurnStepLemmas.{clear_left, back_left, clear_most, back_most, green_most, committed, serving_green, idle, IsFairTick, fair}
 use Rattle.tsb_laws.proofs.operation.TurnRingLemmas.{stays_beside}
 use Rattle.tsb_laws.proofs.operation.TurnLemmas.{callable_enabled, callable_told, IsKeptBy, kept_then, kept_by, left_stays, clear_same, back_same, promise_same, own_before, own_after, interval_same, later_same, plan_same}
 use Rattle.tsb_laws.proofs.operation.BarrierStepLemmas.{Remains, bound_for, clearing_out, Nears, less, joined, nears}
@@ -65,7 +65,7 @@ pub back_all : (plan : Plan) (p k : ℕ) (x : Phase) → yellow_change plan p + 
 back_all plan p k x most_y most_r = go x.interval
   where
     first : left (yellow_change plan p) x.timer ≤ yellow_change plan p
-    first = limit_most (yellow_change plan p) x.timer
+    first = left_most (yellow_change plan p) x.timer
 
     second : past (red_revert plan p) x.red_revert ≤ red_revert plan p
     second = past_most (red_revert plan p) x.red_revert

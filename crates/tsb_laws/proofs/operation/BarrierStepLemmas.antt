@@ -1,7 +1,7 @@
 -- What one tick makes of a ring while another side is called, and no crossing begins: it has a tick less to go until it
 -- joins in a crossing, or it joins and wants to cross.
 use Rattle.std.proofs.Common.{◌≡◌, ℕ, ◌+◌, ◌-◌, ◌≤◌, Bool, true, false, not, ◌&&◌, List, Option, Some, None, refl, sym, ap, ◌∙◌, inl, inr, ◌⊎◌, arith}
-use Rattle.std.proofs.lemmas.Bool.{cases_Bool, and_parts, or_cases, eq-eqb, true≢false, false≢true, false_from_ne_true, and_right}
+use Rattle.std.proofs.lemmas.Bool.{cases_Bool, and_parts, eq-eqb, true≢false, false≢true, false_from_ne_true}
 use Rattle.tsb_step.specs.tsb_types.declared.interval.Interval.{Interval}
 use Rattle.tsb_step.specs.tsb_types.declared.interval.Interval.TheVariants.{Red, Green, Yellow, RedClear}
 use Rattle.tsb_step.specs.tsb_types.declared.row.Row.{Row}
@@ -10,23 +10,19 @@ use Rattle.tsb_step.specs.tsb_types.Lists.{first, later, is}
 use Rattle.tsb_step.specs.tsb_plan.Plan.{Plan, phases, is_enabled, is_concurrent, side_of, walk, pedestrian_clear, yellow_change, red_clear, red_revert}
 use Rattle.tsb_step.proofs.tsb_rules.ConsistentLemmas.{together}
 use Rattle.tsb_step.specs.tsb_ring.declared.want.Want.TheVariants.{Cross}
-use Rattle.tsb_step.specs.tsb_ring.Rings as rings
-use Rattle.tsb_step.specs.tsb_ring.Rings.{Ring, Ring1, Ring2, Given, in_ring, own_ring, serving}
+use Rattle.tsb_step.specs.tsb_ring.Rings.{Ring, in_ring, serving}
 use Rattle.tsb_step.specs.tsb_ring.Wants.{is_on_side, is_candidate, is_called_elsewhere, is_idle_or_green, picked_before, want_of, pick}
-use Rattle.tsb_step.specs.tsb_ring.Crossings.{ring_joins, begins, committed as committed_to}
-use Rattle.tsb_step.specs.tsb_ring.Next.{starting, ends, clears}
-use Rattle.tsb_step.specs.tsb_ring.Moves.{ring_moves, moves as moves_in, is_ended, is_cleared, is_started}
-use Rattle.tsb_step.proofs.tsb_ring.ClaimLemmas.{ring_of_is}
-use Rattle.tsb_step.proofs.tsb_ring.MoveLemmas.{passed, clears_over}
-use Rattle.tsb_step.proofs.tsb_ring.StartLemmas.{is_cleared_in}
+use Rattle.tsb_step.specs.tsb_ring.Crossings.{ring_joins, begins}
+use Rattle.tsb_step.specs.tsb_ring.Next.{starting, ends}
+use Rattle.tsb_step.specs.tsb_ring.Moves.{is_ended, is_cleared, is_started}
+use Rattle.tsb_step.proofs.tsb_ring.MoveLemmas.{clears_over}
 use Rattle.tsb_step.proofs.tsb_ring.WaitLemmas.{first-passes}
-use Rattle.tsb_step.proofs.tsb_ring.WantLemmas.{first-among, pick_free}
+use Rattle.tsb_step.proofs.tsb_ring.WantLemmas.{first-among}
 use Rattle.tsb_step.specs.State.{State, interval}
 use Rattle.tsb_step.specs.tsb_phase.Ready.{yellow_is_done}
-use Rattle.tsb_step.specs.Tick.{callable, conflict, phase_read, over, reverted, ready, rings_given, moves, yellow_done, next}
-use Rattle.tsb_step.specs.Good.{IsGood}
+use Rattle.tsb_step.specs.Tick.{callable, conflict, phase_read, over, reverted, ready, rings_given, moves, next}
 use Rattle.tsb_step.proofs.ClipLemmas.{clipped_holds}
-use Rattle.tsb_step.proofs.GivenLemmas.{listed_is_phase, symmetric, given}
+use Rattle.tsb_step.proofs.GivenLemmas.{listed_is_phase}
 use Rattle.tsb_step.proofs.tsb_phase.ReadLemmas.{is-red}
 use Rattle.tsb_laws.specs.ServedCalls.{longest_maximum, longest_initial, longest_green, TurnsTakeAtMost, turn, turns, order}
 use Rattle.tsb_laws.proofs.safety.EnabledLemmas.{callable_on, callable_no_green}
@@ -36,7 +32,9 @@ use Rattle.tsb_laws.proofs.operation.PressedGreenLemmas.{free_parts, presses_dow
 use Rattle.tsb_laws.proofs.operation.PressedRunLemmas.{is_one}
 use Rattle.tsb_laws.proofs.operation.TurnListLemmas.{turns_later}
 use Rattle.tsb_laws.proofs.operation.TurnRingLemmas.{Candidate, candidate_is, Goes, Wishes, goes, crosses, wishes, starts_none, starts_picked, Delays, clearing, reverting, starts_or_waits, picks_idle, picks_green, stays_beside, last_started, last_stays, promise_kept, promise_stays, promise_made, none_promised}
-use Rattle.tsb_laws.proofs.operation.TurnStepLemmas.{clear_left, back_left, green_left, green_most, clear_most, back_most, dark_is, IsLeft, committed, serving_green, idle, in_order, IsFairTick, fair, listed, some_phase, once, told_ready, told_over, told_reverted, serves_it, serves_none, served_is, given_green, ended_ready, starts_nothing, starts_it, ends_none, conflicts}
+use Rattle.tsb_laws.proofs.operation.TurnStepLemmas.{clear_left, back_left, green_left, green_most, clear_most, back_most, IsLeft, committed, serving_green, idle, in_order, IsFairTick, fair, listed, some_phase, once, told_ready, told_over, told_reverted, serves_it, serves_none, served_is, given_green, ended_ready, starts_nothing, starts_it, ends_none, conflicts}
+use Rattle.tsb_laws.proofs.operation.TickLemmas.{dark_is}
+use Rattle.tsb_laws.proofs.operation.BarrierWishLemmas.{picks_cross, joins_green, joins_idle, ended_is, cross_keeps, picks_clearing, clears_over_one, given_interval, cleared_is, cleared_red}
 
 -- as before, or it clears with no commitment, as where a preempt has ended its green
 pub data Remains (k : ℕ) (s : State) (r : Ring) (n : ℕ) : Type 0 where
@@ -55,60 +53,7 @@ pub data Nears (k : ℕ) (s : State) (row : Row) (r : Ring) (n : ℕ) : Type 0 w
 pub clear_none : (plan : Plan) (p : ℕ) (s : State) → interval s p ≡ Red → clear_left plan p (s.phases p) ≡ 0
 clear_none plan p s e = rw e refl
 
--- ## A ring that wants to cross
-
--- it takes nothing
-pub picks_cross : (plan : Plan) (s : rings.State) (given : Given) (r : Ring) → want_of plan s given r ≡ Some Cross → pick plan s given r ≡ None
-unfolding pick
-picks_cross plan s given r w = rw w refl
-
--- and joins, with a green that is ready or none
-pub joins_green : (plan : Plan) (s : rings.State) (given : Given) (r : Ring) (p : ℕ) → serving plan given r ≡ Some p → given.interval p ≡ Green →
-    given.ready p ≡ true → want_of plan s given r ≡ Some Cross → ring_joins plan s given r ≡ true
-joins_green plan s given r p e green ready w = rw (e, green, ready, w) refl
-
-pub joins_idle : (plan : Plan) (s : rings.State) (given : Given) (r : Ring) → serving plan given r ≡ None → want_of plan s given r ≡ Some Cross →
-    ring_joins plan s given r ≡ true
-joins_idle plan s given r e w = rw (e, w) refl
-
--- its green does not end where no crossing begins
-ended_is : (plan : Plan) (s : rings.State) (given : Given) (p : ℕ) → is_ended (moves_in plan s given) p ≡ true → ends plan s given p ≡ true
-unfolding moves_in
-ended_is plan s given p h =
-    elim (or_cases (is p (ring_moves plan s given Ring1).ends) (is p (ring_moves plan s given Ring2).ends) h) [
-      | inl k ↦ one Ring1 k
-      | inr k ↦ one Ring2 k
-    ]
-  where
-    one : (r : Ring) → is p (ring_moves plan s given r).ends ≡ true → ends plan s given p ≡ true
-    one r k = (and_parts (is_green (given.interval p)) (ends plan s given p) (passed (λ q. is_green (given.interval q) && ends plan s given q) (serving plan given r) p k).1).1
-
-pub cross_keeps : (plan : Plan) (s : rings.State) (given : Given) (r : Ring) (p : ℕ) → in_ring plan r p ≡ true → want_of plan s given r ≡ Some Cross →
-    begins plan s given ≡ false → ends plan s given p ≡ false
-unfolding ends
-cross_keeps plan s given r p own w none = rw (none, ring_of_is plan r p own, w) (and_right (given.ready p) false refl)
-
--- a ring that clears wants nothing, and takes nothing
-pub picks_clearing : (plan : Plan) (s : rings.State) (given : Given) (r : Ring) (p : ℕ) → serving plan given r ≡ Some p → is_green (given.interval p) ≡ false →
-    pick plan s given r ≡ None
-picks_clearing plan s given r p e dark = go (pick plan s given r) refl
-  where
-    go : (o : Option ℕ) → pick plan s given r ≡ o → pick plan s given r ≡ None
-    go None f = f
-    go (Some c) f =
-        (let idle : is_idle_or_green given (serving plan given r) ≡ true = (pick_free plan s given r c f).idle_or_green in
-        absurd (true≢false (sym (rw e at idle) ∙ dark)))
-
--- what is over clears where its ring has no commitment
-pub clears_over_one : (plan : Plan) (s : rings.State) (given : Given) (r : Ring) (p : ℕ) → serving plan given r ≡ Some p → in_ring plan r p ≡ true →
-    s.commitment r ≡ None → begins plan s given ≡ false → is_green (given.interval p) ≡ false → given.over p ≡ true → clears plan s given p ≡ true
-unfolding clears committed_to
-clears_over_one plan s given r p e own free none dark over =
-    rw (over, ring_of_is plan r p own, none, free, e, picks_clearing plan s given r p e dark) refl
-
-pub given_interval : (s : State) (row : Row) (p : ℕ) → (rings_given s row).interval p ≡ interval s p
-unfolding rings_given
-given_interval s row p = refl
+-- ## What a tick is told, ends and clears
 
 pub told_back : (s : State) (row : Row) (p : ℕ) → (rings_given s row).callable p ≡ true → callable s row p ≡ true
 unfolding rings_given
@@ -118,27 +63,11 @@ pub ended_none : (s : State) (row : Row) (p : ℕ) → ends s.plan s.rings (ring
 unfolding moves
 ended_none s row p h = false_from_ne_true _ (λ g. true≢false (sym (ended_is s.plan s.rings (rings_given s row) p g) ∙ h))
 
-pub cleared_is : (s : State) (row : Row) (r : Ring) (p : ℕ) → IsGood s → serving s.plan (rings_given s row) r ≡ Some p → clears s.plan s.rings (rings_given s row) p ≡ true →
-    is_cleared (moves s row) p ≡ true
-unfolding moves rings_given
-cleared_is s row r p good e h =
-    is_cleared_in s.plan s.rings (rings_given s row) (yellow_done s) (symmetric s.plan good.plan.rules) good.rings (given s row good) r p e h
-
 pub cleared_over : (s : State) (row : Row) (p : ℕ) → is_cleared (moves s row) p ≡ true → (rings_given s row).over p ≡ true
 unfolding moves
 cleared_over s row p h = clears_over s.plan s.rings (rings_given s row) p h
 
--- a phase that clears and is cleared is Red; otherwise it clears on
-pub cleared_red : (s : State) (row : Row) (p : ℕ) → is_green (interval s p) ≡ false → is_started (moves s row) p ≡ false → is_cleared (moves s row) p ≡ true →
-    interval (next s row) p ≡ Red
-cleared_red s row p dark no_start cleared = go (interval s p) refl
-  where
-    go : (i : Interval) → interval s p ≡ i → interval (next s row) p ≡ Red
-    go Red e = rw (no_start, e) refl
-    go Green e = absurd (true≢false (rw e at dark))
-    go Yellow e = rw (no_start, e, cleared) refl
-    go RedClear e = rw (no_start, e, cleared) refl
-
+-- a phase that clears and is not cleared clears on
 pub still_clearing : (s : State) (row : Row) (p : ℕ) → in_service (interval s p) ≡ true → is_green (interval s p) ≡ false → is_started (moves s row) p ≡ false →
     is_cleared (moves s row) p ≡ false → (in_service (interval (next s row) p) ≡ true) × (is_green (interval (next s row) p) ≡ false)
 still_clearing s row p serves dark no_start kept = go (interval s p) refl

@@ -32,10 +32,12 @@ pub record IsAtBarrier (s : State) (row : Row) (r : Ring) : Type 0 where
 
 -- ## A ring that wants to cross
 
+-- it takes nothing
 pub picks_cross : (plan : Plan) (s : rings.State) (given : Given) (r : Ring) → want_of plan s given r ≡ Some Cross → pick plan s given r ≡ None
 unfolding pick
 picks_cross plan s given r w = rw w refl
 
+-- and joins, with a green that is ready or none
 pub joins_green : (plan : Plan) (s : rings.State) (given : Given) (r : Ring) (p : ℕ) → serving plan given r ≡ Some p → given.interval p ≡ Green →
     given.ready p ≡ true → want_of plan s given r ≡ Some Cross → ring_joins plan s given r ≡ true
 joins_green plan s given r p e green fit w = rw (e, green, fit, w) refl
@@ -45,7 +47,7 @@ pub joins_idle : (plan : Plan) (s : rings.State) (given : Given) (r : Ring) → 
 joins_idle plan s given r e w = rw (e, w) refl
 
 -- its green ends only as it leaves for a phase, or as a crossing begins
-ended_is : (plan : Plan) (s : rings.State) (given : Given) (p : ℕ) → is_ended (moves_in plan s given) p ≡ true → ends plan s given p ≡ true
+pub ended_is : (plan : Plan) (s : rings.State) (given : Given) (p : ℕ) → is_ended (moves_in plan s given) p ≡ true → ends plan s given p ≡ true
 unfolding moves_in
 ended_is plan s given p h =
     elim (or_cases (is p (ring_moves plan s given Ring1).ends) (is p (ring_moves plan s given Ring2).ends) h) [
@@ -56,7 +58,7 @@ ended_is plan s given p h =
     one : (r : Ring) → is p (ring_moves plan s given r).ends ≡ true → ends plan s given p ≡ true
     one r k = (and_parts (is_green (given.interval p)) (ends plan s given p) (passed (λ q. is_green (given.interval q) && ends plan s given q) (serving plan given r) p k).1).1
 
-cross_keeps : (plan : Plan) (s : rings.State) (given : Given) (r : Ring) (p : ℕ) → in_ring plan r p ≡ true → want_of plan s given r ≡ Some Cross →
+pub cross_keeps : (plan : Plan) (s : rings.State) (given : Given) (r : Ring) (p : ℕ) → in_ring plan r p ≡ true → want_of plan s given r ≡ Some Cross →
     begins plan s given ≡ false → ends plan s given p ≡ false
 unfolding ends
 cross_keeps plan s given r p own w none = rw (none, ring_of_is plan r p own, w) (and_right (given.ready p) false refl)
@@ -73,6 +75,7 @@ given_interval s row p = refl
 
 -- ## A ring that clears with no commitment
 
+-- a ring that clears wants nothing, and takes nothing
 pub picks_clearing : (plan : Plan) (s : rings.State) (given : Given) (r : Ring) (p : ℕ) → serving plan given r ≡ Some p → is_green (given.interval p) ≡ false →
     pick plan s given r ≡ None
 picks_clearing plan s given r p e dark = go (pick plan s given r) refl
@@ -83,25 +86,27 @@ picks_clearing plan s given r p e dark = go (pick plan s given r) refl
         (let rests : is_idle_or_green given (serving plan given r) ≡ true = (pick_free plan s given r c f).idle_or_green in
         absurd (true≢false (sym (rw e at rests) ∙ dark)))
 
-pub clears_over : (plan : Plan) (s : rings.State) (given : Given) (r : Ring) (p : ℕ) → serving plan given r ≡ Some p → in_ring plan r p ≡ true →
+-- what is over clears where its ring has no commitment
+pub clears_over_one : (plan : Plan) (s : rings.State) (given : Given) (r : Ring) (p : ℕ) → serving plan given r ≡ Some p → in_ring plan r p ≡ true →
     s.commitment r ≡ None → begins plan s given ≡ false → is_green (given.interval p) ≡ false → given.over p ≡ true → clears plan s given p ≡ true
 unfolding clears committed_to
-clears_over plan s given r p e own free none dark done =
+clears_over_one plan s given r p e own free none dark done =
     rw (done, ring_of_is plan r p own, none, free, e, picks_clearing plan s given r p e dark) refl
 
-pub is_cleared_then : (s : State) (row : Row) (r : Ring) (p : ℕ) → IsGood s → serving s.plan (rings_given s row) r ≡ Some p →
+pub cleared_is : (s : State) (row : Row) (r : Ring) (p : ℕ) → IsGood s → serving s.plan (rings_given s row) r ≡ Some p →
     clears s.plan s.rings (rings_given s row) p ≡ true → is_cleared (moves s row) p ≡ true
 unfolding moves rings_given
-is_cleared_then s row r p good e h =
+cleared_is s row r p good e h =
     is_cleared_in s.plan s.rings (rings_given s row) (yellow_done s) (symmetric s.plan good.plan.rules) good.rings (given s row good) r p e h
 
 pub given_dark : (s : State) (row : Row) (p : ℕ) → is_green (interval s p) ≡ false → is_green ((rings_given s row).interval p) ≡ false
 unfolding rings_given
 given_dark s row p dark = dark
 
-pub goes_red : (s : State) (row : Row) (p : ℕ) → is_green (interval s p) ≡ false → is_started (moves s row) p ≡ false → is_cleared (moves s row) p ≡ true →
+-- a phase that clears and is cleared is Red
+pub cleared_red : (s : State) (row : Row) (p : ℕ) → is_green (interval s p) ≡ false → is_started (moves s row) p ≡ false → is_cleared (moves s row) p ≡ true →
     interval (next s row) p ≡ Red
-goes_red s row p dark no_start cleared = go (interval s p) refl
+cleared_red s row p dark no_start cleared = go (interval s p) refl
   where
     go : (i : Interval) → interval s p ≡ i → interval (next s row) p ≡ Red
     go Red e = rw (no_start, e) refl

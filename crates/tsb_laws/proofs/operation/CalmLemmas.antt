@@ -1,7 +1,7 @@
 -- Outside a crossing a commitment is not in service, a ring that is committed serves no green, and while a crossing is under way
 -- no phase is Green: through inputs of every kind.
 use Rattle.std.proofs.Common.{◌≡◌, ℕ, ◌==◌, Bool, true, false, ◌&&◌, ◌||◌, if◌then◌else◌, List, Option, Some, None, refl, sym, ap, ◌∙◌, inl, inr}
-use Rattle.std.proofs.lemmas.Bool.{cases_Bool, or_cases, eq-eqb, true≢false, false≢true, false_from_ne_true}
+use Rattle.std.proofs.lemmas.Bool.{cases_Bool, or_cases, eq-eqb, true≢false, false≢true, false_from_ne_true, or_right}
 use Rattle.tsb_step.specs.tsb_types.declared.interval.Interval.{Interval}
 use Rattle.tsb_step.specs.tsb_types.declared.row.Row.{Row}
 use Rattle.tsb_step.specs.tsb_types.Intervals.{is_green, is_yellow, in_service}
@@ -86,12 +86,8 @@ module _ (plan : Plan) (s : rings.State) (given : rings.Given) (yellow_done : �
       passes : (b : Bool) → (if b then Some c else None) ≡ Some c → given.ready p ≡ b → want_of plan s given r ≡ Some (Go c) →
           is p (if_passes (λ q. is_green (given.interval q) && (begins plan s given || (given.ready q && leaves (want_of plan s given (own_ring plan q))))) (Some p)) ≡ true
       passes false k e w = absurd cc
-      passes true k e w = rw (green, e, ring_of_is plan r p own, w) (rw (or_true (begins plan s given)) (same p))
+      passes true k e w = rw (green, e, ring_of_is plan r p own, w) (rw (or_right (begins plan s given) true refl) (same p))
         where
-          or_true : (b : Bool) → (b || true) ≡ true
-          or_true true = refl
-          or_true false = refl
-
           same : (n : ℕ) → (n == n) ≡ true
           same n = eq-eqb n n refl
 
@@ -99,11 +95,7 @@ module _ (plan : Plan) (s : rings.State) (given : rings.Given) (yellow_done : �
           is p (if_passes (λ q. is_green (given.interval q) && (begins plan s given || (given.ready q && leaves (want_of plan s given (own_ring plan q))))) (Some p)) ≡ true →
           is_ended (moves_in plan s given) p ≡ true
       by Ring1 e k = rw (e, k) refl
-      by Ring2 e k = or_last (is p (ring_moves plan s given Ring1).ends) _ (rw e k)
-        where
-          or_last : (a b : Bool) → b ≡ true → (a || b) ≡ true
-          or_last true b x = refl
-          or_last false b x = x
+      by Ring2 e k = or_right (is p (ring_moves plan s given Ring1).ends) _ (rw e k)
 
   fresh_then : new_crossing plan s given ≡ None → (r : Ring) (c : ℕ) → new_commitment plan s given r ≡ Some c → in_service (later c) ≡ false
   unfolding new_crossing

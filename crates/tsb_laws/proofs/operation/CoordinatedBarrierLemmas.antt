@@ -1,13 +1,12 @@
 -- What one tick makes of a green that is ready and has a conflict, with no preempt in service, where all phases of one side go
 -- together: it ends, or waits for the other ring at the barrier.
-use Rattle.std.proofs.Common.{◌≡◌, ◌≢◌, ℕ, ◌≤◌, ◌==◌, Bool, true, false, not, ◌&&◌, if◌then◌else◌, List, [], ◌∷◌, Option, Some, None, refl, sym, ap, arith, ◌∙◌, inl, inr, ◌⊎◌}
-use Rattle.std.proofs.lemmas.Bool.{cases_Bool, not-true, and_parts, or_cases, or_left, or_right, eqb-true, eq-eqb, true≢false, false≢true, false_from_ne_true}
-use Rattle.std.proofs.lemmas.Bool.Decides.{nat_tests}
+use Rattle.std.proofs.Common.{◌≡◌, ◌≢◌, ℕ, ◌≤◌, ◌==◌, Bool, true, false, not, ◌&&◌, List, ◌∷◌, Option, Some, None, refl, sym, ap, arith, ◌∙◌, inl, inr, ◌⊎◌}
+use Rattle.std.proofs.lemmas.Bool.{cases_Bool, not-true, and_parts, or_right, eqb-true, true≢false, false≢true, false_from_ne_true}
 use Rattle.tsb_step.specs.tsb_types.declared.interval.Interval.{Interval}
 use Rattle.tsb_step.specs.tsb_types.declared.interval.Interval.TheVariants.{Red, Green, Yellow, RedClear}
 use Rattle.tsb_step.specs.tsb_types.declared.row.Row.{Row}
 use Rattle.tsb_step.specs.tsb_types.Intervals.{is_green, in_service}
-use Rattle.tsb_step.specs.tsb_types.Lists.{first, among, after, up_to, later, not_later}
+use Rattle.tsb_step.specs.tsb_types.Lists.{first, among, later, not_later}
 use Rattle.tsb_step.specs.tsb_plan.Plan.{Plan, phases, is_enabled, is_concurrent, side_of, ring_of, sequence}
 use Rattle.tsb_step.specs.tsb_plan.Running.{running, sequence_in_effect}
 use Rattle.tsb_step.specs.tsb_rules.Consistent.{IsPlaced, ListsRing}
@@ -41,36 +40,12 @@ use Rattle.tsb_laws.proofs.safety.DueLemmas.{count_run, clipped_at}
 use Rattle.tsb_laws.proofs.safety.EnabledLemmas.{AreEnabled, callable_on, enabled_run}
 use Rattle.tsb_laws.proofs.safety.SideSoughtLemmas.{Found, some_found, found_some, none_first}
 use Rattle.tsb_laws.proofs.safety.StretchLemmas.{at_next}
+use Rattle.tsb_laws.proofs.safety.AllRedRingLemmas.{later_or_not}
+use Rattle.tsb_laws.proofs.safety.AllRedLemmas.{ring_is}
+use Rattle.tsb_laws.proofs.safety.CoordinationLemmas.{no_target}
 use Rattle.tsb_laws.proofs.operation.CalmLemmas.{calm_run}
 use Rattle.tsb_laws.proofs.operation.PressLemmas.{serving_is}
 use Rattle.tsb_laws.proofs.operation.TurnRingLemmas.{IsFair, Goes, Wishes, goes, crosses, candidate, want_is, candidate_is, wishes, ends_by_want}
-use Rattle.tsb_laws.proofs.operation.TurnStepLemmas.{target_none}
-
-ring_is : (plan : Plan) (p : ℕ) → 1 ≤ ring_of plan p → ring_of plan p ≤ 2 → (r : Ring) × (in_ring plan r p ≡ true)
-ring_is plan p low high =
-    elim (cases_Bool (ring_of plan p == 1)) [
-      | inl h ↦ (Ring1, h)
-      | inr h ↦ (let two : ring_of plan p ≡ 2 = grind (arith, nat_tests, h, low, high) in (Ring2, eq-eqb (ring_of plan p) 2 two))
-    ]
-
--- what a list has comes later than a phase, or not later
-in_either_of : (p q : ℕ) (ps : List ℕ) → among q ps ≡ true → (among q (after p ps) ≡ true) ⊎ (among q (up_to p ps) ≡ true)
-in_either_of p q [] k = absurd (false≢true k)
-in_either_of p q (x ∷ xs) k =
-    elim (or_cases (x == q) (among q xs) k) [
-      | inl e ↦ inr (or_left (x == q) (among q (if x == p then [] else up_to p xs)) e)
-      | inr l ↦ by (x == p) l (in_either_of p q xs l)
-    ]
-  where
-    by : (b : Bool) → among q xs ≡ true → (among q (after p xs) ≡ true) ⊎ (among q (up_to p xs) ≡ true) →
-        (among q (if b then xs else after p xs) ≡ true) ⊎ (among q (x ∷ (if b then [] else up_to p xs)) ≡ true)
-    by true l m = inl l
-    by false l (inl m) = inl m
-    by false l (inr m) = inr (or_right (x == q) (among q (up_to p xs)) m)
-
-pub in_either : (p : Option ℕ) (q : ℕ) (ps : List ℕ) → among q ps ≡ true → (among q (later p ps) ≡ true) ⊎ (among q (not_later p ps) ≡ true)
-in_either None q ps h = inl h
-in_either (Some p) q ps h = in_either_of p q ps h
 
 -- ## By the rings alone
 
@@ -155,7 +130,7 @@ module _ (plan : Plan) (s : rings.State) (given : rings.Given) (fair : IsFair pl
       go (Some c) u e f = (c, ahead c e)
       go None (Some c) e f = (c, again c e f)
       go None None e f =
-          absurd (elim (in_either (s.last r) q (given.sequence r) there) [
+          absurd (elim (later_or_not (s.last r) q (given.sequence r) there) [
             | inl k ↦ none_first test (later (s.last r) (given.sequence r)) q k passes e
             | inr k ↦ none_first test (not_later (s.last r) (given.sequence r)) q k passes f
           ])
@@ -189,7 +164,7 @@ module _ (s : State) (row : Row) (r : Ring) (p : ℕ) (good : IsGood s) (few : s
   fair : IsFair s.plan s.rings (rings_given s row)
   unfolding rings_given
   fair = record {
-    free = target_none s row quiet;
+    free = no_target s row quiet;
     full = full;
     called_on = callable_on s row;
     serves_on = on.serves;

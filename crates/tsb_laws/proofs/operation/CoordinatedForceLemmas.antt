@@ -24,7 +24,7 @@ use Rattle.tsb_step.specs.Tick.{service, runs, forced, conflict, phases_given, p
 use Rattle.tsb_step.specs.Good.{IsGood}
 use Rattle.tsb_laws.specs.ServedCalls.{longest_initial}
 use Rattle.tsb_laws.proofs.operation.PhaseTimeLemmas.{left, walking_in, Runs, IsTimed}
-use Rattle.tsb_laws.proofs.operation.PressedGreenLemmas.{initial_most, rests_not, walks_down, walks_no_more}
+use Rattle.tsb_laws.proofs.operation.PressedGreenLemmas.{initial_most, rests_not, walks_down, walks_no_more, no_preempt}
 use Rattle.tsb_laws.proofs.operation.RecycleTimeLemmas.{fits_to}
 use Rattle.tsb_laws.proofs.operation.RecycledTickLemmas.{Again, again_parts}
 
@@ -52,10 +52,6 @@ ready_by_end plan given p w green still ends long may =
 pub ready_by : (plan : Plan) (given : Given) (p : ℕ) (w : Phase) → is_green w.interval ≡ true → pedestrian_now plan given p w ≡ DontWalk →
     ended_by given p ≡ None → initial_has_passed plan given p (held_of w) ≡ true → forced_latch plan given p (held_of w) ≡ true → is_ready plan given p w ≡ true
 ready_by plan given p w green still ends long latch = ready_by_end plan given p w green still ends long (may_end_forced plan given p w latch)
-
-no_preempt : (b : Bool) (o : Option ℕ) → o ≡ None → (if b then o else None) ≡ None
-no_preempt true o h = h
-no_preempt false o h = refl
 
 -- the ticks from t to f in which it will not have been forced off: none, where it was before in this green
 abbrev pub forcing_left : ℕ → ℕ → Bool → ℕ

@@ -1,12 +1,8 @@
 -- A green that has had a conflict for long enough in a pattern may end: along a run, over inputs of every kind but those
 -- that select a pattern or commit.
-use Rattle.std.proofs.Common.{◌≡◌, ℕ, ◌+◌, ◌-◌, ◌<◌, ◌≤◌, Bool, true, false, ◌&&◌, if◌then◌else◌, List, [], ◌∷◌, ◌++◌, Option, Some, None, is_some, is_none, refl, sym, ap, subst, arith, ◌∙◌, inl, inr}
+use Rattle.std.proofs.Common.{◌≡◌, ℕ, ◌+◌, ◌-◌, ◌<◌, ◌≤◌, Bool, true, false, ◌&&◌, if◌then◌else◌, List, [], ◌∷◌, ◌++◌, Option, None, is_some, is_none, refl, sym, ap, subst, arith, ◌∙◌, inl, inr}
 use Rattle.std.proofs.lemmas.Bool.{cases_Bool, and_parts, true≢false, false≢true}
-use Rattle.tsb_step.specs.tsb_cells.declared.timer.Timer.{Timer}
-use Rattle.tsb_step.specs.tsb_cells.declared.timer.Timer.TheVariants.{Off, On}
 use Rattle.tsb_step.specs.tsb_types.declared.interval.Interval.TheVariants.{Green}
-use Rattle.tsb_step.specs.tsb_types.declared.interval.PedestrianInterval.{PedestrianInterval}
-use Rattle.tsb_step.specs.tsb_types.declared.interval.PedestrianInterval.TheVariants.{DontWalk, Walk, PedestrianClear}
 use Rattle.tsb_step.specs.tsb_types.declared.lamp.Lamp.{Lamp}
 use Rattle.tsb_step.specs.tsb_types.declared.row.Row.{Row}
 use Rattle.tsb_step.specs.tsb_types.Intervals.{is_green, in_service}
@@ -34,10 +30,11 @@ use Rattle.tsb_laws.specs.ServedCalls.{longest_initial}
 use Rattle.tsb_laws.specs.CoordinatedGreens.{HasGoneOn, is_pressed_in_pattern, IsForcedWithin}
 use Rattle.tsb_laws.proofs.safety.StretchLemmas.{dark_now, at_next}
 use Rattle.tsb_laws.proofs.safety.DueLemmas.{count_run}
-use Rattle.tsb_laws.proofs.operation.PhaseTimeLemmas.{left, walking_in}
+use Rattle.tsb_laws.proofs.operation.PhaseTimeLemmas.{left, walking_in, left_most, walking_most}
 use Rattle.tsb_laws.proofs.operation.PressedRunLemmas.{timed_run, is_one, not_ended}
 use Rattle.tsb_laws.proofs.operation.InStepLemmas.{same_forces}
 use Rattle.tsb_laws.proofs.operation.CoordinatedForceLemmas.{forcing_left, pattern_left, IsAhead, Forces, forces_down, presses_down, ready_then}
+use Rattle.tsb_laws.proofs.operation.TickLemmas.{none_is}
 
 -- ## Inputs that leave plan and pattern, and how its local counter comes into step
 
@@ -97,25 +94,12 @@ pub record IsPressed (s : State) (row : Row) (p : ℕ) : Type 0 where
   pub runs : is_some (runs s) ≡ true
   pub quiet : service s row ≡ None
 
-pub none_is : (o : Option ℕ) → is_none o ≡ true → o ≡ None
-none_is None h = refl
-none_is (Some x) h = absurd (false≢true h)
-
 pub pressed_parts : (s : State) (row : Row) (p : ℕ) → is_pressed_in_pattern p s (Tick row) ≡ true → IsPressed s row p
 pressed_parts s row p h =
     let outer = and_parts (is_green (interval s p) && conflict s row p) (is_some (runs s) && is_none (service s row)) h in
     let inner = and_parts (is_green (interval s p)) (conflict s row p) outer.0 in
     let other = and_parts (is_some (runs s)) (is_none (service s row)) outer.1 in
     record { green = is_in_green (interval s p) inner.0; conflict = inner.1; runs = other.0; quiet = none_is (service s row) other.1 }
-
-pub left_most : (limit : ℕ) (t : Timer) → left limit t ≤ limit
-left_most limit Off = omega arith
-left_most limit (On n) = omega arith
-
-pub walking_most : (a b : ℕ) (t : Timer) (x : PedestrianInterval) → walking_in a b t x ≤ a + b
-walking_most a b t DontWalk = omega arith
-walking_most a b t Walk = let most = left_most a t in omega (arith, most)
-walking_most a b t PedestrianClear = let most = left_most b t in omega (arith, most)
 
 module _ (plan : Plan) (base : List Input) (f p n a b : ℕ) (ok : IsConsistent plan) (few : plan.phase_count ≤ 16)
     (comes : forces (replay plan base).plan (replay plan base).pattern (replay plan base).correction f p ≡ true) (later_than : (replay plan base).now < f)

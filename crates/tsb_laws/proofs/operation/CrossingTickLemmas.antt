@@ -28,7 +28,8 @@ use Rattle.tsb_laws.proofs.safety.CrossingRingLemmas.{begins_no_more, starts_all
 use Rattle.tsb_laws.proofs.safety.DueLemmas.{clipped_at}
 use Rattle.tsb_laws.proofs.operation.AcrossLemmas.{GoesAcross, promised_red}
 use Rattle.tsb_laws.proofs.operation.PhaseTimeLemmas.{IsTimed, clears_down, not_yet_over, reverts_down, not_yet_reverted}
-use Rattle.tsb_laws.proofs.operation.TurnStepLemmas.{clear_left, back_left, dark_is}
+use Rattle.tsb_laws.proofs.operation.TurnStepLemmas.{clear_left, back_left}
+use Rattle.tsb_laws.proofs.operation.TickLemmas.{dark_is}
 
 -- ## The rings as it is completed
 

@@ -1,7 +1,6 @@
 -- Why a tick ends a green: by its gap, its maximum or its force-off, or as a preempt wants other phases.
-use Rattle.std.proofs.Common.{◌≡◌, ℕ, ◌+◌, ◌≤◌, Bool, true, false, not, ◌&&◌, ◌||◌, if◌then◌else◌, min, List, Option, Some, None, is_some, is_none, option_map, refl, sym, ap, subst, arith, ◌∙◌, inl, inr, ◌⊎◌}
+use Rattle.std.proofs.Common.{◌≡◌, ℕ, ◌+◌, ◌≤◌, Bool, true, false, not, ◌&&◌, ◌||◌, if◌then◌else◌, min, List, Option, Some, None, is_some, is_none, refl, sym, ap, subst, arith, ◌∙◌, inl, inr, ◌⊎◌}
 use Rattle.std.proofs.lemmas.Bool.{and_parts, or_cases, false≢true}
-use Rattle.std.proofs.lemmas.Bool.Decides.{nat_tests}
 use Rattle.std.proofs.lemmas.Option.{cond_some}
 use Rattle.tsb_step.specs.tsb_cells.Timer.{has_reached}
 use Rattle.tsb_step.specs.tsb_types.declared.row.Row.{Row}
@@ -11,7 +10,6 @@ use Rattle.tsb_step.specs.tsb_types.Sets.{is_phase}
 use Rattle.tsb_step.specs.tsb_plan.Parts.{preempt_minimum_green}
 use Rattle.tsb_step.specs.tsb_plan.Plan.{Plan, phases, is_enabled, side_of, disables_simultaneous_gap}
 use Rattle.tsb_step.specs.tsb_plan.Running.{is_on_maximum_recall}
-use Rattle.tsb_step.specs.tsb_rules.Consistent.{IsPhase}
 use Rattle.tsb_step.specs.tsb_rules.Rules.{first_broken}
 use Rattle.tsb_step.proofs.tsb_rules.ConsistentLemmas.{together, is-off}
 use Rattle.tsb_step.specs.tsb_calls.Memories.{counted}
@@ -19,7 +17,6 @@ use Rattle.tsb_step.specs.tsb_phase.Phase.{Phase, Given, held_of}
 use Rattle.tsb_step.specs.tsb_phase.Green.{initial, gap_has_expired, gapped_latch, initial_has_passed, is_gapped, is_by_gap, conflict_timer, has_reached_some, acting_maximum, has_maxed_out, floats_off, forced_latch}
 use Rattle.tsb_step.specs.tsb_phase.Pedestrian.{ended_by, pedestrian_now}
 use Rattle.tsb_step.specs.tsb_phase.Ready.{needs_forced, has_timed_out, may_end, green_is_done, is_ready}
-use Rattle.tsb_step.specs.tsb_preempt.Service.{Service, stage_phases}
 use Rattle.tsb_step.specs.tsb_preempt.Preempts as preempts
 use Rattle.tsb_step.specs.tsb_ring.declared.want.Want.{Want}
 use Rattle.tsb_step.specs.tsb_ring.declared.want.Want.TheVariants.{Rest}
@@ -37,7 +34,7 @@ use Rattle.tsb_step.proofs.tsb_ring.WaitLemmas.{first-passes}
 use Rattle.tsb_step.proofs.tsb_ring.WantLemmas.{first-among}
 use Rattle.tsb_step.specs.declared.inputs.Input.{Input}
 use Rattle.tsb_step.specs.State.{State, interval}
-use Rattle.tsb_step.specs.Tick.{preempts_given, preempts_read, new_service, service, target, must_end, runs, hold, conflict, phases_given, phase_read, rings_given, moves}
+use Rattle.tsb_step.specs.Tick.{service, target, must_end, runs, hold, conflict, phases_given, phase_read, rings_given, moves}
 use Rattle.tsb_step.specs.Runs.{replay, AreTaken}
 use Rattle.tsb_step.specs.Laws.{IsConsistent}
 use Rattle.tsb_step.specs.Good.{IsGood}
@@ -56,7 +53,10 @@ use Rattle.tsb_laws.proofs.safety.DueLemmas.{count_run, clipped_at}
 use Rattle.tsb_laws.proofs.safety.EnabledLemmas.{callable_on, enabled_run}
 use Rattle.tsb_laws.proofs.safety.IntergreenLemmas.{turns_yellow}
 use Rattle.tsb_laws.proofs.safety.SideSoughtLemmas.{goes_to_other}
+use Rattle.tsb_laws.proofs.safety.CoordinationLemmas.{ended_by_none}
 use Rattle.tsb_laws.proofs.operation.GreenTimeLemmas.{expires, lasts, gapped_out, IsForced, forced_by, forced_off_now, forced_off}
+use Rattle.tsb_laws.proofs.operation.PreemptEntryLemmas.{Asks, asked}
+use Rattle.tsb_laws.proofs.operation.PressedRunLemmas.{is_one}
 
 -- ## A phase that a preempt wants stays Green, by the rings alone
 
@@ -123,23 +123,6 @@ module _ (plan : Plan) (s : rings.State) (given : rings.Given) (target : ℕ →
 
 -- ## Under a preempt
 
--- the list of the preempt in service, in this tick
-record Asks (s : State) (row : Row) : Type 0 where
-  list : ℕ → Bool
-  is_target : target s row ≡ Some list
-
-asked : (s : State) (row : Row) (n : ℕ) → service s row ≡ Some n → Asks s row
-unfolding new_service
-asked s row n h = go (preempts.new_service s.plan (preempts_given s row) (preempts_read s)) refl h
-  where
-    go : (o : Option Service) → preempts.new_service s.plan (preempts_given s row) (preempts_read s) ≡ o → option_map (λ (x : Service). x.preempt) o ≡ Some n →
-        Asks s row
-    go None e k = absurd cc
-    go (Some x) e k = record {
-      list = stage_phases s.plan x.preempt x.stage;
-      is_target = ap (λ (o : Option Service). preempts.wanted_by s.plan o) e;
-    }
-
 pub ends_unwanted : (s : State) (row : Row) (p : ℕ) → IsGood s → (list : ℕ → Bool) → target s row ≡ Some list → is_enabled s.plan p ≡ true → IsListed s.plan p →
     side_of s.plan p ≡ s.rings.side → is_ended (moves s row) p ≡ true → list p ≡ true → ⊥
 unfolding moves rings_given
@@ -158,26 +141,11 @@ must_end_now s row p n good on listed here ended h =
 
 -- ## What a green that ends has been told
 
-ended_by_none : (s : State) (row : Row) (p : ℕ) → service s row ≡ None → ended_by (phases_given s row) p ≡ None
-unfolding phases_given
-ended_by_none s row p quiet = go ((phases_given s row).must_end p) (service s row) quiet
-  where
-    go : (b : Bool) (o : Option ℕ) → o ≡ None → (if b then o else None) ≡ None
-    go true o e = e
-    go false o e = refl
-
 pub ended_by_some : (s : State) (row : Row) (p n : ℕ) → s.plan.phase_count ≤ 16 → IsListed s.plan p → must_end s row p ≡ true → service s row ≡ Some n →
     ended_by (phases_given s row) p ≡ Some n
 unfolding phases_given
 ended_by_some s row p n few listed must h =
     ap (λ (b : Bool). if b then service s row else None) (clipped_at (must_end s row) s.plan p few listed ∙ must) ∙ h
-
-is_one : (plan : Plan) (p : ℕ) → plan.phase_count ≤ 16 → IsListed plan p → is_phase p ≡ true
-is_one plan p few listed =
-    let it : IsPhase plan p = listed_is_phase plan p listed in
-    let low : 1 ≤ p = it.from_one in
-    let high : p ≤ plan.phase_count = it.within in
-    grind (arith, nat_tests, low, high, few)
 
 told_count : (s : State) (row : Row) (p : ℕ) → is_phase p ≡ true → is_green (interval s p) ≡ true → (phases_given s row).count p ≡ s.memories.count p
 unfolding phases_given counted

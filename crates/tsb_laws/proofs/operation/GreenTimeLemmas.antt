@@ -5,7 +5,6 @@ use Rattle.std.proofs.lemmas.Bool.{cases_Bool, and_parts, or_cases, leb-true, tr
 use Rattle.tsb_step.specs.tsb_cells.declared.timer.Timer.{Timer}
 use Rattle.tsb_step.specs.tsb_cells.declared.timer.Timer.TheVariants.{Off, On}
 use Rattle.tsb_step.specs.tsb_cells.Timer.{advanced, started, has_reached}
-use Rattle.tsb_step.specs.tsb_types.declared.lamp.Lamp.{Lamp}
 use Rattle.tsb_step.specs.tsb_types.declared.row.Row.{Row}
 use Rattle.tsb_step.specs.tsb_types.Clip.{clipped}
 use Rattle.tsb_step.specs.tsb_types.Intervals.{is_green}
@@ -22,8 +21,7 @@ use Rattle.tsb_step.specs.declared.inputs.Input.TheVariants as inputs
 use Rattle.tsb_step.specs.declared.inputs.Input.TheVariants.{Tick}
 use Rattle.tsb_step.specs.State.{State, interval}
 use Rattle.tsb_step.specs.Tick.{service, runs, forced, calls_given, conflict, phases_given, phase_read, moves, moved, next}
-use Rattle.tsb_step.specs.Signs.{watched}
-use Rattle.tsb_step.specs.Step.{with_lamp, step, kind_of}
+use Rattle.tsb_step.specs.Step.{step, kind_of}
 use Rattle.tsb_step.specs.Runs.{replay, AreTaken}
 use Rattle.tsb_step.specs.Past.{ticks_of}
 use Rattle.tsb_step.specs.Laws.{IsConsistent}
@@ -38,6 +36,7 @@ use Rattle.tsb_step.proofs.YellowLemmas.{lasted_by}
 use Rattle.tsb_step.proofs.tsb_rules.ConsistentLemmas.{is-off}
 use Rattle.tsb_laws.specs.GreenEnds.{in_ticks, ticks_in_green, has_no_output, has_conflict, StandsInGreen, gap_now, GapExpires, HasGappedOut, HasFloated, keeps_force_off, IsForcedOff, HasBeenForcedOff}
 use Rattle.tsb_laws.proofs.safety.StretchLemmas.{at_next}
+use Rattle.tsb_laws.proofs.safety.CoordinationLemmas.{lit_latch}
 
 -- ## Counting
 
@@ -456,21 +455,13 @@ forced_in_tick plan p is row ok taken dark h =
       ];
     }
 
-forced_lit : (s : State) (lamp : Option Lamp) (p : ℕ) → ((with_lamp lamp s).phases p).forced ≡ (s.phases p).forced
-unfolding watched
-forced_lit s lamp p = go (is_some s.trip)
-  where
-    go : (b : Bool) → ((if b then record s { lamp = lamp } else watched s (record s { lamp = lamp })).phases p).forced ≡ (s.phases p).forced
-    go true = refl
-    go false = refl
-
 forced_others : (s : State) (i : Input) (p : ℕ) → is_tick i ≡ false → is_reset i ≡ false → ((step s i).phases p).forced ≡ true →
     ((s.phases p).forced ≡ true) × (keeps_force_off p s i ≡ true)
 unfolding step
 forced_others s (inputs.Tick row) p t r h = absurd (true≢false t)
 forced_others s inputs.Reset p t r h = absurd (true≢false r)
 forced_others s (inputs.Pattern n) p t r h = absurd (false≢true h)
-forced_others s (inputs.Fault lamp) p t r h = (sym (forced_lit s lamp p) ∙ h, refl)
+forced_others s (inputs.Fault lamp) p t r h = (sym (lit_latch s lamp p) ∙ h, refl)
 forced_others s i p t r h = (h, refl)
 
 latches_force_off : (plan : Plan) (p : ℕ) → IsConsistent plan → LatchesGreen (λ x. x.forced) (IsForcedOff plan p) (keeps_force_off p) plan p

@@ -28,7 +28,8 @@ use Rattle.tsb_step.proofs.GoodLemmas.{good_run}
 use Rattle.tsb_step.proofs.ClipLemmas.{clipped_holds}
 use Rattle.tsb_step.proofs.TellLemmas.{starts_no_green}
 use Rattle.tsb_laws.specs.KeptCalls.{restarts, RunsOn, TurnsGreen, BeginsWalk, Remembers, HasTurnedGreen, HasBegunWalk}
-use Rattle.tsb_laws.proofs.safety.DueLemmas.{count_run, clipped_at}
+use Rattle.tsb_laws.proofs.safety.DueLemmas.{clipped_at}
+use Rattle.tsb_laws.proofs.safety.CoordinationLemmas.{few_now}
 use Rattle.tsb_laws.proofs.operation.RecycledTickLemmas.{Again, again_parts, again_walks}
 use Rattle.tsb_laws.proofs.operation.TickLemmas.{not_green, memories_then, memories_rest, memories_stay, turns_green, started_is_listed}
 
@@ -171,9 +172,6 @@ vehicles_stand plan is (i ∷ later) p ok taken on h =
         ]
     one j runs k = inl (ap (λ (m : Memories). m.vehicle p) (memories_stay (replay plan (later ++ is)) j refl runs) ∙ k)
 
-few_then : (plan : Plan) (is : List Input) → plan.phase_count ≤ 16 → (replay plan is).plan.phase_count ≤ 16
-few_then plan is few = rw (count_run plan is) few
-
 pub pedestrians_stand : (plan : Plan) (is later : List Input) (p : ℕ) → IsConsistent plan → plan.phase_count ≤ 16 → AreTaken plan (later ++ is) →
     RunsOn plan is later → (replay plan is).memories.pedestrian p ≡ true →
     ((replay plan (later ++ is)).memories.pedestrian p ≡ true) ⊎ HasBegunWalk plan is p later
@@ -187,7 +185,7 @@ pedestrians_stand plan is (i ∷ later) p ok few taken on h =
     one : (j : Input) → restarts (replay plan (later ++ is)) j ≡ false → (replay plan (later ++ is)).memories.pedestrian p ≡ true →
         ((step (replay plan (later ++ is)) j).memories.pedestrian p ≡ true) ⊎ HasBegunWalk plan is p (j ∷ later)
     one (inputs.Tick row) runs k =
-        elim (pedestrian_in_tick (replay plan (later ++ is)) row p (good_run plan (later ++ is) ok taken.0) (few_then plan (later ++ is) few) k) [
+        elim (pedestrian_in_tick (replay plan (later ++ is)) row p (good_run plan (later ++ is) ok taken.0) (few_now plan (later ++ is) few) k) [
           | inl m ↦ inl m
           | inr t ↦ inr (record { older = later; next = row; newer = []; parts = refl; begun = t })
         ]

@@ -31,12 +31,12 @@ use Rattle.tsb_laws.proofs.safety.AllRedRingLemmas.{started_by}
 use Rattle.tsb_laws.proofs.safety.DueLemmas.{clipped_at}
 use Rattle.tsb_laws.proofs.safety.EnabledLemmas.{AreEnabled, callable_on, callable_no_green}
 use Rattle.tsb_laws.proofs.safety.SideSoughtLemmas.{Found, some_found, found_some}
+use Rattle.tsb_laws.proofs.safety.CoordinationLemmas.{no_target}
 use Rattle.tsb_laws.proofs.operation.BarrierStepLemmas.{told_back}
 use Rattle.tsb_laws.proofs.operation.CalmLemmas.{not_started}
 use Rattle.tsb_laws.proofs.operation.PhaseTimeLemmas.{IsTimed}
 use Rattle.tsb_laws.proofs.operation.PressLemmas.{serving_is}
 use Rattle.tsb_laws.proofs.operation.TurnRingLemmas.{IsFair}
-use Rattle.tsb_laws.proofs.operation.TurnStepLemmas.{target_none}
 use Rattle.tsb_laws.proofs.operation.RingPlaceLemmas.{view, order_of}
 
 pub record IsOpenTick (s : State) (row : Row) : Type 0 where
@@ -80,7 +80,7 @@ module _ (s : State) (row : Row) (tick : IsOpenTick s row) where
   pub fair : IsFair s.plan s.rings (rings_given s row)
   unfolding rings_given
   fair = record {
-    free = target_none s row tick.quiet;
+    free = no_target s row tick.quiet;
     full = tick.full;
     called_on = callable_on s row;
     serves_on = tick.on.serves;

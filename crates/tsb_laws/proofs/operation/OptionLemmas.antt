@@ -65,7 +65,7 @@ begins_at_once plan (Some n) now (Some x) mode =
 
 -- ## Rules K20 and K23
 
-all_hold : (test : ℕ → Bool) (ns : List ℕ) → ((n : ℕ) → test n ≡ true) → list_all test ns ≡ true
+pub all_hold : (test : ℕ → Bool) (ns : List ℕ) → ((n : ℕ) → test n ≡ true) → list_all test ns ≡ true
 all_hold test [] each = refl
 all_hold test (n ∷ ns) each = rw (each n) (all_hold test ns each)
 

@@ -5,7 +5,6 @@ use Rattle.tsb_step.specs.tsb_types.declared.interval.Interval.{Interval}
 use Rattle.tsb_step.specs.tsb_types.declared.interval.Interval.TheVariants.{Red, Green, Yellow, RedClear}
 use Rattle.tsb_step.specs.tsb_types.declared.interval.PedestrianInterval.{PedestrianInterval}
 use Rattle.tsb_step.specs.tsb_types.declared.interval.PedestrianInterval.TheVariants.{DontWalk, Walk, PedestrianClear}
-use Rattle.tsb_step.specs.tsb_types.declared.lamp.Aspect.{Aspect}
 use Rattle.tsb_step.specs.tsb_types.declared.lamp.Aspect.TheVariants as aspects
 use Rattle.tsb_step.specs.tsb_types.declared.lamp.PedestrianAspect.TheVariants as pedestrian_aspects
 use Rattle.tsb_step.specs.tsb_types.Intervals.{is_green, is_yellow, is_red_clear, in_service}
@@ -23,6 +22,7 @@ use Rattle.tsb_step.specs.Signs.{shown, display}
 use Rattle.tsb_step.specs.Good.{IsGood}
 use Rattle.tsb_step.proofs.SafeLemmas.{served_together}
 use Rattle.tsb_laws.specs.OverlapPhases.{GoesWithPhases}
+use Rattle.tsb_laws.proofs.heads.LitLemmas.{flashes_no_way, yellow_serves}
 
 -- ## An included phase in service
 
@@ -36,12 +36,6 @@ keeps_serves Red followed h = absurd (false≢true h)
 keeps_serves Green followed h = refl
 keeps_serves Yellow followed h = refl
 keeps_serves RedClear followed h = refl
-
-yellow_serves : (i : Interval) → is_yellow i ≡ true → in_service i ≡ true
-yellow_serves Red h = absurd (false≢true h)
-yellow_serves Green h = refl
-yellow_serves Yellow h = refl
-yellow_serves RedClear h = refl
 
 kept_by_one : (s : State) (o : ℕ) → is_kept_green s.plan (shown s) o ≡ true → Carries s o
 unfolding is_kept_green
@@ -103,19 +97,12 @@ head_carries s o h = go (s.plan.value OverlapIncludedPhases o == 0) h
     go true x = absurd (false≢true x)
     go false x = by_type s o x
 
-flash_gives_none : (a : Aspect) → gives_way (flashed a) ≡ true → ⊥
-flash_gives_none aspects.Dark h = false≢true h
-flash_gives_none aspects.Red h = false≢true h
-flash_gives_none aspects.Yellow h = false≢true h
-flash_gives_none aspects.Green h = false≢true h
-flash_gives_none aspects.FlashingRed h = false≢true h
-
 carries : (s : State) (o : ℕ) → gives_way ((display s).overlap o) ≡ true → Carries s o
 unfolding display
 carries s o h = go (is_some s.trip) h
   where
     go : (b : Bool) → gives_way ((if b then flashing (ordered s.plan (shown s)) else ordered s.plan (shown s)).overlap o) ≡ true → Carries s o
-    go true x = absurd (flash_gives_none (overlap_head s.plan (shown s) o) x)
+    go true x = absurd (flashes_no_way (overlap_head s.plan (shown s) o) x)
     go false x = head_carries s o x
 
 -- ## Right of way is of phases in service
@@ -151,7 +138,7 @@ ordered_serves s good q h =
 flash_gives_no_way : (s : State) (q : ℕ) → has_right_of_way (flashing (ordered s.plan (shown s))) q ≡ true → ⊥
 flash_gives_no_way s q h =
     elim (or_cases (gives_way (flashed (vehicle_head s.plan (shown s) q))) false h) [
-      | inl k ↦ flash_gives_none (vehicle_head s.plan (shown s) q) k
+      | inl k ↦ flashes_no_way (vehicle_head s.plan (shown s) q) k
       | inr k ↦ false≢true k
     ]
 

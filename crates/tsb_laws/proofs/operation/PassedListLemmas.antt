@@ -1,7 +1,7 @@
 -- A ring goes through its order in a circle: what it looks for first comes later in it than its last phase, and what it comes
 -- round to is the first that passes in the whole order. How a ring stands at any moment outside a crossing.
-use Rattle.std.proofs.Common.{◌≡◌, ℕ, ◌+◌, ◌≤◌, ◌==◌, Bool, true, false, ◌&&◌, List, [], ◌∷◌, Option, Some, None, refl, ap, ◌∙◌, inl, inr, ◌⊎◌, arith}
-use Rattle.std.proofs.lemmas.Bool.{cases_Bool, and_parts, or_cases, false≢true}
+use Rattle.std.proofs.Common.{◌≡◌, ℕ, ◌+◌, ◌≤◌, ◌==◌, Bool, true, false, ◌&&◌, List, [], ◌∷◌, Option, Some, None, refl, ap, ◌∙◌, inl, inr, arith}
+use Rattle.std.proofs.lemmas.Bool.{cases_Bool, and_parts}
 use Rattle.tsb_step.specs.tsb_types.Intervals.{is_green, in_service}
 use Rattle.tsb_step.specs.tsb_types.Lists.{first, among, up_to, later, not_later, or_else}
 use Rattle.tsb_step.specs.tsb_plan.Plan.{phases}
@@ -18,30 +18,11 @@ use Rattle.tsb_step.specs.tsb_plan.Plan.{Plan, side_of}
 use Rattle.tsb_laws.specs.CrossingGreens.{IsCalm}
 use Rattle.tsb_laws.specs.ServedCalls.{TurnsTakeAtMost, turns, order, still_to_come}
 use Rattle.tsb_laws.proofs.safety.SideSoughtLemmas.{none_first}
-use Rattle.tsb_laws.proofs.operation.TurnListLemmas.{among_tail}
+use Rattle.tsb_laws.proofs.safety.AllRedRingLemmas.{later_or_not}
 use Rattle.tsb_laws.proofs.operation.TurnRingLemmas.{IsFair, candidate, Goes, want_is}
 use Rattle.tsb_laws.proofs.operation.TurnStepLemmas.{clear_left, back_left, green_most, clear_most, back_most, IsLeft, committed, serving_green, idle}
 
 -- ## The two parts of an order
-
-in_up_to : (l x : ℕ) (xs : List ℕ) → among x xs ≡ true → (among x (later (Some l) xs) ≡ true) ⊎ (among x (up_to l xs) ≡ true)
-in_up_to l x [] h = absurd (false≢true h)
-in_up_to l x (y ∷ ys) h =
-    elim (or_cases (y == x) (among x ys) h) [
-      | inl same ↦ inr (rw same refl)
-      | inr k ↦ elim (cases_Bool (y == l)) [
-        | inl e ↦ inl (rw e k)
-        | inr e ↦ elim (in_up_to l x ys k) [
-          | inl there ↦ inl (rw e there)
-          | inr there ↦ inr (rw e (among_tail y x (up_to l ys) there))
-        ]
-      ]
-    ]
-
--- each of a list is later than the last, or it is not
-in_parts : (last : Option ℕ) (x : ℕ) (xs : List ℕ) → among x xs ≡ true → (among x (later last xs) ≡ true) ⊎ (among x (not_later last xs) ≡ true)
-in_parts None x xs h = inl h
-in_parts (Some l) x xs h = in_up_to l x xs h
 
 first_of_part : (test : ℕ → Bool) (l c : ℕ) (xs : List ℕ) → first test (up_to l xs) ≡ Some c → first test xs ≡ Some c
 first_of_part test l c [] h = h
@@ -82,7 +63,7 @@ module _ (plan : Plan) (s : rings.State) (given : Given) (fair : IsFair plan s g
       by_part : first test (later (s.last r) (given.sequence r)) ≡ None → is_called_elsewhere plan s given ≡ false → (o : Option ℕ) →
           first test (not_later (s.last r) (given.sequence r)) ≡ o → Looks
       by_part e f None g =
-          elim (in_parts (s.last r) q (given.sequence r) there) [
+          elim (later_or_not (s.last r) q (given.sequence r) there) [
             | inl k ↦ absurd (none_first test (later (s.last r) (given.sequence r)) q k passes e)
             | inr k ↦ absurd (none_first test (not_later (s.last r) (given.sequence r)) q k passes g)
           ]

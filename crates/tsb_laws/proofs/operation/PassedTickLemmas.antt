@@ -16,7 +16,7 @@ use Rattle.tsb_step.specs.Tick.{over, rings_given, moves, next}
 use Rattle.tsb_step.proofs.tsb_phase.ReadLemmas.{is-red}
 use Rattle.tsb_laws.specs.ServedCalls.{TurnsTakeAtMost, turns, order}
 use Rattle.tsb_laws.proofs.operation.BarrierStepLemmas.{Remains, bound_for, Nears, less, joined, nears}
-use Rattle.tsb_laws.proofs.operation.BarrierWishLemmas.{IsAtBarrier, picks_clearing, clears_over, is_cleared_then, given_dark, goes_red, both_join, joins_clearing, given_serves}
+use Rattle.tsb_laws.proofs.operation.BarrierWishLemmas.{IsAtBarrier, picks_clearing, given_dark, both_join, joins_clearing, given_serves, clears_over_one, cleared_is, cleared_red}
 use Rattle.tsb_laws.proofs.operation.PhaseTimeLemmas.{clears_down, not_yet_over}
 use Rattle.tsb_laws.proofs.operation.StageFactLemmas.{green_after}
 use Rattle.tsb_laws.proofs.operation.TurnRingLemmas.{starts_none, stays_beside, last_stays, promise_made}
@@ -104,12 +104,12 @@ module _ (s : State) (row : Row) (tick : IsFairTick s row) (none : begins s.plan
     where
       cleared : over s p ≡ true → is_cleared (moves s row) p ≡ true
       cleared f =
-          is_cleared_then s row r p tick.good at_it
-          (clears_over s.plan s.rings (rings_given s row) r p at_it own free none (given_dark s row p dark)
+          cleared_is s row r p tick.good at_it
+          (clears_over_one s.plan s.rings (rings_given s row) r p at_it own free none (given_dark s row p dark)
           (told_over s row tick p (tick.good.rings.listed p serves) ∙ f))
 
       go : (b : Bool) → over s p ≡ b → (c : Bool) → in_service (interval (next s row) p) ≡ c → ClearsOn
-      go true f c g = is_idle (ap in_service (goes_red s row p dark (no_start p own) (cleared f)))
+      go true f c g = is_idle (ap in_service (cleared_red s row p dark (no_start p own) (cleared f)))
       go false f false g = is_idle g
       go false f true g =
           let some = not_yet_over s p (yellow_change s.plan p) (red_clear s.plan p) (omega arith) (omega arith) (tick.timed p) serves dark f in

@@ -15,11 +15,10 @@ use Rattle.tsb_step.specs.Tick.{service, runs, conflict, ready, moves, next}
 use Rattle.tsb_step.specs.Good.{IsGood}
 use Rattle.tsb_laws.specs.ServedCalls.{longest_initial}
 use Rattle.tsb_laws.specs.CoordinatedGreens.{ComesInCycle, longest_in_pattern}
-use Rattle.tsb_laws.proofs.operation.PhaseTimeLemmas.{left, IsTimed}
+use Rattle.tsb_laws.proofs.operation.PhaseTimeLemmas.{left, IsTimed, left_most, walking_most}
 use Rattle.tsb_laws.proofs.operation.PressedRunLemmas.{is_one}
 use Rattle.tsb_laws.proofs.operation.InStepLemmas.{coming_forces}
 use Rattle.tsb_laws.proofs.operation.CoordinatedForceLemmas.{forcing_left, pattern_left, IsAhead, Forces, forces_down, presses_down, ready_then}
-use Rattle.tsb_laws.proofs.operation.CoordinatedRunLemmas.{left_most, walking_most}
 use Rattle.tsb_laws.proofs.operation.RingPlaceLemmas.{View, view}
 use Rattle.tsb_laws.proofs.operation.RingStepLemmas.{BoundsGreens}
 

@@ -67,6 +67,20 @@ walking_in a b t PedestrianClear = left b t
 abbrev pub green_left : ℕ → ℕ → ℕ → Phase → ℕ
 green_left g a b x = max (left g x.timer) (walking_in a b x.pedestrian_timer x.pedestrian)
 
+-- at most the times that they are of
+pub left_most : (limit : ℕ) (t : Timer) → left limit t ≤ limit
+left_most limit Off = omega arith
+left_most limit (On n) = omega arith
+
+pub past_most : (limit : ℕ) (t : Timer) → past limit t ≤ limit
+past_most limit Off = omega arith
+past_most limit (On n) = omega arith
+
+pub walking_most : (a b : ℕ) (t : Timer) (x : PedestrianInterval) → walking_in a b t x ≤ a + b
+walking_most a b t DontWalk = omega arith
+walking_most a b t Walk = let most = left_most a t in omega (arith, most)
+walking_most a b t PedestrianClear = let most = left_most b t in omega (arith, most)
+
 -- a timer that runs
 pub record Runs (t : Timer) : Type 0 where
   pub count : ℕ

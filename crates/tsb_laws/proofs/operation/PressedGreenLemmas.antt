@@ -25,6 +25,7 @@ use Rattle.tsb_step.specs.Tick.{service, runs, recycle, conflict, phases_given, 
 use Rattle.tsb_laws.specs.ServedCalls.{is_free, longest_maximum, longest_initial}
 use Rattle.tsb_laws.proofs.safety.DueLemmas.{not_reached}
 use Rattle.tsb_laws.proofs.operation.PhaseTimeLemmas.{left, walking_in, Runs, IsTimed}
+use Rattle.tsb_laws.proofs.operation.TickLemmas.{none_is}
 
 -- the ticks in which a green will not be ready: m and i are its longest maximum and initial, a and b its walk and its
 -- pedestrian clearance
@@ -195,17 +196,13 @@ module _ (plan : Plan) (given : Given) (p : ℕ) (w : Phase) (ends : ended_by gi
 
 -- ## As the controller has it
 
-no_preempt : (b : Bool) (o : Option ℕ) → o ≡ None → (if b then o else None) ≡ None
+pub no_preempt : (b : Bool) (o : Option ℕ) → o ≡ None → (if b then o else None) ≡ None
 no_preempt true o h = h
 no_preempt false o h = refl
 
-none_when : (o : Option ℕ) → is_none o ≡ true → o ≡ None
-none_when None h = refl
-none_when (Some x) h = absurd (false≢true h)
-
 pub free_parts : (s : State) (row : Row) → is_free s row ≡ true → (service s row ≡ None) × (runs s ≡ None)
 free_parts s row h =
-    let both = and_parts (is_none (service s row)) (is_none (runs s)) h in (none_when (service s row) both.0, none_when (runs s) both.1)
+    let both = and_parts (is_none (service s row)) (is_none (runs s)) h in (none_is (service s row) both.0, none_is (runs s) both.1)
 
 -- no walk begins within the green of a phase that has no pedestrian recycle in this tick
 pub walks_not : (s : State) (row : Row) (p : ℕ) → recycle s p ≡ false → walks_again (phases_given s row) p (phase_read s p) ≡ false

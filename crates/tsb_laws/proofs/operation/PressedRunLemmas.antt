@@ -2,11 +2,7 @@
 use Rattle.std.proofs.Common.{◌≡◌, ℕ, ◌+◌, ◌-◌, ◌≤◌, Bool, true, false, ◌&&◌, if◌then◌else◌, List, [], ◌∷◌, ◌++◌, None, is_some, refl, sym, ap, arith, ◌∙◌, inl, inr}
 use Rattle.std.proofs.lemmas.Bool.{cases_Bool, and_parts, true≢false}
 use Rattle.std.proofs.lemmas.Bool.Decides.{nat_tests}
-use Rattle.tsb_step.specs.tsb_cells.declared.timer.Timer.{Timer}
-use Rattle.tsb_step.specs.tsb_cells.declared.timer.Timer.TheVariants.{Off, On}
 use Rattle.tsb_step.specs.tsb_types.declared.interval.Interval.TheVariants.{Green, Yellow}
-use Rattle.tsb_step.specs.tsb_types.declared.interval.PedestrianInterval.{PedestrianInterval}
-use Rattle.tsb_step.specs.tsb_types.declared.interval.PedestrianInterval.TheVariants.{DontWalk, Walk, PedestrianClear}
 use Rattle.tsb_step.specs.tsb_types.declared.row.Row.{Row}
 use Rattle.tsb_step.specs.tsb_types.Intervals.{is_green, is_yellow, is_red_clear, is_walk, is_clearance, in_service}
 use Rattle.tsb_step.specs.tsb_types.Sets.{is_phase}
@@ -34,7 +30,7 @@ use Rattle.tsb_laws.specs.Stretches.{IsUntripped, largest}
 use Rattle.tsb_laws.specs.ServedCalls.{is_free, is_pressed, HasBeenPressed, longest_maximum, longest_initial, IsDoneWithin}
 use Rattle.tsb_laws.proofs.safety.StretchLemmas.{dark_now, Goes, ticks, stays, goes, at_next}
 use Rattle.tsb_laws.proofs.safety.DueLemmas.{largest_now, largest_more, count_run}
-use Rattle.tsb_laws.proofs.operation.PhaseTimeLemmas.{left, walking_in, IsTimed}
+use Rattle.tsb_laws.proofs.operation.PhaseTimeLemmas.{left, walking_in, IsTimed, left_most, walking_most}
 use Rattle.tsb_laws.proofs.operation.PressedGreenLemmas.{pressed_left, pressed_unforced, presses_down, not_ready_yet}
 
 -- ## Timers that run
@@ -79,15 +75,6 @@ clock_stays s i t dark = go (goes s i dark)
     go (stays none same) = same.now
 
 -- ## How long a green takes
-
-left_most : (limit : ℕ) (t : Timer) → left limit t ≤ limit
-left_most limit Off = omega arith
-left_most limit (On n) = omega arith
-
-walking_most : (a b : ℕ) (t : Timer) (x : PedestrianInterval) → walking_in a b t x ≤ a + b
-walking_most a b t DontWalk = omega arith
-walking_most a b t Walk = let most = left_most a t in omega (arith, most)
-walking_most a b t PedestrianClear = let most = left_most b t in omega (arith, most)
 
 pub pressed_most : (m i a b n : ℕ) (x : Phase) → m ≤ n → i ≤ n → a + b ≤ n → pressed_left m i a b x ≤ n
 unfolding pressed_left

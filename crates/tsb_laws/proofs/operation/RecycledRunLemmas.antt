@@ -1,6 +1,6 @@
 -- When a phase walks again within its green; and such a walk in a run: until its phase is forced off it stays Green,
 -- and its walk and its pedestrian clearance are over by then.
-use Rattle.std.proofs.Common.{◌≡◌, ℕ, ◌+◌, ◌-◌, ◌<◌, ◌≤◌, Bool, true, false, not, ◌&&◌, ◌||◌, if◌then◌else◌, List, [], ◌∷◌, ◌++◌, Option, Some, None, is_some, is_none, refl, sym, ap, subst, arith, ◌∙◌, inl, inr}
+use Rattle.std.proofs.Common.{◌≡◌, ℕ, ◌+◌, ◌-◌, ◌<◌, ◌≤◌, Bool, true, false, not, ◌&&◌, ◌||◌, if◌then◌else◌, List, [], ◌∷◌, ◌++◌, Option, Some, None, is_some, is_none, refl, sym, ap, arith, ◌∙◌, inl, inr}
 use Rattle.std.proofs.lemmas.Bool.{and_parts, and_from, cases_Bool, true≢false, false≢true}
 use Rattle.tsb_step.specs.tsb_cells.declared.timer.Timer.{Timer}
 use Rattle.tsb_step.specs.tsb_types.declared.interval.Interval.TheVariants.{Green}
@@ -10,14 +10,14 @@ use Rattle.tsb_step.specs.tsb_types.declared.row.Row.{Row}
 use Rattle.tsb_step.specs.tsb_types.Flow.{gives_walk}
 use Rattle.tsb_step.specs.tsb_types.Intervals.{is_green, is_dont_walk, in_service}
 use Rattle.tsb_step.specs.tsb_types.Sets.{is_phase}
-use Rattle.tsb_step.specs.tsb_plan.Parts.{floats, is_coordinated}
+use Rattle.tsb_step.specs.tsb_plan.Parts.{floats}
 use Rattle.tsb_step.specs.tsb_plan.Plan.{Plan, walk, pedestrian_clear, rests_in_walk}
-use Rattle.tsb_step.specs.tsb_plan.Running.{running, split_in_effect, coordinates_in, is_coordinated_now, split_green, floating_in, floating_time}
+use Rattle.tsb_step.specs.tsb_plan.Running.{split_in_effect, coordinates_in, is_coordinated_now, split_green, floating_in, floating_time}
 use Rattle.tsb_step.specs.tsb_coord.Coordinated.{asks_hold}
 use Rattle.tsb_step.specs.tsb_coord.Correction.{forces}
 use Rattle.tsb_step.specs.tsb_calls.Memories.{Memories}
 use Rattle.tsb_step.specs.tsb_calls.Settled.{walk_starts}
-use Rattle.tsb_step.specs.tsb_phase.Phase.{Phase, Given, held_of}
+use Rattle.tsb_step.specs.tsb_phase.Phase.{Phase, held_of}
 use Rattle.tsb_step.specs.tsb_phase.Green.{initial_has_passed, has_reached_some, floats_off, forced_latch}
 use Rattle.tsb_step.specs.tsb_phase.Pedestrian.{ended_by, is_resting_in_walk, may_walk_again, pedestrian_now, walks_again, pedestrian_timer_in}
 use Rattle.tsb_step.specs.tsb_phase.Ready.{needs_forced, has_timed_out, may_end, green_is_done, is_ready}
@@ -36,21 +36,23 @@ use Rattle.tsb_step.proofs.ClearLemmas.{phases_then, one_later, plan_stays}
 use Rattle.tsb_step.proofs.GoodLemmas.{good_run}
 use Rattle.tsb_step.proofs.TellLemmas.{starts_no_green}
 use Rattle.tsb_step.proofs.WaitedLemmas.{ended_was_ready}
+use Rattle.tsb_step.proofs.tsb_rules.ConsistentLemmas.{is-off}
 use Rattle.tsb_laws.specs.Stretches.{IsUntripped}
 use Rattle.tsb_laws.specs.CoordinatedGreens.{HasGoneOn, is_pressed_in_pattern}
 use Rattle.tsb_laws.specs.RecycledWalks.{WalksAgain, MayWalkAgain, RecyclesCalls, is_unheld, is_unforced, IsOverByForceOff}
 use Rattle.tsb_laws.proofs.safety.StretchLemmas.{dark_now, taken_before}
 use Rattle.tsb_laws.proofs.safety.DueLemmas.{count_run}
-use Rattle.tsb_laws.proofs.operation.TickLemmas.{memories_then, phases_rest}
+use Rattle.tsb_laws.proofs.safety.CoordinationLemmas.{ended_by_none}
+use Rattle.tsb_laws.proofs.operation.TickLemmas.{memories_then, phases_rest, none_is}
 use Rattle.tsb_laws.proofs.operation.PhaseTimeLemmas.{walking_in, IsTimed}
 use Rattle.tsb_laws.proofs.operation.PressedGreenLemmas.{walks_down, walks_no_more}
 use Rattle.tsb_laws.proofs.operation.PressedRunLemmas.{timed_run, is_one}
 use Rattle.tsb_laws.proofs.operation.CoordinatedCallLemmas.{held_runs}
 use Rattle.tsb_laws.proofs.operation.InStepLemmas.{same_forces}
 use Rattle.tsb_laws.proofs.operation.CoordinatedForceLemmas.{ready_at_once}
-use Rattle.tsb_laws.proofs.operation.CoordinatedRunLemmas.{pattern_stays, correction_stays, Leaves, leaves, none_is}
+use Rattle.tsb_laws.proofs.operation.CoordinatedRunLemmas.{pattern_stays, correction_stays, Leaves, leaves}
 use Rattle.tsb_laws.proofs.operation.RecycleTimeLemmas.{IsRecycled, recycled_so, recycled_by, fits_to}
-use Rattle.tsb_laws.proofs.operation.RecycledTickLemmas.{IsWalked, called_walks, Again, again_parts, part_goes_on, part_ends, walk_goes_on, again_walks}
+use Rattle.tsb_laws.proofs.operation.RecycledTickLemmas.{IsWalked, called_walks, Again, again_parts, part_goes_on, part_ends, again_walks}
 
 -- ## When it walks again
 
@@ -165,15 +167,6 @@ record GoesOn (s : State) (p : ℕ) : Type 0 where
   unlatched : (s.phases p).forced ≡ false
   over : IsOverBy s p
 
--- with no preempt in service none ends it
-none_ends : (s : State) (row : Row) (p : ℕ) → service s row ≡ None → ended_by (phases_given s row) p ≡ None
-unfolding phases_given
-none_ends s row p quiet = go ((phases_given s row).must_end p)
-  where
-    go : (b : Bool) → (if b then service s row else None) ≡ None
-    go true = quiet
-    go false = refl
-
 module _ (s : State) (row : Row) (p : ℕ) (good : IsGood s) (few : s.plan.phase_count ≤ 16) (dark : s.trip ≡ None) (green : interval s p ≡ Green) (held : hold s p ≡ true)
     (quiet : service s row ≡ None) (unforced : ((s.phases p).forced && (phases_given s row).conflict p) ≡ false) (not_now : forced s p ≡ false) where
   latch_off : forced_latch s.plan (phases_given s row) p (held_of (phase_read s p)) ≡ false
@@ -194,7 +187,7 @@ module _ (s : State) (row : Row) (p : ℕ) (good : IsGood s) (few : s.plan.phase
       go false c l false q f h u k m = refl
 
   ends_by_none : ended_by (phases_given s row) p ≡ None
-  ends_by_none = none_ends s row p quiet
+  ends_by_none = ended_by_none s row p quiet
 
   on_here : is_phase p ≡ true
   on_here = green_on s row p good few green
@@ -290,14 +283,10 @@ record Unheld (s : State) (row : Row) (p : ℕ) : Type 0 where
   awake : (rests_in_walk s.plan p && not (conflict s row p)) ≡ false
 
 unheld_parts : (s : State) (row : Row) (p : ℕ) → is_unheld s row p ≡ true → Unheld s row p
-unheld_parts s row p h = record { quiet = none_is (service s row) both.0; awake = is_not (rests_in_walk s.plan p && not (conflict s row p)) both.1 }
+unheld_parts s row p h = record { quiet = none_is (service s row) both.0; awake = is-off (rests_in_walk s.plan p && not (conflict s row p)) both.1 }
   where
     both : (is_none (service s row) ≡ true) × (not (rests_in_walk s.plan p && not (conflict s row p)) ≡ true)
     both = and_parts (is_none (service s row)) (not (rests_in_walk s.plan p && not (conflict s row p))) h
-
-    is_not : (b : Bool) → not b ≡ true → b ≡ false
-    is_not true k = absurd (false≢true k)
-    is_not false k = refl
 
 awake_told : (s : State) (row : Row) (p : ℕ) → is_phase p ≡ true → (rests_in_walk s.plan p && not (conflict s row p)) ≡ false →
     is_resting_in_walk s.plan (phases_given s row) p ≡ false
@@ -354,7 +343,7 @@ module _ (s : State) (row : Row) (p : ℕ) (good : IsGood s) (few : s.plan.phase
       running = let some = held_runs s p it.held in ap is_some some.1
 
       ends : ended_by (phases_given s row) p ≡ None
-      ends = none_ends s row p free.quiet
+      ends = ended_by_none s row p free.quiet
 
       none_again : walks_again (phases_given s row) p (phase_read s p) ≡ false
       none_again =
@@ -405,14 +394,10 @@ module _ (plan : Plan) (base : List Input) (p : ℕ) (ok : IsConsistent plan) (f
   stretch (inputs.Tick row ∷ later) taken dark free =
       goes_on (replay plan (later ++ base)) row p (good_run plan (later ++ base) ok taken.0) (few_now (later ++ base)) (dark_now plan base later dark.0)
       (timed_run plan (later ++ base) ok taken.0 (dark_now plan base later dark.0) p) (stretch later taken.0 dark.0 free.0)
-      (unheld_parts (replay plan (later ++ base)) row p both.0) (is_not (forced (replay plan (later ++ base)) p) both.1)
+      (unheld_parts (replay plan (later ++ base)) row p both.0) (is-off (forced (replay plan (later ++ base)) p) both.1)
     where
       both : (is_unheld (replay plan (later ++ base)) row p ≡ true) × (not (forced (replay plan (later ++ base)) p) ≡ true)
       both = and_parts (is_unheld (replay plan (later ++ base)) row p) (not (forced (replay plan (later ++ base)) p)) free.1
-
-      is_not : (b : Bool) → not b ≡ true → b ≡ false
-      is_not true k = absurd (false≢true k)
-      is_not false k = refl
   stretch (i ∷ later) taken dark free =
       goes_on_by (replay plan (later ++ base)) (replay plan (i ∷ (later ++ base))) p
       (leaves (replay plan (later ++ base)) i p refl (same_test p (replay plan (later ++ base)) i refl free.1) (dark_now plan base later dark.0))

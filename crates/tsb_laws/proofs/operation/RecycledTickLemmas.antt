@@ -1,7 +1,7 @@
 -- A tick in which a walk begins within a green, by pedestrian recycle: what it has found, and what it makes of the
 -- phase.
-use Rattle.std.proofs.Common.{◌≡◌, ℕ, ◌≤◌, nat_le, Bool, true, false, not, ◌&&◌, ◌||◌, Option, Some, None, is_none, refl, sym, ap, arith, ◌∙◌, inl, inr}
-use Rattle.std.proofs.lemmas.Bool.{and_parts, cases_Bool, true≢false, false≢true}
+use Rattle.std.proofs.Common.{◌≡◌, ℕ, ◌≤◌, nat_le, Bool, true, false, not, ◌&&◌, ◌||◌, None, is_none, refl, sym, ap, arith, ◌∙◌, inl, inr}
+use Rattle.std.proofs.lemmas.Bool.{and_parts, cases_Bool, true≢false}
 use Rattle.std.proofs.lemmas.Bool.Decides.{nat_tests}
 use Rattle.tsb_step.specs.tsb_types.declared.interval.Interval.TheVariants.{Green}
 use Rattle.tsb_step.specs.tsb_types.declared.interval.PedestrianInterval.TheVariants.{DontWalk, Walk}
@@ -27,10 +27,7 @@ use Rattle.tsb_step.proofs.WaitedLemmas.{ended_has_lasted}
 use Rattle.tsb_step.proofs.tsb_rules.ConsistentLemmas.{is-off}
 use Rattle.tsb_step.proofs.tsb_phase.ReadyLemmas.{is_in_dont_walk}
 use Rattle.tsb_laws.proofs.operation.RecycleTimeLemmas.{unforced_now}
-
-is_nothing : (o : Option ℕ) → is_none o ≡ true → o ≡ None
-is_nothing None h = refl
-is_nothing (Some x) h = absurd (false≢true h)
+use Rattle.tsb_laws.proofs.operation.TickLemmas.{none_is}
 
 -- who has a pedestrian call is enabled, and has a walk
 pub record IsWalked (plan : Plan) (p : ℕ) : Type 0 where
@@ -82,7 +79,7 @@ again_parts s row p h = record {
   not_now = unforced_now s p phase.1;
   called = called;
   long = (called_walks s row p called).long;
-  quiet = is_nothing (service s row) given.1;
+  quiet = none_is (service s row) given.1;
   unforced = is-off stands inner.1;
   now = walks_now s row p dark both.1;
 }

@@ -1,5 +1,5 @@
 -- A called phase is Green in time in a pattern, and so a coordinated one: along a run.
-use Rattle.std.proofs.Common.{◌≡◌, ◌≢◌, ℕ, nat_le, ◌+◌, ◌-◌, ◌*◌, ◌≤◌, ◌==◌, Bool, true, false, not, ◌&&◌, if◌then◌else◌, List, [], ◌∷◌, ◌++◌, Option, Some, None, is_some, is_none, refl, sym, ap, subst, ◌∙◌, inl, inr, ◌⊎◌, arith}
+use Rattle.std.proofs.Common.{◌≡◌, ℕ, nat_le, ◌+◌, ◌-◌, ◌*◌, ◌≤◌, ◌==◌, Bool, true, false, not, ◌&&◌, if◌then◌else◌, List, [], ◌∷◌, ◌++◌, Option, Some, None, is_some, is_none, refl, sym, ap, subst, ◌∙◌, inl, inr, ◌⊎◌, arith}
 use Rattle.std.proofs.lemmas.Bool.{cases_Bool, and_parts, not-true, true≢false, false≢true}
 use Rattle.std.proofs.lemmas.Bool.Decides.{nat_tests}
 use Rattle.tsb_step.specs.tsb_types.declared.interval.Interval.TheVariants.{Green}
@@ -42,7 +42,6 @@ use Rattle.tsb_laws.proofs.operation.PressedRunLemmas.{timed_run}
 use Rattle.tsb_laws.proofs.operation.TurnLemmas.{callable_enabled, callable_told}
 use Rattle.tsb_laws.proofs.operation.CoordinatedCallLemmas.{held_runs, awaited}
 use Rattle.tsb_laws.proofs.operation.CoordinatedInstantLemmas.{instants_come}
-use Rattle.tsb_laws.proofs.operation.CoordinatedRunLemmas.{none_is}
 use Rattle.tsb_laws.proofs.operation.SideRangeLemmas.{AreSides, sides_run}
 use Rattle.tsb_laws.proofs.operation.SideSumLemmas.{IsSide}
 use Rattle.tsb_laws.proofs.operation.RingPlaceLemmas.{View, view, IsNear, at_some_place}
@@ -50,6 +49,7 @@ use Rattle.tsb_laws.proofs.operation.PatternGreenLemmas.{LastsInPattern, lasts_n
 use Rattle.tsb_laws.proofs.operation.ReturnStageLemmas.{IsOver, over_in, all_left, Stage, stage_now}
 use Rattle.tsb_laws.proofs.operation.PatternSideLemmas.{far_around}
 use Rattle.tsb_laws.proofs.operation.ReturnCrossLemmas.{IsOnWay, Further, further}
+use Rattle.tsb_laws.proofs.operation.TickLemmas.{none_is}
 
 -- ## What inputs leave
 

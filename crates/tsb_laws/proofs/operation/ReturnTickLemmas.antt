@@ -16,10 +16,11 @@ use Rattle.tsb_step.specs.Tick.{callable, conflict, rings_given, next}
 use Rattle.tsb_laws.specs.CoordinatedGreens.{times_on}
 use Rattle.tsb_laws.proofs.safety.EnabledLemmas.{callable_on}
 use Rattle.tsb_laws.proofs.safety.SideSoughtLemmas.{none_first}
+use Rattle.tsb_laws.proofs.safety.AllRedRingLemmas.{later_or_not}
 use Rattle.tsb_laws.proofs.operation.TurnListLemmas.{still_later}
 use Rattle.tsb_laws.proofs.operation.TurnRingLemmas.{Candidate, candidate, goes_on as goes_for, Goes, none_begins, none_begins_bound, stays_outside, stays_beside}
 use Rattle.tsb_laws.proofs.operation.BarrierLemmas.{begins_now}
-use Rattle.tsb_laws.proofs.operation.CoordinatedBarrierLemmas.{in_either, begins_when}
+use Rattle.tsb_laws.proofs.operation.CoordinatedBarrierLemmas.{begins_when}
 use Rattle.tsb_laws.proofs.operation.SideSumLemmas.{IsSide}
 use Rattle.tsb_laws.proofs.operation.RingPlaceLemmas.{View, view, order_of, times_later, later_most, again_or_later, IsAt, bound_to, in_green, at_rest, IsNear, settled}
 use Rattle.tsb_laws.proofs.operation.OpenTickLemmas.{IsOpenTick, fair, in_sequence, listed, some_phase, once, in_order, serves_it, serves_none, given_green, told_callable, pressed_beside, pressed_across, called_away}
@@ -117,7 +118,7 @@ module _ (longest : ℕ → ℕ) (Lasts : View → ℕ → ℕ → Type 0) (k h 
           Stage longest Lasts k h r c (view (next s row)) left
       goes_home o x w left l g to taken it most all =
           heads_for x w left taken it
-          (elim (in_either o c (order_of (view s) r) listed_it) [
+          (elim (later_or_not o c (order_of (view s) r) listed_it) [
             | inl there ↦ absurd (none_first (test r) (later o (order_of (view s) r)) c there passes l)
             | inr there ↦ again_or_later (test r) o x c (order_of (view s) r) g there passes
           ])
@@ -130,7 +131,7 @@ module _ (longest : ℕ → ℕ) (Lasts : View → ℕ → ℕ → Type 0) (k h 
       -- nothing is left to go to but c
       never_rests : (o : Option ℕ) → first (test r) (later o (order_of (view s) r)) ≡ None → first (test r) (not_later o (order_of (view s) r)) ≡ None → ⊥
       never_rests o l g =
-          elim (in_either o c (order_of (view s) r) listed_it) [
+          elim (later_or_not o c (order_of (view s) r) listed_it) [
             | inl there ↦ none_first (test r) (later o (order_of (view s) r)) c there passes l
             | inr there ↦ none_first (test r) (not_later o (order_of (view s) r)) c there passes g
           ]

@@ -24,10 +24,12 @@ use Rattle.tsb_laws.proofs.safety.AllRedRingLemmas.{started_by}
 use Rattle.tsb_laws.proofs.safety.EnabledLemmas.{callable_no_green}
 use Rattle.tsb_laws.proofs.operation.PhaseTimeLemmas.{clears_down, not_yet_over, reverts_down, not_yet_reverted}
 use Rattle.tsb_laws.proofs.operation.TurnRingLemmas.{Candidate, candidate_is, want_is, starts_none, starts_picked, Delays, clearing, reverting, starts_or_waits, picks_idle, picks_green, last_started, last_stays, promise_kept, promise_stays, promise_made, none_promised}
-use Rattle.tsb_laws.proofs.operation.TurnStepLemmas.{clear_left, back_left, clear_most, back_most, dark_is}
-use Rattle.tsb_laws.proofs.operation.BarrierStepLemmas.{picks_cross, joins_green, joins_idle, cross_keeps, picks_clearing, clears_over_one, given_interval, ended_none, cleared_is, cleared_over, cleared_red, still_clearing, clear_none}
+use Rattle.tsb_laws.proofs.operation.TurnStepLemmas.{clear_left, back_left, clear_most, back_most}
+use Rattle.tsb_laws.proofs.operation.BarrierStepLemmas.{ended_none, cleared_over, still_clearing, clear_none}
 use Rattle.tsb_laws.proofs.operation.RingPlaceLemmas.{View, view, order_of, IsAt, bound_to, in_green, at_rest, IsNear, settled, clearing_out}
 use Rattle.tsb_laws.proofs.operation.OpenTickLemmas.{IsOpenTick, fair, in_sequence, told_ready, told_over, told_reverted, listed, serves_it, serves_none, served_is, given_green, ended_ready, starts_nothing, starts_it, ends_none}
+use Rattle.tsb_laws.proofs.operation.TickLemmas.{dark_is}
+use Rattle.tsb_laws.proofs.operation.BarrierWishLemmas.{picks_cross, joins_green, joins_idle, cross_keeps, picks_clearing, clears_over_one, given_interval, cleared_is, cleared_red}
 
 -- a green that is not ready takes nothing
 picks_unready : (plan : Plan) (s : rings.State) (given : Given) (r : Ring) (p : ℕ) → serving plan given r ≡ Some p → given.ready p ≡ false → pick plan s given r ≡ None

@@ -1,6 +1,6 @@
 -- The maximum in use stays between maximum and limit, and a green that ends moves it by a step at most.
 use Rattle.std.proofs.Common.{◌≡◌, ◌≢◌, ℕ, ◌+◌, ◌-◌, ◌≤◌, Bool, true, false, ◌&&◌, if◌then◌else◌, min, max, Option, Some, None, is_some, is_none, refl, sym, ap, subst, arith, ◌∙◌}
-use Rattle.std.proofs.lemmas.Bool.{and_parts, true≢false, false≢true, false_from_ne_true}
+use Rattle.std.proofs.lemmas.Bool.{and_parts, true≢false, false_from_ne_true}
 use Rattle.tsb_step.specs.tsb_types.declared.interval.Interval.TheVariants.{Green, Yellow}
 use Rattle.tsb_step.specs.tsb_types.declared.row.Row.{Row}
 use Rattle.tsb_step.specs.tsb_types.Intervals.{is_green}
@@ -16,7 +16,6 @@ use Rattle.tsb_step.specs.declared.inputs.Input.TheVariants as inputs
 use Rattle.tsb_step.specs.declared.inputs.Input.TheVariants.{Tick}
 use Rattle.tsb_step.specs.State.{State, Tripped, restarted, interval}
 use Rattle.tsb_step.specs.Tick.{service, runs, phases_given, phase_read, moves, moved, next}
-use Rattle.tsb_step.specs.Signs.{watched}
 use Rattle.tsb_step.specs.Step.{reset, step}
 use Rattle.tsb_step.specs.Good.{IsGood}
 use Rattle.tsb_step.specs.TimeLaws.{is_tick}
@@ -26,6 +25,7 @@ use Rattle.tsb_step.proofs.LeaveLemmas.{others_leave}
 use Rattle.tsb_step.proofs.TellLemmas.{is_in_green, starts_no_green}
 use Rattle.tsb_laws.specs.KeptCalls.{restarts}
 use Rattle.tsb_laws.specs.RunningMaximum.{maximum_of, IsBounded, MovesByAStep}
+use Rattle.tsb_laws.proofs.operation.TickLemmas.{none_is, phases_rest}
 
 -- ## Numbers
 
@@ -142,15 +142,6 @@ next_is_same s row p h =
     ap (λ (b : Bool). maximum_in_use s.plan p (if b then running_maximum_after s.plan p (ending_now s.plan (phases_given s row) p (phase_read s p)) (phase_read s p)
     else (s.phases p).running_maximum)) h
 
-phases_rest : (s : State) (row : Row) → is_some s.trip ≡ true → (step s (Tick row)).phases ≡ s.phases
-unfolding step watched
-phases_rest s row lit = go (is_some s.trip) lit
-  where
-    go : (b : Bool) → b ≡ true →
-        (if b then record s { now = s.now + 1 } else (if b then next s row else watched s (next s row))).phases ≡ s.phases
-    go true h = refl
-    go false h = absurd (false≢true h)
-
 maximum_then : (s : State) (row : Row) (p : ℕ) → s.trip ≡ None → maximum_of (step s (Tick row)) p ≡ maximum_next s row p
 maximum_then s row p dark =
     ap (λ (x : Plan). maximum_in_use x p ((step s (Tick row)).phases p).running_maximum) (plan_stays s row)
@@ -167,16 +158,12 @@ record IsMoved (s : State) (row : Row) (p : ℕ) : Type 0 where
   freely : runs s ≡ None
   alone : service s row ≡ None
 
-none-of : (o : Option ℕ) → is_none o ≡ true → o ≡ None
-none-of None h = refl
-none-of (Some n) h = cc
-
 counted : (s : State) (row : Row) (p : ℕ) → s.trip ≡ None → counts s row p ≡ true → IsMoved s row p
 unfolding phases_given
 counted s row p dark h =
     let both = and_parts (is_ended (moves s row) p) (is_none (runs s) && is_none (service s row)) h in
     let rest = and_parts (is_none (runs s)) (is_none (service s row)) both.1 in
-    record { dark = dark; ended = both.0; freely = none-of (runs s) rest.0; alone = none-of (service s row) rest.1 }
+    record { dark = dark; ended = both.0; freely = none_is (runs s) rest.0; alone = none_is (service s row) rest.1 }
 
 moved_then : (s : State) (row : Row) (p : ℕ) → maximum_of (step s (Tick row)) p ≢ maximum_of s p → IsMoved s row p
 moved_then s row p h = go s.trip refl

@@ -24,6 +24,7 @@ use Rattle.tsb_laws.specs.CrossingGreens.{IsCalm}
 use Rattle.tsb_laws.specs.ServedCalls.{is_free, IsFullyConcurrent, TurnsTakeAtMost, longest_green, turns, order}
 use Rattle.tsb_laws.proofs.safety.EnabledLemmas.{AreEnabled, callable_on, callable_no_green}
 use Rattle.tsb_laws.proofs.safety.SideSoughtLemmas.{goes_to_other, found_some}
+use Rattle.tsb_laws.proofs.safety.CoordinationLemmas.{no_target}
 use Rattle.tsb_laws.proofs.operation.AcrossLemmas.{GoesAcross}
 use Rattle.tsb_laws.proofs.operation.BarrierStepLemmas.{Remains, bound_for, Nears, less, joined, nears}
 use Rattle.tsb_laws.proofs.operation.BarrierWishLemmas.{both_join}
@@ -38,7 +39,7 @@ use Rattle.tsb_laws.proofs.operation.SideRangeLemmas.{AreSides, GoesTo, goes_to_
 use Rattle.tsb_laws.proofs.operation.SideSumLemmas.{IsSide, away, away_itself, away_other, away_apart, both_orders, here as turns_here, far, far_some, nearer}
 use Rattle.tsb_laws.proofs.operation.TurnLemmas.{callable_told}
 use Rattle.tsb_laws.proofs.operation.TurnRingLemmas.{stays_outside, stays_beside}
-use Rattle.tsb_laws.proofs.operation.TurnStepLemmas.{clear_left, IsLeft, IsComing, Comes, served, comes, IsFairTick, fair, one_tick, target_none, told_callable}
+use Rattle.tsb_laws.proofs.operation.TurnStepLemmas.{clear_left, IsLeft, IsComing, Comes, served, comes, IsFairTick, fair, one_tick, told_callable}
 
 -- ## How far it is
 
@@ -145,7 +146,7 @@ module _ (k h y : ℕ) (s : State) (row : Row) (r : Ring) (q : ℕ) (tick : IsWa
 
   module _ (outside : s.rings.crossing ≡ None) (begun : begins s.plan s.rings (rings_given s row) ≡ true) where
     free_of_target : (rings_given s row).target ≡ None
-    free_of_target = target_none s row (free_parts s row tick.free).0
+    free_of_target = no_target s row (free_parts s row tick.free).0
 
     abbrev goal : ℕ
     goal = target_side s.plan s.rings (rings_given s row)

@@ -3,7 +3,7 @@
 use Rattle.std.proofs.Common.{◌≡◌, ℕ, ◌+◌, ◌-◌, ◌≤◌, Bool, true, false, max, Option, Some, None, refl, sym, ap, ◌∙◌, inl, inr, ◌⊎◌, arith}
 use Rattle.std.proofs.lemmas.Bool.{cases_Bool, and_parts, true≢false, false_from_ne_true}
 use Rattle.tsb_step.specs.tsb_types.declared.interval.Interval.{Interval}
-use Rattle.tsb_step.specs.tsb_types.declared.interval.Interval.TheVariants.{Red, Green, Yellow, RedClear}
+use Rattle.tsb_step.specs.tsb_types.declared.interval.Interval.TheVariants.{Green}
 use Rattle.tsb_step.specs.tsb_types.declared.row.Row.{Row}
 use Rattle.tsb_step.specs.tsb_types.Intervals.{is_green, in_service}
 use Rattle.tsb_step.specs.tsb_plan.Plan.{is_enabled}
@@ -34,12 +34,7 @@ use Rattle.tsb_laws.proofs.operation.PressLemmas.{Bars, committed_to, green_of a
 use Rattle.tsb_laws.proofs.operation.StageFactLemmas.{Limits, Within, clear_of, revert_of, green_of, green_most, clear_most, revert_most, revert_dark, Stays, green_after, told_list, pairs_list, ends_it, enters, binds, dark_no_end}
 use Rattle.tsb_laws.proofs.operation.StageRingLemmas.{outside_waits}
 use Rattle.tsb_laws.proofs.operation.StageTickLemmas.{less, IsClean, StartsSoon, IsDirty, wanted_reverts, dark_clears, begun_green, unwanted_down}
-
-dark_of_red : (i : Interval) → in_service i ≡ false → is_green i ≡ false
-dark_of_red Red h = refl
-dark_of_red Green h = h
-dark_of_red Yellow h = refl
-dark_of_red RedClear h = refl
+use Rattle.tsb_laws.proofs.operation.TickLemmas.{dark_is}
 
 some_of : (i k : ℕ) → 1 ≤ i → i ≤ k → 1 ≤ k
 some_of i k h o = omega (arith, h, o)
@@ -102,7 +97,7 @@ module _ (s : State) (row : Row) (list : ℕ → Bool) (n : ℕ) (x : Stays s ro
     bound_down q e h no_start most =
         less (revert_of t (next s row).phases e) (revert_of t s.phases e) k
         (reverts_down s row e (t.yellow e) (t.revert e) (w.yellow e) (x.timed e)
-        (dark_no_end s row list n x e (dark_of_red (interval s e) (promised_red s q e x.calm x.sided x.across h))) no_start) most
+        (dark_no_end s row list n x e (dark_is (interval s e) (promised_red s q e x.calm x.sided x.across h))) no_start) most
 
     self_down : revert_of t (next s row).phases c ≤ k - 1
     unfolding moves rings_given

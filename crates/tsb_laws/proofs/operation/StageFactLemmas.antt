@@ -3,11 +3,8 @@
 use Rattle.std.proofs.Common.{◌≡◌, ℕ, ◌+◌, ◌≤◌, Bool, true, false, not, max, Option, Some, None, refl, sym, ap, ◌∙◌, inl, inr, ◌⊎◌, arith}
 use Rattle.std.proofs.lemmas.Bool.{true≢false, false≢true, false_from_ne_true}
 use Rattle.tsb_step.specs.tsb_cells.declared.timer.Timer.{Timer}
-use Rattle.tsb_step.specs.tsb_cells.declared.timer.Timer.TheVariants.{Off, On}
 use Rattle.tsb_step.specs.tsb_types.declared.interval.Interval.{Interval}
 use Rattle.tsb_step.specs.tsb_types.declared.interval.Interval.TheVariants.{Red, Green, Yellow, RedClear}
-use Rattle.tsb_step.specs.tsb_types.declared.interval.PedestrianInterval.{PedestrianInterval}
-use Rattle.tsb_step.specs.tsb_types.declared.interval.PedestrianInterval.TheVariants.{DontWalk, Walk, PedestrianClear}
 use Rattle.tsb_step.specs.tsb_types.declared.row.Row.{Row}
 use Rattle.tsb_step.specs.tsb_types.Intervals.{is_green, in_service}
 use Rattle.tsb_step.proofs.tsb_types.IntervalLemmas.{serves-green}
@@ -33,7 +30,7 @@ use Rattle.tsb_laws.specs.CrossingGreens.{IsCalm}
 use Rattle.tsb_laws.proofs.safety.EnabledLemmas.{AreEnabled}
 use Rattle.tsb_laws.proofs.operation.AcrossLemmas.{GoesAcross}
 use Rattle.tsb_laws.proofs.operation.GreenEndLemmas.{ends_unwanted, ended_by_some}
-use Rattle.tsb_laws.proofs.operation.PhaseTimeLemmas.{left, past, walking_in, green_left, clearing_in, clearing_left, revert_in, revert_left, IsTimed}
+use Rattle.tsb_laws.proofs.operation.PhaseTimeLemmas.{left, past, green_left, clearing_in, clearing_left, revert_in, revert_left, IsTimed, left_most, walking_most, past_most}
 use Rattle.tsb_laws.proofs.operation.PreemptEntryLemmas.{Asks, starts_own, commits_own, told, pairs}
 
 -- ## Times that no plan in effect exceeds
@@ -70,20 +67,6 @@ revert_of t phases p = revert_left (t.yellow p) (t.revert p) (phases p)
 abbrev pub green_of : Limits → (ℕ → Phase) → ℕ → ℕ
 green_of t phases p = green_left t.green (t.walk p) (t.clearance p) (phases p)
 
--- at most so many
-left_most : (l : ℕ) (t : Timer) → left l t ≤ l
-left_most l Off = omega arith
-left_most l (On n) = omega arith
-
-past_most : (l : ℕ) (t : Timer) → past l t ≤ l
-past_most l Off = omega arith
-past_most l (On n) = omega arith
-
-walking_most : (a b : ℕ) (t : Timer) (i : PedestrianInterval) → walking_in a b t i ≤ a + b
-walking_most a b t DontWalk = omega arith
-walking_most a b t Walk = let h : left a t ≤ a = left_most a t in omega (arith, h)
-walking_most a b t PedestrianClear = let h : left b t ≤ b = left_most b t in omega (arith, h)
-
 clearing_most : (y z : ℕ) (t : Timer) (i : Interval) → clearing_in y z t i ≤ y + z
 clearing_most y z t Red = omega arith
 clearing_most y z t Green = omega arith
@@ -105,7 +88,7 @@ reverting_dark y r t v RedClear h = absurd (true≢false h)
 larger : (i j k l m : ℕ) → i ≤ k → j ≤ l → l ≤ m → max i j ≤ max m k
 larger i j k l m h o n = omega (arith, h, o, n)
 
-under : (i j k : ℕ) → i ≤ j → j ≤ k → i ≤ k
+pub under : (i j k : ℕ) → i ≤ j → j ≤ k → i ≤ k
 under i j k h o = omega (arith, h, o)
 
 sum_under : (i y r m : ℕ) → i ≤ y + r → y ≤ m → r ≤ m → i ≤ m + m

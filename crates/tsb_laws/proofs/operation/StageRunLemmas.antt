@@ -5,7 +5,7 @@ use Rattle.tsb_step.specs.tsb_cells.Timer.{advanced}
 use Rattle.tsb_step.specs.tsb_types.declared.row.Row.{Row}
 use Rattle.tsb_step.specs.tsb_types.declared.stage.Stage.{Stage}
 use Rattle.tsb_step.specs.tsb_types.declared.stage.Stage.TheVariants.{Track, Dwell, Exit}
-use Rattle.tsb_step.specs.tsb_types.Intervals.{is_green, is_yellow, is_red_clear, is_walk, is_clearance, in_service}
+use Rattle.tsb_step.specs.tsb_types.Intervals.{is_green, in_service}
 use Rattle.tsb_step.specs.tsb_types.Lists.{among, run_from}
 use Rattle.tsb_step.specs.tsb_types.Sets.{names}
 use Rattle.tsb_step.specs.tsb_plan.declared.object.Object.{Object}
@@ -24,13 +24,12 @@ use Rattle.tsb_step.specs.tsb_transact.Commit.{is_preempt_list, changes_structur
 use Rattle.tsb_step.specs.declared.inputs.Input.{Input}
 use Rattle.tsb_step.specs.declared.inputs.Input.TheVariants as inputs
 use Rattle.tsb_step.specs.declared.inputs.Input.TheVariants.{Tick}
-use Rattle.tsb_step.specs.State.{State, interval, pedestrian_part, restarted}
+use Rattle.tsb_step.specs.State.{State, interval, restarted}
 use Rattle.tsb_step.specs.Tick.{preempts_given, preempts_read, new_service, service, target, next}
 use Rattle.tsb_step.specs.Step.{is_serving, step, verdict, kind_of}
 use Rattle.tsb_step.specs.Past.{ticks_of}
 use Rattle.tsb_step.specs.Runs.{replay, AreTaken}
 use Rattle.tsb_step.specs.Laws.{IsConsistent}
-use Rattle.tsb_step.specs.TimeLaws.{held_for, TellsTime}
 use Rattle.tsb_step.specs.Good.{IsGood}
 use Rattle.tsb_step.proofs.ClearLemmas.{plan_stays, phases_then, one_later}
 use Rattle.tsb_step.proofs.EditLemmas.{or_false, kept}
@@ -40,7 +39,6 @@ use Rattle.tsb_step.proofs.LeaveLemmas.{others_leave}
 use Rattle.tsb_step.proofs.ServiceLemmas.{compatible}
 use Rattle.tsb_step.proofs.SideRunLemmas.{sided_run}
 use Rattle.tsb_step.proofs.StandLemmas.{rings_then}
-use Rattle.tsb_step.proofs.TellLemmas.{timers_tell_time}
 use Rattle.tsb_step.proofs.YellowLemmas.{enabled_lit, plan_of_reset}
 use Rattle.tsb_laws.specs.Stretches.{IsUntripped, has_held_since, largest}
 use Rattle.tsb_laws.specs.PreemptTurns.{place}
@@ -50,26 +48,13 @@ use Rattle.tsb_laws.proofs.safety.DueLemmas.{largest_now, largest_more, ring_sam
 use Rattle.tsb_laws.proofs.safety.EnabledLemmas.{enabled_run}
 use Rattle.tsb_laws.proofs.operation.AcrossLemmas.{across_run}
 use Rattle.tsb_laws.proofs.operation.CalmLemmas.{calm_run}
-use Rattle.tsb_laws.proofs.operation.PhaseTimeLemmas.{IsTimed, clearing_left, revert_left, green_left}
+use Rattle.tsb_laws.proofs.operation.PhaseTimeLemmas.{clearing_left, revert_left, green_left}
 use Rattle.tsb_laws.proofs.operation.PreemptTurnLemmas.{service_then}
-use Rattle.tsb_laws.proofs.operation.StageFactLemmas.{Limits, Within, clear_of, revert_of, green_of, Stays}
+use Rattle.tsb_laws.proofs.operation.StageFactLemmas.{Limits, Within, clear_of, revert_of, green_of, Stays, under}
 use Rattle.tsb_laws.proofs.operation.StageTickLemmas.{IsClean, StartsSoon, IsDirty}
 use Rattle.tsb_laws.proofs.operation.StageDirtyLemmas.{dirty_first}
 use Rattle.tsb_laws.proofs.operation.StageArrivalLemmas.{IsRested, IsCrossing, Near, dirty, clean, rested, crosses, AreGreen, all_are_green, nearer}
-
--- ## Timers
-
-timed_run : (plan : Plan) (is : List Input) → IsConsistent plan → AreTaken plan is → (replay plan is).trip ≡ None → (p : ℕ) → IsTimed ((replay plan is).phases p)
-timed_run plan is ok taken dark p = record {
-  green = λ e. record { count = held_for (λ s. is_green (interval s p)) plan is; is = told.green e };
-  yellow = λ e. record { count = held_for (λ s. is_yellow (interval s p)) plan is; is = told.yellow e };
-  red_clear = λ e. record { count = held_for (λ s. is_red_clear (interval s p)) plan is; is = told.red_clear e };
-  walk = λ e. record { count = held_for (λ s. is_walk (pedestrian_part s p)) plan is; is = told.walk e };
-  clearance = λ e. record { count = held_for (λ s. is_clearance (pedestrian_part s p)) plan is; is = told.clearance e };
-}
-  where
-    told : TellsTime plan is p
-    told = timers_tell_time plan is ok taken dark p
+use Rattle.tsb_laws.proofs.operation.PressedRunLemmas.{timed_run}
 
 -- ## The stage in a tick
 
@@ -262,15 +247,12 @@ pub record Covers (t : Limits) (plan : Plan) (base : List Input) (n : ℕ) (late
   pub red : (p : ℕ) → largest (λ x. red_clear x p) plan base later ≤ t.red p
   pub revert : (p : ℕ) → largest (λ x. red_revert x p) plan base later ≤ t.revert p
 
-le_le : (a b c : ℕ) → a ≤ b → b ≤ c → a ≤ c
-le_le a b c h k = omega (arith, h, k)
-
 module _ (t : Limits) (plan : Plan) (base : List Input) (n : ℕ) where
   fewer : (i : Input) (later : List Input) → (time : Plan → ℕ) (m : ℕ) → largest time plan base (i ∷ later) ≤ m → largest time plan base later ≤ m
-  fewer i later time m h = le_le (largest time plan base later) (largest time plan base (i ∷ later)) m (largest_more time plan base later i) h
+  fewer i later time m h = under (largest time plan base later) (largest time plan base (i ∷ later)) m (largest_more time plan base later i) h
 
   at_now : (later : List Input) → (time : Plan → ℕ) (m : ℕ) → largest time plan base later ≤ m → time (replay plan (later ++ base)).plan ≤ m
-  at_now later time m h = le_le (time (replay plan (later ++ base)).plan) (largest time plan base later) m (largest_now time plan base later) h
+  at_now later time m h = under (time (replay plan (later ++ base)).plan) (largest time plan base later) m (largest_now time plan base later) h
 
   pub covers_before : (i : Input) (later : List Input) → Covers t plan base n (i ∷ later) → Covers t plan base n later
   covers_before i later h = record {

@@ -1,5 +1,5 @@
 -- What inputs make of memories and phases, field by field.
-use Rattle.std.proofs.Common.{◌≡◌, ◌≢◌, ℕ, ◌+◌, Bool, true, false, ◌&&◌, if◌then◌else◌, Option, None, is_some, refl, sym, ap, ◌∙◌}
+use Rattle.std.proofs.Common.{◌≡◌, ◌≢◌, ℕ, ◌+◌, Bool, true, false, ◌&&◌, if◌then◌else◌, Option, None, is_some, refl, sym, ap, ◌∙◌, is_none, Some}
 use Rattle.std.proofs.lemmas.Bool.{true≢false, false≢true}
 use Rattle.tsb_step.specs.tsb_types.declared.interval.Interval.{Interval}
 use Rattle.tsb_step.specs.tsb_types.declared.interval.Interval.TheVariants.{Red, Green, Yellow, RedClear}
@@ -28,6 +28,16 @@ not_green Red h = refl
 not_green Green h = absurd (h refl)
 not_green Yellow h = refl
 not_green RedClear h = refl
+
+pub dark_is : (i : Interval) → in_service i ≡ false → is_green i ≡ false
+dark_is Red h = refl
+dark_is Green h = absurd (true≢false h)
+dark_is Yellow h = refl
+dark_is RedClear h = refl
+
+pub none_is : (o : Option ℕ) → is_none o ≡ true → o ≡ None
+none_is None h = refl
+none_is (Some x) h = absurd (false≢true h)
 
 -- ## Memories
 

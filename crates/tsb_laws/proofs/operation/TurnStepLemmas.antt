@@ -1,8 +1,6 @@
 -- What one tick makes of a ring that has a called phase still to come: it has a tick less to go until that phase is Green.
 use Rattle.std.proofs.Common.{◌≡◌, ◌≢◌, ℕ, ◌+◌, ◌-◌, ◌≤◌, ◌==◌, Bool, true, false, not, ◌&&◌, List, Option, Some, None, option_map, refl, sym, ap, ◌∙◌, inl, inr, ◌⊎◌, arith}
 use Rattle.std.proofs.lemmas.Bool.{eqb-true, eq-eqb, true≢false, false_from_ne_true}
-use Rattle.tsb_step.specs.tsb_cells.declared.timer.Timer.{Timer}
-use Rattle.tsb_step.specs.tsb_cells.declared.timer.Timer.TheVariants.{Off, On}
 use Rattle.tsb_step.specs.tsb_types.declared.interval.Interval.{Interval}
 use Rattle.tsb_step.specs.tsb_types.declared.interval.Interval.TheVariants.{Red, Green, Yellow, RedClear}
 use Rattle.tsb_step.specs.tsb_types.declared.row.Row.{Row}
@@ -16,7 +14,6 @@ use Rattle.tsb_step.specs.tsb_rules.SequenceRules.{lists_once}
 use Rattle.tsb_step.proofs.tsb_rules.ConsistentLemmas.{together, first_lists}
 use Rattle.tsb_step.specs.tsb_calls.Callable.{has_conflict}
 use Rattle.tsb_step.specs.tsb_phase.Phase.{Phase}
-use Rattle.tsb_step.specs.tsb_preempt.Preempts.{wanted_by}
 use Rattle.tsb_step.specs.tsb_preempt.Service.{Service}
 use Rattle.tsb_step.specs.tsb_ring.Rings.{Ring, number, in_ring, serving}
 use Rattle.tsb_step.specs.tsb_ring.Wants.{is_candidate, is_idle_or_green, picked_before, pick}
@@ -40,13 +37,15 @@ use Rattle.tsb_laws.proofs.safety.AllRedRingLemmas.{started_by}
 use Rattle.tsb_laws.proofs.safety.DueLemmas.{clipped_at}
 use Rattle.tsb_laws.proofs.safety.EnabledLemmas.{AreEnabled, callable_on, callable_no_green}
 use Rattle.tsb_laws.proofs.safety.SideSoughtLemmas.{found_some}
+use Rattle.tsb_laws.proofs.safety.CoordinationLemmas.{no_target}
 use Rattle.tsb_laws.proofs.operation.CalmLemmas.{not_started}
-use Rattle.tsb_laws.proofs.operation.PhaseTimeLemmas.{left, past, clearing_in, clearing_left, revert_left, IsTimed, clears_down, not_yet_over, reverts_down, not_yet_reverted}
+use Rattle.tsb_laws.proofs.operation.PhaseTimeLemmas.{clearing_in, clearing_left, revert_left, IsTimed, clears_down, not_yet_over, reverts_down, not_yet_reverted, left_most, past_most}
 use Rattle.tsb_laws.proofs.operation.PressedGreenLemmas.{pressed_left, pressed_unforced, free_parts, presses_down, not_ready_yet}
 use Rattle.tsb_laws.proofs.operation.PressedRunLemmas.{pressed_most, is_one}
 use Rattle.tsb_laws.proofs.operation.PressLemmas.{serving_is}
 use Rattle.tsb_laws.proofs.operation.TurnListLemmas.{turns_later, still_later}
 use Rattle.tsb_laws.proofs.operation.TurnRingLemmas.{IsFair, Candidate, candidate_is, candidate, Goes, goes_on, none_begins_bound, none_begins, starts_none, starts_picked, Delays, clearing, reverting, starts_or_waits, picks_idle, picks_green, stays_outside, stays_beside, last_started, last_stays, promise_kept, promise_stays, promise_made, none_promised}
+use Rattle.tsb_laws.proofs.operation.TickLemmas.{dark_is}
 
 -- ## How long a phase takes
 
@@ -69,32 +68,18 @@ green_most plan p x =
     pressed_most (longest_maximum plan p) (longest_initial plan p) (walk plan p) (pedestrian_clear plan p) (longest_green plan p) x
     (omega arith) (omega arith) (omega arith)
 
-pub limit_most : (limit : ℕ) (t : Timer) → left limit t ≤ limit
-limit_most limit Off = omega arith
-limit_most limit (On n) = omega arith
-
-pub past_most : (r : ℕ) (t : Timer) → past r t ≤ r
-past_most r Off = omega arith
-past_most r (On n) = omega arith
-
 pub clear_most : (plan : Plan) (p : ℕ) (x : Phase) → clear_left plan p x ≤ yellow_change plan p + red_clear plan p
 clear_most plan p x = go x.interval
   where
     go : (i : Interval) → clearing_in (yellow_change plan p) (red_clear plan p) x.timer i ≤ yellow_change plan p + red_clear plan p
     go Red = omega arith
     go Green = omega arith
-    go Yellow = let most = limit_most (yellow_change plan p) x.timer in omega (arith, most)
-    go RedClear = let most = limit_most (red_clear plan p) x.timer in omega (arith, most)
+    go Yellow = let most = left_most (yellow_change plan p) x.timer in omega (arith, most)
+    go RedClear = let most = left_most (red_clear plan p) x.timer in omega (arith, most)
 
 -- of a phase that is Red
 pub back_most : (plan : Plan) (p : ℕ) (x : Phase) → x.interval ≡ Red → back_left plan p x ≤ red_revert plan p
 back_most plan p x e = rw e (past_most (red_revert plan p) x.red_revert)
-
-pub dark_is : (i : Interval) → in_service i ≡ false → is_green i ≡ false
-dark_is Red h = refl
-dark_is Green h = absurd (true≢false h)
-dark_is Yellow h = absurd (true≢false h)
-dark_is RedClear h = absurd (true≢false h)
 
 -- ## How long a ring takes until it has come through its order on the side that is served
 
@@ -137,10 +122,6 @@ service_none s row h = go (new_service s row) refl
         let some : service s row ≡ Some x.preempt = ap (λ (y : Option Service). option_map (λ z. z.preempt) y) e in
         let bad : Some x.preempt ≡ None = sym some ∙ h in
         absurd cc
-
-pub target_none : (s : State) (row : Row) → service s row ≡ None → (rings_given s row).target ≡ None
-unfolding rings_given new_service
-target_none s row h = ap (λ (x : Option Service). wanted_by s.plan x) (service_none s row h)
 
 pub in_order : (s : State) (row : Row) (r : Ring) → runs s ≡ None → (rings_given s row).sequence r ≡ order s.plan r
 unfolding rings_given
@@ -190,7 +171,7 @@ module _ (s : State) (row : Row) (tick : IsFairTick s row) where
   pub fair : IsFair s.plan s.rings (rings_given s row)
   unfolding rings_given
   fair = record {
-    free = target_none s row (free_parts s row free).0;
+    free = no_target s row (free_parts s row free).0;
     full = full;
     called_on = callable_on s row;
     serves_on = on.serves;

@@ -2,14 +2,13 @@
 -- none, some phase starts, or a crossing begins that commits a ring.
 use Rattle.std.proofs.Common.{◌≡◌, ℕ, ◌==◌, Bool, true, false, not, ◌&&◌, ◌||◌, if◌then◌else◌, List, [], ◌∷◌, Option, Some, None, is_some, is_none, refl, sym, ap, subst, inl, inr, ◌⊎◌, ◌∙◌}
 use Rattle.std.proofs.lemmas.Bool.{cases_Bool, and_parts, or_cases, or_left, or_right, eq-eqb, true≢false, false≢true}
-use Rattle.tsb_step.specs.tsb_types.Intervals.{in_service}
-use Rattle.tsb_step.specs.tsb_types.Lists.{first, some_passes, among, is, after, up_to, later, not_later, or_else, or_number}
-use Rattle.tsb_step.specs.tsb_plan.Plan.{Plan, phases, is_enabled, side_of, sides_after}
+use Rattle.tsb_step.specs.tsb_types.Lists.{first, among, is, after, up_to, later, not_later, or_number}
+use Rattle.tsb_step.specs.tsb_plan.Plan.{Plan, phases, is_enabled, sides_after}
 use Rattle.tsb_step.specs.tsb_rules.Rules.{first_broken}
 use Rattle.tsb_step.specs.tsb_ring.declared.want.Want.{Want}
 use Rattle.tsb_step.specs.tsb_ring.declared.want.Want.TheVariants.{Go, Cross, Rest, Stop}
 use Rattle.tsb_step.specs.tsb_ring.Rings.{Ring, Ring1, Ring2, other, State, Given, in_ring, serving}
-use Rattle.tsb_step.specs.tsb_ring.Wants.{go_or, concurrent_with, fits, is_on_side, is_candidate, is_called_elsewhere, want_by_calls, is_targeted, serves_target, targeted_here, is_targeted_elsewhere, want_by_target, want_found, is_idle_or_green, want, picked_before, pick_of_ring_1, want_of, pick}
+use Rattle.tsb_step.specs.tsb_ring.Wants.{go_or, concurrent_with, fits, is_on_side, is_candidate, is_called_elsewhere, want_by_calls, is_targeted, targeted_here, is_targeted_elsewhere, want_by_target, want_found, is_idle_or_green, want, picked_before, want_of, pick}
 use Rattle.tsb_step.specs.tsb_ring.Crossings.{wants_cross, wants_no_phase, ring_joins, begins, is_called_on, side_sought, target_side, is_called_in, called_in_ring_1, called_in_ring_2, entry_by_calls, entry_for, entry, committed}
 use Rattle.tsb_step.specs.tsb_ring.Next.{may_start, completes, starting, new_commitment}
 use Rattle.tsb_step.specs.tsb_ring.Moves.{moves, is_started}
@@ -40,7 +39,7 @@ split_at l p (q ∷ qs) h =
       ]
     ]
 
-later_or_not : (last : Option ℕ) (p : ℕ) (ps : List ℕ) → among p ps ≡ true → (among p (later last ps) ≡ true) ⊎ (among p (not_later last ps) ≡ true)
+pub later_or_not : (last : Option ℕ) (p : ℕ) (ps : List ℕ) → among p ps ≡ true → (among p (later last ps) ≡ true) ⊎ (among p (not_later last ps) ≡ true)
 later_or_not None p ps h = inl h
 later_or_not (Some l) p ps h = split_at l p ps h
 

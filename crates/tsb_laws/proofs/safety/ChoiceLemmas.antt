@@ -11,6 +11,7 @@ use Rattle.tsb_step.proofs.tsb_ring.MoveLemmas.{and_three}
 use Rattle.tsb_step.proofs.tsb_ring.WaitLemmas.{first-passes, called_candidate, targeted_by, targeted_candidate}
 use Rattle.tsb_step.proofs.tsb_ring.WantLemmas.{and_four, pick_want}
 use Rattle.tsb_step.proofs.SideLemmas.{else_cases}
+use Rattle.tsb_step.proofs.tsb_rules.ConsistentLemmas.{is-off}
 
 -- ## What a ring picks
 
@@ -115,11 +116,7 @@ module _ (plan : Plan) (given : Given) (called_not : (p : ℕ) → given.callabl
       let all : may_enter plan given d r q p ≡ true = first-passes (may_enter plan given d r q) (given.sequence r) p h in
       let outer = and_parts (in_ring plan r p && is_on_side plan d p && is_enabled plan p && has_dual_entry plan p && not (given.omitted p)) (is_concurrent plan p q) all in
       let inner = and_parts (in_ring plan r p && is_on_side plan d p && is_enabled plan p && has_dual_entry plan p) (not (given.omitted p)) outer.0 in
-      not_so (given.omitted p) inner.1
-    where
-      not_so : (b : Bool) → not b ≡ true → b ≡ false
-      not_so true e = cc
-      not_so false e = refl
+      is-off (given.omitted p) inner.1
 
   first_not_omitted : (d p : ℕ) → called_in_ring_1 plan given d ≡ Some p → given.omitted p ≡ false
   first_not_omitted d p h =

@@ -54,7 +54,7 @@ use Rattle.tsb_laws.proofs.safety.DueLemmas.{count_run, clipped_at}
 
 -- ## A coordinated green that ends
 
-ended_by_none : (s : State) (row : Row) (p : ℕ) → service s row ≡ None → ended_by (phases_given s row) p ≡ None
+pub ended_by_none : (s : State) (row : Row) (p : ℕ) → service s row ≡ None → ended_by (phases_given s row) p ≡ None
 unfolding phases_given
 ended_by_none s row p quiet = go ((phases_given s row).must_end p) (service s row) quiet
   where
@@ -155,7 +155,7 @@ latch_tick s row p rests h = go (is_some s.trip) h
     go true k = still k
     go false k = latched_in_tick s row p k
 
-lit_latch : (s : State) (lamp : Option Lamp) (p : ℕ) → ((with_lamp lamp s).phases p).forced ≡ (s.phases p).forced
+pub lit_latch : (s : State) (lamp : Option Lamp) (p : ℕ) → ((with_lamp lamp s).phases p).forced ≡ (s.phases p).forced
 unfolding watched
 lit_latch s lamp p = go (is_some s.trip)
   where
@@ -177,18 +177,14 @@ latched plan (inputs.Tick row ∷ is) p h =
     let it = latch_tick (replay plan is) row p (rests_run plan is p).forced h in
     elim it.1 [
       | inl k ↦ rw (it.0, k) refl
-      | inr k ↦ (let before : was_forced_off plan p is ≡ true = latched plan is p k in rw (it.0, before) (or_true (is_forced_off (replay plan is) row p)))
+      | inr k ↦ (let before : was_forced_off plan p is ≡ true = latched plan is p k in rw (it.0, before) (or_right (is_forced_off (replay plan is) row p) true refl))
     ]
-  where
-    or_true : (b : Bool) → (b || true) ≡ true
-    or_true true = refl
-    or_true false = refl
 latched plan (inputs.Pattern n ∷ is) p h = absurd (false≢true h)
 latched plan (inputs.Fault lamp ∷ is) p h = latched plan is p (sym (lit_latch (replay plan is) lamp p) ∙ h)
 latched plan (inputs.Reset ∷ is) p h = latched plan is p (reset_latch (replay plan is) p h)
 latched plan (i ∷ is) p h = latched plan is p h
 
-few_now : (plan : Plan) (is : List Input) → plan.phase_count ≤ 16 → (replay plan is).plan.phase_count ≤ 16
+pub few_now : (plan : Plan) (is : List Input) → plan.phase_count ≤ 16 → (replay plan is).plan.phase_count ≤ 16
 few_now plan is few = let same = count_run plan is in omega (arith, same, few)
 
 -- a coordinated phase is forced off at its instant and in its permissive time, and neither late nor by floating
@@ -278,7 +274,7 @@ ends_by_force_off plan is row p ok few taken dark ends held quiet =
 
 -- ## Omitted phases
 
-no_target : (s : State) (row : Row) → service s row ≡ None → (rings_given s row).target ≡ None
+pub no_target : (s : State) (row : Row) → service s row ≡ None → (rings_given s row).target ≡ None
 unfolding rings_given new_service
 no_target s row quiet = go (preempts.new_service s.plan (preempts_given s row) (preempts_read s)) quiet
   where

@@ -25,11 +25,11 @@ use Rattle.tsb_step.specs.Runs.{replay, AreTaken}
 use Rattle.tsb_step.specs.Laws.{IsConsistent}
 use Rattle.tsb_step.specs.Good.{IsGood}
 use Rattle.tsb_step.proofs.ClipLemmas.{clipped_holds}
-use Rattle.tsb_step.proofs.CommitLemmas.{still}
 use Rattle.tsb_step.proofs.EditLemmas.{kept}
 use Rattle.tsb_step.proofs.GivenLemmas.{symmetric, given}
 use Rattle.tsb_step.proofs.IntervalLemmas.{intervals_after}
 use Rattle.tsb_step.proofs.KeptLemmas.{IsKept, kept_run}
+use Rattle.tsb_step.proofs.tsb_rules.ConsistentLemmas.{is-off}
 use Rattle.tsb_laws.proofs.safety.ChoiceLemmas.{pick_enabled, entry_enabled}
 
 -- ## What is callable is enabled, and was not Green
@@ -53,21 +53,13 @@ pub callable_no_green : (s : State) (row : Row) (p : ℕ) → (rings_given s row
 callable_no_green s row p h =
     let free = and_parts (is_enabled s.plan p) (not ((calls_given s row).omitted p) && not (was_green (calls_given s row) p)) (callable_free s row p h) in
     let both = and_parts (not ((calls_given s row).omitted p)) (not (was_green (calls_given s row) p)) free.1 in
-    not_so (is_green (interval s p)) both.1
-  where
-    not_so : (b : Bool) → not b ≡ true → b ≡ false
-    not_so true e = cc
-    not_so false e = refl
+    is-off (is_green (interval s p)) both.1
 
 pub callable_not_omitted : (s : State) (row : Row) (p : ℕ) → (rings_given s row).callable p ≡ true → (calls_given s row).omitted p ≡ false
 callable_not_omitted s row p h =
     let free = and_parts (is_enabled s.plan p) (not ((calls_given s row).omitted p) && not (was_green (calls_given s row) p)) (callable_free s row p h) in
     let both = and_parts (not ((calls_given s row).omitted p)) (not (was_green (calls_given s row) p)) free.1 in
-    not_so ((calls_given s row).omitted p) both.0
-  where
-    not_so : (b : Bool) → not b ≡ true → b ≡ false
-    not_so true e = cc
-    not_so false e = refl
+    is-off ((calls_given s row).omitted p) both.0
 
 -- ## A tick
 

@@ -1,5 +1,5 @@
 -- The wide plan breaks the rule that the narrow one breaks first, or none with it.
-use Rattle.std.proofs.Common.{◌≡◌, ℕ, ◌≤◌, ◌==◌, nat_le, Bool, true, false, not, ◌&&◌, ◌||◌, List, [], ◌∷◌, refl, arith, sym, ◌∙◌, ap}
+use Rattle.std.proofs.Common.{◌≡◌, ℕ, ◌≤◌, ◌==◌, nat_le, Bool, true, false, not, ◌&&◌, ◌||◌, refl, arith, sym, ◌∙◌, ap}
 use Rattle.std.specs.List.{list_all}
 use Rattle.std.proofs.Math.Path.{fun_ext}
 use Rattle.std.proofs.lemmas.Bool.Decides.{nat_tests}
@@ -13,6 +13,7 @@ use Rattle.tsb_laws.specs.Widened.{IsNarrow, widened}
 use Rattle.tsb_laws.proofs.versions.PlanLemmas.{any-same, all-same, beyond-narrow, not-enabled, names-none, not-concurrent}
 use Rattle.tsb_laws.proofs.versions.SequenceLemmas.{each_phase-same, first_sequence-same, other_sequences-same}
 use Rattle.tsb_laws.proofs.versions.PatternLemmas.{whole-same, holding-same, filling-same, coordinating-same, permissive-same}
+use Rattle.tsb_laws.proofs.operation.OptionLemmas.{all_hold}
 
 -- ## Rings, sides and concurrency
 
@@ -54,14 +55,10 @@ named_back-same plan p narrow =
     all-same plan (λ q. not (is_concurrent plan p q) || is_concurrent plan q p) (λ q. not (is_concurrent plan p q) || is_concurrent plan q p)
     narrow (λ q in_it. refl) (λ q out. rw (not-concurrent plan p q narrow out) refl)
 
-all-always : (test : ℕ → Bool) (ps : List ℕ) → ((p : ℕ) → test p ≡ true) → list_all test ps ≡ true
-all-always test [] always = refl
-all-always test (p ∷ ps) always = rw (always p) (all-always test ps always)
-
 -- a phase with an empty list is named back
 empty-named_back : (plan : Plan) (p : ℕ) → plan.value PhaseConcurrency p ≡ 0 → is_named_back plan p ≡ true
 empty-named_back plan p empty =
-    all-always (λ q. not (is_concurrent plan p q) || is_concurrent plan q p) (phases plan) (λ q. at q (ap (λ n. names n q) empty ∙ names-zero q))
+    all_hold (λ q. not (is_concurrent plan p q) || is_concurrent plan q p) (phases plan) (λ q. at q (ap (λ n. names n q) empty ∙ names-zero q))
   where
     at : (q : ℕ) → is_concurrent plan p q ≡ false → (not (is_concurrent plan p q) || is_concurrent plan q p) ≡ true
     at q e = rw e refl
