@@ -7,10 +7,8 @@ use Rattle.tsb_step.specs.tsb_types.declared.refusal.Refusal.TheVariants.{InServ
 use Rattle.tsb_step.specs.tsb_types.declared.row.Row.{Row}
 use Rattle.tsb_step.specs.tsb_types.Sets.{all_off}
 use Rattle.tsb_step.specs.tsb_plan.declared.object.Object.TheVariants.{OverlapIncludedPhases}
-use Rattle.tsb_step.specs.tsb_plan.Objects.{greatest}
 use Rattle.tsb_step.specs.tsb_plan.Plan.{Plan}
 use Rattle.tsb_step.specs.tsb_plan.Quad.{quad}
-use Rattle.tsb_step.specs.tsb_rules.Rules.{first_broken}
 use Rattle.tsb_step.specs.tsb_heads.Heads.{Heads}
 use Rattle.tsb_step.specs.tsb_heads.Displays.{ordered}
 use Rattle.tsb_step.specs.tsb_heads.Monitoring.{gives_way}
@@ -27,7 +25,7 @@ use Rattle.tsb_step.specs.TimeLaws.{is_tick}
 use Rattle.tsb_step.proofs.Examples.Scenes.{opened, resting}
 use Rattle.tsb_step.proofs.Examples.SignsExamples.{tripped}
 use Rattle.tsb_step.proofs.Examples.StepExamples.{edit, editing}
-use Rattle.tsb_laws.proofs.safety.Examples.PlanFits.{quad_fits, consistent}
+use Rattle.tsb_laws.proofs.safety.Examples.PlanFits.{quad_consistent}
 
 -- ## Trips stay: a tick that judges a controller which has tripped
 
@@ -94,18 +92,10 @@ record LitHead (plan : Plan) (is : List Input) (i : Input) (p : ℕ) : Type 0 wh
   same_trip : (step (replay plan is) i).trip ≡ (replay plan is).trip
   lit : gives_way ((display (replay plan is)).vehicle p) ≡ true
 
-quad_count : quad.phase_count ≡ 16
-unfolding quad
-quad_count = refl
-
-quad_breaks_none : first_broken quad ≡ None
-unfolding opened
-quad_breaks_none = refl
-
 a_lit_head : LitHead quad (Tick all_off ∷ []) (Pattern 1) 2
 unfolding opened
 a_lit_head = record {
-  consistent = consistent greatest quad quad_count quad_breaks_none (quad_fits greatest refl refl);
+  consistent = quad_consistent;
   taken = (tt, refl);
   no_tick = refl;
   allowed = refl;

@@ -1,5 +1,5 @@
 -- A phase that starts as it is called, and a mistake that the law of calls and starts refuses.
-use Rattle.std.proofs.Common.{◌≡◌, ℕ, Bool, true, false, ◌&&◌, List, [], ◌∷◌, Some, None, refl, sym, ◌∙◌}
+use Rattle.std.proofs.Common.{◌≡◌, ℕ, Bool, false, ◌&&◌, List, [], ◌∷◌, Some, None, refl, sym, ◌∙◌}
 use Rattle.tsb_step.specs.tsb_types.Sets.{all_off}
 use Rattle.tsb_step.specs.tsb_types.declared.interval.Interval.TheVariants.{Red, Green}
 use Rattle.tsb_step.specs.tsb_types.declared.row.Row.{Row}
@@ -17,7 +17,8 @@ use Rattle.tsb_step.specs.Runs.{replay, AreTaken}
 use Rattle.tsb_step.specs.Laws.{IsConsistent}
 use Rattle.tsb_step.proofs.Examples.Scenes.{opened}
 use Rattle.tsb_laws.specs.Stretches.{StartsGreen}
-use Rattle.tsb_laws.proofs.safety.Examples.CoordinationRuns.{quad_consistent}
+use Rattle.tsb_laws.proofs.safety.Examples.PlanFits.{quad_consistent}
+use Rattle.tsb_laws.proofs.operation.Examples.ServedRuns.{power_up_dark}
 
 -- ## Phase 2 is recalled, and starts at power-up
 
@@ -33,10 +34,6 @@ starts_2 : interval (replay quad (Tick all_off ∷ [])) 2 ≡ Green
 unfolding opened
 starts_2 = refl
 
-dark : (replay quad []).trip ≡ None
-unfolding opened
-dark = refl
-
 record Start (plan : Plan) (is : List Input) (row : Row) (q : ℕ) : Type 0 where
   consistent : IsConsistent plan
   taken : AreTaken plan is
@@ -48,7 +45,7 @@ a_called_start : Start quad [] all_off 2
 a_called_start = record {
   consistent = quad_consistent;
   taken = tt;
-  untripped = dark;
+  untripped = power_up_dark;
   unserved = idle;
   starts = record { was_not = λ h. (let bad : Red ≡ Green = sym was_red ∙ h in absurd cc); starts = starts_2 };
 }

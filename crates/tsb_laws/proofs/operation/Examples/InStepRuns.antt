@@ -26,8 +26,9 @@ use Rattle.tsb_step.proofs.Examples.Scenes.{opened}
 use Rattle.tsb_laws.specs.CoordinatedGreens.{HasGoneOn}
 use Rattle.tsb_laws.specs.InStep.{selects_none, BeginsInStep, keeps_in_step, HasComeSince}
 use Rattle.tsb_laws.proofs.operation.CoordinatedRunLemmas.{pattern_stays, correction_stays}
-use Rattle.tsb_laws.proofs.operation.Examples.RecycledWalkRuns.{quiet_for, tick_taken}
+use Rattle.tsb_laws.proofs.operation.Examples.RecycledWalkRuns.{quiet_for}
 use Rattle.tsb_laws.proofs.safety.Examples.PlanFits.{Fits, values_fit, quad_fits, consistent}
+use Rattle.tsb_laws.proofs.safety.Examples.TickRuns.{tick_taken}
 
 -- ## Pattern 2 is selected in tick 1 while pattern 1 runs: 10 ticks ahead, it loses one in 3 ticks by add only
 

@@ -21,7 +21,7 @@ use Rattle.tsb_step.specs.Runs.{replay, AreTaken}
 use Rattle.tsb_step.specs.Laws.{IsConsistent}
 use Rattle.tsb_step.proofs.Examples.Scenes.{opened, after, vehicle, button, these, all_red, called, red, resting, entering}
 use Rattle.tsb_laws.specs.KeptCalls.{RunsOn}
-use Rattle.tsb_laws.proofs.safety.Examples.CoordinationRuns.{quad_consistent}
+use Rattle.tsb_laws.proofs.safety.Examples.PlanFits.{quad_count, quad_consistent}
 
 -- ## A car calls 4 and a pedestrian 2, and two ticks come
 
@@ -33,10 +33,6 @@ asking = Tick asked ∷ Tick all_off ∷ []
 
 abbrev waiting : List Input
 waiting = Tick all_off ∷ Tick all_off ∷ []
-
-quad_count : quad.phase_count ≡ 16
-unfolding quad
-quad_count = refl
 
 taken : AreTaken quad (waiting ++ asking)
 unfolding opened

@@ -1,10 +1,10 @@
 -- A run from power-up in which an overlap is green, and a mistake that the law of overlaps refuses.
-use Rattle.std.proofs.Common.{◌≡◌, ℕ, Bool, true, false, List, [], ◌∷◌, Some, None, refl}
+use Rattle.std.proofs.Common.{◌≡◌, ℕ, Bool, true, List, [], ◌∷◌, Some, None, refl}
 use Rattle.tsb_step.specs.tsb_types.Sets.{all_off}
 use Rattle.tsb_step.specs.tsb_types.declared.lamp.Aspect.TheVariants as aspects
 use Rattle.tsb_step.specs.tsb_types.Intervals.{in_service}
 use Rattle.tsb_step.specs.tsb_plan.Parts.{is_included}
-use Rattle.tsb_step.specs.tsb_plan.Plan.{Plan, is_concurrent}
+use Rattle.tsb_step.specs.tsb_plan.Plan.{Plan}
 use Rattle.tsb_step.specs.tsb_plan.Quad.{quad}
 use Rattle.tsb_step.specs.tsb_rules.PatternRules.{some_and}
 use Rattle.tsb_step.specs.tsb_heads.Monitoring.{gives_way}
@@ -17,7 +17,7 @@ use Rattle.tsb_step.specs.Signs.{display}
 use Rattle.tsb_step.specs.Runs.{replay, AreTaken}
 use Rattle.tsb_step.specs.Laws.{IsConsistent}
 use Rattle.tsb_step.proofs.Examples.Scenes.{opened, clearing, these, all_red, red}
-use Rattle.tsb_laws.proofs.safety.Examples.CoordinationRuns.{quad_consistent}
+use Rattle.tsb_laws.proofs.safety.Examples.PlanFits.{quad_consistent}
 
 -- ## Overlap 1 includes 1 and 2, and 2 is Green from tick 1 on
 
@@ -48,10 +48,6 @@ leaving = record red {
 
 serves_3 : in_service (interval leaving 3) ≡ true
 serves_3 = refl
-
-are_apart : is_concurrent quad 2 3 ≡ false
-unfolding opened
-are_apart = refl
 
 shows_red : (display leaving).overlap 1 ≡ aspects.Red
 unfolding opened

@@ -17,7 +17,7 @@ use Rattle.tsb_step.specs.Runs.{replay, AreTaken}
 use Rattle.tsb_step.specs.Laws.{IsConsistent}
 use Rattle.tsb_step.proofs.Examples.Scenes.{opened, called, dwelling}
 use Rattle.tsb_laws.specs.Stretches.{StartsGreen}
-use Rattle.tsb_laws.proofs.safety.Examples.CoordinationRuns.{quad_consistent}
+use Rattle.tsb_laws.proofs.safety.Examples.PlanFits.{quad_consistent}
 
 -- ## Preempt 1 is switched on at power-up, and brings 3 and 8
 

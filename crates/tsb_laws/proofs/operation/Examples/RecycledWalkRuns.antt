@@ -1,11 +1,9 @@
 -- Runs from power-up that meet all premises of the laws of walks that begin within a green, and mistakes that these
 -- laws refuse.
-use Rattle.std.proofs.Common.{◌≡◌, ℕ, zero, suc, ◌+◌, ◌-◌, ◌<◌, ◌≤◌, nat_lt, Bool, true, false, not, ◌&&◌, ◌||◌, if◌then◌else◌, List, [], ◌∷◌, ◌++◌, Option, Some, None, is_some, is_none, option_map, refl, sym, ap, arith, ◌∙◌}
-use Rattle.std.proofs.lemmas.Bool.{and_from, true≢false, false≢true}
-use Rattle.std.proofs.lemmas.Bool.Decides.{nat_tests}
+use Rattle.std.proofs.Common.{◌≡◌, ℕ, zero, suc, ◌+◌, ◌-◌, ◌<◌, ◌≤◌, Bool, true, false, not, ◌&&◌, ◌||◌, if◌then◌else◌, List, [], ◌∷◌, ◌++◌, Option, Some, None, is_some, is_none, option_map, refl, sym, ap, arith, ◌∙◌}
+use Rattle.std.proofs.lemmas.Bool.{and_from, true≢false, and_right, and_left}
 use Rattle.tsb_step.specs.tsb_cells.Timer.{has_reached}
 use Rattle.tsb_step.specs.tsb_cells.declared.timer.Timer.TheVariants.{On}
-use Rattle.tsb_step.specs.tsb_types.declared.refusal.Refusal.TheVariants.{TickLimit}
 use Rattle.tsb_step.specs.tsb_types.Lists.{first, run_from}
 use Rattle.tsb_step.specs.tsb_types.Sets.{all_off}
 use Rattle.tsb_step.specs.tsb_types.declared.interval.Interval.TheVariants.{Green}
@@ -30,7 +28,7 @@ use Rattle.tsb_step.specs.declared.inputs.Input.{Input}
 use Rattle.tsb_step.specs.declared.inputs.Input.TheVariants.{Tick, Pattern}
 use Rattle.tsb_step.specs.State.{State, interval, pedestrian_part}
 use Rattle.tsb_step.specs.Signs.{watched, IsInStep}
-use Rattle.tsb_step.specs.Step.{verdict, step}
+use Rattle.tsb_step.specs.Step.{step}
 use Rattle.tsb_step.specs.Tick.{preempts_given, new_service, service, runs, hold, forced, recycle, conflict, pedestrian_call, phases_given, phase_read, next}
 use Rattle.tsb_step.specs.Runs.{replay, AreTaken}
 use Rattle.tsb_step.specs.Laws.{IsConsistent, is_unlit}
@@ -46,6 +44,7 @@ use Rattle.tsb_laws.proofs.operation.InStepLemmas.{forces_as}
 use Rattle.tsb_laws.proofs.operation.RecycleTimeLemmas.{IsRecycled, recycled_so}
 use Rattle.tsb_laws.proofs.operation.RecycledRunLemmas.{calls_are_recycled}
 use Rattle.tsb_laws.proofs.safety.Examples.PlanFits.{Fits, values_fit, quad_fits, consistent}
+use Rattle.tsb_laws.proofs.safety.Examples.TickRuns.{tick_taken}
 
 -- ## 2 is coordinated, and its button is pressed in tick 2: its walk takes 10 ticks, its clearance 10, and 20 are left
 
@@ -152,10 +151,6 @@ none_of_four : (test : ℕ → Bool) → test 1 ≡ false → test 2 ≡ false �
 unfolding run_from
 none_of_four test one two three four = rw (one, two, three, four) refl
 
-no_input : (d w e : Bool) → w ≡ false → (d && (w && e)) ≡ false
-no_input true w e h = rw h refl
-no_input false w e h = refl
-
 module _ (s : State) (it : NoPreempt s.preempts) where
   abbrev given : preempts.Given
   given = preempts_given s all_off
@@ -165,8 +160,10 @@ module _ (s : State) (it : NoPreempt s.preempts) where
 
   none_asks : (n : ℕ) → given.row n ≡ false → requests s.plan given read n ≡ false
   none_asks n off =
-      no_input (has_dwell s.plan n) (given.row n || s.preempts.switch n) (has_reached (delay_timer given read n) (preempt_delay s.plan n) && not (still_spent given read n))
-      (rw (off, it.switches n) refl)
+      and_right (has_dwell s.plan n)
+      ((given.row n || s.preempts.switch n) && (has_reached (delay_timer given read n) (preempt_delay s.plan n) && not (still_spent given read n)))
+      (and_left (given.row n || s.preempts.switch n) (has_reached (delay_timer given read n) (preempt_delay s.plan n) && not (still_spent given read n))
+      (rw (off, it.switches n) refl))
 
   none_begins : beginning s.plan given read ≡ None
   unfolding beginning requesting
@@ -227,14 +224,6 @@ at_base = record {
 
 run_dark : (k : ℕ) → At k → (replay walking (quiet_for k ++ base)).trip ≡ None
 run_dark k it = faults_alone_trip walking (quiet_for k ++ base) walking_consistent it.taken it.unlit
-
-pub tick_taken : (s : State) (row : Row) → s.now ≤ 1000 → verdict s (Tick row) ≡ None
-unfolding verdict
-tick_taken s row low = go (nat_lt s.now 6000000) (grind (arith, nat_tests, low))
-  where
-    go : (b : Bool) → b ≡ true → (if b then None else Some TickLimit) ≡ None
-    go true h = refl
-    go false h = absurd (false≢true h)
 
 at_next : (k : ℕ) → k ≤ 900 → At k → At (suc k)
 at_next k low it = record {

@@ -34,7 +34,7 @@ use Rattle.tsb_step.proofs.GivenLemmas.{enabled_is_listed}
 use Rattle.tsb_step.proofs.Examples.Scenes.{opened, vehicle, green, these, all_red, called, red, resting}
 use Rattle.tsb_laws.specs.Stretches.{IsUntripped, has_held_since}
 use Rattle.tsb_laws.specs.ServedCalls.{is_pressed, HasBeenPressed, longest_maximum, longest_initial, IsDoneWithin, IsFullyConcurrent, is_waiting, HasWaited, longest_green, TurnsTakeAtMost, still_to_come, IsToCome, is_outside}
-use Rattle.tsb_laws.proofs.safety.Examples.PlanFits.{Fits, values_fit, quad_fits, consistent}
+use Rattle.tsb_laws.proofs.safety.Examples.PlanFits.{Fits, values_fit, quad_fits, consistent, quad_count, quad_consistent}
 
 -- ## A green that may end at once: 1 is on recall, with no minimum green and no maximum, and 2 is called
 
@@ -109,25 +109,14 @@ a_press = record {
 
 -- ## A phase that comes: 2 is on recall, and 1 comes before it
 
-quad_count : quad.phase_count ≡ 16
-unfolding quad
-quad_count = refl
-
-quad_breaks_none : first_broken quad ≡ None
-unfolding opened
-quad_breaks_none = refl
-
 quad_fit : Fits greatest quad.value
 quad_fit = quad_fits greatest refl refl
-
-quad_consistent : IsConsistent quad
-quad_consistent = consistent greatest quad quad_count quad_breaks_none quad_fit
 
 first_taken : AreTaken quad ticked
 unfolding opened
 first_taken = (tt, refl)
 
-power_up_dark : (replay quad []).trip ≡ None
+pub power_up_dark : (replay quad []).trip ≡ None
 power_up_dark = refl
 
 first_dark : (replay quad ticked).trip ≡ None

@@ -1,6 +1,6 @@
 -- Runs from power-up that meet all premises of a law at once: of coordinated greens, of omitted phases, of greens that clear in
 -- time, and of trips.
-use Rattle.std.proofs.Common.{◌≡◌, ◌≢◌, ℕ, ◌+◌, ◌≤◌, Bool, true, false, List, [], ◌∷◌, ◌++◌, Some, None, is_some, refl, sym, ap, arith, ◌∙◌}
+use Rattle.std.proofs.Common.{◌≡◌, ℕ, ◌+◌, ◌≤◌, Bool, true, false, List, [], ◌∷◌, Some, None, is_some, refl, sym, arith, ◌∙◌}
 use Rattle.tsb_step.specs.tsb_types.Sets.{all_off}
 use Rattle.tsb_step.specs.tsb_types.declared.interval.Interval.TheVariants.{Green, Yellow, Red}
 use Rattle.tsb_step.specs.tsb_types.declared.lamp.Lamp.TheVariants as lamps
@@ -28,7 +28,7 @@ use Rattle.tsb_step.specs.ClearanceLaws.{EndsNow, IsForcedOff}
 use Rattle.tsb_step.proofs.Examples.Scenes.{opened, vehicle}
 use Rattle.tsb_laws.specs.Coordination.{in_permissive_time, was_forced_off}
 use Rattle.tsb_laws.specs.Stretches.{EndsGreen, StartsGreen}
-use Rattle.tsb_laws.proofs.safety.Examples.PlanFits.{Fits, values_fit, quad_fits, consistent}
+use Rattle.tsb_laws.proofs.safety.Examples.PlanFits.{Fits, values_fit, quad_fits, consistent, quad_consistent}
 use Rattle.tsb_laws.proofs.safety.Examples.TickRuns.{dark_after}
 
 -- ## A coordinated green that is forced off: pattern 1 is at local 752 in the second tick, in which 1 is called
@@ -325,18 +325,6 @@ an_omission = record {
 }
 
 -- ## A run in which a lamp was lit, and that has not tripped since: a reset started it anew
-
-quad_count : quad.phase_count ≡ 16
-unfolding quad
-quad_count = refl
-
--- the built-in plan breaks no rule
-quad_breaks_none : first_broken quad ≡ None
-unfolding opened
-quad_breaks_none = refl
-
-pub quad_consistent : IsConsistent quad
-quad_consistent = consistent greatest quad quad_count quad_breaks_none (quad_fits greatest refl refl)
 
 abbrev lit : List Input
 lit = Fault (Some (lamps.Phase 3 signals.Green)) ∷ Tick all_off ∷ []

@@ -1,10 +1,10 @@
 -- Plans that are given by their values: such a plan gives nothing where it has no place, and no value over a limit of its
 -- object.
-use Rattle.std.proofs.Common.{◌≡◌, ℕ, ◌+◌, ◌≤◌, nat_le, Bool, true, false, ◌&&◌, if◌then◌else◌, List, [], ◌∷◌, None, refl, sym, ap, ap₂, subst, arith, ◌∙◌}
+use Rattle.std.proofs.Common.{◌≡◌, ℕ, ◌≤◌, nat_le, Bool, true, false, ◌&&◌, if◌then◌else◌, List, [], ◌∷◌, None, refl, sym, ap, ap₂, subst, arith, ◌∙◌}
 use Rattle.std.specs.List.{list_all}
 use Rattle.std.proofs.lemmas.Bool.{and_parts, leb-true, true≢false}
 use Rattle.tsb_step.specs.tsb_plan.declared.object.Object.{Object}
-use Rattle.tsb_step.specs.tsb_plan.Objects.{has_index}
+use Rattle.tsb_step.specs.tsb_plan.Objects.{has_index, greatest}
 use Rattle.tsb_step.specs.tsb_plan.Plan.{Plan, empty, is_same, with_value, with_values}
 use Rattle.tsb_step.specs.tsb_plan.Quad.{row, with_rows, quad_rows, quad_values, quad}
 use Rattle.tsb_step.proofs.tsb_plan.TableLemmas.{order-injective}
@@ -13,6 +13,7 @@ use Rattle.tsb_step.specs.tsb_rules.Rules.{first_broken}
 use Rattle.tsb_step.specs.Laws.{IsConsistent}
 use Rattle.tsb_step.specs.Tables.{has_place, indices_for}
 use Rattle.tsb_step.proofs.PlaceLemmas.{same_indices}
+use Rattle.tsb_step.proofs.Examples.Scenes.{opened}
 
 -- at an index that an object has not its value is 0, and no value is over the object's limit
 pub record Fits (limit : Object → ℕ) (value : Object → ℕ → ℕ) : Type 0 where
@@ -71,3 +72,17 @@ consistent limit plan count rules fits = record {
   where
     here : (o : Object) (i : ℕ) → has_place plan o i ≡ (nat_le 1 i && nat_le i (indices_for 16 o))
     here o i = ap (λ (n : ℕ). nat_le 1 i && nat_le i (indices_for n o)) count
+
+-- ## The built-in plan
+
+pub quad_count : quad.phase_count ≡ 16
+unfolding quad
+quad_count = refl
+
+-- it breaks no rule
+pub quad_breaks_none : first_broken quad ≡ None
+unfolding opened
+quad_breaks_none = refl
+
+pub quad_consistent : IsConsistent quad
+quad_consistent = consistent greatest quad quad_count quad_breaks_none (quad_fits greatest refl refl)

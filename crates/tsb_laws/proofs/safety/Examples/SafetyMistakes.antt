@@ -35,7 +35,7 @@ yellow_29 = record phase.at_power_up { interval = Yellow; timer = On 29 }
 abbrev at_barrier_in_yellow : State
 at_barrier_in_yellow = record at_barrier { phases = these (2 ∷ 6 ∷ []) yellow_29 all_red }
 
-are_apart : is_concurrent quad 2 3 ≡ false
+pub are_apart : is_concurrent quad 2 3 ≡ false
 unfolding opened
 are_apart = refl
 

@@ -1,6 +1,6 @@
 -- Runs that end in ticks of one row: each tick is taken, none trips the controller where no lamp was lit, and none changes the
 -- plan. By these lemmas a run of 40 ticks meets premises of the laws without being computed tick by tick.
-use Rattle.std.proofs.Common.{zero, suc, ◌≡◌, ℕ, ◌+◌, ◌≤◌, nat_lt, Bool, true, ◌&&◌, max, List, [], ◌∷◌, ◌++◌, Option, Some, None, if◌then◌else◌, refl, sym, ap, arith, append_assoc, ◌∙◌}
+use Rattle.std.proofs.Common.{zero, suc, ◌≡◌, ℕ, ◌+◌, ◌≤◌, nat_lt, true, max, List, [], ◌∷◌, ◌++◌, None, refl, sym, ap, arith, append_assoc, ◌∙◌}
 use Rattle.std.proofs.lemmas.Bool.Decides.{nat_tests}
 use Rattle.tsb_step.specs.tsb_types.declared.limits.TheConstants.{TICKS}
 use Rattle.tsb_step.specs.tsb_types.declared.row.Row.{Row}
@@ -31,9 +31,9 @@ same_max a b c e f = rw (e, f) (one c)
 in_reach : (n : ℕ) → n ≤ 1000 → nat_lt n TICKS ≡ true
 in_reach n few = grind (arith, nat_tests, few)
 
-taken_then : (s : State) (row : Row) → s.now ≤ 1000 → verdict s (Tick row) ≡ None
+pub tick_taken : (s : State) (row : Row) → s.now ≤ 1000 → verdict s (Tick row) ≡ None
 unfolding verdict
-taken_then s row few = rw (in_reach s.now few) refl
+tick_taken s row few = rw (in_reach s.now few) refl
 
 module _ (plan : Plan) (row : Row) (is : List Input) where
   pub now_then : (n : ℕ) → (replay plan (ticks row n ++ is)).now ≡ (replay plan is).now + n
@@ -63,7 +63,7 @@ module _ (plan : Plan) (row : Row) (is : List Input) where
   all_taken (suc n) taken few = (
     all_taken n taken (omega (arith, few)),
     (let before : (replay plan (ticks row n ++ is)).now ≡ (replay plan is).now + n = now_then n in
-        taken_then (replay plan (ticks row n ++ is)) row (omega (arith, few, before))),
+        tick_taken (replay plan (ticks row n ++ is)) row (omega (arith, few, before))),
   )
 
   pub unlit_then : (n : ℕ) → is_unlit plan is ≡ true → is_unlit plan (ticks row n ++ is) ≡ true
