@@ -9,8 +9,8 @@ use Rattle.tsb_step.specs.tsb_plan.declared.object.Object.TheVariants.{PatternCy
 use Rattle.tsb_step.specs.tsb_plan.Plan.{Plan, phases, is_enabled, ring_of, recycles_walk}
 use Rattle.tsb_step.specs.tsb_plan.declared.plan.patterns.CorrectionMode.{CorrectionMode}
 use Rattle.tsb_step.specs.tsb_plan.declared.plan.patterns.CorrectionMode.TheVariants.{AtOnce}
-use Rattle.tsb_step.specs.tsb_plan.Parts.{is_used, cycle, correction_mode, permissive_time, leads_and_lags}
-use Rattle.tsb_step.specs.tsb_plan.Running.{running, is_coordinated_now, floating_time, maximum_by_mode, pattern_maximum}
+use Rattle.tsb_step.specs.tsb_plan.Parts.{floats, is_used, cycle, correction_mode, permissive_time, leads_and_lags, is_coordinated}
+use Rattle.tsb_step.specs.tsb_plan.Running.{running, is_coordinated_now, split_in_effect, split_green, floating_in, floating_time, maximum_by_mode, pattern_maximum}
 use Rattle.tsb_step.specs.tsb_rules.Consistent.{IsWhole}
 use Rattle.tsb_step.specs.tsb_rules.PatternRules.{permissive_times_end}
 use Rattle.tsb_step.specs.tsb_rules.Rules.{first_broken}
@@ -23,6 +23,14 @@ use Rattle.tsb_step.specs.tsb_phase.Green.{conflict_timer, has_reached_some, act
 use Rattle.tsb_step.specs.tsb_phase.DynamicMaximum.{maximum_in_use}
 
 -- ## No green floats
+
+floating_none : (plan : Plan) (o : Option ℕ) (p : ℕ) → floats plan ≡ false → floating_in plan o p ≡ None
+floating_none plan None p off = refl
+floating_none plan (Some t) p off =
+    ap (λ (b : Bool). if b && not (is_coordinated plan t p) then Some (split_green plan t p) else None) off
+
+pub never_floats : (plan : Plan) (runs : Option ℕ) (p : ℕ) → floats plan ≡ false → floating_time plan runs p ≡ None
+never_floats plan runs p off = floating_none plan (split_in_effect plan runs) p off
 
 pub latched_by_instant : (plan : Plan) (given : Given) (p : ℕ) (held : GreenHeld) → floating_time plan given.runs p ≡ None →
     forced_latch plan given p held ≡ (is_some given.runs && (is_none given.service && (given.conflict p && (given.forced p || held.forced))))

@@ -18,11 +18,10 @@ use Rattle.tsb_step.specs.tsb_phase.Green.{waits_for, cars_waiting, reduction_ti
 use Rattle.tsb_step.specs.tsb_phase.Pedestrian.{ended_by, walk_time, clearance_time, pedestrian_after, pedestrian_now}
 use Rattle.tsb_step.specs.tsb_phase.Ready.{is_gapped_now, has_timed_out, green_is_done, is_ready, is_over_in, is_over, red_revert_passed}
 use Rattle.tsb_step.specs.tsb_phase.Next.{interval_after, held_now, ending_now, next}
-use Rattle.tsb_step.proofs.tsb_phase.GreenLemmas.{not_floating}
 use Rattle.tsb_laws.specs.Widened.{IsNarrow, widened}
 use Rattle.tsb_laws.proofs.versions.ListLemmas.{is_narrow, IsSameOnNarrow, IsBeyondNarrow}
 use Rattle.tsb_laws.proofs.versions.PlanLemmas.{sum-same, not-floating, no-maximum_mode}
-use Rattle.tsb_laws.proofs.operation.OptionLemmas.{latched_by_instant, never_in_patterns}
+use Rattle.tsb_laws.proofs.operation.OptionLemmas.{never_floats, latched_by_instant, never_in_patterns}
 use Rattle.tsb_laws.proofs.versions.CoordLemmas.{maximum_recall-same}
 
 -- what phase timing is given on the wide plan: other phases may be held, beyond the eighth
@@ -62,8 +61,8 @@ has_maxed_out-same plan hold given p held running narrow =
 forced_latch-same : (plan : Plan) (hold : ℕ → Bool) (given : Given) (p : ℕ) (held : GreenHeld) → IsNarrow plan →
     forced_latch (widened plan) (wide_given hold given) p held ≡ forced_latch plan given p held
 forced_latch-same plan hold given p held narrow =
-    latched_by_instant (widened plan) (wide_given hold given) p held (not_floating (widened plan) given.runs p (not-floating plan narrow))
-    ∙ sym (latched_by_instant plan given p held (not_floating plan given.runs p (not-floating plan narrow)))
+    latched_by_instant (widened plan) (wide_given hold given) p held (never_floats (widened plan) given.runs p (not-floating plan narrow))
+    ∙ sym (latched_by_instant plan given p held (never_floats plan given.runs p (not-floating plan narrow)))
 
 stepped-same : (plan : Plan) (p : ℕ) (e : Ending) (n : ℕ) → stepped (widened plan) p e n ≡ stepped plan p e n
 stepped-same plan p MaxOut n = rw (maximum-same plan p) refl

@@ -9,9 +9,8 @@ use Rattle.tsb_step.specs.tsb_rules.PatternRules.{some_and, each_pattern, split_
 use Rattle.tsb_step.specs.tsb_coord.Coordinated.{local}
 use Rattle.tsb_step.proofs.tsb_coord.CorrectionLemmas.{in_step_at_once, local_in_step, forces_in_step}
 use Rattle.tsb_step.proofs.tsb_coord.LocalLemmas.{options_off}
-use Rattle.tsb_step.proofs.tsb_phase.GreenLemmas.{not_floating}
 use Rattle.tsb_laws.specs.Options.{HasNoOptions}
-use Rattle.tsb_laws.proofs.operation.OptionLemmas.{latched_by_instant, never_in_patterns, freely_alone, never_recycles, begins_at_once, times_end, counted_from_first}
+use Rattle.tsb_laws.proofs.operation.OptionLemmas.{never_floats, latched_by_instant, never_in_patterns, freely_alone, never_recycles, begins_at_once, times_end, counted_from_first}
 use Rattle.tsb_laws.proofs.operation.options_off_change_nothing.Goals as goal
 
 never_late : (plan : Plan) → HasNoOptions plan → forces_late plan ≡ false
@@ -57,7 +56,7 @@ pub returns : goal.returns
 returns c plan none = record {
   forced = λ t selected p. options_off plan t selected p (never_late plan none) (λ n. no_time plan n none);
   counted = λ consistent n p is. counted_from_first plan consistent n p is (not_apart plan n none);
-  latched = λ given p held. latched_by_instant plan given p held (not_floating plan given.runs p (no_floating plan none));
+  latched = λ given p held. latched_by_instant plan given p held (never_floats plan given.runs p (no_floating plan none));
   freely = λ given p held running_maximum. freely_alone plan given p held running_maximum (no_mode plan p none);
   acting = λ n p running_maximum. never_in_patterns plan (Some n) p (no_mode plan p none);
   ends = λ n s t p q. ends_at_once plan n s t p q none;
