@@ -196,32 +196,33 @@ impl Cabinet {
         ensures passing { (tick : ℕ) → MayPass tick self.new }
     {
         self.passing.last = 0;
-        let mut entries = change.entries();
-        if undo_layers(&mut self.controller, &mut self.monitor.bank, &mut entries) {
+        let mut left = change.entries();
+        if undo_layers(&mut self.controller, &mut self.monitor.bank, &mut left) {
             return;
         }
-        self.undo_others(change, entries);
+        self.undo_others(change.entries(), left);
     }
 
-    /// Puts back what a record holds of plan and desk, and what these entries, those that are left of it, hold of the
-    /// layers and the monitor. It is out of line: few records have such entries.
+    /// Puts back what the entries of a record hold of plan and desk, and what those that are left of it hold of the
+    /// layers and the monitor. It is out of line: few records have such entries. It is not lent the record, as that would
+    /// have to be made whole for each.
     #[inline(never)]
-    fn undo_others(&mut self, change: Record<'_>, entries: Entries<'_>)
+    fn undo_others(&mut self, entries: Entries<'_>, left: Entries<'_>)
         requires shut { IsShut self.old }
-        requires few { HasFew change.entries }
-        requires ranged { AreInRange (apply_diff (rows_of self.old).plan (part 0 PLAN_CELLS change.entries)) }
-        requires passed { first_broken (plan_in (apply_diff (rows_of self.old).plan (part 0 PLAN_CELLS change.entries))) ≡ None }
-        requires desk { IsRow (apply_diff (rows_of self.old).desk (part DESK DESK_CELLS change.entries)) }
-        ensures plan { (rows_of self.new).plan ≡ apply_diff (rows_of self.old).plan (part 0 PLAN_CELLS change.entry.entries) }
-        ensures desk { (rows_of self.new).desk ≡ apply_diff (rows_of self.old).desk (part DESK DESK_CELLS change.entry.entries) }
-        ensures layers { (rows_of self.new).layers ≡ records.put_back (rows_of self.old).layers entries.entry }
-        ensures monitor { (rows_of self.new).monitor ≡ apply_diff (rows_of self.old).monitor (part MONITOR MONITOR_CELLS entries.entry) }
+        requires few { HasFew entries }
+        requires ranged { AreInRange (apply_diff (rows_of self.old).plan (part 0 PLAN_CELLS entries)) }
+        requires passed { first_broken (plan_in (apply_diff (rows_of self.old).plan (part 0 PLAN_CELLS entries))) ≡ None }
+        requires desk { IsRow (apply_diff (rows_of self.old).desk (part DESK DESK_CELLS entries)) }
+        ensures plan { (rows_of self.new).plan ≡ apply_diff (rows_of self.old).plan (part 0 PLAN_CELLS entries.entry) }
+        ensures desk { (rows_of self.new).desk ≡ apply_diff (rows_of self.old).desk (part DESK DESK_CELLS entries.entry) }
+        ensures layers { (rows_of self.new).layers ≡ records.put_back (rows_of self.old).layers left.entry }
+        ensures monitor { (rows_of self.new).monitor ≡ apply_diff (rows_of self.old).monitor (part MONITOR MONITOR_CELLS left.entry) }
         ensures shut { IsShut self.new }
         ensures passing { self.new.passing ≡ self.old.passing }
     {
-        undo_plan(&mut self.plan, &change);
-        put_back_desk(&mut self.desk, change.entries());
-        undo_rest(&mut self.controller, &mut self.monitor.bank, entries);
+        undo_plan(&mut self.plan, entries.copy());
+        put_back_desk(&mut self.desk, entries);
+        undo_rest(&mut self.controller, &mut self.monitor.bank, left);
     }
 }
 
@@ -276,15 +277,15 @@ fn undo_rest(
     }
 }
 
-/// Puts back what a record holds of the plan.
+/// Puts back what these entries hold of the plan.
 #[inline(always)]
-fn undo_plan(plan: &mut Checked, change: &Record<'_>)
-    requires ranged { AreInRange (apply_diff plan.old.plan.values (part 0 PLAN_CELLS change.now.entries)) }
-    requires passed { first_broken (plan_in (apply_diff plan.old.plan.values (part 0 PLAN_CELLS change.now.entries))) ≡ None }
-    ensures { plan.new.plan.values ≡ apply_diff plan.old.plan.values (part 0 PLAN_CELLS change.now.entries) }
+fn undo_plan(plan: &mut Checked, entries: Entries<'_>)
+    requires ranged { AreInRange (apply_diff plan.old.plan.values (part 0 PLAN_CELLS entries)) }
+    requires passed { first_broken (plan_in (apply_diff plan.old.plan.values (part 0 PLAN_CELLS entries))) ≡ None }
+    ensures { plan.new.plan.values ≡ apply_diff plan.old.plan.values (part 0 PLAN_CELLS entries.entry) }
 {
-    if touches(change, 0, PLAN_CELLS) {
-        put_back_plan(plan, change.entries());
+    if touches(entries.copy(), 0, PLAN_CELLS) {
+        put_back_plan(plan, entries);
     }
 }
 

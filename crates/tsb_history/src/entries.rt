@@ -36,6 +36,18 @@ impl<'a> Entries<'a> {
     {
         Entries { bytes, at, end }
     }
+
+    /// The same entries, to be gone through beside these.
+    #[inline(always)]
+    pub fn copy(&self) -> Entries<'a>
+        ensures { result ≡ self.now }
+    {
+        Entries {
+            bytes: self.bytes,
+            at: self.at,
+            end: self.end,
+        }
+    }
 }
 
 impl<'a> Iterator for Entries<'a> {

@@ -15,14 +15,13 @@ fn is_one_of(cell: u16, offset: u16, count: usize) -> bool
     offset <= cell && (cell as usize) < offset as usize + count
 }
 
-/// Whether the record has an entry of one of the `count` cells from `offset` on.
+/// Whether one of these entries is of one of the `count` cells from `offset` on.
 #[inline(always)]
-pub fn touches(change: &Record<'_>, offset: u16, count: usize) -> bool
+pub fn touches(mut entries: Entries<'_>, offset: u16, count: usize) -> bool
     requires { offset + count ≤ 65536 }
-    ensures untouched { result ≡ false → part offset count change.now.entries ≡ [] }
-    ensures touched { result ≡ true → part offset count change.now.entries ≢ [] }
+    ensures untouched { result ≡ false → part offset count entries.entry ≡ [] }
+    ensures touched { result ≡ true → part offset count entries.entry ≢ [] }
 {
-    let mut entries = change.entries();
     while let Some((cell, _)) = entries.next() {
         if is_one_of(cell, offset, count) {
             return true;

@@ -15,11 +15,11 @@ pub returns-then-undo_layers-clause-rows : goal.returns-then-undo_layers-clause-
 returns-then-undo_layers-clause-rows c =
     let all = c.undo_layers.ensures.all c.if-undo_layers.true in
     let none : part 0 DETECTORS c.args.change.entries ≡ [] =
-    subst (λ (es : List (ℕ × ℕ)). part 0 DETECTORS es ≡ []) c.entries-entries.ensures (c.undo_layers.ensures.others c.if-undo_layers.true) in
+    subst (λ (es : List (ℕ × ℕ)). part 0 DETECTORS es ≡ []) c.entries-left.ensures (c.undo_layers.ensures.others c.if-undo_layers.true) in
     λ i. record {
       plan = stays-inside DETECTORS 0 PLAN_CELLS c.args.change.entries c.args.self.now.plan.plan.values (omega arith) none i;
       desk = stays-inside DETECTORS DESK DESK_CELLS c.args.change.entries (cells_of c.args.self.now.desk) (omega arith) none i;
-      layers = (put_nothing _ _ _ all c.undo_layers.ensures.layers ∙ ap (records.put_back (layers.rows_of c.args.self.now.controller)) c.entries-entries.ensures) i;
+      layers = (put_nothing _ _ _ all c.undo_layers.ensures.layers ∙ ap (records.put_back (layers.rows_of c.args.self.now.controller)) c.entries-left.ensures) i;
       monitor = (set_nothing MONITOR MONITOR_CELLS _ _ _ all c.undo_layers.ensures.monitor
-          ∙ ap (λ (es : List (ℕ × ℕ)). apply_diff (bank.cells_of c.args.self.now.monitor.bank) (part MONITOR MONITOR_CELLS es)) c.entries-entries.ensures) i;
+          ∙ ap (λ (es : List (ℕ × ℕ)). apply_diff (bank.cells_of c.args.self.now.monitor.bank) (part MONITOR MONITOR_CELLS es)) c.entries-left.ensures) i;
     }
