@@ -41,12 +41,14 @@ impl Passing {
     fn covers(&self, tick: u32, row: &Row) -> bool
         ensures ahead { result ≡ true → tick < self.now.last }
         ensures same { result ≡ true → row.now ≡ self.now.row }
+        ensures covered { tick < self.now.last → row.now ≡ self.now.row → result ≡ true }
     {
         tick < self.last && *row == self.row
     }
 }
 
-/// Whether the last of these entries is of a cell of detectors or calls, or there is none: so no other cell changed.
+/// Whether the last of these entries is of a cell before those of the phases, or there is none. In a tick's record it is
+/// then of detectors or calls, and no other cell changed.
 #[inline(always)]
 fn ends_before_phases(changes: &Changes) -> bool
     ensures { result ≡ ends_before_phases changes.now.items }
@@ -62,7 +64,8 @@ impl Cabinet {
     #[inline(always)]
     pub(crate) fn passes(&self, tick: u32, input: &Input) -> bool
         requires { MayPass tick self.now }
-        ensures { result ≡ true → Passes input.now tick (rows_of self.now) }
+        ensures passes { result ≡ true → Passes input.now tick (rows_of self.now) }
+        ensures covered { input.now ≡ inputs.Tick self.now.passing.row → tick < self.now.passing.last → result ≡ true }
     {
         match input {
             Input::Tick(row) => self.passing.covers(tick, row),

@@ -1,5 +1,5 @@
 //! Edits put into the cells of an open transaction, in which they are found by their places.
-ghost use Rattle.std.specs.Prelude.{◌≡◌, ◌≢◌, ℕ, ◌+◌, ◌<◌, ◌≤◌, true, false, is_some, None, slice_index};
+ghost use Rattle.std.specs.Prelude.{◌≡◌, ◌≢◌, ◌==◌, ◌||◌, ℕ, ◌+◌, ◌<◌, ◌≤◌, true, false, is_some, None, slice_index};
 ghost use Rattle.tsb_cells.specs.Bank.{cells_of, kept_of, is_open};
 ghost use Rattle.tsb_plan.specs.PlanOf.{put_refusal};
 ghost use Rattle.tsb_transact.specs.declared.TheConstants.{MOST_EDITS};
@@ -32,7 +32,9 @@ pub fn find_edit(bank: &Bank<CELLS>, place: u32) -> Option<usize>
 /// Whether one of the four edits from edit `k` on has the place.
 fn is_one_of_four(bank: &Bank<CELLS>, k: usize, place: u32) -> bool
     requires { k + 3 ≤ MOST_EDITS }
-    ensures { result ≡ false → (j : ℕ) → k ≤ j → j < k + 4 → place_in (cells_of bank.now) j ≢ place }
+    ensures none { result ≡ false → (j : ℕ) → k ≤ j → j < k + 4 → place_in (cells_of bank.now) j ≢ place }
+    ensures one { result ≡ (place_in (cells_of bank.now) k == place || place_in (cells_of bank.now) (k + 1) == place
+        || place_in (cells_of bank.now) (k + 2) == place || place_in (cells_of bank.now) (k + 3) == place) }
 {
     bank.get(place_cell(k)) == place
         || bank.get(place_cell(k + 1)) == place

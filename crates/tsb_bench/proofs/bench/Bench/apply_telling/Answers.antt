@@ -11,7 +11,7 @@ pub returns-then-has_row-clause-told : goal.returns-then-has_row-clause-told
 returns-then-has_row-clause-told c =
     always c.apply.result
     (c.clear.ensures
-    ∙ sym (passed-tells-none c.args.input c.self.inside.tick (rows_of c.self.inside.cabinet) c.args.last.now (sound-held _ _ _ c.self.invariant.1).by (c.passes.ensures c.if-passes.true) (c.has_row.ensures c.if-has_row.true))
+    ∙ sym (passed-tells-none c.args.input c.self.inside.tick (rows_of c.self.inside.cabinet) c.args.last.now (sound-held _ _ _ c.self.invariant.1).by (c.passes.ensures.passes c.if-passes.true) (c.has_row.ensures c.if-has_row.true))
     ∙ ap (λ (h : Held). events_of c.args.last.now (state_of h) c.args.input) c.self.view_is)
 
 pub before-before-requires-clause-by : goal.before-before-requires-clause-by
