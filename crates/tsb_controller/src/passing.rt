@@ -155,7 +155,7 @@ pub fn watched_ticks_pass()
 ///
 /// Mistake: a record without the cells of the preempts, `changes_without` (`has_a_change`, `would_have_none`); one that
 /// is judged by its first entry, `begins_before_phases` (`crosses`, `ends_late`, `would_begin_early`).
-/// Witness: `can_be` of Examples, with `differs_not`; `differs_early` and `ends_early`, where a detector is occupied.
+/// Witness: `can_be` of Examples, with `differs_not`; `occupied_can_be`, with `differs_early` and `ends_early`.
 pub fn early_records_leave_phases()
     ensures { EarlyRecordsLeavePhases }
 {}

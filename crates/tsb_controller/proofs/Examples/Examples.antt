@@ -1,6 +1,7 @@
 -- Rows that meet what the laws of rows and records ask for: of tick 49, as at power-up but for the side that the rings
 -- serve. And a tick of them, by computing.
-use Rattle.std.proofs.Common.{◌≡◌, ℕ, ◌+◌, ◌≤◌, true, [], ◌∷◌, drop, map, None, refl, arith}
+use Rattle.std.proofs.Common.{◌≡◌, ℕ, zero, suc, ◌+◌, ◌≤◌, true, false, [], ◌∷◌, map, None, refl, arith}
+use Rattle.tsb_cells.specs.declared.timer.Timer.TheVariants.{On}
 use Rattle.tsb_step.specs.tsb_types.Lists.{run_from}
 use Rattle.tsb_step.specs.tsb_types.Sets.{number_of_bits, all_off}
 use Rattle.tsb_step.specs.tsb_plan.Plan.{empty}
@@ -140,8 +141,42 @@ differs_not = refl
 
 -- ## A record that ends before the phases: detector 1 is occupied
 
+abbrev pub occupied_first : ℕ → detector.Detector
+occupied_first (suc zero) = record detector.at_power_up { input = true; on_time = On 0 }
+occupied_first zero = detector.at_power_up
+occupied_first (suc (suc n)) = detector.at_power_up
+
 abbrev pub occupied : ℕ → Rows
-occupied n = record (on_side n) { detectors = 1 ∷ drop 1 (on_side n).detectors }
+occupied n = record (on_side n) { detectors = detectors_cells 49 occupied_first }
+
+occupied_fits : (d : ℕ) → detect.IsStateBy 49 (occupied_first d)
+occupied_fits zero = detectors_fit.each 1 (omega arith) (omega arith)
+occupied_fits (suc zero) = record {
+  rises = omega arith;
+  changed = refl;
+  change = omega arith;
+  on_time = refl;
+  extend = tt;
+  present = λ on. refl;
+  idle = λ off. refl;
+  failed = λ alarm. refl;
+}
+occupied_fits (suc (suc n)) = detectors_fit.each 1 (omega arith) (omega arith)
+
+outside_is_idle : (d : ℕ) → detector.is_detector d ≡ false → occupied_first d ≡ detector.at_power_up
+outside_is_idle zero out = refl
+outside_is_idle (suc zero) out = absurd cc
+outside_is_idle (suc (suc n)) out = refl
+
+occupied_can_be : (n : ℕ) → 1 ≤ n → n ≤ 4 → AreBy 49 (occupied n)
+occupied_can_be n from to = record {
+  detectors = detectors-by 49 occupied_first (record { each = λ d from to. occupied_fits d; others = outside_is_idle });
+  calls = (can_be n from to).calls;
+  phases = (can_be n from to).phases;
+  rings = (can_be n from to).rings;
+  pattern = (can_be n from to).pattern;
+  preempts = (can_be n from to).preempts;
+}
 
 differs_early : changes (on_side 1) (occupied 1) ≡ (DETECTORS, 0) ∷ []
 unfolding run_from number_of_bits
