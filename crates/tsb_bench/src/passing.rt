@@ -1,7 +1,7 @@
 //! Ticks that change nothing but the tick number: the cabinet passes them over while their inputs stay.
 #![tactic(auto, unfolding(tsb_objects::specs::Checked::checked_plan, tsb_plan::specs::PlanOf::plan_of))]
 
-ghost use Rattle.std.specs.Prelude.{◌≡◌, ◌+◌, ◌<◌, ◌≤◌, [], true, None};
+ghost use Rattle.std.specs.Prelude.{◌≡◌, ◌≢◌, ◌+◌, ◌<◌, ◌≤◌, [], true, None};
 ghost use Rattle.arrayvec.specs.ArrayVec.{array_vec_len};
 ghost use Rattle.tsb_step.specs.Good.{IsGood};
 ghost use Rattle.tsb_step.specs.Step.{verdict};
@@ -20,10 +20,12 @@ use tsb_step::first_cell::PHASES;
 /// Which ticks may be passed over.
 #[derive(Clone, Copy)]
 pub(crate) struct Passing {
-    /// The inputs that such a tick has on.
+    /// The inputs that such a tick has on: those of the last tick that was worked out.
     pub(crate) row: Row,
     /// The last such tick; 0 where there is none.
     pub(crate) last: u32,
+    /// The last tick that was worked out. It is a hint alone: no answer goes by it.
+    pub(crate) worked: u32,
 }
 
 impl Passing {
@@ -34,7 +36,19 @@ impl Passing {
         Passing {
             row: Row::all_off(),
             last: 0,
+            worked: 0,
         }
+    }
+
+    /// Whether the tick after tick number `tick` comes at once behind one that was worked out, with other inputs on.
+    /// Where inputs change so, no tick is passed over.
+    #[inline(always)]
+    fn is_restless(&self, tick: u32, row: &Row) -> bool
+        ensures worked { result ≡ true → self.now.worked ≡ tick }
+        ensures others { result ≡ true → row.now ≢ self.now.row }
+        ensures restless { self.now.worked ≡ tick → row.now ≢ self.now.row → result ≡ true }
+    {
+        self.worked == tick && *row != self.row
     }
 
     /// Whether the tick after tick number `tick` may be passed over, with these inputs on.
@@ -74,7 +88,8 @@ impl Cabinet {
     }
 
     /// Works out the tick after tick number `tick`. Where it changes no cell but of detectors and calls, those after it
-    /// with the same inputs may be passed over, up to the one that is due.
+    /// with the same inputs may be passed over, up to the one that is due. Which one that is takes long to find: it is
+    /// not asked where the inputs change in each tick.
     pub(crate) fn work_tick(&mut self, tick: u32, row: &Row, out: &mut Changes)
         requires shut { IsShut self.old }
         requires by { AreAllBy tick (rows_of self.old) }
@@ -86,17 +101,20 @@ impl Cabinet {
         ensures shut { IsShut self.new }
         ensures passing { MayPass (tick + 1) self.new }
     {
+        let is_restless = self.passing.is_restless(tick, row);
+        let now = tick + 1;
         self.tick(tick, row, out);
-        if !ends_before_phases(out) || self.monitor.is_tripped() {
-            self.passing = Passing::none();
+        self.passing = Passing {
+            row: *row,
+            last: 0,
+            worked: now,
+        };
+        if is_restless || !ends_before_phases(out) || self.monitor.is_tripped() {
             return;
         }
         early_records_leave_phases();
         watched_ticks_pass();
-        let due = self.controller.due(tick + 1, row, &self.plan);
-        self.passing = Passing {
-            row: *row,
-            last: due - 1,
-        };
+        let due = self.controller.due(now, row, &self.plan);
+        self.passing.last = due - 1;
     }
 }

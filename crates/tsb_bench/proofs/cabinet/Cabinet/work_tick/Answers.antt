@@ -7,8 +7,8 @@ use Rattle.tsb_bench.proofs.InputLemmas.{below-limit, by-now}
 use Rattle.tsb_bench.proofs.PassingLemmas.{rest, watched-here, settled-here, quiet-done}
 use Rattle.tsb_bench.proofs.cabinet.Cabinet.work_tick.Goals as goal
 
-pub overflow_add-tick : goal.overflow_add-tick
-overflow_add-tick c = let below : c.args.tick + 1 ≤ last_tick = below-limit c.args.tick (rows_of c.args.self.now) c.args.row.now c.requires.allowed in omega (arith, below)
+pub overflow_add-now : goal.overflow_add-now
+overflow_add-now c = let below : c.args.tick + 1 ≤ last_tick = below-limit c.args.tick (rows_of c.args.self.now) c.args.row.now c.requires.allowed in omega (arith, below)
 
 pub due-due-requires-clause-in_time : goal.due-due-requires-clause-in_time
 due-due-requires-clause-in_time c = below-limit c.args.tick (rows_of c.args.self.now) c.args.row.now c.requires.allowed
