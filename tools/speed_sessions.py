@@ -4,12 +4,13 @@ import dataclasses
 from collections.abc import Callable, Sequence
 
 from speed_kit import Counted, Files, Run, Setup, Table, Talk, Times, count_ahead, counts, in_turn, ratio
-from speed_texts import changing_log, longest_log, plan_of, plan_texts, random_log
+from speed_texts import changing_log, longest_log, plan_of, plan_texts, random_log, restless_log
 
 PLAN = "examples/quad.json"
 
-# How many ticks are timed, how many are counted, and how many where the plan or the log grows.
-TIMED, COUNTED, GROWN = 6_000_000, 200_000, 100_000
+# How many ticks are timed, how many of a log with a row for each, how many are counted, and how many where the plan or
+# the log grows.
+TIMED, RESTLESS, COUNTED, GROWN = 6_000_000, 1_000_000, 200_000, 100_000
 SHOWS = 100_000
 
 NANO, MILLI, MILLION = 1e-9, 1e-3, 1e6
@@ -45,6 +46,17 @@ def random_log_path(files: Files, ticks: int, detectors: int = 8) -> str:
     return files.path(f"random-{ticks}-{detectors}.log", lambda: random_log(0, ticks, detectors))
 
 
+def restless_log_path(files: Files, ticks: int) -> str:
+    """The file of random log 0 with other inputs in each tick."""
+    return files.path(f"restless-{ticks}.log", lambda: restless_log(0, ticks))
+
+
+def worked_out(program: str, log: str, ticks: int) -> float:
+    """The seconds of a tick with its line, without what it takes to read the log."""
+    whole, start = (session(program, PLAN, log, it).carried_out() for it in (f"step {ticks}\n", ""))
+    return (whole - start) / ticks
+
+
 def asked(program: str, log: str, ticks: int, command: bytes) -> float:
     """The seconds that a command with one line of answer takes behind so many ticks, for each of these."""
     talk = Talk([program, "run", PLAN, log])
@@ -67,8 +79,9 @@ def stepped(program: str, plan: str, log: str, ticks: int) -> Counted:
 
 def session_rows(setup: Setup) -> list[Row]:
     """What is measured of sessions."""
-    timed, counted = setup.ticks(TIMED), setup.ticks(COUNTED)
+    timed, counted, restless = setup.ticks(TIMED), setup.ticks(COUNTED), setup.ticks(RESTLESS)
     log, short = (random_log_path(setup.files, it) for it in (timed, counted))
+    long_restless, short_restless = (restless_log_path(setup.files, it) for it in (restless, counted))
     shows = "show\n" * setup.ticks(SHOWS)
 
     def of_all(program: str, commands: str, units: int) -> float:
@@ -77,6 +90,8 @@ def session_rows(setup: Setup) -> list[Row]:
     return [
         Row("`step`: a tick with its line", lambda it: of_all(it, f"step {timed}\n", timed),
             lambda it: stepped(it, PLAN, short, counted)),
+        Row("`step` with other inputs in each tick", lambda it: worked_out(it, long_restless, restless),
+            lambda it: stepped(it, PLAN, short_restless, counted)),
         Row("`seek`: a tick taken back", lambda it: asked(it, log, timed, b"seek 0\n"),
             lambda it: behind_ticks(it, PLAN, short, counted, "seek 0\n")),
         Row("`when trip`, which never changed: a record", lambda it: asked(it, log, timed, b"when trip\n"),

@@ -17,9 +17,9 @@ LONGEST_PLAN, LONGEST_LOG = 1 << 20, 64 << 20
 # How many seconds lie between the first and the last row of an export.
 EXPORT_SECONDS = 500_000
 
-# The row of a log before any input changes, and where vehicle detector 1 and pedestrian detector 2 stand in it.
+# The row of a log before any input changes, and where vehicle detector 1 and pedestrian detectors 2 and 8 stand in it.
 ROW = b"0000000 0000000000000000 00000000 0000\n"
-VEHICLE, PEDESTRIAN = 8, 26
+VEHICLE, PEDESTRIAN, LAST_PEDESTRIAN = 8, 26, 32
 
 
 class Chance:
@@ -55,6 +55,19 @@ def random_log(number: int, ticks: int, detectors: int = 8) -> bytes:
             pause = 30 + chance.below(71) if is_vehicle else 200 + chance.below(1000)
             heapq.heapreplace(due, (tick + pause, place))
         row[:7] = b"%07d" % tick
+        found += row
+    return bytes(found)
+
+
+def restless_log(number: int, ticks: int) -> bytes:
+    """The log of this number with a row for each tick: pedestrian detector 8, which calls nothing, changes in each. So
+    no tick has the inputs of the one before."""
+    rows = {int(it[:7]): it for it in random_log(number, ticks).splitlines(keepends=True)}
+    row, found = bytearray(ROW), bytearray()
+    for tick in range(1, ticks + 1):
+        row[:] = rows.get(tick, bytes(row))
+        row[:7] = b"%07d" % tick
+        row[LAST_PEDESTRIAN] = b"01"[tick % 2]
         found += row
     return bytes(found)
 
