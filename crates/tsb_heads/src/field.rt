@@ -82,7 +82,8 @@ impl Display {
         }
     }
 
-    /// The display with a lamp laid over its head.
+    /// The display with a lamp laid over its head. Lamps are seldom injected, and it stays out of line.
+    #[inline(never)]
     fn with_lamp(self, lamp: &Lamp) -> Display
         requires steady { Flashes false self }
         requires apart { AreApart self }
@@ -102,6 +103,7 @@ impl Display {
 impl Field {
     /// The lamps of a display that does not flash, with an injected lamp, if there is one, laid over its head, even
     /// over one that is dark (profile).
+    #[inline(always)]
     pub fn new(display: Display, lamp: Option<Lamp>) -> Field
         requires steady { Flashes false display }
         requires apart { AreApart display }
