@@ -12,7 +12,7 @@ use Rattle.tsb_step.specs.tsb_plan.PlanOf.{plan_of}
 use Rattle.tsb_calls.specs.Looks as calls
 use Rattle.tsb_objects.specs.declared.checked.Checked.{Checked}
 use Rattle.tsb_objects.specs.Checked.{checked_plan}
-use Rattle.tsb_ring.specs.Cells.{IsBy, commitment_cell, rings_in}
+use Rattle.tsb_ring.specs.Cells.{IsBy, commitment_in, ring_cell, rings_in}
 use Rattle.tsb_ring.specs.Looks.{IsWithin}
 use Rattle.tsb_ring.specs.Rings.{Ring, Ring1, Ring2, number, in_ring}
 
@@ -58,6 +58,6 @@ within plan row ok by = record { count = ok.count; ringed = ringed; committed = 
       | inr out ↦ (let none : (0 == number r) ≡ true = rw (ok.ringed p out) at on in absurd (true≢false (sym none ∙ no_ring r)))
     ]
 
-    committed : (r : Ring) (p : ℕ) → unless_zero (slice_index row (commitment_cell r)) ≡ Some p → is_phase p ≡ true
-    committed Ring1 p e = some-number (slice_index row 2) p e (by.phases 2 (omega arith))
-    committed Ring2 p e = some-number (slice_index row 3) p e (by.phases 3 (omega arith))
+    committed : (r : Ring) (p : ℕ) → unless_zero (commitment_in (slice_index row (ring_cell r))) ≡ Some p → is_phase p ≡ true
+    committed Ring1 p e = some-number (commitment_in (slice_index row 0)) p e (by.rings 0 (omega arith)).commitment
+    committed Ring2 p e = some-number (commitment_in (slice_index row 1)) p e (by.rings 1 (omega arith)).commitment

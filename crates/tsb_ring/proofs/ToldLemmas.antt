@@ -1,11 +1,11 @@
 -- The cells of the rings and what they say: a row is the table of what is read in it, and the table of a state is read
 -- as it.
-use Rattle.std.proofs.Common.{◌≡◌, ℕ, ◌==◌, ◌≤◌, List, [], ◌∷◌, length, Option, Some, None, IfSome, refl, sym, arith, inl, inr, ◌∙◌}
+use Rattle.std.proofs.Common.{◌≡◌, ℕ, ◌==◌, ◌≤◌, List, [], ◌∷◌, length, Option, Some, None, IfSome, refl, sym, ap, arith, inl, inr, ◌∙◌}
 use Rattle.std.proofs.lemmas.Bool.{cases_Bool, eqb-true}
 use Rattle.tsb_types.specs.Lists.{or_number}
 use Rattle.tsb_objects.specs.tsb_plan.Parts.{unless_zero}
 use Rattle.tsb_ring.specs.declared.TheConstants.{CELLS}
-use Rattle.tsb_ring.specs.Cells.{rings_in, rings_cells, IsBy}
+use Rattle.tsb_ring.specs.Cells.{rings_in, rings_cells, IsBy, IsRingCell, commitment_in, last_in, pair}
 use Rattle.tsb_ring.specs.Laws.{IsUpTo, IsInRange}
 use Rattle.tsb_ring.specs.Layer.{either, state_with}
 use Rattle.tsb_ring.specs.Rings.{Ring, Ring1, Ring2, State}
@@ -19,16 +19,17 @@ number-told n = elim (cases_Bool (n == 0)) [
   | inr some ↦ rw some refl
 ]
 
+cell-told : (n : ℕ) → pair (unless_zero (last_in n)) (unless_zero (commitment_in n)) ≡ n
+cell-told n = rw (number-told (last_in n), number-told (commitment_in n)) (omega arith)
+
 told : (row : List ℕ) → length row ≡ CELLS → rings_cells (rings_in row) ≡ row
 unfolding rings_in
-told (a ∷ (b ∷ (c ∷ (d ∷ (e ∷ (f ∷ [])))))) full = rw (number-told a, number-told b, number-told c, number-told d, number-told f) refl
-told (a ∷ (b ∷ (c ∷ (d ∷ (e ∷ (f ∷ (g ∷ rest))))))) full = absurd (omega arith)
+told (a ∷ (b ∷ (c ∷ (d ∷ [])))) full = rw (cell-told a, cell-told b, number-told d) refl
+told (a ∷ (b ∷ (c ∷ (d ∷ (e ∷ rest))))) full = absurd (omega arith)
 told [] full = absurd (omega arith)
 told (a ∷ []) full = absurd (omega arith)
 told (a ∷ (b ∷ [])) full = absurd (omega arith)
 told (a ∷ (b ∷ (c ∷ []))) full = absurd (omega arith)
-told (a ∷ (b ∷ (c ∷ (d ∷ [])))) full = absurd (omega arith)
-told (a ∷ (b ∷ (c ∷ (d ∷ (e ∷ []))))) full = absurd (omega arith)
 
 pub rows-told : (row : List ℕ) → IsBy row → rings_cells (rings_in row) ≡ row
 rows-told row by = told row by.full
@@ -58,17 +59,36 @@ whole s = same_state _ _ last commitment refl refl
     commitment Ring1 = refl
     commitment Ring2 = refl
 
+-- what the cell of a ring says of what was written into it
+module _ (last commitment : Option ℕ) (of : IfSome last (IsUpTo 16)) (to : IfSome commitment (IsUpTo 16)) where
+  last-is : last_in (pair last commitment) ≡ or_number last 0
+  last-is = let most : or_number last 0 ≤ 16 = number-most 16 last of in omega (arith, most)
+
+  commitment-is : commitment_in (pair last commitment) ≡ or_number commitment 0
+  commitment-is = let most : or_number last 0 ≤ 16 = number-most 16 last of in omega (arith, most)
+
+  pub last-read : unless_zero (last_in (pair last commitment)) ≡ last
+  last-read = ap unless_zero last-is ∙ number-read 16 last of
+
+  pub commitment-read : unless_zero (commitment_in (pair last commitment)) ≡ commitment
+  commitment-read = ap unless_zero commitment-is ∙ number-read 16 commitment to
+
+  pub ring-by : IsRingCell (pair last commitment)
+  ring-by = record {
+    last = (let most : or_number last 0 ≤ 16 = number-most 16 last of in omega (arith, most, last-is));
+    commitment = (let most : or_number commitment 0 ≤ 16 = number-most 16 commitment to in omega (arith, most, commitment-is));
+  }
+
 pub states-read : (s : State) → IsInRange s → rings_in (rings_cells s) ≡ s
 states-read s is =
-    state-written (rings_cells s) _ _ _ _ _ _ (s.last Ring1) (s.last Ring2) (s.commitment Ring1) (s.commitment Ring2) s.side s.crossing refl
-    (number-read 16 (s.last Ring1) (is.last Ring1)) (number-read 16 (s.last Ring2) (is.last Ring2))
-    (number-read 16 (s.commitment Ring1) (is.commitment Ring1)) (number-read 16 (s.commitment Ring2) (is.commitment Ring2))
+    state-written (rings_cells s) _ _ _ _ (s.last Ring1) (s.last Ring2) (s.commitment Ring1) (s.commitment Ring2) s.side s.crossing refl
+    (last-read _ _ (is.last Ring1) (is.commitment Ring1)) (last-read _ _ (is.last Ring2) (is.commitment Ring2))
+    (commitment-read _ _ (is.last Ring1) (is.commitment Ring1)) (commitment-read _ _ (is.last Ring2) (is.commitment Ring2))
     refl (number-read 4 s.crossing is.crossing)
     ∙ whole s
 
 pub states-by : (s : State) → IsInRange s → IsBy (rings_cells s)
 states-by s is =
-    by-written (rings_cells s) _ _ _ _ _ _ refl
-    (number-most 16 (s.last Ring1) (is.last Ring1)) (number-most 16 (s.last Ring2) (is.last Ring2))
-    (number-most 16 (s.commitment Ring1) (is.commitment Ring1)) (number-most 16 (s.commitment Ring2) (is.commitment Ring2))
+    by-written (rings_cells s) _ _ _ _ refl
+    (ring-by _ _ (is.last Ring1) (is.commitment Ring1)) (ring-by _ _ (is.last Ring2) (is.commitment Ring2))
     is.side.0 is.side.1 (number-most 4 s.crossing is.crossing)

@@ -17,17 +17,17 @@ use Rattle.tsb_bench.specs.Room.{KeepsRoom, KeepRoom}
 abbrev pub entries_size : ℕ → ℕ
 entries_size n = 6 * n
 
-asks_2574 : 2 * record_size (most_cells kinds.Tick) ≡ 2574
-asks_2574 = refl
+asks_2550 : 2 * record_size (most_cells kinds.Tick) ≡ 2550
+asks_2550 = refl
 
-would_ask_2568 : 2 * entries_size (most_cells kinds.Tick) ≡ 2568
-would_ask_2568 = refl
+would_ask_2544 : 2 * entries_size (most_cells kinds.Tick) ≡ 2544
+would_ask_2544 = refl
 
--- of these 1281 bytes are left by the first of two ticks that change each cell, fewer than the second may need
-leaves_1281 : 2568 - record_size (most_cells kinds.Tick) ≡ 1281
-leaves_1281 = refl
+-- of these 1269 bytes are left by the first of two ticks that change each cell, fewer than the second may need
+leaves_1269 : 2544 - record_size (most_cells kinds.Tick) ≡ 1269
+leaves_1269 = refl
 
-would_lack_room : nat_lt 1281 (record_size (most_cells kinds.Tick)) ≡ true
+would_lack_room : nat_lt 1269 (record_size (most_cells kinds.Tick)) ≡ true
 would_lack_room = refl
 
 -- a reset of a controller that has not tripped changes nothing, and its record takes 3 bytes

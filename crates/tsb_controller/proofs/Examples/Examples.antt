@@ -131,7 +131,7 @@ all_can_be n from to = record {
   monitor = (state-read 49 None None tt tt).2;
 }
 
-differ : changes (on_side 1) (on_side 2) ≡ (RINGS + 4, 1) ∷ []
+differ : changes (on_side 1) (on_side 2) ≡ (RINGS + 2, 1) ∷ []
 unfolding run_from number_of_bits
 differ = refl
 

@@ -127,7 +127,7 @@ would_be_at_7 = refl
 abbrev pub begins_before_phases : List (ℕ × ℕ) → Bool
 begins_before_phases es = is_before_phases (slice_get es 0)
 
-crosses : changes (on_side 1) (occupied 2) ≡ (DETECTORS, 0) ∷ (RINGS + 4, 1) ∷ []
+crosses : changes (on_side 1) (occupied 2) ≡ (DETECTORS, 0) ∷ (RINGS + 2, 1) ∷ []
 unfolding run_from number_of_bits
 crosses = refl
 

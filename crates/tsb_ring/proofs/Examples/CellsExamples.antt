@@ -4,12 +4,12 @@ use Rattle.tsb_ring.specs.Rings.{Ring1, Ring2}
 use Rattle.tsb_ring.specs.Cells.{rings_in, rings_cells}
 use Rattle.tsb_ring.proofs.Examples.Scenes.{resting, under_way}
 
--- on side 1, with 2 and 6 the last phases: where there is no commitment and no crossing, the cell is 0
-cells_at_rest : rings_cells resting ≡ 2 ∷ 6 ∷ 0 ∷ 0 ∷ 1 ∷ 0 ∷ []
+-- on side 1, with 2 and 6 the last phases: a commitment adds nothing where there is none, and no crossing is 0
+cells_at_rest : rings_cells resting ≡ 2 ∷ 6 ∷ 1 ∷ 0 ∷ []
 cells_at_rest = refl
 
--- crossing from there to side 2, where 3 and 8 come
-cells_under_way : rings_cells under_way ≡ 2 ∷ 6 ∷ 3 ∷ 8 ∷ 1 ∷ 2 ∷ []
+-- crossing from there to side 2, where 3 and 8 come: 2 and 32 times 3, 6 and 32 times 8
+cells_under_way : rings_cells under_way ≡ 98 ∷ 262 ∷ 1 ∷ 2 ∷ []
 cells_under_way = refl
 
 -- what is written is read again, and 0 as none

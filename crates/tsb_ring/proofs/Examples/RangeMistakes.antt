@@ -1,5 +1,5 @@
--- What the laws of cells and of what the rings look at refuse, by computing: a row with one cell more, a cell of 0 that
--- is read as a number, and the call of a 17th phase. Beside each stands what the definitions make of the same.
+-- What the laws of cells and of what the rings look at refuse, by computing: a row with one cell more, a commitment of
+-- 0 that is read as a number, and the call of a 17th phase. Beside each stands what the definitions make of the same.
 use Rattle.std.proofs.Common.{◌≡◌, ℕ, Bool, not, ◌&&◌, List, [], ◌∷◌, ◌++◌, slice_index, Option, Some, None, IfSome, refl, arith}
 use Rattle.tsb_types.specs.Lists.{some_passes, run_from}
 use Rattle.tsb_objects.specs.tsb_plan.Plan.{Plan}
@@ -8,7 +8,7 @@ use Rattle.tsb_ring.specs.declared.want.Want.TheVariants.{Cross}
 use Rattle.tsb_ring.specs.Rings.{Ring, Ring1, Ring2, State, Given}
 use Rattle.tsb_ring.specs.Wants.{is_on_side, is_candidate, want_within}
 use Rattle.tsb_ring.specs.Moves.{moves}
-use Rattle.tsb_ring.specs.Cells.{commitment_cell, rings_in, rings_cells, IsBy}
+use Rattle.tsb_ring.specs.Cells.{commitment_in, ring_cell, rings_in, rings_cells, IsBy}
 use Rattle.tsb_ring.specs.Laws.{IsUpTo, IsInRange}
 use Rattle.tsb_ring.proofs.ToldLemmas.{states-by}
 use Rattle.tsb_ring.proofs.Examples.Scenes.{opened, those, still, moving, greens, resting, under_way}
@@ -45,10 +45,10 @@ would_lose_it : rings_cells (rings_in longer) ≡ rings_cells under_way
 unfolding rings_in
 would_lose_it = refl
 
--- ## States are read: a cell of 0 that is read as a number
+-- ## States are read: a commitment of 0 that is read as a number
 
 abbrev pub read_plainly : List ℕ → Ring → Option ℕ
-read_plainly row r = Some (slice_index row (commitment_cell r))
+read_plainly row r = Some (commitment_in (slice_index row (ring_cell r)))
 
 reads_none : (rings_in (rings_cells resting)).commitment Ring2 ≡ None
 unfolding rings_in

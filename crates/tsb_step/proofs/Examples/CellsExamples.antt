@@ -65,7 +65,7 @@ unfolding opened busy
 how_many = refl
 
 first_cells : DESK ∷ DETECTORS ∷ CALLS ∷ PHASES ∷ RINGS ∷ COORD ∷ PREEMPTS ∷ MONITOR ∷ ALL_CELLS ∷ [] ≡
-    1282 ∷ 1414 ∷ 1468 ∷ 1486 ∷ 1602 ∷ 1608 ∷ 1611 ∷ 1621 ∷ 1628 ∷ []
+    1282 ∷ 1414 ∷ 1468 ∷ 1486 ∷ 1602 ∷ 1606 ∷ 1609 ∷ 1619 ∷ 1626 ∷ []
 first_cells = refl
 
 -- the plan: phaseEnabled of phase 8, and sequenceData at its index 20, which is phase 8
@@ -79,12 +79,12 @@ unfolding opened busy
 ends_stand = refl
 
 -- the rings' side, the pattern, the preempt in service
-more_stand : slice_index (cells_of busy) 1606 ∷ slice_index (cells_of busy) 1608 ∷ slice_index (cells_of busy) 1617 ∷ [] ≡ 1 ∷ 2 ∷ 4 ∷ []
+more_stand : slice_index (cells_of busy) 1604 ∷ slice_index (cells_of busy) 1606 ∷ slice_index (cells_of busy) 1615 ∷ [] ≡ 1 ∷ 2 ∷ 4 ∷ []
 unfolding opened busy
 more_stand = refl
 
 -- since when the local counter comes into step, and how far it was ahead then
-its_counter_stands : slice_index (cells_of busy) 1609 ∷ slice_index (cells_of busy) 1610 ∷ [] ≡ 30 ∷ 7 ∷ []
+its_counter_stands : slice_index (cells_of busy) 1607 ∷ slice_index (cells_of busy) 1608 ∷ [] ≡ 30 ∷ 7 ∷ []
 unfolding opened busy
 its_counter_stands = refl
 
