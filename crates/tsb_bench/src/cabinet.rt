@@ -204,8 +204,8 @@ impl Cabinet {
     }
 
     /// Puts back what the entries of a record hold of plan and desk, and what those that are left of it hold of the
-    /// layers and the monitor. It is out of line: few records have such entries. It is not lent the record, as that would
-    /// have to be made whole for each.
+    /// layers and the monitor. It is out of line: few records have such entries. It takes entries and no record, which
+    /// would have to be put together for each.
     #[inline(never)]
     fn undo_others(&mut self, entries: Entries<'_>, left: Entries<'_>)
         requires shut { IsShut self.old }

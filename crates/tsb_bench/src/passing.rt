@@ -41,7 +41,6 @@ impl Passing {
     }
 
     /// Whether the tick after tick number `tick` comes at once behind one that was worked out, with other inputs on.
-    /// Where inputs change so, no tick is passed over.
     #[inline(always)]
     fn is_restless(&self, tick: u32, row: &Row) -> bool
         ensures worked { result ≡ true → self.now.worked ≡ tick }

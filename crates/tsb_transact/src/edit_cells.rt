@@ -32,8 +32,7 @@ pub fn find_edit(bank: &Bank<CELLS>, place: u32) -> Option<usize>
 /// Whether one of the four edits from edit `k` on has the place.
 fn is_one_of_four(bank: &Bank<CELLS>, k: usize, place: u32) -> bool
     requires { k + 3 ≤ MOST_EDITS }
-    ensures none { result ≡ false → (j : ℕ) → k ≤ j → j < k + 4 → place_in (cells_of bank.now) j ≢ place }
-    ensures one { result ≡ (place_in (cells_of bank.now) k == place || place_in (cells_of bank.now) (k + 1) == place
+    ensures { result ≡ (place_in (cells_of bank.now) k == place || place_in (cells_of bank.now) (k + 1) == place
         || place_in (cells_of bank.now) (k + 2) == place || place_in (cells_of bank.now) (k + 3) == place) }
 {
     bank.get(place_cell(k)) == place
