@@ -1,9 +1,8 @@
 -- Fields that a separator parts.
-use Rattle.std.proofs.Common.{◌≡◌, ◌∙◌, ℕ, Bool, true, false, List, [], ◌∷◌, ◌++◌, refl, ap, sym, inl, inr, Some}
+use Rattle.std.proofs.Common.{◌≡◌, ◌∙◌, ℕ, true, false, List, [], ◌∷◌, ◌++◌, refl, ap, sym, inl, inr, Some}
 use Rattle.std.proofs.lemmas.Bool.{or_parts}
 use Rattle.std.proofs.lemmas.Bool.Decides.{eqb_tells}
 use Rattle.std.specs.Prelude.{◌==◌}
-use Rattle.tsb_event_text.specs.declared.columns.Columns.{Columns}
 use Rattle.tsb_event_text.specs.declared.columns.Separator.{Separator}
 use Rattle.tsb_event_text.specs.declared.columns.Separator.TheVariants.{Comma, Semicolon, Tab}
 use Rattle.tsb_event_text.specs.Columns.{mark_of}

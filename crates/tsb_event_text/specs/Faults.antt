@@ -3,7 +3,6 @@ use Rattle.std.specs.Prelude.{ℕ, ◌==◌, ◌&&◌, ◌||◌, not, Bool, true
 use Rattle.tsb_event_text.specs.declared.columns.Column.{Column}
 use Rattle.tsb_event_text.specs.declared.columns.Column.TheVariants.{Device, Time, Code, Parameter}
 use Rattle.tsb_event_text.specs.declared.columns.Columns.{Columns}
-use Rattle.tsb_event_text.specs.declared.columns.Separator.{Separator}
 use Rattle.tsb_event_text.specs.declared.columns.Separator.TheVariants.{Comma, Semicolon, Tab}
 use Rattle.tsb_event_text.specs.declared.faults.Shown.{Shown}
 use Rattle.tsb_event_text.specs.declared.faults.RowFault.{RowFault}

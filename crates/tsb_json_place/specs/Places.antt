@@ -10,7 +10,7 @@ use Rattle.tsb_json_place.specs.declared.next.Bracket.TheVariants.{Object, Array
 use Rattle.tsb_json_place.specs.declared.next.Move.{Move}
 use Rattle.tsb_json_place.specs.declared.next.Move.TheVariants.{To, Open, Close, Ended, Wrong}
 use Rattle.tsb_json_place.specs.declared.next.Next.{Next}
-use Rattle.tsb_json_place.specs.declared.next.Next.TheVariants.{Value, FirstItem, FirstName, Name, Colon, ItemEnd, MemberEnd, End, Text, Escape, Hex, Tail, Word, Minus, Zero, Whole, Point, Fraction, Exponent, Sign, Power}
+use Rattle.tsb_json_place.specs.declared.next.Next.TheVariants.{Value, FirstItem, FirstName, Name, Colon, ItemEnd, MemberEnd, End, Text, Escape, Hex, Tail, Word, Zero, Whole, Fraction, Exponent, Power}
 use Rattle.tsb_json_place.specs.declared.place.JsonPlace.{JsonPlace}
 use Rattle.tsb_json_place.specs.Steps.{after, step}
 

@@ -8,7 +8,7 @@
 --
 -- Where a law has a cycle among its times, the local counter is in step as its stretch begins: while it comes into step
 -- a cycle takes longer or shorter.
-use Rattle.std.specs.Prelude.{◌≡◌, ◌≢◌, ℕ, ◌+◌, ◌-◌, ◌*◌, ◌<◌, ◌≤◌, ◌==◌, Bool, true, false, not, ◌&&◌, if◌then◌else◌, max, sum_by, count_by, List, [], ◌∷◌, ◌++◌, Some, None, is_some, is_none, ◌⊎◌}
+use Rattle.std.specs.Prelude.{◌≡◌, ◌≢◌, ℕ, ◌+◌, ◌*◌, ◌<◌, ◌≤◌, ◌==◌, Bool, true, false, not, ◌&&◌, if◌then◌else◌, max, sum_by, count_by, List, [], ◌∷◌, ◌++◌, Some, None, is_some, is_none, ◌⊎◌}
 use Rattle.tsb_step.specs.tsb_types.declared.row.Row.{Row}
 use Rattle.tsb_step.specs.tsb_types.declared.interval.Interval.TheVariants.{Green}
 use Rattle.tsb_step.specs.tsb_types.Intervals.{is_green}
@@ -17,7 +17,7 @@ use Rattle.tsb_step.specs.tsb_plan.Plan.{Plan, phases, is_enabled, is_concurrent
 use Rattle.tsb_step.specs.tsb_rules.Consistent.{IsPhase}
 use Rattle.tsb_step.specs.tsb_coord.Coordinated.{serving_order}
 use Rattle.tsb_step.specs.tsb_coord.Correction.{forces, comes_to_force_off}
-use Rattle.tsb_step.specs.tsb_ring.Rings.{Ring, Ring1, Ring2, other, number, in_ring}
+use Rattle.tsb_step.specs.tsb_ring.Rings.{Ring, other, number, in_ring}
 use Rattle.tsb_step.specs.tsb_ring.Wants.{is_on_side}
 use Rattle.tsb_step.specs.declared.inputs.Input.{Input}
 use Rattle.tsb_step.specs.declared.inputs.Input.TheVariants.{Tick, Pattern, Commit}

@@ -3,7 +3,7 @@
 --
 -- That it is ready is said, and not that it ends: what is ready makes way or waits at the barrier (`ReadyGreensMakeWay`
 -- in CoordinatedGreens).
-use Rattle.std.specs.Prelude.{◌≡◌, ℕ, ◌+◌, ◌<◌, ◌≤◌, true, false, List, ◌∷◌, ◌++◌, Some, None}
+use Rattle.std.specs.Prelude.{◌≡◌, ℕ, ◌+◌, ◌≤◌, true, false, List, ◌∷◌, ◌++◌, Some, None}
 use Rattle.tsb_step.specs.tsb_types.declared.interval.Interval.TheVariants.{Green}
 use Rattle.tsb_step.specs.tsb_types.declared.interval.PedestrianInterval.TheVariants.{DontWalk}
 use Rattle.tsb_step.specs.tsb_types.declared.row.Row.{Row}

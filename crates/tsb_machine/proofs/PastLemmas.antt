@@ -1,5 +1,5 @@
 -- The way back of a machine whose records take their inputs back.
-use Rattle.std.proofs.Common.{zero, suc, ◌≡◌, ℕ, ◌+◌, ◌<◌, ◌≤◌, ◌==◌, Bool, true, false, if◌then◌else◌, List, [], ◌∷◌, length, drop, refl, sym, ap, subst, arith, ◌∙◌, eqb, cond}
+use Rattle.std.proofs.Common.{zero, suc, ◌≡◌, ℕ, ◌<◌, ◌≤◌, ◌==◌, Bool, true, false, if◌then◌else◌, List, [], ◌∷◌, length, drop, refl, ap, subst, arith, ◌∙◌, eqb, cond}
 use Rattle.std.proofs.lemmas.Bool.{cond-true, cond-false, eq-eqb, ne_eqb, eqb-false, eqb-true}
 use Rattle.tsb_machine.specs.Machine.{Machine, replay, run, records_of, back_to}
 use Rattle.tsb_machine.specs.Past.{Whole, applied, after, taken_back, earlier, pasts, sought, IsLeastBack}

@@ -1,5 +1,5 @@
 -- A run of commands keeps pace with the list of inputs that remain: what each answer of a bench needs, and one command more.
-use Rattle.std.proofs.Common.{reverse, ◌≡◌, ℕ, ◌+◌, ◌-◌, ◌<◌, ◌≤◌, List, [], ◌∷◌, ◌++◌, length, refl, sym, ap, subst, arith, ◌∙◌, zero, suc, true, false, cond, eqb, Option, Some, None, take, drop, get_or, take_all}
+use Rattle.std.proofs.Common.{reverse, ◌≡◌, ℕ, ◌+◌, ◌-◌, ◌<◌, ◌≤◌, List, [], ◌∷◌, ◌++◌, length, refl, sym, ap, subst, arith, ◌∙◌, zero, suc, true, false, cond, eqb, Option, None, take, drop, get_or, take_all}
 use Rattle.std.specs.List.{fold}
 use Rattle.std.proofs.lemmas.List.Sums.{fold-append}
 use Rattle.std.proofs.lemmas.List.{reverse-append, take_more}

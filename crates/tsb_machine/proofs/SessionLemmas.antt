@@ -1,15 +1,15 @@
 -- After any commands a bench is where a replay of the inputs that remain leads, and its answers were right.
-use Rattle.std.proofs.Common.{zero, suc, ◌≡◌, ℕ, ◌-◌, ◌<◌, ◌≤◌, ◌==◌, Bool, true, false, if◌then◌else◌, List, [], ◌∷◌, Option, None, refl, sym, ap, subst, ◌∙◌}
+use Rattle.std.proofs.Common.{◌≡◌, ℕ, ◌-◌, ◌==◌, Bool, true, false, if◌then◌else◌, List, [], ◌∷◌, refl, sym, ap, subst, ◌∙◌}
 use Rattle.tsb_history.specs.declared.kinds.Kind.{Kind}
 use Rattle.tsb_machine.specs.declared.commands.Command.{Command}
 use Rattle.tsb_machine.specs.declared.commands.Command.TheVariants.{Apply, Undo, Back, Seek, When}
 use Rattle.tsb_machine.specs.declared.commands.Answer.{Answer}
 use Rattle.tsb_machine.specs.declared.commands.Answer.TheVariants.{Took, Refused, Undone, Moved, Nothing, Changed}
-use Rattle.tsb_machine.specs.Machine.{Machine, replay, AreTaken, run, records_of, back_to, without_newest}
-use Rattle.tsb_machine.specs.Past.{Whole, applied, after, taken_back, earlier, pasts, sought}
+use Rattle.tsb_machine.specs.Machine.{Machine, replay, AreTaken, records_of, back_to, without_newest}
+use Rattle.tsb_machine.specs.Past.{Whole, after, taken_back, earlier}
 use Rattle.tsb_machine.specs.Watches.{TellsLastChange}
 use Rattle.tsb_machine.specs.Play.{remaining_after, remaining_from, IsNewest, IsNewestKind, IsRight, AreRightFrom, Does, DoAll}
-use Rattle.tsb_machine.specs.Laws.{GivesBack, GiveBack, TellsKinds, IsReplayed}
+use Rattle.tsb_machine.specs.Laws.{GiveBack, TellsKinds, IsReplayed}
 use Rattle.tsb_machine.proofs.PastLemmas.{taken-after, pasts_are_the_run, seeks_are_replays}
 
 module _ {State Input Change : Type 0} (m : Machine State Input Change) (start : State) where

@@ -1,5 +1,5 @@
 -- The last change of a watched value, as it is told of a run, is the one with the greatest tick number.
-use Rattle.std.proofs.Common.{zero, suc, ◌≡◌, ◌≢◌, ℕ, ◌+◌, ◌<◌, ◌≤◌, List, [], ◌∷◌, length, Option, Some, None, refl, sym, ap, subst, arith, ◌∙◌, inl, inr, ◌⊎◌}
+use Rattle.std.proofs.Common.{zero, suc, ◌≡◌, ◌≢◌, ℕ, ◌<◌, ◌≤◌, List, [], ◌∷◌, length, Option, Some, None, refl, sym, ap, subst, arith, ◌∙◌, inl, inr, ◌⊎◌}
 use Rattle.tsb_machine.specs.Machine.{Machine, replay, run, records_of}
 use Rattle.tsb_machine.specs.Past.{Whole, after, earlier}
 use Rattle.tsb_machine.specs.Watches.{TellsLastChange, ChangesAt, IsLastChange, IsTold}

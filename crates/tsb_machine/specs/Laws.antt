@@ -2,7 +2,7 @@
 -- the state back; some need besides that the tick number counts, or that a record is of its input's kind.
 --
 -- All are proved, each as the contract of a function that does nothing (src/laws.rt).
-use Rattle.std.specs.Prelude.{◌≡◌, ℕ, suc, ◌≤◌, List, [], ◌∷◌, length, drop, Option, None}
+use Rattle.std.specs.Prelude.{◌≡◌, ℕ, suc, ◌≤◌, List, [], ◌∷◌, length, drop, Option}
 use Rattle.tsb_machine.specs.declared.commands.Command.{Command}
 use Rattle.tsb_machine.specs.declared.commands.Answer.{Answer}
 use Rattle.tsb_machine.specs.Machine.{Machine, replay, AreTaken, run, records_of, back_to}

@@ -1,6 +1,6 @@
 -- What a list of commands comes to: the inputs that remain, and which answer is right where it stands. The state is
 -- that of a replay of the inputs that remain.
-use Rattle.std.specs.Prelude.{◌≡◌, ℕ, ◌-◌, ◌<◌, ◌≤◌, List, [], ◌∷◌, Option, Some, None}
+use Rattle.std.specs.Prelude.{◌≡◌, ◌-◌, ◌<◌, ◌≤◌, List, [], ◌∷◌, Option, Some, None}
 use Rattle.tsb_history.specs.declared.kinds.Kind.{Kind}
 use Rattle.tsb_types.specs.declared.refusal.Refusal.{Refusal}
 use Rattle.tsb_types.specs.declared.refusal.Refusal.TheVariants as refusals

@@ -1,7 +1,7 @@
 -- What calls a phase, and which phases conflict with it, as a plan says it for all runs.
-use Rattle.std.specs.Prelude.{ℕ, ◌==◌, Bool, not, ◌&&◌, ◌||◌, Option, Some, None}
+use Rattle.std.specs.Prelude.{ℕ, ◌==◌, Bool, not, ◌&&◌, ◌||◌, Option, Some}
 use Rattle.std.specs.List.{list_any}
-use Rattle.tsb_types.specs.Lists.{is, run_from, some_passes}
+use Rattle.tsb_types.specs.Lists.{is, run_from}
 use Rattle.tsb_plan.specs.Parts.{call_phase, pedestrian_call_phase, is_used}
 use Rattle.tsb_plan.specs.Plan.{Plan, phases, is_enabled, is_concurrent, minimum_green}
 use Rattle.tsb_plan.specs.Running.{is_on_minimum_recall, is_on_maximum_recall, is_on_pedestrian_recall}

@@ -1,5 +1,5 @@
 -- Advices on coordination: A27 to A32, and A42 to A47. Times are in tenths of a second.
-use Rattle.std.specs.Prelude.{ℕ, ◌+◌, ◌-◌, ◌*◌, ◌==◌, nat_lt, Bool, true, false, not, ◌&&◌, ◌||◌, Option, Some, None, is_some}
+use Rattle.std.specs.Prelude.{ℕ, ◌-◌, ◌*◌, ◌==◌, nat_lt, Bool, true, false, not, ◌&&◌, ◌||◌, Option, Some, None, is_some}
 use Rattle.std.specs.List.{list_any}
 use Rattle.tsb_types.specs.Lists.{first, run_from}
 use Rattle.tsb_plan.specs.declared.object.Object.TheVariants.{PatternCycleTime, PatternOffsetTime, PatternSplitNumber, PatternSequenceNumber, PatternPermissiveTime, PatternLeadLag, CoordCorrectionMode}

@@ -1,5 +1,5 @@
 -- Advices on pedestrians: A8 to A14. Times are in tenths of a second.
-use Rattle.std.specs.Prelude.{ℕ, ◌+◌, ◌-◌, ◌==◌, nat_lt, Bool, not, ◌&&◌, ◌||◌, Option, Some, None, is_some}
+use Rattle.std.specs.Prelude.{ℕ, ◌+◌, ◌==◌, nat_lt, Bool, not, ◌&&◌, ◌||◌, Some, is_some}
 use Rattle.tsb_plan.specs.Parts.{is_used, permissive_time}
 use Rattle.tsb_plan.specs.Plan.{Plan, is_enabled, rests_in_walk, walk, pedestrian_clear, maximum, has_pedestrian_recall}
 use Rattle.tsb_plan.specs.Running.{is_coordinated_now, is_omitted_now}

@@ -1,7 +1,7 @@
 -- Advices on what is served: A1 to A7.
-use Rattle.std.specs.Prelude.{ℕ, ◌==◌, nat_le, nat_lt, Bool, not, ◌&&◌, ◌||◌, Option, Some, None, is_some, is_none}
+use Rattle.std.specs.Prelude.{ℕ, ◌==◌, nat_lt, Bool, not, ◌&&◌, ◌||◌, Option, Some, None, is_some, is_none}
 use Rattle.std.specs.List.{list_all, list_any}
-use Rattle.tsb_types.specs.Lists.{first, is, or_number, run_from}
+use Rattle.tsb_types.specs.Lists.{first}
 use Rattle.tsb_plan.specs.Parts.{call_phase, is_used, detector_delay, detector_extend, no_activity, maximum_presence, erratic_counts, fail_time}
 use Rattle.tsb_plan.specs.Plan.{Plan, phases, is_enabled, has_maximum_recall, has_soft_recall, ring_of, side_of, is_concurrent}
 use Rattle.tsb_plan.specs.Running.{is_coordinated_now, is_omitted_now}

@@ -1,5 +1,5 @@
 -- The status that a plain value stands for.
-use Rattle.std.specs.Prelude.{ℕ, ◌-◌, Bool, Option, None, get_or}
+use Rattle.std.specs.Prelude.{ℕ, ◌-◌, None, get_or}
 use Rattle.tsb_step.specs.tsb_types.Sets.{has_number}
 use Rattle.tsb_step.specs.tsb_ring.Rings.{Ring, Ring1, Ring2}
 use Rattle.tsb_step.specs.declared.status.RingPart.TheVariants as parts

@@ -16,7 +16,7 @@ use Rattle.tsb_ring.specs.declared.want.Want.TheVariants.{Go}
 use Rattle.tsb_ring.specs.Rings as rings
 use Rattle.tsb_ring.specs.Rings.{Ring, Ring1, Ring2, other, own_ring, serving}
 use Rattle.tsb_ring.specs.Wants.{fits, is_on_side, is_targeted, want_found, is_idle_or_green, want, picked_before, want_of, pick}
-use Rattle.tsb_ring.specs.Next.{is_none_or_over, makes_way, may_start, completes, idle_pick, start_now, starting}
+use Rattle.tsb_ring.specs.Next.{is_none_or_over, makes_way, may_start, completes, start_now, starting}
 use Rattle.tsb_ring.specs.Laws.{IsSound}
 use Rattle.tsb_ring.specs.Moves as ring_moves
 use Rattle.tsb_ring.specs.Moves.{is_started}

@@ -1,5 +1,5 @@
 -- A phase that waits for nothing starts; and for how long a green that lacks something keeps its ring and the barrier.
-use Rattle.std.proofs.Common.{◌≡◌, ℕ, Bool, true, false, not, ◌&&◌, ◌||◌, if◌then◌else◌, Option, Some, None, is_some, option_map, refl, sym, subst, ap, ◌∙◌, inl, inr}
+use Rattle.std.proofs.Common.{◌≡◌, ℕ, Bool, true, false, ◌&&◌, ◌||◌, if◌then◌else◌, Option, Some, None, is_some, option_map, refl, sym, subst, ap, ◌∙◌, inl, inr}
 use Rattle.std.proofs.lemmas.Bool.{cases_Bool, eq-eqb, not-true, true≢false}
 use Rattle.std.proofs.Math.Bool.{and-false}
 use Rattle.tsb_types.specs.declared.row.Row.{Row}
@@ -20,7 +20,7 @@ use Rattle.tsb_ring.specs.Rings.{Ring, Ring1, Ring2, other, own_ring, serving}
 use Rattle.tsb_ring.specs.Wants.{taken, want_of, pick}
 use Rattle.tsb_ring.specs.Crossings.{joins, begins, committed}
 use Rattle.tsb_ring.specs.Next as rings_next
-use Rattle.tsb_ring.specs.Next.{is_none_or_over, makes_way, may_start, completes, idle_pick, start_now, starting, new_commitment}
+use Rattle.tsb_ring.specs.Next.{is_none_or_over, makes_way, may_start, completes, start_now, starting, new_commitment}
 use Rattle.tsb_ring.specs.Moves as ring_moves
 use Rattle.tsb_ring.specs.Moves.{is_ended, is_started}
 use Rattle.tsb_ring.proofs.ActLemmas.{begins_not}

@@ -25,7 +25,7 @@ use Rattle.tsb_phase.specs.Next as phase_next
 use Rattle.tsb_phase.specs.Pedestrian as pedestrian
 use Rattle.tsb_phase.specs.Ready as timing
 use Rattle.tsb_ring.specs.Rings as rings
-use Rattle.tsb_ring.specs.Rings.{Ring, number}
+use Rattle.tsb_ring.specs.Rings.{number}
 use Rattle.tsb_ring.specs.Moves as ring_moves
 use Rattle.tsb_ring.specs.Next as rings_next
 use Rattle.tsb_coord.specs.Coordinated as coordination

@@ -1,5 +1,5 @@
 -- What the words of `tsb` ask for, by the text of each.
-use Rattle.std.specs.Prelude.{◌≡◌, ℕ, ◌==◌, ◌&&◌, Bool, true, false, if◌then◌else◌, List, [], ◌∷◌, drop, Option, Some, None, option_map, Result, Ok, Err, codes, chars, bytes_eq}
+use Rattle.std.specs.Prelude.{ℕ, ◌==◌, ◌&&◌, Bool, true, false, if◌then◌else◌, List, [], ◌∷◌, drop, Option, Some, None, option_map, Result, codes, chars, bytes_eq}
 use Rattle.tsb_words.specs.declared.bench.Asked.{Asked}
 use Rattle.tsb_words.specs.declared.bench.Asked.TheVariants as asks
 use Rattle.tsb_words.specs.declared.error.WordsError.{WordsError}

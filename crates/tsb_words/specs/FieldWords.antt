@@ -1,5 +1,5 @@
 -- What words of `tsb_field` may ask for.
-use Rattle.std.specs.Prelude.{◌≡◌, ℕ, Bool, ◌&&◌, nat_le, List, Option, Some, None, option_map, Result, Ok, Err, if◌then◌else◌}
+use Rattle.std.specs.Prelude.{ℕ, Bool, ◌&&◌, nat_le, List, Option, Some, None, option_map, if◌then◌else◌}
 use Rattle.tsb_lines.specs.Words.{number_of}
 use Rattle.tsb_event_text.specs.declared.times.Moment.{Moment}
 use Rattle.tsb_field_log.specs.declared.inputs.Wire.{Wire}

@@ -12,7 +12,7 @@ use Rattle.tsb_heads.specs.Heads.{Shown}
 use Rattle.tsb_heads.specs.Overlaps.{is_kept_green, is_on_yellow, has_green_modifier, has_yellow_modifier, is_on_last_yellow}
 use Rattle.tsb_heads.specs.Displays.{display}
 use Rattle.tsb_heads.proofs.Examples.Examples as heads
-use Rattle.tsb_heads.proofs.Examples.Examples.{two_in, through, committed, walking}
+use Rattle.tsb_heads.proofs.Examples.Examples.{two_in, through, committed}
 use Rattle.tsb_display_text.specs.Line.{line_of}
 
 -- what a computed line opens

@@ -1,8 +1,7 @@
 -- Where texts stop.
-use Rattle.std.specs.Prelude.{◌≡◌, List, [], ◌∷◌, ◌++◌, Option, Some, None, codes, true, false, refl}
-use Rattle.tsb_json_place.specs.declared.next.Next.TheVariants.{Value, Name, MemberEnd, ItemEnd, End, Text, Zero}
+use Rattle.std.specs.Prelude.{◌≡◌, [], ◌∷◌, ◌++◌, Some, None, codes, true, false, refl}
+use Rattle.tsb_json_place.specs.declared.next.Next.TheVariants.{Value, Name, MemberEnd, ItemEnd, End, Text}
 use Rattle.tsb_json_place.specs.declared.next.Role.TheVariants as roles
-use Rattle.tsb_json_place.specs.declared.place.JsonPlace.{JsonPlace}
 use Rattle.tsb_json_place.specs.Places.{json_place}
 
 -- JSON stops nowhere

@@ -1,7 +1,6 @@
 -- No answer but that memory ran out reads like it, and each is one line. So there is a text that does not tell it.
-use Rattle.std.proofs.Common.{◌≡◌, ◌≢◌, ℕ, ◌<◌, ◌≤◌, ◌+◌, ◌==◌, ◌||◌, Bool, true, false, List, [], ◌∷◌, ◌++◌, map, codes, bytes_eq, Option, Some, None, refl, ap, ◌∙◌, arith, append_assoc}
+use Rattle.std.proofs.Common.{◌≡◌, ◌≢◌, ℕ, ◌<◌, ◌≤◌, ◌+◌, ◌==◌, Bool, false, List, [], ◌∷◌, ◌++◌, map, codes, bytes_eq, Option, Some, None, refl, ap, ◌∙◌, arith, append_assoc}
 use Rattle.std.specs.List.{list_any}
-use Rattle.std.proofs.lemmas.Bool.{true≢false}
 use Rattle.std.proofs.lemmas.Bool.Decides.{nat_tests}
 use Rattle.tsb_step.specs.tsb_history.declared.kinds.Kind.{Kind}
 use Rattle.tsb_step.specs.tsb_history.declared.kinds.Kind.TheVariants as kinds

@@ -9,7 +9,7 @@ use Rattle.tsb_step.specs.tsb_types.Lists.{is}
 use Rattle.tsb_step.specs.tsb_plan.Plan.{Plan}
 use Rattle.tsb_step.specs.tsb_ring.declared.want.Want.TheVariants.{Cross}
 use Rattle.tsb_step.specs.tsb_ring.Rings as rings
-use Rattle.tsb_step.specs.tsb_ring.Rings.{Ring, Ring1, Ring2, Given, number, in_ring, serving, other}
+use Rattle.tsb_step.specs.tsb_ring.Rings.{Ring, Ring1, Ring2, Given, in_ring, serving, other}
 use Rattle.tsb_step.specs.tsb_ring.Wants.{is_called_elsewhere, is_idle_or_green, want_of, pick}
 use Rattle.tsb_step.specs.tsb_ring.Crossings.{ring_joins, begins, wants_cross, committed as committed_to}
 use Rattle.tsb_step.specs.tsb_ring.Next.{ends, clears}

@@ -1,13 +1,11 @@
 -- A coordinated phase of the pattern that runs is called in each tick in which it is not Green, so that each phase that is
 -- not concurrent with it has a conflict.
-use Rattle.std.proofs.Common.{◌≡◌, ◌≢◌, ℕ, ◌≤◌, ◌==◌, Bool, true, false, not, ◌&&◌, ◌||◌, if◌then◌else◌, List, Option, Some, None, refl, sym, ap, ◌∙◌}
+use Rattle.std.proofs.Common.{◌≡◌, ◌≢◌, ℕ, ◌==◌, Bool, true, false, not, ◌&&◌, ◌||◌, if◌then◌else◌, List, Option, Some, None, refl, sym, ap, ◌∙◌}
 use Rattle.std.proofs.lemmas.Bool.{and_from, or_left, or_right, ne_eqb, true≢false, false≢true}
 use Rattle.tsb_step.specs.tsb_types.declared.row.Row.{Row}
-use Rattle.tsb_step.specs.tsb_types.Clip.{clipped}
 use Rattle.tsb_step.specs.tsb_types.Intervals.{is_green}
 use Rattle.tsb_step.specs.tsb_types.Sets.{is_phase}
 use Rattle.tsb_step.specs.tsb_plan.declared.object.Object.TheVariants.{SplitMode as SplitModeObject}
-use Rattle.tsb_step.specs.tsb_plan.declared.plan.patterns.SplitMode.{SplitMode}
 use Rattle.tsb_step.specs.tsb_plan.declared.plan.patterns.SplitMode.TheVariants.{NoMode, MinimumRecall, MaximumRecall, PedestrianRecall, MaximumAndPedestrianRecall, Omitted}
 use Rattle.tsb_step.specs.tsb_plan.Parts.{is_used, leads_and_lags, split_index, is_coordinated, mode_of}
 use Rattle.tsb_step.specs.tsb_plan.Plan.{Plan, phases, is_enabled, is_concurrent, has_minimum_recall}
@@ -15,7 +13,6 @@ use Rattle.tsb_step.specs.tsb_plan.Running.{running, mode_in, mode_in_effect, co
 use Rattle.tsb_step.specs.tsb_rules.Consistent.{IsPhase, IsWhole, AreCoordinated}
 use Rattle.tsb_step.specs.tsb_rules.Rules.{first_broken}
 use Rattle.tsb_step.proofs.tsb_rules.ConsistentLemmas.{whole, coordinated}
-use Rattle.tsb_step.specs.tsb_ring.Laws.{IsListed}
 use Rattle.tsb_step.specs.tsb_calls.Callable.{has_pedestrian_call, has_passing_call, is_recalled, is_called, is_free, is_callable_otherwise, is_softly_recalled, is_callable, has_conflict}
 use Rattle.tsb_step.specs.declared.inputs.Input.{Input}
 use Rattle.tsb_step.specs.State.{State, interval}

@@ -1,7 +1,7 @@
 -- A green of a pattern that has its initial time, its walk and its pedestrian clearance behind it is ready by floating
 -- force-off, by a maximum that acts in the pattern, and within its permissive time.
-use Rattle.std.proofs.Common.{◌≡◌, ℕ, suc, ◌+◌, ◌<◌, ◌≤◌, nat_le, nat_lt, Bool, true, false, not, ◌&&◌, ◌||◌, if◌then◌else◌, List, ◌∷◌, ◌++◌, Option, Some, None, is_some, is_none, refl, sym, ap, subst, arith, ◌∙◌, inl, inr, ◌⊎◌}
-use Rattle.std.proofs.lemmas.Bool.{and_parts, or_left, or_right, false≢true}
+use Rattle.std.proofs.Common.{◌≡◌, ℕ, ◌+◌, ◌≤◌, nat_le, nat_lt, Bool, true, false, not, ◌&&◌, ◌||◌, if◌then◌else◌, List, ◌++◌, Option, Some, None, is_some, is_none, refl, sym, ap, arith, ◌∙◌, inl, inr, ◌⊎◌}
+use Rattle.std.proofs.lemmas.Bool.{or_left, or_right, false≢true}
 use Rattle.std.proofs.lemmas.Bool.Decides.{nat_tests}
 use Rattle.tsb_step.specs.tsb_cells.declared.timer.Timer.{Timer}
 use Rattle.tsb_step.specs.tsb_cells.declared.timer.Timer.TheVariants.{Off, On}
@@ -16,14 +16,12 @@ use Rattle.tsb_step.specs.tsb_coord.Coordinated.{local_in, force_off, agree, is_
 use Rattle.tsb_step.specs.tsb_coord.Correction.{counted_tick}
 use Rattle.tsb_step.specs.tsb_phase.Phase.{Phase, Given, held_of}
 use Rattle.tsb_step.specs.tsb_phase.Green.{conflict_timer, has_reached_some, acting_maximum, is_gapped, is_by_gap, has_maxed_out, floats_off, forced_latch}
-use Rattle.tsb_step.specs.tsb_phase.Ready.{needs_forced, has_timed_out, may_end}
+use Rattle.tsb_step.specs.tsb_phase.Ready.{has_timed_out, may_end}
 use Rattle.tsb_step.specs.declared.inputs.Input.{Input}
-use Rattle.tsb_step.specs.declared.inputs.Input.TheVariants.{Tick}
 use Rattle.tsb_step.specs.State.{State, interval}
 use Rattle.tsb_step.specs.Tick.{service, runs, hold, forced, conflict, phases_given, phase_read, ready}
 use Rattle.tsb_step.specs.Runs.{replay, AreTaken}
 use Rattle.tsb_step.specs.Laws.{IsConsistent}
-use Rattle.tsb_step.specs.Good.{IsGood}
 use Rattle.tsb_step.specs.TimeLaws.{held_for}
 use Rattle.tsb_step.proofs.GoodLemmas.{good_run}
 use Rattle.tsb_step.proofs.TellLemmas.{is_in_green, timers_tell_time}
@@ -32,7 +30,6 @@ use Rattle.tsb_laws.specs.GreenEnds.{HasFloated}
 use Rattle.tsb_laws.specs.PatternEnds.{LacksOnlyItsEnd, HasWaitedInPattern, HasMaxedInPattern, next_counter, IsInPermissiveTime}
 use Rattle.tsb_laws.proofs.safety.StretchLemmas.{dark_now}
 use Rattle.tsb_laws.proofs.safety.DueLemmas.{count_run}
-use Rattle.tsb_laws.proofs.operation.PhaseTimeLemmas.{left}
 use Rattle.tsb_laws.proofs.operation.PressedGreenLemmas.{reached_all}
 use Rattle.tsb_laws.proofs.operation.PressedRunLemmas.{is_one}
 use Rattle.tsb_laws.proofs.operation.InStepLemmas.{forced_by_counter}

@@ -1,7 +1,7 @@
 -- A green that has had a conflict in each tick of a pattern for long enough has its initial time, its walk and its
 -- pedestrian clearance behind it, and its conflict has lasted as long: along a run, over inputs of every kind but those
 -- that select a pattern or commit.
-use Rattle.std.proofs.Common.{◌≡◌, ℕ, ◌+◌, ◌-◌, ◌≤◌, nat_le, Bool, true, false, ◌&&◌, max, List, [], ◌∷◌, ◌++◌, Option, Some, None, is_some, refl, sym, ap, subst, arith, ◌∙◌, inl, inr}
+use Rattle.std.proofs.Common.{◌≡◌, ℕ, ◌+◌, ◌-◌, ◌≤◌, nat_le, Bool, true, false, ◌&&◌, List, [], ◌∷◌, ◌++◌, Option, Some, None, is_some, refl, sym, ap, subst, arith, ◌∙◌, inl, inr}
 use Rattle.std.proofs.lemmas.Bool.{cases_Bool, true≢false}
 use Rattle.std.proofs.lemmas.Bool.Decides.{nat_tests}
 use Rattle.tsb_step.specs.tsb_cells.declared.timer.Timer.{Timer}
@@ -19,7 +19,7 @@ use Rattle.tsb_step.specs.tsb_coord.Correction.{is_in_step}
 use Rattle.tsb_step.specs.tsb_phase.Phase.{Phase, held_of}
 use Rattle.tsb_step.specs.tsb_phase.Green.{initial, initial_has_passed}
 use Rattle.tsb_step.specs.tsb_phase.Pedestrian.{pedestrian_now}
-use Rattle.tsb_step.specs.tsb_ring.Moves.{is_ended, is_started}
+use Rattle.tsb_step.specs.tsb_ring.Moves.{is_started}
 use Rattle.tsb_step.specs.declared.inputs.Input.{Input}
 use Rattle.tsb_step.specs.declared.inputs.Input.TheVariants as inputs
 use Rattle.tsb_step.specs.declared.inputs.Input.TheVariants.{Tick}
@@ -37,7 +37,7 @@ use Rattle.tsb_laws.specs.CoordinatedGreens.{HasGoneOn, is_pressed_in_pattern}
 use Rattle.tsb_laws.specs.PatternEnds.{HasWaitedInPattern}
 use Rattle.tsb_laws.proofs.safety.StretchLemmas.{dark_now, at_next}
 use Rattle.tsb_laws.proofs.safety.DueLemmas.{count_run}
-use Rattle.tsb_laws.proofs.operation.PhaseTimeLemmas.{left, walking_in, Runs, IsTimed}
+use Rattle.tsb_laws.proofs.operation.PhaseTimeLemmas.{left, Runs, IsTimed}
 use Rattle.tsb_laws.proofs.operation.PressedGreenLemmas.{pressed_left, initial_most, rests_not, walks_not, walks_no_more, presses_down_quiet}
 use Rattle.tsb_laws.proofs.operation.PressedRunLemmas.{timed_run, pressed_most, is_one, not_ended}
 use Rattle.tsb_laws.proofs.operation.CoordinatedForceLemmas.{ended_by_none, told_conflict}

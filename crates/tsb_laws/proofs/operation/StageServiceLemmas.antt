@@ -11,7 +11,7 @@ use Rattle.tsb_step.specs.tsb_types.declared.stage.Stage.TheVariants.{Track, Dwe
 use Rattle.tsb_step.specs.tsb_plan.Parts.{track_green, is_track_phase}
 use Rattle.tsb_step.specs.tsb_plan.Plan.{Plan}
 use Rattle.tsb_step.specs.tsb_preempt.Preempts as preempts
-use Rattle.tsb_step.specs.tsb_preempt.Preempts.{is_dwell, is_exit}
+use Rattle.tsb_step.specs.tsb_preempt.Preempts.{is_exit}
 use Rattle.tsb_step.specs.tsb_preempt.Service.{Service, service_as_read, has_track, stage_phases, all_green, begun, track_timer, ends_track, stage_after, with_stage}
 use Rattle.tsb_step.specs.declared.inputs.Input.{Input}
 use Rattle.tsb_step.specs.declared.inputs.Input.TheVariants as inputs

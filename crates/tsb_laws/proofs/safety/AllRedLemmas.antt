@@ -1,17 +1,15 @@
 -- All red ends: a run through all red, in which some phase is wanted in each tick, is short.
-use Rattle.std.proofs.Common.{◌≡◌, ℕ, ◌+◌, ◌<◌, ◌≤◌, ◌==◌, nat_le, Bool, true, false, not, ◌&&◌, ◌||◌, if◌then◌else◌, List, [], ◌∷◌, ◌++◌, Option, Some, None, is_some, option_map, refl, sym, ap, subst, inl, inr, ◌⊎◌, arith, ◌∙◌}
-use Rattle.std.proofs.lemmas.Bool.{cases_Bool, and_parts, eqb-true, eq-eqb, leb-true, true≢false, false≢true}
+use Rattle.std.proofs.Common.{◌≡◌, ℕ, ◌+◌, ◌<◌, ◌≤◌, ◌==◌, nat_le, Bool, true, false, not, ◌&&◌, ◌||◌, List, [], ◌∷◌, ◌++◌, Option, Some, None, is_some, option_map, refl, sym, ap, subst, inl, inr, arith, ◌∙◌}
+use Rattle.std.proofs.lemmas.Bool.{cases_Bool, and_parts, eqb-true, eq-eqb, leb-true, true≢false}
 use Rattle.std.proofs.lemmas.Bool.Decides.{nat_tests}
 use Rattle.tsb_step.specs.tsb_types.declared.interval.Interval.TheVariants.{Green}
 use Rattle.tsb_step.specs.tsb_types.declared.row.Row.{Row}
 use Rattle.tsb_step.specs.tsb_types.Intervals.{is_green, is_yellow, in_service}
-use Rattle.tsb_step.specs.tsb_types.Lists.{first, some_passes, among}
-use Rattle.tsb_step.specs.tsb_plan.Parts.{is_used}
+use Rattle.tsb_step.specs.tsb_types.Lists.{first, among}
 use Rattle.tsb_step.specs.tsb_plan.Plan.{Plan, phases, is_enabled, ring_of, red_revert, sequence}
 use Rattle.tsb_step.specs.tsb_plan.Running.{running, sequence_in_effect}
-use Rattle.tsb_step.specs.tsb_rules.Consistent.{IsPhase, IsPlaced, IsWhole, ListsRing, ListsRings}
-use Rattle.tsb_step.specs.tsb_rules.Rules.{first_broken}
-use Rattle.tsb_step.proofs.tsb_rules.ConsistentLemmas.{placed, first_lists, whole, used_lists}
+use Rattle.tsb_step.specs.tsb_rules.Consistent.{IsPlaced, ListsRing}
+use Rattle.tsb_step.proofs.tsb_rules.ConsistentLemmas.{placed}
 use Rattle.tsb_step.specs.tsb_ring.Rings as rings
 use Rattle.tsb_step.specs.tsb_ring.Rings.{Ring, Ring1, Ring2, number, in_ring, serving}
 use Rattle.tsb_step.specs.tsb_preempt.Preempts.{wanted_by}
@@ -24,12 +22,12 @@ use Rattle.tsb_step.proofs.tsb_ring.WaitLemmas.{first-passes}
 use Rattle.tsb_step.specs.declared.inputs.Input.{Input}
 use Rattle.tsb_step.specs.declared.inputs.Input.TheVariants.{Tick}
 use Rattle.tsb_step.specs.State.{State, interval}
-use Rattle.tsb_step.specs.Tick.{new_service, service, callable, rings_given, moves, reverted, yellow_done, next}
+use Rattle.tsb_step.specs.Tick.{new_service, service, callable, rings_given, moves, reverted, yellow_done}
 use Rattle.tsb_step.specs.Step.{step, kind_of}
 use Rattle.tsb_step.specs.Runs.{replay, AreTaken}
 use Rattle.tsb_step.specs.Past.{ticks_of}
 use Rattle.tsb_step.specs.Laws.{IsConsistent}
-use Rattle.tsb_step.specs.Good.{IsPatternNumber, IsGood}
+use Rattle.tsb_step.specs.Good.{IsGood}
 use Rattle.tsb_step.specs.TimeLaws.{held_for}
 use Rattle.tsb_step.proofs.GivenLemmas.{lists_now, lists_ring, listed_is_phase, enabled_is_listed, symmetric, new_in_stage, given}
 use Rattle.tsb_step.proofs.GoodLemmas.{good_run}

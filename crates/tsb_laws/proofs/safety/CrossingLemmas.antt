@@ -8,7 +8,7 @@ use Rattle.tsb_step.specs.tsb_types.Intervals.{is_green, is_yellow, is_red_clear
 use Rattle.tsb_step.specs.tsb_plan.Plan.{Plan, yellow_change, red_clear, red_revert}
 use Rattle.tsb_step.specs.tsb_phase.Ready.{yellow_is_done}
 use Rattle.tsb_step.specs.tsb_ring.Rings as rings
-use Rattle.tsb_step.specs.tsb_ring.Rings.{Ring, Ring1, Ring2, in_ring}
+use Rattle.tsb_step.specs.tsb_ring.Rings.{Ring, Ring1, Ring2}
 use Rattle.tsb_step.specs.tsb_ring.Crossings.{begins, target_side}
 use Rattle.tsb_step.specs.tsb_ring.Next.{completes, starting, new_side, new_crossing, next as rings_next}
 use Rattle.tsb_step.specs.tsb_ring.Moves.{is_ended, is_cleared, is_started}

@@ -1,9 +1,9 @@
 -- The list of the stage of a preempt in service has an enabled phase: it is not empty, names no phase over those of the plan, and
 -- what it names is enabled.
-use Rattle.std.proofs.Common.{◌≡◌, ◌≢◌, ℕ, ◌+◌, ◌-◌, ◌^◌, ◌<◌, ◌≤◌, ◌==◌, nat_le, Bool, true, false, not, ◌&&◌, if◌then◌else◌, w16, List, [], ◌∷◌, Option, Some, None, refl, sym, ap, subst, inl, inr, arith, ◌∙◌}
+use Rattle.std.proofs.Common.{◌≡◌, ◌≢◌, ℕ, ◌+◌, ◌-◌, ◌^◌, ◌<◌, ◌≤◌, ◌==◌, nat_le, Bool, true, false, not, ◌&&◌, if◌then◌else◌, w16, List, [], ◌∷◌, Some, None, refl, sym, subst, arith, ◌∙◌}
 use Rattle.std.specs.Int.{trailing_zeros}
 use Rattle.std.proofs.Math.Pow.{pow_mono}
-use Rattle.std.proofs.lemmas.Bool.{cases_Bool, leb-true, true≢false, false≢true}
+use Rattle.std.proofs.lemmas.Bool.{leb-true, true≢false, false≢true}
 use Rattle.std.proofs.lemmas.Bool.Decides.{nat_tests}
 use Rattle.std.proofs.lemmas.Nat.{pow_pos}
 use Rattle.tsb_step.specs.tsb_types.Sets.{names}
@@ -29,7 +29,7 @@ use Rattle.tsb_step.specs.tsb_ring.Wants.{is_targeted}
 use Rattle.tsb_step.specs.declared.inputs.Input.{Input}
 use Rattle.tsb_step.specs.declared.inputs.Input.TheVariants as inputs
 use Rattle.tsb_step.specs.State.{State}
-use Rattle.tsb_step.specs.Step.{step, verdict}
+use Rattle.tsb_step.specs.Step.{step}
 use Rattle.tsb_step.specs.Tables.{version_of, has_place, greatest_of, place_refusal}
 use Rattle.tsb_step.specs.Runs.{replay, AreTaken}
 use Rattle.tsb_step.specs.Laws.{IsConsistent, has_stage}

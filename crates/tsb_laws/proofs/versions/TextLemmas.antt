@@ -1,5 +1,5 @@
 -- A plan text of version 1 that is read gives the wide plan of the plan that it names.
-use Rattle.std.proofs.Common.{◌≡◌, ℕ, ◌≤◌, nat_le, nat_lt, Bool, true, false, List, length, Option, Some, None, Result, Ok, Err, codes, bytes_eq, if◌then◌else◌, refl, arith, sym, ◌∙◌, ap, subst, inl, inr}
+use Rattle.std.proofs.Common.{◌≡◌, ℕ, ◌≤◌, nat_le, nat_lt, Bool, true, false, List, length, Option, Some, None, Ok, Err, codes, bytes_eq, if◌then◌else◌, refl, arith, sym, ◌∙◌, ap, subst, inl, inr}
 use Rattle.std.proofs.lemmas.Bool.{cases_Bool, leb-true}
 use Rattle.serde_json.specs.Data.{Data, Members, no_members, member}
 use Rattle.serde_json.specs.Find.{as_object}

@@ -12,9 +12,7 @@ use Rattle.tsb_step.specs.tsb_calls.Laws as calls
 use Rattle.tsb_step.specs.tsb_phase.Phase as phase
 use Rattle.tsb_step.specs.tsb_phase.Moves.{unforced}
 use Rattle.tsb_step.specs.tsb_ring.Laws as rings
-use Rattle.tsb_step.specs.tsb_ring.Laws.{IsListed}
 use Rattle.tsb_step.specs.tsb_ring.Rings as ring
-use Rattle.tsb_step.specs.tsb_ring.Rings.{Ring}
 use Rattle.tsb_step.specs.tsb_preempt.Laws as preempts
 use Rattle.tsb_step.specs.tsb_preempt.Preempts.{is_preempt}
 use Rattle.tsb_step.specs.tsb_heads.Monitoring.{judge}

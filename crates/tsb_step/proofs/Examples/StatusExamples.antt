@@ -9,7 +9,6 @@ use Rattle.tsb_objects.specs.tsb_plan.declared.object.Object.TheVariants.{CoordM
 use Rattle.tsb_objects.specs.tsb_plan.Plan.{Plan, with_value}
 use Rattle.tsb_objects.specs.tsb_plan.Quad.{quad}
 use Rattle.tsb_phase.specs.Phase as phase
-use Rattle.tsb_phase.specs.Phase.{Phase}
 use Rattle.tsb_ring.specs.Rings.{Ring1}
 use Rattle.tsb_step.specs.declared.status.FreeStatus.TheVariants.{NotFree, CommandFree}
 use Rattle.tsb_step.specs.declared.status.FlashStatus.TheVariants.{Mmu}

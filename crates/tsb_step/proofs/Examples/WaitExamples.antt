@@ -20,7 +20,7 @@ use Rattle.tsb_step.specs.State.{State}
 use Rattle.tsb_step.specs.Tick.{moves}
 use Rattle.tsb_step.specs.Waits.{lack, phases_again, served, committed_wait, free_wait, wait, waits_for}
 use Rattle.tsb_step.proofs.Examples.Scenes as scenes
-use Rattle.tsb_step.proofs.Examples.Scenes.{all_red, at_barrier, called, clearing, coordinated, dwelling, entering, green, red, resting, short, these, walking}
+use Rattle.tsb_step.proofs.Examples.Scenes.{all_red, at_barrier, called, clearing, coordinated, dwelling, green, red, resting, short, these, walking}
 
 -- what a computed line opens
 unfoldable pub opened : Unit {0}

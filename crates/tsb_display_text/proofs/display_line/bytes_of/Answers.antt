@@ -1,7 +1,5 @@
-use Rattle.std.proofs.Common.{◌≡◌, ◌∙◌, ℕ, List, ap, set, subst, sym}
+use Rattle.std.proofs.Common.{◌∙◌, ℕ, List, ap, set, subst, sym}
 use Rattle.std.specs.Str.{IsUtf8}
-use Rattle.tsb_heads.specs.Heads.{Heads}
-use Rattle.tsb_display_text.specs.Line.{line_of}
 use Rattle.tsb_display_text.proofs.LineLemmas.{placed, written, line-written, line-utf8}
 use Rattle.tsb_display_text.proofs.display_line.bytes_of.Goals as goal
 

@@ -1,15 +1,13 @@
 -- Runs from power-up that meet all premises of the laws of greens that end in a pattern by floating force-off, by a
 -- maximum and in their permissive time, and mistakes that these laws refuse.
-use Rattle.std.proofs.Common.{◌≡◌, ℕ, ◌+◌, ◌<◌, ◌≤◌, Bool, true, false, ◌&&◌, List, [], ◌∷◌, ◌++◌, Some, None, is_none, refl, arith, inl, inr, ◌⊎◌}
+use Rattle.std.proofs.Common.{◌≡◌, ℕ, ◌+◌, ◌≤◌, Bool, true, false, ◌&&◌, List, [], ◌∷◌, ◌++◌, Some, None, is_none, refl, arith, inl}
 use Rattle.tsb_step.specs.tsb_cells.Timer.{has_reached}
 use Rattle.tsb_step.specs.tsb_types.Sets.{all_off}
-use Rattle.tsb_step.specs.tsb_types.declared.interval.Interval.TheVariants.{Green}
-use Rattle.tsb_step.specs.tsb_types.declared.interval.PedestrianInterval.TheVariants.{DontWalk}
 use Rattle.tsb_step.specs.tsb_types.declared.row.Row.{Row}
 use Rattle.tsb_step.specs.tsb_plan.declared.object.Object.{Object}
 use Rattle.tsb_step.specs.tsb_plan.declared.object.Object.TheVariants.{PhaseMinimumGreen, PhaseMaximum1, PhaseYellowChange, PhaseRedClear, PatternOffsetTime, SplitCoordPhase, CoordForceMode, CoordMaximumMode, PatternPermissiveTime}
 use Rattle.tsb_step.specs.tsb_plan.Objects.{greatest}
-use Rattle.tsb_step.specs.tsb_plan.Parts.{cycle, permissive_time}
+use Rattle.tsb_step.specs.tsb_plan.Parts.{permissive_time}
 use Rattle.tsb_step.specs.tsb_plan.Plan.{Plan, walk, pedestrian_clear, with_values}
 use Rattle.tsb_step.specs.tsb_plan.Quad.{quad}
 use Rattle.tsb_step.specs.tsb_plan.Running.{floating_time, pattern_maximum}
@@ -17,12 +15,11 @@ use Rattle.tsb_step.specs.tsb_rules.Rules.{first_broken}
 use Rattle.tsb_step.specs.tsb_coord.Coordinated.{force_off}
 use Rattle.tsb_step.specs.tsb_phase.Phase.{held_of}
 use Rattle.tsb_step.specs.tsb_phase.DynamicMaximum.{maximum_in_use}
-use Rattle.tsb_step.specs.tsb_phase.Green.{conflict_timer, initial_has_passed}
-use Rattle.tsb_step.specs.tsb_phase.Pedestrian.{pedestrian_now}
+use Rattle.tsb_step.specs.tsb_phase.Green.{conflict_timer}
 use Rattle.tsb_step.specs.declared.inputs.Input.{Input}
 use Rattle.tsb_step.specs.declared.inputs.Input.TheVariants.{Tick, Pattern}
-use Rattle.tsb_step.specs.State.{State, interval}
-use Rattle.tsb_step.specs.Tick.{service, runs, hold, forced, at_force_off, conflict, phases_given, phase_read, ready}
+use Rattle.tsb_step.specs.State.{State}
+use Rattle.tsb_step.specs.Tick.{runs, hold, forced, at_force_off, conflict, phases_given, phase_read, ready}
 use Rattle.tsb_step.specs.Runs.{replay, AreTaken}
 use Rattle.tsb_step.specs.Laws.{IsConsistent}
 use Rattle.tsb_step.proofs.Examples.Scenes.{opened, vehicle}

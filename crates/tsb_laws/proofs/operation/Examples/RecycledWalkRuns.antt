@@ -21,7 +21,7 @@ use Rattle.tsb_step.specs.tsb_coord.Coordinated.{local, force_off, asks_force_of
 use Rattle.tsb_step.specs.tsb_coord.Correction.{in_step}
 use Rattle.tsb_step.proofs.tsb_coord.CorrectionLemmas.{always_in_step}
 use Rattle.tsb_step.specs.tsb_phase.Pedestrian.{pedestrian_now}
-use Rattle.tsb_step.specs.tsb_preempt.Preempts.{Preempts, is_preempt, delay_timer, still_spent, requests, requesting, if_may_begin, beginning, going_on, service_by}
+use Rattle.tsb_step.specs.tsb_preempt.Preempts.{Preempts, delay_timer, still_spent, requests, requesting, if_may_begin, beginning, going_on, service_by}
 use Rattle.tsb_step.specs.tsb_preempt.Preempts as preempts
 use Rattle.tsb_step.specs.tsb_preempt.Service.{Service, service_as_read, has_dwell}
 use Rattle.tsb_step.specs.declared.inputs.Input.{Input}

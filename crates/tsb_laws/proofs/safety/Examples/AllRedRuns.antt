@@ -10,10 +10,10 @@ use Rattle.tsb_step.specs.tsb_plan.declared.object.Object.TheVariants.{PhaseRedR
 use Rattle.tsb_step.specs.tsb_plan.Objects.{greatest}
 use Rattle.tsb_step.specs.tsb_plan.Plan.{Plan, phases, red_revert}
 use Rattle.tsb_step.specs.tsb_ring.declared.want.Want.{Want}
-use Rattle.tsb_step.specs.tsb_ring.declared.want.Want.TheVariants.{Go, Cross, Rest, Stop}
+use Rattle.tsb_step.specs.tsb_ring.declared.want.Want.TheVariants.{Cross}
 use Rattle.tsb_step.specs.tsb_ring.Rings.{Ring1, serving}
 use Rattle.tsb_step.specs.tsb_ring.Wants.{want_of}
-use Rattle.tsb_step.specs.tsb_ring.Crossings.{wants_cross, joins_in}
+use Rattle.tsb_step.specs.tsb_ring.Crossings.{wants_cross}
 use Rattle.tsb_step.specs.declared.inputs.Input.{Input}
 use Rattle.tsb_step.specs.declared.inputs.Input.TheVariants.{Tick}
 use Rattle.tsb_step.specs.State.{State, start, interval}

@@ -1,6 +1,6 @@
 -- A run from power-up that meets all premises of the laws of yellows: the green that is forced off at its instant is Yellow for 38
 -- ticks, and in the next its head turns red.
-use Rattle.std.proofs.Common.{◌≡◌, ◌≢◌, ℕ, ◌+◌, ◌<◌, ◌≤◌, true, false, List, [], ◌∷◌, ◌++◌, None, is_some, refl, sym, ap, arith, ◌∙◌}
+use Rattle.std.proofs.Common.{◌≡◌, ◌≢◌, ℕ, ◌+◌, ◌≤◌, true, false, List, ◌∷◌, ◌++◌, None, is_some, refl, sym, ap, arith, ◌∙◌}
 use Rattle.tsb_step.specs.tsb_types.declared.interval.Interval.TheVariants.{Yellow, RedClear}
 use Rattle.tsb_step.specs.tsb_types.declared.lamp.Aspect.TheVariants as aspects
 use Rattle.tsb_step.specs.tsb_types.declared.row.Row.{Row}

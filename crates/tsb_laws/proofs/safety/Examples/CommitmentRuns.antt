@@ -1,6 +1,6 @@
 -- Runs from power-up that meet all premises of a law at once, computed as far as the tick in which the green ends: from there on
 -- 40 ticks more, of which the laws themselves tell what starts in them. Of intergreens and of commitments.
-use Rattle.std.proofs.Common.{◌≡◌, ◌≢◌, ℕ, ◌+◌, ◌<◌, ◌≤◌, true, false, max, List, [], ◌∷◌, ◌++◌, Some, None, refl, sym, ap, subst, inl, inr, arith, ◌∙◌}
+use Rattle.std.proofs.Common.{◌≡◌, ℕ, ◌+◌, ◌≤◌, true, false, max, List, [], ◌∷◌, ◌++◌, Some, None, refl, sym, ap, subst, inl, inr, arith, ◌∙◌}
 use Rattle.tsb_step.specs.tsb_types.Sets.{all_off}
 use Rattle.tsb_step.specs.tsb_types.declared.interval.Interval.TheVariants.{Green, Yellow}
 use Rattle.tsb_step.specs.tsb_types.declared.row.Row.{Row}
@@ -17,9 +17,9 @@ use Rattle.tsb_step.specs.State.{interval}
 use Rattle.tsb_step.specs.Runs.{replay, AreTaken}
 use Rattle.tsb_step.specs.Laws.{IsConsistent, is_unlit}
 use Rattle.tsb_step.proofs.Examples.Scenes.{opened}
-use Rattle.tsb_laws.specs.Stretches.{IsUntripped, largest, EndsGreen, StartsGreen}
+use Rattle.tsb_laws.specs.Stretches.{IsUntripped, EndsGreen, StartsGreen}
 use Rattle.tsb_laws.specs.Intergreens.{AreApart}
-use Rattle.tsb_laws.specs.Commitments.{CommitsTo, wait, HasStarted, StartsWithin}
+use Rattle.tsb_laws.specs.Commitments.{CommitsTo, wait, StartsWithin}
 use Rattle.tsb_laws.proofs.safety.ServedLemmas.{are_served}
 use Rattle.tsb_laws.proofs.safety.Examples.PlanFits.{Fits, values_fit, quad_fits, consistent}
 use Rattle.tsb_laws.proofs.safety.Examples.TickRuns.{ticks, now_then, plan_then, largest_then, all_taken, none_trips, AreTicks, older_ticks}

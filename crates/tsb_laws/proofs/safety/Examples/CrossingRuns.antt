@@ -1,5 +1,5 @@
 -- A run from power-up that meets all premises of the laws of crossings and of enabled phases, as far as the crossing is completed.
-use Rattle.std.proofs.Common.{suc, ◌≡◌, ◌≢◌, ℕ, ◌+◌, ◌<◌, ◌≤◌, true, false, max, List, [], ◌∷◌, ◌++◌, Some, None, refl, sym, ap, subst, inl, inr, arith, ◌∙◌}
+use Rattle.std.proofs.Common.{◌≡◌, ℕ, ◌+◌, ◌≤◌, true, List, [], ◌∷◌, ◌++◌, Some, None, refl, ap, subst, inl, inr, arith, ◌∙◌}
 use Rattle.tsb_step.specs.tsb_types.Sets.{all_off}
 use Rattle.tsb_step.specs.tsb_types.declared.row.Row.{Row}
 use Rattle.tsb_step.specs.tsb_types.Intervals.{in_service}
@@ -19,10 +19,10 @@ use Rattle.tsb_step.specs.Laws.{IsConsistent, is_unlit}
 use Rattle.tsb_step.proofs.ClearLemmas.{plan_stays}
 use Rattle.tsb_step.proofs.Examples.Scenes.{opened}
 use Rattle.tsb_laws.specs.Stretches.{IsUntripped, largest, StartsGreen}
-use Rattle.tsb_laws.specs.Crossings.{BeginsCrossing, TakesAtMost, IsCompleted, CompletesWithin}
+use Rattle.tsb_laws.specs.Crossings.{BeginsCrossing, TakesAtMost, CompletesWithin}
 use Rattle.tsb_laws.proofs.safety.CrossingLemmas.{completes_in_time}
 use Rattle.tsb_laws.proofs.safety.Examples.PlanFits.{Fits, values_fit, quad_fits, consistent}
-use Rattle.tsb_laws.proofs.safety.Examples.TickRuns.{ticks, now_then, plan_then, largest_then, all_taken, none_trips, AreTicks, older_ticks}
+use Rattle.tsb_laws.proofs.safety.Examples.TickRuns.{ticks, now_then, largest_then, all_taken, none_trips, AreTicks, older_ticks}
 use Rattle.tsb_laws.proofs.safety.Examples.CommitmentRuns.{IsKnown}
 
 -- ## A crossing that a preempt asks for in the second tick: it ends the walk of 2 and the greens of 2 and 6 at once

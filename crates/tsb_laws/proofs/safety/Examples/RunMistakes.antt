@@ -1,6 +1,6 @@
 -- What the laws of times of tsb_step refuse besides what stands there: for each a mistake in the definitions, and by computing
 -- what comes of it. Beside each stands what the definitions as they are make of the same state.
-use Rattle.std.specs.Prelude.{◌≡◌, ℕ, nat_le, ◌==◌, Bool, true, false, not, ◌&&◌, ◌||◌, [], ◌∷◌, Option, Some, None, is_some, is_none, if◌then◌else◌, refl}
+use Rattle.std.specs.Prelude.{◌≡◌, ℕ, nat_le, Bool, true, false, ◌||◌, [], ◌∷◌, Option, Some, None, is_some, is_none, if◌then◌else◌, refl}
 use Rattle.tsb_step.specs.tsb_types.Sets.{all_off}
 use Rattle.tsb_step.specs.tsb_types.declared.interval.Interval.{Interval}
 use Rattle.tsb_step.specs.tsb_types.declared.interval.Interval.TheVariants.{Green, Red, Yellow, RedClear}
@@ -10,7 +10,7 @@ use Rattle.tsb_step.specs.tsb_types.declared.lamp.Aspect.{Aspect}
 use Rattle.tsb_step.specs.tsb_types.declared.lamp.Aspect.TheVariants as aspects
 use Rattle.tsb_step.specs.tsb_types.Intervals.{is_green, is_yellow}
 use Rattle.tsb_step.specs.tsb_cells.declared.timer.Timer.{Timer}
-use Rattle.tsb_step.specs.tsb_cells.declared.timer.Timer.TheVariants.{Off, On}
+use Rattle.tsb_step.specs.tsb_cells.declared.timer.Timer.TheVariants.{On}
 use Rattle.tsb_step.specs.tsb_cells.Timer.{has_reached}
 use Rattle.tsb_step.specs.tsb_plan.Plan.{Plan, yellow_change}
 use Rattle.tsb_step.specs.tsb_plan.Quad.{quad}

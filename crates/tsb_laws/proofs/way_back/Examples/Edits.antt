@@ -10,10 +10,8 @@ use Rattle.tsb_step.specs.tsb_transact.Desk.{Desk, with_edits}
 use Rattle.tsb_step.specs.tsb_transact.Calls.{with_set}
 use Rattle.tsb_step.specs.declared.inputs.Input.{Input}
 use Rattle.tsb_step.specs.declared.inputs.Input.TheVariants.{Begin, Set, Verify}
-use Rattle.tsb_step.specs.Laws.{IsConsistent}
 use Rattle.tsb_step.specs.Runs.{replay, AreTaken}
 use Rattle.tsb_step.proofs.Examples.Scenes.{opened}
-use Rattle.tsb_laws.proofs.way_back.Examples.Witness.{held}
 
 -- ## A longer yellow of phase 2 is set and verified
 

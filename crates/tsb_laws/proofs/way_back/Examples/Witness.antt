@@ -1,6 +1,6 @@
 -- A run that meets the premises of the laws: on the built-in plan of two phases a tick, a transaction that is opened, a lamp
 -- that a fault lights, and a tick of the controller that it trips.
-use Rattle.std.proofs.Common.{◌≡◌, ℕ, ◌≤◌, nat_le, Bool, true, false, ◌&&◌, if◌then◌else◌, List, [], ◌∷◌, Some, is_some, refl, sym, ap, ap₂, subst, arith, ◌∙◌}
+use Rattle.std.proofs.Common.{◌≡◌, ℕ, ◌≤◌, nat_le, Bool, true, false, if◌then◌else◌, List, [], ◌∷◌, Some, is_some, refl, sym, ap₂, subst, arith, ◌∙◌}
 use Rattle.std.specs.List.{list_all}
 use Rattle.std.proofs.lemmas.Bool.{and_parts, leb-true, true≢false}
 use Rattle.tsb_step.specs.tsb_cells.declared.timer.Timer.TheVariants.{Off, On}
@@ -16,8 +16,6 @@ use Rattle.tsb_step.proofs.tsb_plan.PlanLemmas.{same-parts}
 use Rattle.tsb_step.specs.declared.inputs.Input.{Input}
 use Rattle.tsb_step.specs.declared.inputs.Input.TheVariants.{Tick, Fault, Begin}
 use Rattle.tsb_step.specs.Runs.{replay}
-use Rattle.tsb_step.specs.Tables.{has_place, indices_for}
-use Rattle.tsb_step.proofs.PlaceLemmas.{same_indices}
 use Rattle.tsb_step.proofs.Examples.Scenes.{opened}
 use Rattle.tsb_step.proofs.Examples.OtherRuns.{two_count, two_consistent}
 use Rattle.tsb_laws.specs.Runs.{IsHeld, IsRun}

@@ -1,6 +1,5 @@
-use Rattle.std.proofs.Common.{◌≡◌, ◌∙◌, ◌+◌, ◌++◌, ◌∷◌, ◌||◌, [], Bool, List, ap, ap₂, fold, map, take}
+use Rattle.std.proofs.Common.{◌∙◌, ◌||◌, Bool, ap₂}
 use Rattle.clap.specs.Simple.{new_app, with_rule}
-use Rattle.clap.specs.Walk.{Rule}
 use Rattle.tsb_words.proofs.CommandLemmas.{one-more}
 use Rattle.tsb_words.specs.Commands.{rule_of_argument}
 use Rattle.tsb_words.proofs.commands.leaf_of.Goals as goal

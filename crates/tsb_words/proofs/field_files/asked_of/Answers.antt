@@ -1,9 +1,8 @@
-use Rattle.std.proofs.Common.{◌≡◌, ◌∙◌, Bool, List, Some, if◌then◌else◌, ap, bytes_eq, codes, subst, sym}
+use Rattle.std.proofs.Common.{◌≡◌, ◌∙◌, Bool, List, if◌then◌else◌, ap, bytes_eq, codes, subst, sym}
 use Rattle.std.specs.declared.option.Option.{Option}
 use Rattle.clap.specs.Matches.{found_of}
 use Rattle.clap.specs.Simple.{subcommand_rows_of}
-use Rattle.clap.specs.Walk.{Row, Text, rows_of}
-use Rattle.clap.specs.declared.parser.matches.ArgMatches.{ArgMatches}
+use Rattle.clap.specs.Walk.{Row, rows_of}
 use Rattle.tsb_words.specs.FieldProgram.{asked_by, log_in, other_in}
 use Rattle.tsb_words.specs.FieldWords.{Wish, seen}
 use Rattle.tsb_words.specs.Words.{SpelledBy}
