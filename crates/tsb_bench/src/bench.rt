@@ -347,7 +347,7 @@ impl Bench {
         self.cabinet.undo(change);
         forget_shown(&mut self.shown);
         self.tick -= ticks_of(kind);
-        self.history.pop(start);
+        self.history.pop_from(start);
         kind
     }
 

@@ -1,6 +1,6 @@
 ghost use Rattle.std.specs.Prelude.{◌≡◌, ◌≢◌, ◌+◌, ◌<◌, ◌≤◌, ◌↔◌, ◌∷◌, [], All, Some, drop, length, min, OnOk, OnErr, IfOk, IsTrue};
 ghost use Rattle.tsb_history.specs.Bytes.{bytes_of};
-ghost use Rattle.tsb_history.specs.History.{newest_at, newest_start, older, quiet_ticks, record_size, size_of, FitsRecord};
+ghost use Rattle.tsb_history.specs.History.{newest, newest_at, newest_kind, newest_start, older, quiet_ticks, record_size, size_of, FitsRecord};
 
 use crate::bytes::{QUIET, quiet_before, read_record, write_record};
 use crate::kinds::Kind;
@@ -88,22 +88,38 @@ impl History {
         read_record(&self.bytes, self.bytes.len())
     }
 
-    /// The newest record, as `newest` gives it, or `None` where there is no record.
-    #[inline(always)]
-    pub fn last(&self) -> Option<(Record<'_>, usize)>
-        ensures newest { result ≡ newest_at self.now.records }
+    /// The newest record, or `None` where there is no record.
+    pub fn last(&self) -> Option<Record<'_>>
+        ensures newest { result ≡ newest self.now.records }
         ensures fits { All FitsRecord self.now.records }
     {
         if self.is_empty() {
             return None;
         }
-        Some(self.newest())
+        let (record, _) = self.newest();
+        Some(record)
     }
 
-    /// Takes the newest record away, which begins at that place, as `newest` says. It takes no memory, and gives none
-    /// back: there is more room, by the bytes of the record.
+    /// Takes the newest record away and gives its kind. `None` says that there is no record, and leaves the history as
+    /// it was. It takes no memory, and gives none back: there is more room, by the bytes of the record.
+    pub fn pop(&mut self) -> Option<Kind>
+        ensures kind { result ≡ newest_kind self.old.records }
+        ensures rest { self.new.records ≡ older self.old.records }
+        ensures room { size_of self.new.records + self.new.room ≡ size_of self.old.records + self.old.room }
+    {
+        if self.is_empty() {
+            return None;
+        }
+        let (record, start) = self.newest();
+        let kind = record.kind();
+        self.pop_from(start);
+        Some(kind)
+    }
+
+    /// Takes the newest record away, as `pop` does, for a caller that has read it and knows from `newest` where it
+    /// begins: so it is found once.
     #[inline(always)]
-    pub fn pop(&mut self, start: usize)
+    pub fn pop_from(&mut self, start: usize)
         requires start { newest_start self.old.records ≡ Some start }
         ensures rest { self.new.records ≡ older self.old.records }
         ensures room { size_of self.new.records + self.new.room ≡ size_of self.old.records + self.old.room }

@@ -19,4 +19,5 @@ pub mod RefusalLemmas
 pub mod RunLemmas
 pub mod PutLemmas
 pub mod TextLemmas
+pub mod OptionLemmas
 pub mod Examples

@@ -16,6 +16,7 @@ use Rattle.tsb_step.specs.declared.inputs.Input.{Input}
 use Rattle.tsb_step.specs.Runs.{replay, AreTaken}
 use Rattle.tsb_step.specs.Signs.{display}
 use Rattle.tsb_laws.specs.Widened.{IsNarrow, widened_input, AreWithin, widened_state}
+use Rattle.tsb_laws.specs.Options.{HasNoOptions, OptionsOff}
 use Rattle.tsb_laws.specs.Versions.{SaysTheSame}
 
 -- the text is a JSON object that tells version 1, and these are its members
@@ -61,3 +62,11 @@ pub record GoesAlike (named read : Plan) (is : List Input) : Type 0 where
 -- So it is after any inputs within version 1's ranges.
 abbrev pub ReadBenchesGoAlike : Type 0
 ReadBenchesGoAlike = OfReadTexts (λ members plan. (is : List Input) → AreWithin is → GoesAlike (named_plan members) plan is)
+
+-- Each option is 0 in the plan that is read, as version 1 has none of their objects.
+abbrev pub TextsHaveNoOptions : Type 0
+TextsHaveNoOptions = OfReadTexts (λ members plan. HasNoOptions plan)
+
+-- So each definition that reads an option is the one without it.
+abbrev pub TextsLeaveOptionsOff : Type 0
+TextsLeaveOptionsOff = OfReadTexts (λ members plan. OptionsOff plan)

@@ -1,7 +1,9 @@
 //! What holds of the bench of 8 phases and 2 sides and of that of 16 and 4, each law the contract of a function that does
 //! nothing.
 ghost use Rattle.tsb_laws.specs.Versions.{BreakTheSameRule, CountersAgree, FieldsAgree, HeadsAgree, OthersRest, PutsMakeNarrowPlans, PutsMakeWidePlans, QuadIsWide, RefusalsAgree, StagesAgree, StatesAgree, TakeTheSame, TwoIsWide, WidePlansSayTheSame};
-ghost use Rattle.tsb_laws.specs.Texts.{NamedPlansBreakNoRule, ReadBenchesGoAlike, TextsGiveWidePlans, TextsNameNarrowPlans};
+ghost use Rattle.tsb_laws.specs.Texts.{NamedPlansBreakNoRule, ReadBenchesGoAlike, TextsGiveWidePlans, TextsHaveNoOptions, TextsLeaveOptionsOff, TextsNameNarrowPlans};
+
+use crate::operation::options_off_change_nothing;
 
 /// A plan of version 1 has its wide plan. There is one plan of 16 phases and 4 sides that says at translated indices
 /// what a plan of version 1 says, and nothing elsewhere. It breaks the same rule first, or none where that plan breaks
@@ -75,3 +77,17 @@ pub fn texts_of_version_1_are_wide()
     ensures rules { NamedPlansBreakNoRule }
     ensures alike { ReadBenchesGoAlike }
 {}
+
+/// A plan text of version 1 has no options. Each is 0 in the plan that is read, as that version has none of their
+/// objects. So each definition that reads an option is the one without it (`OptionsOff`).
+///
+/// Not said: which texts are read. That is the contract of `read_plan`.
+/// Mistake: an option that stands in the plan, as a text of version 2 may name it, `with_option` of Texts
+/// (`option_is_refused`, `would_have_an_option`).
+/// Witness: `is_of_version_1`, `is_read` of Texts.
+pub fn texts_of_version_1_have_no_options()
+    ensures options { TextsHaveNoOptions }
+    ensures off { TextsLeaveOptionsOff }
+{
+    options_off_change_nothing();
+}

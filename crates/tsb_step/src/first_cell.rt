@@ -19,7 +19,7 @@ pub const PHASES: u16 = CALLS + tsb_calls::CELLS as u16;
 /// The rings'.
 pub const RINGS: u16 = PHASES + tsb_phase::CELLS as u16;
 
-/// Coordination's, which has one.
+/// Coordination's.
 pub const COORD: u16 = RINGS + tsb_ring::CELLS as u16;
 
 /// The preempts'.

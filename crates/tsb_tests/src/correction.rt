@@ -426,7 +426,7 @@ fn runs_back(bench: &mut Bench, ticks: u32, local: u32) -> bool {
 
 /// Whether the newest record is of a selection and has these entries alone: cells, and what was in them before.
 fn records(bench: &Bench, entries: [(u16, u32); 3]) -> bool {
-    let Some((record, _)) = bench.history().last() else {
+    let Some(record) = bench.history().last() else {
         return false;
     };
     record.kind() == Kind::Pattern

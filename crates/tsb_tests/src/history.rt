@@ -91,25 +91,18 @@ fn spells(history: &History, bytes: &[u8]) -> bool {
 
 /// The kind of the newest record, with its second and third change.
 fn newest(history: &History) -> Option<(Kind, Option<(u16, u32)>, Option<(u16, u32)>)> {
-    let (record, _) = history.last()?;
+    let record = history.last()?;
     Some((record.kind(), record.entry(1), record.entry(2)))
-}
-
-fn popped(history: &mut History) -> Option<Kind> {
-    let (record, start) = history.last()?;
-    let kind = record.kind();
-    history.pop(start);
-    Some(kind)
 }
 
 /// Whether the three records are taken back, and nothing is left.
 fn are_taken_back(history: &mut History) -> bool {
     history.len() == 3
-        && popped(history) == Some(Kind::Tick)
+        && history.pop() == Some(Kind::Tick)
         && spells(history, &SPELLED[..6])
-        && popped(history) == Some(Kind::Reset)
-        && popped(history) == Some(Kind::Tick)
-        && popped(history) == None
+        && history.pop() == Some(Kind::Reset)
+        && history.pop() == Some(Kind::Tick)
+        && history.pop() == None
         && history.is_empty()
 }
 
@@ -140,9 +133,9 @@ fn are_taken_at_once(history: &mut History) -> bool {
         && history.len() == 5
         && history.pop_quiet(9) == 1
         && history.pop_quiet(9) == 0
-        && popped(history) == Some(Kind::Tick)
+        && history.pop() == Some(Kind::Tick)
         && history.pop_quiet(9) == 1
-        && popped(history) == Some(Kind::Reset)
+        && history.pop() == Some(Kind::Reset)
         && history.pop_quiet(1) == 1
         && history.pop_quiet(1) == 0
         && history.is_empty()
@@ -181,7 +174,7 @@ fn is_copied(alloc: Global, history: &History, count: usize) -> bool {
 fn finds_memory(rt: HostRuntime) -> Result<(), Fail> {
     let mut history = History::new(rt.alloc());
     history.reserve(10)?;
-    assert!(rt; popped(&mut history) == None && is_copied(rt.alloc(), &history, 0));
+    assert!(rt; history.pop() == None && is_copied(rt.alloc(), &history, 0));
     push(&mut history, Kind::Commit, &[(65535, 4294967295)])?;
     assert!(rt; is_copied(rt.alloc(), &history, 1));
     Ok(())
@@ -191,7 +184,7 @@ fn finds_memory(rt: HostRuntime) -> Result<(), Fail> {
 fn keeps(history: &mut History, kind: Kind, code: u8) -> bool {
     push(history, kind, &[]).is_ok()
         && spells(history, &[code, 0, 0])
-        && popped(history) == Some(kind)
+        && history.pop() == Some(kind)
 }
 
 #[test]

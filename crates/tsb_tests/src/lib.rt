@@ -10,6 +10,8 @@ mod ample_memory;
 #[cfg(test)]
 mod bench;
 #[cfg(test)]
+mod bench_alone;
+#[cfg(test)]
 mod cells;
 #[cfg(test)]
 mod commands;

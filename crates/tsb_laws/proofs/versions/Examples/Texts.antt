@@ -7,13 +7,13 @@ use Rattle.std.specs.Str.{is_utf8, chars}
 use lib.Utf8.{encode}
 use Rattle.serde_json.specs.Data.{Data, Members, no_members, member, object, number, unsigned}
 use Rattle.serde_json.proofs.OnLiterals.{serde_json_on_literals}
-use Rattle.tsb_step.specs.tsb_plan.declared.object.Object.TheVariants.{PhaseEnabled, PhaseRing, PhaseSide, PhaseConcurrency, PhaseYellowChange, SequenceData}
+use Rattle.tsb_step.specs.tsb_plan.declared.object.Object.TheVariants.{PhaseEnabled, PhaseRing, PhaseSide, PhaseConcurrency, PhaseYellowChange, SequenceData, CoordForceMode}
 use Rattle.tsb_step.specs.tsb_plan.declared.version.Version.TheVariants.{One}
 use Rattle.tsb_step.specs.tsb_plan.Names.{object_named}
 use Rattle.tsb_step.specs.tsb_plan.Objects.{objects}
-use Rattle.tsb_step.specs.tsb_plan.Plan.{Plan, empty, with_values}
+use Rattle.tsb_step.specs.tsb_plan.Plan.{Plan, empty, with_value, with_values}
 use Rattle.tsb_step.specs.tsb_plan.Versions.{greatest_in, translated}
-use Rattle.tsb_plan_text.specs.PlanErrors.{no_such_index, out_of_range, broken}
+use Rattle.tsb_plan_text.specs.PlanErrors.{no_such_object, no_such_index, out_of_range, broken}
 use Rattle.tsb_plan_text.specs.PlanText.{data_of, index_named, with_entry, with_member, data_plan, checked, reading}
 use Rattle.tsb_step.specs.tsb_rules.declared.rules.Rule.TheVariants.{K6}
 use Rattle.tsb_laws.specs.Texts.{IsOfVersion1, named_plan}
@@ -99,3 +99,15 @@ most = refl
 index_is_refused : reading (codes "{\"version\":1,\"phaseEnabled\":{\"9\":1}}") ≡ Err (no_such_index PhaseEnabled (codes "9"))
 unfolding opened_texts
 index_is_refused = refl
+
+-- ## An option: version 1 has no object for it
+
+abbrev with_option : Plan
+with_option = with_value plan CoordForceMode 1 1
+
+would_have_an_option : with_option.value CoordForceMode 1 ≡ 1
+would_have_an_option = refl
+
+option_is_refused : reading (codes "{\"version\":1,\"coordForceMode\":{\"1\":1}}") ≡ Err (no_such_object (codes "coordForceMode"))
+unfolding opened_texts
+option_is_refused = refl

@@ -3,7 +3,7 @@ use Rattle.tsb_history.specs.Bytes.{changes_at, start_at}
 use Rattle.tsb_history.specs.History.{Recorded, newest_start, older, size_of}
 use Rattle.tsb_history.proofs.PlaceLemmas.{size-newest, start-some, start-is}
 use Rattle.tsb_history.proofs.ByteLemmas.{IsShrunk, shrunk, kept-shrunk}
-use Rattle.tsb_history.proofs.history.History.pop.Goals as goal
+use Rattle.tsb_history.proofs.history.History.pop_from.Goals as goal
 
 -- the newest record begins there
 begins : (c : goal.After-self-1) → newest_start (changes_at c.self.inside.count c.self.inside.bytes.items (length c.self.inside.bytes.items)) ≡ Some c.args.start
