@@ -1,5 +1,5 @@
-//! Long runs with ample memory. A call that may answer `Memory` does not do so at a length beyond 65,536. The built
-//! programs are run beyond 1,000,000 (`tools/run_program.py`).
+//! Long runs with ample memory. A call that may answer `Memory` does not do so at any length, not beyond 65,536 and not
+//! beyond 1,000,000. The built programs are run through all 6,000,000 ticks besides (`tools/run_program.py`).
 
 use std::alloc::{AllocError, Global};
 use std::test::Fail;
@@ -10,11 +10,14 @@ use tsb_objects::{
     Checked, Lamp, NumberSet, Object, ObjectId, Phase, Plan, Row, SignalColor, Station,
 };
 
-/// More than 65,536.
-const MANY: u32 = 70_000;
+/// More than a million.
+const MANY: u32 = 1_100_000;
+
+/// How many rows a long log has. The built programs read one of 1,100,000 (`tools/run_program.py`).
+const ROWS: u32 = 70_000;
 
 /// How many rounds of inputs there are.
-const ROUNDS: usize = 200;
+const ROUNDS: usize = 2000;
 
 /// A tick with all inputs on.
 fn busy_tick() -> Input {
@@ -25,8 +28,8 @@ fn busy_tick() -> Input {
     })
 }
 
-/// Inputs of every kind, none of them refused on the built-in plan of eight phases. Preempt 1 serves phases 3 and 8, so
-/// that the lamp trips the monitor in each round.
+/// Inputs of every kind, none of them refused on the built-in plan of eight phases. The lamp trips the monitor where a
+/// phase that is not concurrent with phase 3 has right of way.
 fn round() -> [Input; 15] {
     let (first, second) = (Station::of(1), Station::of(2));
     let maximum = ObjectId {
@@ -40,7 +43,7 @@ fn round() -> [Input; 15] {
         Input::Pattern(0),
         Input::Switch(1, true),
         Input::Switch(1, false),
-        Input::Fault(Some(Lamp::Phase(Phase::of(2), SignalColor::Green))),
+        Input::Fault(Some(Lamp::Phase(Phase::of(3), SignalColor::Green))),
         Input::Reset,
         Input::Fault(None),
         Input::Begin(first),
@@ -138,8 +141,8 @@ fn copy_is_taken_back(alloc: Global, bench: &mut Bench) -> bool {
 fn takes_rounds(alloc: Global, commands: &[Cmd]) -> bool {
     match played(alloc, Plan::quad(), commands) {
         Some((mut bench, answers)) => {
-            all_are_taken(&answers, 3000)
-                && is_at(&bench, 400, 300)
+            all_are_taken(&answers, 30_000)
+                && is_at(&bench, 4000, 300)
                 && copy_is_taken_back(alloc, &mut bench)
         }
         None => false,
@@ -208,7 +211,7 @@ fn long_history(alloc: Global) -> Result<History, AllocError> {
 fn a_long_history_is_copied(rt: HostRuntime) -> Result<(), Fail> {
     let history = long_history(rt.alloc())?;
     let copy = history.clone_in(rt.alloc())?;
-    assert!(rt; copy.len() == 70_000 && copy.bytes() == history.bytes());
+    assert!(rt; copy.len() == 1_100_000 && copy.bytes() == history.bytes());
     Ok(())
 }
 
@@ -216,7 +219,7 @@ fn a_long_history_is_copied(rt: HostRuntime) -> Result<(), Fail> {
 fn many_rows(alloc: Global) -> Result<Vec<u8>, AllocError> {
     let mut row = *b"0000000 0000000000000000 00000000 0000\n";
     let mut text = Vec::new(alloc);
-    for tick in 1..=MANY {
+    for tick in 1..=ROWS {
         let mut rest = tick;
         for k in 0..7 {
             row[6 - k] = b'0' + (rest % 10) as u8;
@@ -231,7 +234,7 @@ fn many_rows(alloc: Global) -> Result<Vec<u8>, AllocError> {
 /// Whether the log has the many rows.
 fn has_many_rows(log: &Log) -> bool {
     let mut place = 0;
-    for tick in [1, 2, 65_536, 65_537, MANY - 1, MANY] {
+    for tick in [1, 2, 65_536, 65_537, ROWS - 1, ROWS] {
         if u32::from(log.row(tick, &mut place).vehicles.list()) != tick % 2 {
             return false;
         }

@@ -296,17 +296,15 @@ fn writes_fail(alloc: Global, piece: usize, odd: Odd) -> bool {
     true
 }
 
-/// A writer fails or takes no byte, at each of its writes. What it took is a prefix of the answers. One that takes a byte
-/// at a time has so many writes that it fails in one way alone.
+/// A writer fails or takes no byte, at each of its writes. What it took is a prefix of the answers.
 #[test]
 fn a_write_that_fails_ends_a_session(rt: HostRuntime) {
-    for piece in [7, 4096] {
+    for piece in [1, 7, 4096] {
         for odd in FAILURES {
             assert!(rt; writes_fail(rt.alloc(), piece, odd));
         }
         assert!(rt; writes_fail(rt.alloc(), piece, Odd::IsIdle));
     }
-    assert!(rt; writes_fail(rt.alloc(), 1, FAILURES[0]));
 }
 
 /// How a session goes whose writer fails after so many flushes.
