@@ -150,17 +150,21 @@ impl Bench {
     pub const TICKS: u32 = limits::TICKS;
 
     /// A bench at power-up, which runs this plan: all phases Red, at tick 0. `Memory`, where there is none for the
-    /// first room of its history, is its only refusal. Nothing is said of that room: the next input may ask for more.
+    /// desk's edits or for the first room of its history, is its only refusal. Nothing is said of that room: the next
+    /// input may ask for more.
     pub fn power_up(alloc: Global, plan: Checked) -> Result<Bench, Refusal>
         ensures { MatchResult result (λ b. whole b ≡ record { state = start (checked_plan plan); records = [] }) (λ e. e ≡ Memory) }
     {
+        let Ok(cabinet) = Cabinet::new(alloc, plan) else {
+            return Err(Refusal::Memory);
+        };
         let mut history = History::new(alloc);
         let Ok(()) = history.reserve(0) else {
             return Err(Refusal::Memory);
         };
         Ok(Bench {
             tick: 0,
-            cabinet: Cabinet::new(plan),
+            cabinet,
             history,
             changes: ArrayVec::new(),
             shown: None,
@@ -447,9 +451,12 @@ impl Bench {
         let Ok(history) = self.history.clone_in(alloc) else {
             return Err(Refusal::Memory);
         };
+        let Ok(cabinet) = self.cabinet.clone_in(alloc) else {
+            return Err(Refusal::Memory);
+        };
         Ok(Bench {
             tick: self.tick,
-            cabinet: self.cabinet.copy(),
+            cabinet,
             history,
             changes: ArrayVec::new(),
             shown: None,

@@ -1,7 +1,7 @@
 //! The cabinet: the controller with its plan, its desk and its monitor, and what each input does to them.
 #![tactic(auto, unfolding(tsb_objects::specs::Checked::checked_plan, tsb_plan::specs::PlanOf::plan_of))]
 
-ghost use Rattle.std.specs.Prelude.{◌≡◌, ℕ, ◌+◌, ◌-◌, ◌<◌, ◌≤◌, [], true, false, None, Some, if◌then◌else◌, nat_lt};
+ghost use Rattle.std.specs.Prelude.{◌≡◌, ℕ, ◌+◌, ◌-◌, ◌<◌, ◌≤◌, [], true, false, None, Some, if◌then◌else◌, nat_lt, MatchResult, IfOk};
 ghost use Rattle.arrayvec.specs.ArrayVec.{array_vec_len};
 ghost use Rattle.tsb_cells.specs.Bank as bank;
 ghost use Rattle.tsb_cells.specs.Diff.{apply_diff, part};
@@ -10,7 +10,7 @@ ghost use Rattle.tsb_plan.specs.declared.object.TheConstants.{PLAN_CELLS};
 ghost use Rattle.tsb_plan.specs.Objects.{AreInRange};
 ghost use Rattle.tsb_plan.specs.PlanOf.{plan_in};
 ghost use Rattle.tsb_step.specs.tsb_rules.Rules.{first_broken};
-ghost use Rattle.tsb_types.specs.declared.refusal.Refusal.TheVariants.{TickLimit};
+ghost use Rattle.tsb_types.specs.declared.refusal.Refusal.TheVariants.{Memory, TickLimit};
 ghost use Rattle.tsb_transact.specs.Layer.{cells_of, is_open};
 ghost use Rattle.tsb_transact.specs.Rows.{IsRow};
 ghost use Rattle.tsb_transact.specs.declared.TheConstants.{CELLS as DESK_CELLS};
@@ -29,6 +29,7 @@ ghost use Rattle.tsb_bench.specs.Cabinet.{rows_of, IsShut, IsDone, MayPass, next
 use crate::monitor_cells::MonitorCells;
 use crate::passing::Passing;
 use arrayvec::ArrayVec;
+use std::alloc::Global;
 use tsb_cells::{Bank, Diff, Reversible};
 use tsb_controller::Controller;
 use tsb_history::{Entries, Record};
@@ -57,38 +58,44 @@ pub(crate) struct Cabinet {
 }
 
 impl Cabinet {
-    /// The cabinet at power-up, at tick 0.
+    /// The cabinet at power-up, at tick 0. E1, where there is no memory for the desk's edits, is its only refusal.
     #[tactic(auto, using(crate::proofs::PassingLemmas::may_none))]
-    pub(crate) fn new(plan: Checked) -> Cabinet
-        ensures state { all_in 0 (rows_of result) ≡ start (checked_plan plan) }
-        ensures by { AreAllBy 0 (rows_of result) }
-        ensures shut { IsShut result }
-        ensures passing { (tick : ℕ) → MayPass tick result }
+    pub(crate) fn new(alloc: Global, plan: Checked) -> Result<Cabinet, Refusal>
+        ensures state { MatchResult result (λ c. all_in 0 (rows_of c) ≡ start (checked_plan plan)) (λ e. e ≡ Memory) }
+        ensures by { IfOk result (λ c. AreAllBy 0 (rows_of c)) }
+        ensures shut { IfOk result (λ c. IsShut c) }
+        ensures passing { IfOk result (λ c. (tick : ℕ) → MayPass tick c) }
     {
-        Cabinet {
+        let Ok(desk) = Desk::new(alloc) else {
+            return Err(Refusal::Memory);
+        };
+        Ok(Cabinet {
             plan,
-            desk: Desk::new(),
+            desk,
             controller: Controller::new(),
             monitor: MonitorCells::new(),
             passing: Passing::none(),
-        }
+        })
     }
 
-    /// A cabinet with the same cells.
+    /// A cabinet with the same cells in memory of its own. E1 is its only refusal.
     #[tactic(auto, using(crate::proofs::PassingLemmas::may_none))]
-    pub(crate) fn copy(&self) -> Cabinet
+    pub(crate) fn clone_in(&self, alloc: Global) -> Result<Cabinet, Refusal>
         requires shut { IsShut self.now }
-        ensures rows { rows_of result ≡ rows_of self.now }
-        ensures shut { IsShut result }
-        ensures passing { (tick : ℕ) → MayPass tick result }
+        ensures rows { MatchResult result (λ c. rows_of c ≡ rows_of self.now) (λ e. e ≡ Memory) }
+        ensures shut { IfOk result (λ c. IsShut c) }
+        ensures passing { IfOk result (λ c. (tick : ℕ) → MayPass tick c) }
     {
-        Cabinet {
+        let Ok(desk) = self.desk.clone_in(alloc) else {
+            return Err(Refusal::Memory);
+        };
+        Ok(Cabinet {
             plan: self.plan,
-            desk: self.desk,
+            desk,
             controller: self.controller,
             monitor: self.monitor,
             passing: Passing::none(),
-        }
+        })
     }
 
     /// Why an input is refused at tick number `tick`, but for memory.

@@ -7,6 +7,7 @@ ghost use Rattle.tsb_calls.specs.Layer.{cells_of, is_open};
 use crate::driven::{Changes, Driven, Ticked, ticks};
 use crate::fault::{Fault, same};
 use crate::numbers::Numbers;
+use std::alloc::Global;
 use tsb_calls::{Calls, Decided, Observed};
 use tsb_cells::Reversible;
 use tsb_objects::{Called, Checked, PhaseSet, Preempt};
@@ -33,10 +34,10 @@ pub struct Calling {
 }
 
 impl Driven for Calling {
-    fn power_up(_plan: &Checked) -> Calling {
-        Calling {
+    fn power_up(_alloc: Global, _plan: &Checked) -> Result<Calling, Fault> {
+        Ok(Calling {
             layer: at_power_up(),
-        }
+        })
     }
 
     fn take(&mut self, kind: &[u8], numbers: Numbers, plan: &Checked) -> Result<u32, Fault> {

@@ -8,6 +8,7 @@ use crate::driven::{Changes, Driven, Ticked};
 use crate::fault::Fault;
 use crate::numbers::Numbers;
 use crate::timed::ticks_before;
+use std::alloc::Global;
 use tsb_cells::Reversible;
 use tsb_coord::Coord;
 use tsb_objects::{Checked, Pattern, PhaseSet};
@@ -78,8 +79,8 @@ impl Coordinating {
 }
 
 impl Driven for Coordinating {
-    fn power_up(_plan: &Checked) -> Coordinating {
-        Coordinating {
+    fn power_up(_alloc: Global, _plan: &Checked) -> Result<Coordinating, Fault> {
+        Ok(Coordinating {
             layer: Coord::new(),
             now: 0,
             selected: 0,
@@ -87,7 +88,7 @@ impl Driven for Coordinating {
             runs: None,
             forced: PhaseSet::empty(),
             recycle: PhaseSet::empty(),
-        }
+        })
     }
 
     fn take(&mut self, kind: &[u8], numbers: Numbers, plan: &Checked) -> Result<u32, Fault> {

@@ -8,6 +8,7 @@ ghost use Rattle.tsb_transact.specs.Layer.{cells_of, is_open};
 use crate::driven::Driven;
 use crate::fault::Fault;
 use crate::numbers::Numbers;
+use std::alloc::Global;
 use tsb_cells::{Diff, Reversible};
 use tsb_objects::{Checked, Object, ObjectId, Refusal, Station, Version};
 use tsb_transact::{CELLS, Desk, DeskState};
@@ -90,10 +91,10 @@ impl Desking {
 }
 
 impl Driven for Desking {
-    fn power_up(plan: &Checked) -> Desking {
-        Desking {
-            plan: *plan,
-            desk: Desk::new(),
+    fn power_up(alloc: Global, plan: &Checked) -> Result<Desking, Fault> {
+        match Desk::new(alloc) {
+            Ok(desk) => Ok(Desking { plan: *plan, desk }),
+            Err(_) => Err(Fault::Memory),
         }
     }
 

@@ -8,6 +8,7 @@ use crate::driven::{Changes, Driven, Ticked, ticks};
 use crate::fault::Fault;
 use crate::numbers::Numbers;
 use crate::timed::ticks_before;
+use std::alloc::Global;
 use tsb_cells::Reversible;
 use tsb_detect::laws::rows_stay_by;
 use tsb_detect::{Alarm, Detectors, Greens};
@@ -33,11 +34,11 @@ pub struct Detecting {
 }
 
 impl Driven for Detecting {
-    fn power_up(_plan: &Checked) -> Detecting {
-        Detecting {
+    fn power_up(_alloc: Global, _plan: &Checked) -> Result<Detecting, Fault> {
+        Ok(Detecting {
             layer: at_power_up(),
             now: 0,
-        }
+        })
     }
 
     fn take(&mut self, kind: &[u8], numbers: Numbers, plan: &Checked) -> Result<u32, Fault> {

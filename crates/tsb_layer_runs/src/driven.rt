@@ -6,6 +6,7 @@ use crate::fault::Fault;
 use crate::numbers::Numbers;
 use crate::plans::Plans;
 use arrayvec::ArrayVec;
+use std::alloc::Global;
 use std::io::{self, Write};
 use tsb_lines::{next_line, next_word};
 use tsb_objects::Checked;
@@ -16,7 +17,7 @@ pub type Changes = ArrayVec<(u16, u32), 256>;
 /// A layer alone, driven by lines that say what it is given and what comes of it.
 pub trait Driven: Drop {
     /// The layer as at power-up, by a plan.
-    fn power_up(plan: &Checked) -> Self
+    fn power_up(alloc: Global, plan: &Checked) -> Result<Self, Fault>
     where
         Self: Sized;
 
@@ -106,6 +107,7 @@ struct Driving<'a, D> {
 /// Drives a layer by the lines of a text, and writes how many ticks or calls were as the lines say, or the first line
 /// that does not pass.
 pub fn check<D: Driven, W: Write>(
+    alloc: Global,
     name: &str,
     plans: &Plans,
     text: &[u8],
@@ -116,7 +118,7 @@ pub fn check<D: Driven, W: Write>(
     let mut rest = text;
     for place in 0..text.len() {
         let (line, behind) = next_line(rest);
-        match follow(plans, &mut driving, line) {
+        match follow(alloc, plans, &mut driving, line) {
             Ok(count) => passed = passed.saturating_add(u64::from(count)),
             Err(fault) => {
                 writeln!(output, "{name}: line {}: {fault}", place + 1)?;
@@ -133,6 +135,7 @@ pub fn check<D: Driven, W: Write>(
 
 /// Does what a line says: `plan K` begins with plan K, and every other line is the layer's.
 fn follow<'a, D: Driven>(
+    alloc: Global,
     plans: &'a Plans,
     driving: &mut Option<Driving<'a, D>>,
     line: &[u8],
@@ -143,7 +146,7 @@ fn follow<'a, D: Driven>(
     let mut numbers = Numbers::of(rest);
     if kind == b"plan".as_slice() {
         let plan = plans.get(numbers.number()?)?;
-        let layer = D::power_up(plan);
+        let layer = D::power_up(alloc, plan)?;
         *driving = Some(Driving { layer, plan });
         return Ok(0);
     }

@@ -11,6 +11,9 @@ pub enum Fault {
     /// The layer answers, refuses or changes something other than the line says.
     #[error("differs")]
     Differs,
+    /// There is no memory for it.
+    #[error("memory")]
+    Memory,
 }
 
 /// Passes where what a layer answers is the same as the line says.

@@ -6,6 +6,7 @@ ghost use Rattle.tsb_heads.specs.Promises.{AreApart, Flashes};
 use crate::driven::{Changes, Driven, Ticked};
 use crate::fault::Fault;
 use crate::numbers::Numbers;
+use std::alloc::Global;
 use tsb_heads::{Display, Field, Monitor, Trip};
 use tsb_objects::{
     Checked, Intervals, Lamp, Overlap, PedestrianColor, Pedestrians, Phase, PhaseSet, SignalColor,
@@ -58,9 +59,9 @@ impl Heading {
 }
 
 impl Driven for Heading {
-    fn power_up(_plan: &Checked) -> Heading {
+    fn power_up(_alloc: Global, _plan: &Checked) -> Result<Heading, Fault> {
         let none = PhaseSet::empty();
-        Heading {
+        Ok(Heading {
             told: Given {
                 intervals: Intervals {
                     green: none,
@@ -75,7 +76,7 @@ impl Driven for Heading {
                 ring_2: None,
             },
             shown: None,
-        }
+        })
     }
 
     fn take(&mut self, kind: &[u8], numbers: Numbers, plan: &Checked) -> Result<u32, Fault> {

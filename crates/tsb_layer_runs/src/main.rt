@@ -65,7 +65,7 @@ fn main(rt: HostRuntime) -> Result<()> {
 fn check_file<D: Driven>(rt: &HostRuntime, name: &str, plans: &Plans) -> Result<()> {
     let path = format!(in rt.alloc(); "{name}.runs")?;
     let text = fs::read(rt, path.as_str()).context(format_args!("{path}"))?;
-    check::<D, _>(name, plans, &text, &mut io::writer(rt))?;
+    check::<D, _>(rt.alloc(), name, plans, &text, &mut io::writer(rt))?;
     Ok(())
 }
 
@@ -98,8 +98,8 @@ fn time<T: Driven + Ticked>(
     let mut sum = 0u32;
     for _round in 0..rounds {
         let ran = match asked.times {
-            None => run::<T>(plan, &givens)?,
-            Some(times) => run_passing::<T>(plan, &givens, times)?,
+            None => run::<T>(rt.alloc(), plan, &givens)?,
+            Some(times) => run_passing::<T>(rt.alloc(), plan, &givens, times)?,
         };
         sum = sum.rotate_left(1) ^ ran;
     }

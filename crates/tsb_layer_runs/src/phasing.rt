@@ -9,6 +9,7 @@ use crate::driven::{Changes, Driven, Ticked, ticks};
 use crate::fault::{Fault, same};
 use crate::numbers::Numbers;
 use crate::timed::ticks_before;
+use std::alloc::Global;
 use tsb_cells::Reversible;
 use tsb_objects::{Called, Checked, Interval, Orders, Pattern, Phase, PhaseSet, Preempt, Timing};
 use tsb_phase::laws::rows_stay_by;
@@ -76,11 +77,11 @@ impl Phasing {
 }
 
 impl Driven for Phasing {
-    fn power_up(_plan: &Checked) -> Phasing {
-        Phasing {
+    fn power_up(_alloc: Global, _plan: &Checked) -> Result<Phasing, Fault> {
+        Ok(Phasing {
             layer: at_power_up(),
             now: 0,
-        }
+        })
     }
 
     fn take(&mut self, kind: &[u8], numbers: Numbers, plan: &Checked) -> Result<u32, Fault> {

@@ -8,6 +8,7 @@ use crate::driven::{Changes, Driven, Ticked, ticks};
 use crate::fault::Fault;
 use crate::numbers::Numbers;
 use crate::timed::ticks_before;
+use std::alloc::Global;
 use tsb_cells::Reversible;
 use tsb_objects::{Checked, Intervals, Preempt, Refusal, Row, Stage};
 use tsb_preempt::laws::rows_stay_by;
@@ -49,11 +50,11 @@ impl Preempting {
 }
 
 impl Driven for Preempting {
-    fn power_up(_plan: &Checked) -> Preempting {
-        Preempting {
+    fn power_up(_alloc: Global, _plan: &Checked) -> Result<Preempting, Fault> {
+        Ok(Preempting {
             layer: at_power_up(),
             now: 0,
-        }
+        })
     }
 
     fn take(&mut self, kind: &[u8], numbers: Numbers, plan: &Checked) -> Result<u32, Fault> {

@@ -7,6 +7,7 @@ ghost use Rattle.tsb_ring.specs.Layer.{cells_of, is_open};
 use crate::driven::{Changes, Driven, Ticked, ticks};
 use crate::fault::Fault;
 use crate::numbers::Numbers;
+use std::alloc::Global;
 use tsb_cells::Reversible;
 use tsb_objects::{Checked, Moves, RingMoves};
 use tsb_ring::{Conditions, RingOrder, Rings};
@@ -21,11 +22,11 @@ pub struct Ringing {
 }
 
 impl Driven for Ringing {
-    fn power_up(_plan: &Checked) -> Ringing {
-        Ringing {
+    fn power_up(_alloc: Global, _plan: &Checked) -> Result<Ringing, Fault> {
+        Ok(Ringing {
             layer: at_power_up(),
             order: RingOrder::Ring1First,
-        }
+        })
     }
 
     fn take(&mut self, kind: &[u8], numbers: Numbers, plan: &Checked) -> Result<u32, Fault> {

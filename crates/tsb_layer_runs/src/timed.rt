@@ -22,8 +22,12 @@ fn summed(sum: u32, changed: usize, is_due: bool) -> u32 {
 
 /// Runs a layer from power-up, and gives a sum of what each tick changes.
 #[inline(never)]
-pub fn run<T: Driven + Ticked>(plan: &Checked, givens: &[T::Given]) -> Result<u32, Fault> {
-    let mut layer = T::power_up(plan);
+pub fn run<T: Driven + Ticked>(
+    alloc: Global,
+    plan: &Checked,
+    givens: &[T::Given],
+) -> Result<u32, Fault> {
+    let mut layer = T::power_up(alloc, plan)?;
     let mut out = Changes::new();
     let mut sum = 0u32;
     for given in givens {
@@ -39,11 +43,12 @@ pub fn run<T: Driven + Ticked>(plan: &Checked, givens: &[T::Given]) -> Result<u3
 /// ticks.
 #[inline(never)]
 pub fn run_passing<T: Driven + Ticked>(
+    alloc: Global,
     plan: &Checked,
     givens: &[T::Given],
     times: u32,
 ) -> Result<u32, Fault> {
-    let mut layer = T::power_up(plan);
+    let mut layer = T::power_up(alloc, plan)?;
     let mut out = Changes::new();
     let mut sum = 0u32;
     for given in givens {

@@ -1,4 +1,4 @@
-//! The desk when it is full, and when a change of it is abandoned.
+//! The desk when it is full, when a change of it is abandoned, and when it is cloned.
 ghost use Rattle.std.specs.Prelude.{◌≡◌, true, false};
 ghost use Rattle.tsb_transact.specs.Layer.{is_open};
 
@@ -61,9 +61,30 @@ fn abandons_an_abort(desk: &mut Desk, station: Station) -> bool
     ended == Ok(()) && owner == None
 }
 
+/// Whether no station owns the desk, and it has no edits.
+fn is_closed(desk: &Desk) -> bool {
+    desk.owner() == None && desk.state() == DeskState::Normal && desk.edits().is_empty()
+}
+
+#[test]
+fn clones_a_new_desk(rt: HostRuntime) {
+    let Ok(desk) = Desk::new(rt.alloc()) else {
+        panic!(rt; "no memory");
+    };
+    let Ok(mut clone) = desk.clone_in(rt.alloc()) else {
+        panic!(rt; "no memory");
+    };
+    assert!(rt; is_closed(&clone));
+    let s = Station::of(1);
+    assert!(rt; begins(&mut clone, s) && is_filled(&mut clone, s));
+    assert!(rt; is_full(&clone, s) && is_closed(&desk));
+}
+
 #[test]
 fn keeps_its_edits_through_undo(rt: HostRuntime) {
-    let mut desk = Desk::new();
+    let Ok(mut desk) = Desk::new(rt.alloc()) else {
+        panic!(rt; "no memory");
+    };
     let s = Station::of(1);
     assert!(rt; begins(&mut desk, s) && is_filled(&mut desk, s));
     assert!(rt; is_full(&desk, s) && takes_again(&desk, s));

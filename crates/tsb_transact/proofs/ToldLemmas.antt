@@ -20,7 +20,7 @@ use Rattle.tsb_transact.specs.Cells.{IsBy, IsEditRow, IsBlankRow, desk_in, desk_
 use Rattle.tsb_transact.specs.Laws.{IsInRange}
 use Rattle.tsb_transact.specs.Rows.{IsRow}
 use Rattle.tsb_transact.proofs.DeskLemmas.{index-taken, value-taken}
-use Rattle.tsb_transact.proofs.EditLemmas.{edit-at, length-edits}
+use Rattle.tsb_transact.proofs.PairLemmas.{edit-at, length-edits}
 use Rattle.tsb_transact.proofs.PlaceLemmas.{IsPlace, place-at, at-place, place-from, place-within}
 
 -- ## A row is the table of what it says

@@ -6,7 +6,7 @@ use Rattle.tsb_transact.specs.Matters.{is_about}
 use Rattle.tsb_transact.specs.declared.edit.Edit.{Edit}
 use Rattle.tsb_transact.specs.Cells.{desk_in}
 use Rattle.tsb_transact.specs.Commit.{changes}
-use Rattle.tsb_transact.proofs.EditLemmas.{any-none, any-here, any-later, edit-index}
+use Rattle.tsb_transact.proofs.PairLemmas.{any-none, any-here, any-later, edit-index}
 use Rattle.tsb_transact.proofs.edit_list.changes_some.Goals as goal
 
 pub is_change_about-requires : goal.is_change_about-requires

@@ -19,14 +19,14 @@ pub returns-clause-state : goal.returns-clause-state
 unfolding checked_plan plan_of
 returns-clause-state c =
     ap (λ (d : Desk). state_of 0 (record { plan = plan_in c.args.plan.plan.values; desk = d; lamp = lamp_in (bank.cells_of c.new-3.result.bank); trip = trip_in (bank.cells_of c.new-3.result.bank) }) (layers.rows_of c.new-2.result))
-    c.new.ensures.each
+    c.in-Ok.ensures.each
     ∙ ap₂ (λ (l : Option Lamp) (t : Option Tripped). state_of 0 (record { plan = plan_in c.args.plan.plan.values; desk = closed; lamp = l; trip = t }) (layers.rows_of c.new-2.result)) (says c).lamp_is (says c).trip_is
     ∙ c.new-2.ensures.state (plan_in c.args.plan.plan.values)
 
 pub returns-clause-by : goal.returns-clause-by
 returns-clause-by c = record {
   plan = c.args.plan.plan.full;
-  desk = c.new.result.row.by;
+  desk = c.in-Ok.desk.row.by;
   layers = subst (λ (t : Option Tripped). AreBy (clock_at 0 t) (layers.rows_of c.new-2.result)) (sym (says c).trip_is) c.new-2.ensures.by;
   monitor = (says c).by;
 }

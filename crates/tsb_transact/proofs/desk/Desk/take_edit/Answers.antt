@@ -18,4 +18,6 @@ pub invariant_of-self : goal.invariant_of-self
 invariant_of-self c = record {
   row = c.edit_transaction.ensures.leaves.allowed;
   kept_row = subst IsRow (sym c.edit_transaction.ensures.kept) c.args.self.now.kept_row;
+  tied = sym c.edit_transaction.ensures.leaves.pairs;
+  room = c.edit_transaction.ensures.room;
 }
