@@ -1,9 +1,6 @@
-pub mod DigitLemmas
 pub mod LimitLemmas
 pub mod NumberLemmas
 pub mod RiseLemmas
 pub mod SaysLemmas
 pub mod TableLemmas
 pub mod TextLemmas
-pub mod TurnLemmas
-pub mod OutlineLemmas

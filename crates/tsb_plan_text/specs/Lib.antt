@@ -8,5 +8,3 @@ pub mod PlanTextSays
 pub mod RuleLines
 -- the line that tells a fault
 pub mod FaultLines
--- the outline of a JSON value, which a plan is read from
-pub mod Outlines

@@ -7,11 +7,8 @@
 #![tactic(auto)]
 
 mod error;
-mod json_numbers;
 mod listed;
 mod numbers;
-mod outline;
-mod passing;
 mod read;
 mod rules;
 

@@ -1,20 +1,18 @@
 //! Plan texts.
-ghost use Rattle.std.specs.Prelude.{◌≡◌, ◌<◌, ◌≤◌, ◌↔◌, ◌⊎◌, length, Ok, Err, IfOk, option_map};
+ghost use Rattle.std.specs.Prelude.{◌≡◌, ◌<◌, ◌≤◌, ◌↔◌, ◌⊎◌, length, Ok, Err, IfOk};
+ghost use Rattle.serde_json.specs.Errors.{IsMemory};
 ghost use Rattle.serde_json.specs.View.{view, members_view};
 ghost use Rattle.tsb_objects.specs.Checked.{checked_plan};
 ghost use Rattle.tsb_plan.specs.Plan.{empty};
 ghost use Rattle.tsb_plan.specs.PlanOf.{plan_of};
 ghost use Rattle.tsb_plan_text.specs.PlanErrors.{Gives, Makes, not_json};
 ghost use Rattle.tsb_plan_text.specs.PlanTextSays.{Says};
-ghost use Rattle.tsb_plan_text.specs.Outlines.{outlined, levels};
 ghost use Rattle.tsb_plan_text.specs.PlanText.{drafted, reading, data_plan, or_fault, with_member, with_members, data_of};
 
 use crate::error::PlanError;
 use crate::listed::Listed;
 use crate::numbers::version_of;
-use crate::outline::outline;
-use json::Error;
-use serde_json::{Map, Value};
+use serde_json::{Error, Map, Value};
 use std::alloc::Global;
 use tsb_objects::{Checked, Plan, Version, check};
 use tsb_plan::version_laws::versions_say_the_same;
@@ -87,27 +85,25 @@ fn read_json(alloc: Global, text: &[u8], plan: &mut Plan) -> Result<(), PlanErro
     read_value(alloc, &value, plan)
 }
 
-/// The outline of the text as JSON.
+/// The text as JSON.
 fn parse(alloc: Global, text: &[u8]) -> Result<Value, PlanError>
-    ensures { Gives view result (or_fault (option_map (outlined levels) (data_of text.now)) not_json Ok) }
+    ensures { Gives view result (or_fault (data_of text.now) not_json Ok) }
 {
-    let Ok(text) = simdutf8::compat::from_utf8(text) else {
-        return Err(PlanError::NotJson);
-    };
-    match outline(alloc, text) {
+    match Value::from_slice(alloc, text) {
         Ok(value) => Ok(value),
-        Err(error) => Err(json_fault(error)),
+        Err(error) => Err(json_fault(&error)),
     }
 }
 
-/// Why a text gives no JSON.
-fn json_fault(error: Error) -> PlanError
-    ensures told { (result ≡ PlanError.NotJson) ↔ (error ≡ Error.Invalid) }
+/// Why a text gives no JSON: `Memory` exactly where it ran out.
+fn json_fault(error: &Error) -> PlanError
+    ensures memory { (result ≡ PlanError.Memory) ↔ IsMemory error.now }
     ensures one { (result ≡ PlanError.Memory) ⊎ (result ≡ PlanError.NotJson) }
 {
-    match error {
-        Error::Invalid => PlanError::NotJson,
-        _ => PlanError::Memory,
+    if error.is_memory() {
+        PlanError::Memory
+    } else {
+        PlanError::NotJson
     }
 }
 
