@@ -1,12 +1,12 @@
 //! What is wrong with a plan text.
 
-ghost use Rattle.std.specs.Prelude.{Some};
+ghost use Rattle.std.specs.Prelude.{◌≡◌, Some};
 ghost use Rattle.tsb_plan_text.specs.FaultLines.{plan_fault};
 
 use crate::rules::rule_line;
 use std::alloc::AllocError;
-use std::error::Error;
 use std::fmt;
+use thiserror::Error;
 use tsb_objects::{Object, Rule};
 
 /// The first fault of a plan text, which then gives no plan. Each is printed as one line without its end, in which a
@@ -14,7 +14,8 @@ use tsb_objects::{Object, Rule};
 ///
 /// Faults are in the order of the variants, and those of members and of indices in the byte order of their
 /// names: a member is judged whole before the next, and so is an index.
-#[derive(Debug, Drop)]
+#[derive(Debug, Drop, Error)]
+#[error("{}", self.line())]
 pub enum PlanError {
     /// There is no memory to read the text or to report its fault. The text may have any fault but `TooLarge`, or none.
     Memory,
@@ -61,11 +62,27 @@ pub enum PlanError {
     Rule(Rule),
 }
 
-impl fmt::Display for PlanError {
-    ghost output = { λ fault. Some (plan_fault fault) };
+impl PlanError {
+    /// The fault's line, without its end.
+    pub fn line(&self) -> PlanLine<'_>
+        ensures { result.fault.now ≡ self.now }
+    {
+        PlanLine { fault: self }
+    }
+}
+
+/// The line of a fault, without its end. Its `Display` says what it prints, which a derived one does not.
+#[derive(Clone, Copy)]
+pub struct PlanLine<'a> {
+    /// The fault.
+    pub fault: &'a PlanError,
+}
+
+impl fmt::Display for PlanLine<'_> {
+    ghost output = { λ line. Some (plan_fault line.fault.now) };
 
     fn fmt<W: fmt::Write>(&self, f: &mut fmt::Formatter<W>) -> fmt::Result {
-        match self {
+        match self.fault {
             PlanError::Memory => f.write_str("memory"),
             PlanError::TooLarge => f.write_str("plan: too large"),
             PlanError::NotJson => f.write_str("plan: not JSON"),
@@ -89,7 +106,7 @@ impl fmt::Display for PlanError {
     }
 }
 
-impl Error for PlanError {}
+// These are written by hand: of what `#[from]` would write, no clause says which fault `?` makes.
 
 impl From<AllocError> for PlanError {
     ghost use Rattle.std.specs.Prelude.{◌≡◌};

@@ -12,6 +12,6 @@ mod numbers;
 mod read;
 mod rules;
 
-pub use error::PlanError;
+pub use error::{PlanError, PlanLine};
 pub use read::{LIMIT, read_plan, read_unchecked};
 pub use rules::rule_line;

@@ -42,7 +42,7 @@ pub fn refuse_plan<E: Write>(
     let PlanFault { why, place } = fault;
     match why {
         ReadError::Failed(why) => fail_file(errors, path, why),
-        ReadError::Refused(why) => match line_of(alloc, why) {
+        ReadError::Refused(why) => match line_of(alloc, why.line()) {
             Ok(line) => {
                 let second = place_line(place);
                 tell_both(errors, Status::Refused, line.as_bytes(), &second)
@@ -83,7 +83,7 @@ pub fn plan_lines(alloc: Global, fault: PlanError, text: &[u8]) -> Result<Vec<u8
     ensures { IfOk result (λ lines. lines.items ≡ plan_lines fault text.now) }
 {
     let place = fault_place(&fault, text);
-    let line = line_of(alloc, fault)?;
+    let line = line_of(alloc, fault.line())?;
     let mut lines = Vec::new(alloc);
     lines.extend_from_slice(line.as_bytes())?;
     lines.extend_from_slice(&place_line(place))?;

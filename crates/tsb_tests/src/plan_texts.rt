@@ -1,7 +1,7 @@
 //! Plan texts, and the lines of their faults.
 
 use std::alloc::{AllocError, Global};
-use tsb_objects::Plan;
+use tsb_objects::{Object, Plan, Rule};
 use tsb_plan_text::{LIMIT, PlanError, read_plan};
 
 /// The built-in plan of two phases.
@@ -236,8 +236,64 @@ fn bytes_that_are_no_text_are_not_json(rt: HostRuntime) {
     assert!(rt; matches!(read_plan(rt.alloc(), &text), Err(PlanError::NotJson)));
 }
 
+/// Each fault with the line that it is printed as.
+fn faults_with_lines(alloc: Global) -> Result<[(PlanError, &'static str); 11], AllocError> {
+    let object = Object::PhaseWalk;
+    let name = String::from_str(alloc, "Walk")?;
+    let unknown = String::from_str(alloc, "17")?;
+    let fractional = String::from_str(alloc, "2")?;
+    let great = String::from_str(alloc, "16")?;
+    Ok([
+        (PlanError::Memory, "memory"),
+        (PlanError::TooLarge, "plan: too large"),
+        (PlanError::NotJson, "plan: not JSON"),
+        (PlanError::NotATable, "plan: not a table"),
+        (PlanError::Version, "plan: version"),
+        (
+            PlanError::NoSuchObject { name },
+            "plan: Walk: no such object",
+        ),
+        (
+            PlanError::ObjectNotATable { object },
+            "plan: phaseWalk: not a table",
+        ),
+        (
+            PlanError::NoSuchIndex {
+                object,
+                index: unknown,
+            },
+            "plan: phaseWalk.17: no such object",
+        ),
+        (
+            PlanError::NotAWholeNumber {
+                object,
+                index: fractional,
+            },
+            "plan: phaseWalk.2: not a whole number",
+        ),
+        (
+            PlanError::OutOfRange {
+                object,
+                index: great,
+            },
+            "plan: phaseWalk.16: out of range",
+        ),
+        (PlanError::Rule(Rule::K8), "plan: rule K8"),
+    ])
+}
+
+/// Whether the fault is printed as this line.
+fn is_printed(alloc: Global, fault: &PlanError, line: &str) -> bool {
+    match format!(in alloc; "{fault}") {
+        Ok(given) => given.as_str() == line,
+        Err(_) => false,
+    }
+}
+
 #[test]
-fn out_of_memory_is_printed(rt: HostRuntime) {
-    let line = format!(in rt.alloc(); "{}", PlanError::Memory).expect(&rt, "memory");
-    assert!(rt; line.as_str() == "memory");
+fn each_fault_is_printed_as_its_line(rt: HostRuntime) {
+    let faults = faults_with_lines(rt.alloc()).expect(&rt, "memory");
+    for (fault, line) in &faults {
+        assert!(rt; is_printed(rt.alloc(), fault, line));
+    }
 }

@@ -1,4 +1,4 @@
-use Rattle.std.proofs.Common.{◌∙◌, ◌++◌, List, ℕ, inl, subst}
+use Rattle.std.proofs.Common.{◌∙◌, ◌++◌, List, ℕ, ap, inl, subst}
 use Rattle.tsb_watched.specs.Seen.{Tells, seen}
 use Rattle.tsb_program.specs.Lines.{plan_line}
 use Rattle.tsb_program.proofs.TellLemmas.{refused-so}
@@ -11,5 +11,5 @@ returns-in-Ok g c =
     refused-so c.args.fault c.args.path.now c.in-Refused.why c.tell_both.result old new c.in-Refused.is (inl (
       c.tell_both.ensures.status,
       subst (λ (line : List ℕ). Tells old new (plan_line c.in-Refused.why ++ line)) (c.deref.ensures.0 ∙ c.place_line-second.ensures)
-          (subst (λ (line : List ℕ). Tells old new (line ++ c.deref.result.now)) (c.as_bytes.ensures.value ∙ c.in-Ok.ensures) c.tell_both.ensures.lines),
+          (subst (λ (line : List ℕ). Tells old new (line ++ c.deref.result.now)) (c.as_bytes.ensures.value ∙ c.in-Ok.ensures ∙ ap plan_line c.line.ensures) c.tell_both.ensures.lines),
     ))
