@@ -25,15 +25,19 @@ use std::alloc::Global;
 use tsb_cells::Bank;
 use tsb_objects::{ObjectId, Refusal};
 
-/// A map without edits, with room for 64. E1 is its only refusal.
+/// A map without edits, with room for 64: so many are put in and taken out again. E1 is its only refusal.
 pub fn empty_map(alloc: Global) -> Result<IndexMap<u32, u32>, Refusal>
     ensures empty { UnlessMemory (λ edits. edits.entries ≡ []) result }
     ensures room { UnlessMemory (λ edits. MOST_EDITS ≤ index_map_len edits + spare edits) result }
 {
-    match IndexMap::with_capacity(alloc, MOST_EDITS) {
-        Ok(edits) => Ok(edits),
-        Err(_) => Err(Refusal::Memory),
+    let mut edits = IndexMap::new(alloc);
+    for place in 0..MOST_EDITS as u32 {
+        let Ok(_) = edits.insert(place, 0) else {
+            return Err(Refusal::Memory);
+        };
     }
+    edits.clear();
+    Ok(edits)
 }
 
 /// Makes the map hold the cells' edits. Its room for 64 is kept, so no memory is taken. Edits at the front that are in
