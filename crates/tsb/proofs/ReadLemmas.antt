@@ -1,5 +1,5 @@
 -- What reading a file comes to, by what its text gave, and what is told of it.
-use Rattle.std.proofs.Common.{ℕ, List, Option, inl, inr, refl, codes}
+use Rattle.std.proofs.Common.{◌≡◌, ℕ, List, Option, inl, inr, refl, subst, sym, codes}
 use Rattle.std.specs.Prelude.{Result, Ok, Err, Some}
 use Rattle.tsb_text.specs.tsb_objects.Checked.{checked_plan}
 use Rattle.tsb_text.specs.tsb_objects.declared.checked.Checked.{Checked}
@@ -11,7 +11,7 @@ use Rattle.tsb_program.specs.declared.files.FileError.TheVariants as files
 use Rattle.tsb_program.specs.declared.read.ReadError.{ReadError}
 use Rattle.tsb_program.specs.declared.read.ReadError.TheVariants as faults
 use Rattle.tsb_program.specs.tsb_watched.Seen.{Seen}
-use Rattle.tsb.specs.Ends.{Checks, Reported, Stops}
+use Rattle.tsb.specs.Ends.{Checks, Judged, Reported, Stops}
 use Rattle.tsb_program.specs.Lines.{Refuses, plan_line}
 use Rattle.tsb_program.specs.Read.{HasPlan, LogRead, PlanRead}
 
@@ -29,3 +29,9 @@ checks (Ok plan) file status old new told tells has judged = inl (0, codes "plan
 checks (Err (faults.Refused fault)) file status old new told tells has (inl judged) = inl (1, plan_line fault, inr (refl, fault, refl, has), judged)
 checks (Err (faults.Refused fault)) file status old new told tells has (inr none) = inr (none.0, (files.Memory, none.1))
 checks (Err (faults.Failed why)) file status old new told tells read stays = inr (stays.0, (why, stays.1))
+
+-- what is judged of a plan that is refused is reported of it
+pub refused-so : (found : Result Checked (ReadError PlanError)) (why : PlanError) (status : ℕ) (old new told tells : Seen) → found ≡ Err (faults.Refused why)
+    → Judged status 1 (plan_line why) old new told tells → Reported found status old new told tells
+refused-so found why status old new told tells is judged =
+    subst (λ (f : Result Checked (ReadError PlanError)). Reported f status old new told tells) (sym is) (inl judged)
