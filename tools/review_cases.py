@@ -20,7 +20,8 @@ def example(name: str) -> Table:
     return {name: table for name, table in plan.items() if name != "version"}
 
 
-# Two rings and two sides, a pattern in which all phases are recalled, a railroad preempt and an overlap.
+# Two rings and two sides, a pattern in which all phases are recalled, a railroad preempt, and an overlap for the right
+# turn that goes with phases 6 and 7. Phase 6 has no walk: its crossing would lie where that turn goes.
 CLEAN: Table = example("no_advice")
 
 
@@ -59,11 +60,11 @@ CASES = [
          {"phaseMaxRecall.7": 0}),
     Case(6, {"phaseSoftRecall.2": 1, "phaseMinRecall.2": 1},
          ["phase 2: its soft recall never acts, since another recall calls it at all times"], {"phaseMinRecall.2": 0}),
-    Case(7, {"phaseSoftRecall.2": 1, "phaseMinRecall.4": 1, "phasePedRecall.6": 1},
+    Case(7, {"phaseSoftRecall.2": 1, "phasePedRecall.4": 1, "phaseMinRecall.6": 1},
          ["phase 2: its soft recall never acts in free operation, since phases 4 and 6 are recalled and not concurrent"],
-         {"phaseMinRecall.4": 0, "phaseMinRecall.1": 1}),
+         {"phasePedRecall.4": 0, "phaseMinRecall.1": 1}),
     Case(8, {"phasePedestrianClear.4": 0}, ["phase 4: its walk of 7 s has no pedestrian clearance"], {"phasePedestrianClear.4": 1}),
-    Case(9, {"phaseWalk.6": 3}, ["phase 6: its walk of 3 s is under 4 s"], {"phaseWalk.6": 4}),
+    Case(9, {"phaseWalk.8": 3}, ["phase 8: its walk of 3 s is under 4 s"], {"phaseWalk.8": 4}),
     Case(10, {"phasePedestrianClear.3": 9}, ["phase 3: its pedestrian clearance of 9 s is never shown, since it has no walk"],
          {"phaseWalk.3": 4}),
     Case(11, {"pedestrianDetectorCallPhase.8": 0},
@@ -81,14 +82,14 @@ CASES = [
          ["phase 2: it rests in walk, and its clearance of 15 s can end after the force-off of phase 3 in pattern 1"],
          {"phasePedestrianClear.2": 14}),
     # With late force-off a green that begins behind its instant is forced off.
-    Case(14, {"phaseRestInWalk.6": 1, "phasePedestrianClear.6": 15},
+    Case(14, {"phaseWalk.6": 7, "phaseRestInWalk.6": 1, "phasePedestrianClear.6": 15},
          ["phase 6: it rests in walk, and its clearance of 15 s can end after the force-off of phase 3 in pattern 1"],
          {"coordForceMode.1": 1}),
     # With floating force-off too; and where a maximum acts, demand does not hold it to the next cycle.
-    Case(14, {"phaseRestInWalk.6": 1, "phasePedestrianClear.6": 15},
+    Case(14, {"phaseWalk.6": 7, "phaseRestInWalk.6": 1, "phasePedestrianClear.6": 15},
          ["phase 6: it rests in walk, and its clearance of 15 s can end after the force-off of phase 3 in pattern 1"],
          {"coordForceMode.1": 2}),
-    Case(14, {"phaseRestInWalk.6": 1, "phasePedestrianClear.6": 15},
+    Case(14, {"phaseWalk.6": 7, "phaseRestInWalk.6": 1, "phasePedestrianClear.6": 15},
          ["phase 6: it rests in walk, and its clearance of 15 s can end after the force-off of phase 3 in pattern 1"],
          {"coordMaximumMode.1": 2}),
     # A conflict that begins at the end of the permissive time ends the walk so much later.
@@ -172,7 +173,7 @@ CASES = [
     Case(35, {"preemptMinimumDuration.1": 41, "preemptMaximumPresence.1": 40},
          ["preempt 1: its minimum duration of 41 s is longer than its maximum presence of 40 s"], {"preemptMaximumPresence.1": 41}),
     Case(36, {"preemptMinimumWalk.1": 0}, [f"preempt 1: its minimum walk is 0 s, so it can end a walk of phase {p} at once"
-                                           for p in (2, 4, 6, 8)], {"preemptMinimumWalk.1": 1}),
+                                           for p in (2, 4, 8)], {"preemptMinimumWalk.1": 1}),
     Case(37, {"preemptEnterPedClear.1": 0, "preemptTrackPhase.1": 0},
          [f"preempt 1: its pedestrian clearance is 0 s, so phase {p} can end with people on its crossing" for p in (4, 8)],
          {"preemptEnterPedClear.1": 1}),
@@ -180,8 +181,8 @@ CASES = [
     Case(39, {"overlapIncludedPhases.1": 129},
          ["overlap 1: it includes phases 1 and 8 of two rings that are not concurrent, so it turns yellow between them"],
          {"overlapIncludedPhases.1": 33}),
-    Case(40, {"overlapType.1": 1, "overlapModifierPhases.1": 8},
-         ["overlap 1: phase 4 is an included and a modifier phase, so it is not green with it"], {"overlapModifierPhases.1": 4}),
+    Case(40, {"overlapType.1": 1, "overlapModifierPhases.1": 64},
+         ["overlap 1: phase 7 is an included and a modifier phase, so it is not green with it"], {"overlapModifierPhases.1": 4}),
     Case(41, {"overlapIncludedPhases.1": 33}, ["overlap 1: no phase of it follows another in a ring, so it shows what its phases show"],
          {"overlapIncludedPhases.1": 41}),
     Case(41, {"overlapIncludedPhases.2": 1}, ["overlap 2: no phase of it follows another in a ring, so it shows what its phases show"],
@@ -202,16 +203,16 @@ CASES = [
     Case(44, {"patternLeadLag.1": 1},
          ["pattern 1: patternLeadLag has no effect, since the splits of its coordinated phases end at one time"],
          {"sequenceData.17": 6, "sequenceData.18": 5}),
-    # Phases 2 and 6 are coordinated, and have walks.
+    # Phases 2 and 6 are coordinated, and phase 2 has a walk.
     Case(45, {"phasePedestrianRecycle.4": 1}, [f"phase 4: {IDLE_RECYCLE}"],
          {"splitCoordPhase.2": 0, "splitCoordPhase.6": 0, "splitCoordPhase.4": 1, "splitCoordPhase.8": 1}),
     Case(45, {"phasePedestrianRecycle.2": 1, "phaseWalk.2": 0, "phasePedestrianClear.2": 0, "pedestrianDetectorCallPhase.2": 0},
          [f"phase 2: {IDLE_RECYCLE}"], {"phaseWalk.2": 7}),
-    Case(45, {"phasePedestrianRecycle.2": 1, "phasePedestrianRecycle.6": 1, "patternCycleTime.1": 0},
+    Case(45, {"phasePedestrianRecycle.2": 1, "phaseWalk.6": 7, "phasePedestrianRecycle.6": 1, "patternCycleTime.1": 0},
          [f"phase {p}: {IDLE_RECYCLE}" for p in (2, 6)], {"patternCycleTime.1": 90}),
     Case(46, {"phasePedestrianRecycle.2": 1, "phasePedRecall.2": 1}, [f"phase 2: {WALKING_ON}"], {"phasePedRecall.2": 0}),
-    Case(46, {"phasePedestrianRecycle.6": 1, "splitMode.6": 4}, [f"phase 6: {WALKING_ON}"], {"splitMode.6": 2}),
-    Case(46, {"phasePedestrianRecycle.6": 1, "splitMode.6": 3, "splitMode.2": 3}, [f"phase 6: {WALKING_ON}"],
+    Case(46, {"phaseWalk.6": 7, "phasePedestrianRecycle.6": 1, "splitMode.6": 4}, [f"phase 6: {WALKING_ON}"], {"splitMode.6": 2}),
+    Case(46, {"phaseWalk.6": 7, "phasePedestrianRecycle.6": 1, "splitMode.6": 3, "splitMode.2": 3}, [f"phase 6: {WALKING_ON}"],
          {"phasePedestrianRecycle.6": 0}),
     Case(47, {"coordCorrectionMode.1": 2}, [AT_ONCE % (2, 0)], {"coordCorrectionLimit.1": 1}),
     Case(47, {"coordCorrectionMode.1": 3}, [AT_ONCE % (3, 0)], {"coordCorrectionMode.1": 1}),

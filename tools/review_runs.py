@@ -42,8 +42,8 @@ AT_INSTANT, LATE = row(1245, 3), row(1246, 3)
 FORCED_LATE: Change = {"coordForceMode.1": 1}
 # All phases but the coordinated ones wait for calls.
 ACTUATED: Change = {f"splitMode.{phase}": 0 for phase in (1, 3, 4, 5, 7, 8)}
-# Clearances of 10 s beside Main Street.
-SHORT_CROSSINGS: Change = {"phasePedestrianClear.2": 10, "phasePedestrianClear.6": 10}
+# A clearance of 10 s along Main Street.
+SHORT_CROSSING: Change = {"phasePedestrianClear.2": 10}
 # Pedestrian recycle, and a clearance of 4 s, for phase 4; the same for phase 2.
 RECYCLING: Change = {"phasePedestrianRecycle.4": 1, "phasePedestrianClear.4": 4}
 RECYCLING_MAIN: Change = {"phasePedestrianRecycle.2": 1, "phasePedestrianClear.2": 4}
@@ -79,10 +79,10 @@ RUNS = [
         ["ok", "tick 0001365", "tick 0001420", "tick 0002310"]),
     # A clearance of 10 s: phase 3 begins 1 s before its instant. It ends after the 7 s of phase 8, which is green
     # beside it.
-    Run(14, False, changed(example("main_and_oak"), SHORT_CROSSINGS), AT_INSTANT,
+    Run(14, False, changed(example("main_and_oak"), SHORT_CROSSING), AT_INSTANT,
         ["pattern 1", "step 1470", "when interval 3"], ["ok", "tick 0001470"]),
     # With a permissive time of 2 s the car can come 2 s later, and phase 3 begins 1 s behind its instant again.
-    Run(14, True, changed(example("main_and_oak"), {**SHORT_CROSSINGS, "patternPermissiveTime.1": 2}), row(1265, 3),
+    Run(14, True, changed(example("main_and_oak"), {**SHORT_CROSSING, "patternPermissiveTime.1": 2}), row(1265, 3),
         ["pattern 1", "step 2309", "when ped 2", "when interval 3", "step 1", "when interval 3"],
         ["ok", "tick 0001365", "tick 0001420", "tick 0002310"]),
     # With late force-off phase 3 begins behind its instant too, and ends after the 7 s of phase 8.

@@ -16,7 +16,7 @@ SHORT_YELLOW = b"K8 phase 2: its yellow is 2.9 s, under 3 s\n"
 REVIEWS = {
     "first_plan.json": NO_REVERT % 2,
     "one_way_pair.json": NO_REVERT % 2,
-    "main_and_oak.json": REST % 2 + REST % 6 + YIELD,
+    "main_and_oak.json": REST % 2 + YIELD,
     "tee.json": NO_REVERT % 1 + APART,
 }
 

@@ -105,7 +105,7 @@ def test_a_log_acts_in_the_ticks(examples: Path, tmp_path: Path, name: str) -> N
 # The display of tick 0.
 DARK = {
     "quad": "0000000 RRRRRRRR-------- -D-------------- R--- 0 ----",
-    "main_and_oak": "0000000 RRRRRRRR-------- -D-D-D-D-------- R--- 0 ----",
+    "main_and_oak": "0000000 RRRRRRRR-------- -D-D---D-------- R--- 0 ----",
     "tee": "0000000 RR-R-R-R-------- ---D------------ R--- 0 ----",
     "railroad": "0000000 RRRRRRRR-------- -D-D-D-D-------- ---- 0 ----",
 }

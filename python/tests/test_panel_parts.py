@@ -158,15 +158,50 @@ def test_the_usual_places(examples: Path) -> None:
         4: "north", 7: "north", 8: "south", 3: "south",
     }  # fmt: skip
     assert {it.turn for at, it in found.lanes.items() if at % 2} == {"left"}
-    # (the fire station is on the approach of 4 and 7; overlap 1 turns right from it)
-    assert found.overlaps == {1: Lane("north", "right")}
-    assert found.crossings == {2: "south", 4: "west", 6: "north", 8: "east"}
+    # (overlap 1 turns right from Main Street, into the leg without a crossing)
+    assert found.overlaps == {1: Lane("east", "right")}
+    assert found.crossings == {2: "south", 4: "west", 8: "east"}
+
+
+@pytest.mark.parametrize(
+    ("included", "lane"),
+    [
+        ({2, 3}, Lane("west", "right")),
+        ({4, 5}, Lane("north", "right")),
+        ({6, 7}, Lane("east", "right")),
+        ({8, 1}, Lane("south", "right")),
+        ({1, 4}, Lane("beside", "right")),
+        ({1, 2}, Lane("beside", "right")),
+        ({2, 3, 6}, Lane("beside", "right")),
+        ({2}, Lane("beside", "right")),
+    ],
+)
+def test_where_overlaps_are(examples: Path, included: set[int], lane: Lane) -> None:
+    """Those of a through phase and the left turn that swaps legs with it turn right."""
+    plan = Plan.read(examples / "main_and_oak.json")
+    plan["overlapIncludedPhases"][1] = included
+    assert layout_of(plan).overlaps == {1: lane}
+
+
+def test_a_lane_has_one_head(examples: Path, tmp_path: Path) -> None:
+    """An overlap whose lane is taken is listed beside the intersection."""
+    plan = Plan.read(examples / "main_and_oak.json")
+    plan["overlapIncludedPhases"][3] = {6, 7}
+    beside = Lane("beside", "right")
+    assert layout_of(plan).overlaps == {1: Lane("east", "right"), 3: beside}
+    path = tmp_path / "layout.json"
+    path.write_text('{"overlaps": {"3": {"leg": "east", "turn": "right"}}}')
+    found = layout_of(plan, Layout.read(path))
+    assert found.overlaps == {1: beside, 3: Lane("east", "right")}
+    path.write_text('{"phases": {"8": {"leg": "east", "turn": "right"}}}')
+    assert set(layout_of(plan, Layout.read(path)).overlaps.values()) == {beside}
 
 
 def test_other_plans_have_places_too(examples: Path) -> None:
     """A T-junction, and a phase for pedestrians alone."""
     tee = layout_of(Plan.read(examples / "tee.json"))
     assert tee.lanes[1] == Lane("east", "left") and tee.crossings == {4: "west"}
+    assert tee.overlaps == {1: Lane("south", "right")}
     pair = layout_of(Plan.read(examples / "one_way_pair.json"))
     assert pair.crossings == {9: "all"} and pair.lanes[9].leg == "beside"
 

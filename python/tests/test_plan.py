@@ -68,8 +68,8 @@ def test_lists_and_tables(examples: Path) -> None:
     """Lists are given as phases; splits and sequences by what their index counts."""
     plan = Plan.read(examples / "main_and_oak.json")
     assert plan["phaseConcurrency"].phases(2) == {5, 6}
-    plan["overlapIncludedPhases"][1] = {1, 4}
-    assert plan["overlapIncludedPhases"][1] == 9
+    plan["overlapIncludedPhases"][1] = {2, 3}
+    assert plan["overlapIncludedPhases"][1] == 6
     plan["splitTime"][2, 6] = seconds(25)
     assert plan["splitTime"][22] == 25
     plan.set_sequence(2, 2, [5, 6, 7, 8])

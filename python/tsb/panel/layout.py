@@ -4,7 +4,8 @@ Without a layout file the places are the usual ones of NEMA: even phases go thro
 odd ones turn left. A street is the phases of one side of the barriers: 2 enters from
 the west and 6 from the east, 4 from the north and 8 from the south. Phases 1, 3, 5, 7
 turn left beside 6, 8, 2 and 4. The crossing of a phase lies beside its through lanes,
-at their right.
+at their right. An overlap of 2 and 3, 4 and 5, 6 and 7 or 8 and 1 is a right turn: that
+of the through phase, which swaps legs with the left turn. Any other has no place.
 
 A layout file names other places, and streets:
 
@@ -33,7 +34,8 @@ USUAL = {2: "west", 6: "east", 4: "north", 8: "south"}
 STREETS = (("west", "east"), ("north", "south"))
 # Beside which through phase a left turn enters.
 PARTNERS = {1: 6, 3: 8, 5: 2, 7: 4}
-# The leg that a crossing beside a movement lies on, at its right.
+# The leg at the right of who enters by one: it has the crossing beside a movement, and
+# right turns go into it.
 RIGHT_OF = {"west": "south", "north": "west", "east": "north", "south": "east"}
 OPPOSITE = {"west": "east", "east": "west", "north": "south", "south": "north"}
 LONGEST, LONGEST_NAME = 64 << 10, 40
@@ -150,10 +152,12 @@ def layout_of(plan: Plan, given: Layout | None = None) -> Layout:
         if plan["phaseWalk"][phase]
     }
     crossings |= {it: leg for it, leg in given.crossings.items() if it in crossings}
-    overlaps = {
-        number: given.overlaps.get(number, _overlap(plan, number, lanes))
-        for number in plan["overlapIncludedPhases"]
-    }
+    numbers = plan["overlapIncludedPhases"]
+    overlaps = {it: lane for it, lane in given.overlaps.items() if it in numbers}
+    for number in sorted(set(numbers) - set(overlaps)):
+        lane = _overlap(plan, number, lanes)
+        is_taken = lane in overlaps.values() or lane in lanes.values()
+        overlaps[number] = Lane(BESIDE, "right") if is_taken else lane
     return Layout(lanes, crossings, overlaps, given.streets)
 
 
@@ -233,9 +237,11 @@ def _crossing(plan: Plan, phase: int, lanes: Mapping[int, Lane]) -> str:
 
 
 def _overlap(plan: Plan, number: int, lanes: Mapping[int, Lane]) -> Lane:
-    """The lane of an overlap: a right turn beside its first through phase."""
-    included = sorted(phases_of(plan["overlapIncludedPhases"][number]))
-    for phase in [*(it for it in included if it % 2 == 0), *included]:
-        if phase in lanes and lanes[phase].leg != BESIDE:
-            return Lane(lanes[phase].leg, "right")
+    """The lane of an overlap: a right turn, where it includes the through phase of that
+    leg, the left turn that swaps legs with it, and no other phase."""
+    included = phases_of(plan["overlapIncludedPhases"][number])
+    found = {lanes.get(it) for it in included}
+    for leg, turned in RIGHT_OF.items():
+        if len(included) == 2 and found == {Lane(leg, "through"), Lane(turned, "left")}:
+            return Lane(leg, "right")
     return Lane(BESIDE, "right")

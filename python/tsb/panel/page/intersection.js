@@ -145,12 +145,19 @@ export class Intersection {
       svg("rect", { x: x + 28, y: y - LENS / 2 - 3, width: 3 * LENS + 6, height: LENS + 6, rx: 4, class: "housing" }),
       svg("g", { id: `head-${kind}${number}` }, ...lenses.map(([, lens]) => lens)));
     this.heads.push([kind, number, lenses]);
-    if (kind === "P") {
+    if (kind === "O") this.node.append(text(x + 114, y, this.included(number), "small"));
+    else {
       const found = Object.entries(this.plan.detectors).filter(([, phase]) => phase === number);
       found.forEach(([detector], at) => {
         this.node.append(this.input("vehicle", Number(detector), x + 106 + at * 30, y, DETECTOR, 23));
       });
     }
+  }
+
+  /** The phases that an overlap includes, as 2+3. */
+  included(number) {
+    const list = this.plan.values.overlapIncludedPhases[number];
+    return this.plan.phases.filter((it) => (list >> (it - 1)) & 1).join("+");
   }
 
   /** A crossing with its signals and the buttons that call it. */
