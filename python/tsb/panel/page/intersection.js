@@ -91,15 +91,17 @@ export class Intersection {
     if (!(lane.leg in TURN)) return this.listed(kind, number);
     const across = LANES[lane.turn];
     const turn = `rotate(${TURN[lane.leg]} ${X} ${Y})`;
+    // (a right turn is drawn over the crossings too: its bend alone would be too short to see)
+    const far = CROSSING + ZEBRA;
     const paths = {
       through: `M${X - HALF} ${Y + across} L${X + HALF - 14} ${Y + across}`,
       left: `M${X - HALF} ${Y + across} Q${X + across} ${Y + across} ${X + across} ${Y - HALF + 14}`,
-      right: `M${X - HALF} ${Y + across} Q${X - across} ${Y + across} ${X - across} ${Y + HALF - 14}`,
+      right: `M${X - far} ${Y + across} L${X - HALF} ${Y + across} Q${X - across} ${Y + across} ${X - across} ${Y + HALF} V${Y + far - 12}`,
     };
     const ends = {
       through: `M${X + HALF - 16} ${Y + across - 9} l14 9 l-14 9 z`,
       left: `M${X + across - 9} ${Y - HALF + 16} l9 -14 l9 14 z`,
-      right: `M${X - across - 9} ${Y + HALF - 16} l9 14 l9 -14 z`,
+      right: `M${X - across - 9} ${Y + far - 14} l9 14 l9 -14 z`,
     };
     const move = svg("g", { transform: turn, class: `move ${kind}` },
       svg("path", { d: paths[lane.turn], class: "way" }), svg("path", { d: ends[lane.turn], class: "arrow" }));
