@@ -62,6 +62,7 @@ pub mod ReturnRunLemmas
 pub mod CalledStartLemmas
 pub mod LateGreenLemmas
 pub mod OptionLemmas
+pub mod OptionsOffLemmas
 pub mod SelectionLemmas
 pub mod ComingLemmas
 pub mod PatternPressLemmas

@@ -3,8 +3,6 @@
 ghost use Rattle.tsb_laws.specs.Versions.{BreakTheSameRule, CountersAgree, FieldsAgree, HeadsAgree, OthersRest, PutsMakeNarrowPlans, PutsMakeWidePlans, QuadIsWide, RefusalsAgree, StagesAgree, StatesAgree, TakeTheSame, TwoIsWide, WidePlansSayTheSame};
 ghost use Rattle.tsb_laws.specs.Texts.{NamedPlansBreakNoRule, ReadBenchesGoAlike, TextsGiveWidePlans, TextsHaveNoOptions, TextsLeaveOptionsOff, TextsNameNarrowPlans};
 
-use crate::operation::options_off_change_nothing;
-
 /// A plan of version 1 has its wide plan. There is one plan of 16 phases and 4 sides that says at translated indices
 /// what a plan of version 1 says, and nothing elsewhere. It breaks the same rule first, or none where that plan breaks
 /// none.
@@ -88,6 +86,4 @@ pub fn texts_of_version_1_are_wide()
 pub fn texts_of_version_1_have_no_options()
     ensures options { TextsHaveNoOptions }
     ensures off { TextsLeaveOptionsOff }
-{
-    options_off_change_nothing();
-}
+{}
