@@ -15,12 +15,13 @@ import pytest
 from tsb import Bench, Log, Plan, frames, measures, programs
 from tsb.report.command import main
 from tsb.report.words import PROGRAM
-from tsb.tasks import events_of_record
+from tsb.tasks import events_of_record, recorded
 
 START = "2026-11-22 07:00:00"
 TOP = Path(__file__).resolve().parents[2]
 EXAMPLES, FIELD = TOP / "examples", TOP / "docs/FIELD.md"
-PLANS = {"A": "quad", "B": "main_and_oak"}
+PLANS = {"A": "main_and_oak", "B": "shorter_cycle"}
+SESSION = "pattern 1\nstep 36000\n"
 VOID = {"meta", "br", "hr", "img", "input", "link"}
 
 
@@ -70,7 +71,7 @@ class Page(HTMLParser):
         assert self.open and self.open.pop() == tag, f"</{tag}> closes what is open"
         if tag == "table":
             section = self.sections[-1] if self.sections else ""
-            self.tables[f"{section}: {self._caption}"] = self._cells
+            self.tables.setdefault(f"{section}: {self._caption}", self._cells)
 
     def handle_data(self, data: str) -> None:
         last = self.open[-1] if self.open else ""
@@ -84,21 +85,19 @@ class Page(HTMLParser):
 
 @pytest.fixture(scope="session")
 def days(tmp_path_factory: pytest.TempPathFactory) -> Path:
-    """A folder with records of two plans on the hour of traffic."""
+    """A folder with the record of a plan on the hour of traffic."""
     folder = tmp_path_factory.mktemp("report")
-    for plan, before in (("quad", ""), ("main_and_oak", "pattern 1\n")):
-        words = ["record", f"--from={START}", "--device=1001"]
-        words += [str(EXAMPLES / f"{plan}.json")]
-        words += [str(EXAMPLES / "hour_of_traffic.log")]
-        done = programs.run("tsb_field", words, f"{before}step 36000\n".encode())
-        (folder / f"{plan}.csv").write_bytes(done.stdout)
+    words = ["record", f"--from={START}", "--device=1001"]
+    words += [str(EXAMPLES / it) for it in ("quad.json", "hour_of_traffic.log")]
+    done = programs.run("tsb_field", words, b"step 36000\n")
+    (folder / "quad.csv").write_bytes(done.stdout)
     return folder
 
 
 @pytest.fixture(scope="session")
 def two(tmp_path_factory: pytest.TempPathFactory) -> Path:
-    """The report of docs/FIELD.md, made by its words: two plans on the hour of
-    traffic, the second one with a pattern."""
+    """The report of docs/FIELD.md, made by its words: a pattern on the hour of traffic,
+    and the same with a shorter cycle."""
     folder = tmp_path_factory.mktemp("document")
     for name in ("examples", "python"):
         (folder / name).symlink_to(TOP / name)
@@ -133,17 +132,26 @@ def test_a_page_stands_alone(two: Path) -> None:
     assert page.tags.count("details") == 9 + 1, "behind each chart its numbers"
 
 
-def test_the_numbers_are_those_of_the_measures(two: Path, days: Path) -> None:
+@pytest.fixture(scope="session")
+def runs(two: Path) -> dict[str, pd.DataFrame]:
+    """The events of the two runs of that report, by letter."""
+    log = Log.read(EXAMPLES / "hour_of_traffic.log")
+    folders = {"A": EXAMPLES, "B": two.parent}
+    paths = {run: folders[run] / f"{plan}.json" for run, plan in PLANS.items()}
+    return {run: recorded(path, log, SESSION) for run, path in paths.items()}
+
+
+def test_the_numbers_are_those_of_the_measures(
+    two: Path, runs: dict[str, pd.DataFrame]
+) -> None:
     """Why greens ended, also by time of day, and the longest waits, of both runs."""
     tables = Page(two.read_text()).tables
     causes = ["gap", "maximum", "force-off", "other"]
-    for run, plan in PLANS.items():
-        export = frames.read_export(days / f"{plan}.csv")
-        events = frames.events_of_export(export, START)
+    for run, events in runs.items():
         wanted = measures.terminations(events)[causes]
         ended = of_run(tables["terminations: Greens that ended"], run)
         assert [it[2:6] for it in ended] == [list(map(str, it)) for it in wanted.values]
-        label = f"B: {plan}, pattern 1" if run == "B" else f"A: {plan}"
+        label = f"{run}: {PLANS[run]}, pattern 1"
         parts = tables[f"terminations: {label}: greens that ended, each 5 minutes"]
         assert [it[0] for it in parts[1:]][:: len(parts) - 2] == [
             "07:00:00",
@@ -152,6 +160,8 @@ def test_the_numbers_are_those_of_the_measures(two: Path, days: Path) -> None:
         for place, cause in enumerate(causes, 2):
             found = sum(int(it[place]) for it in parts[1:])
             assert found == wanted[cause].sum()
+        walks = (events["code"] == 21).sum()
+        assert sum(int(it[7]) for it in parts[1:]) == walks > 50
         longest = measures.waits(events).groupby("phase")["wait_s"].max()
         waits = of_run(tables["waits: Waits, in seconds"], run)
         assert {it[0]: it[7] for it in waits} == {
@@ -175,13 +185,86 @@ def test_a_record_is_read_as_an_export_is(days: Path) -> None:
     assert none.empty and (none.dtypes == events.dtypes).all()
 
 
-def test_the_most_telling_comes_first(two: Path) -> None:
-    """By standard errors, which fall."""
-    tables = Page(two.read_text()).tables
-    rows = tables["unlike: "]
-    assert rows[0][2:4] == ["A: quad", "B: main_and_oak, pattern 1"]
-    errors = [float(it[5]) for it in rows[1:]]
-    assert errors == sorted(errors, reverse=True) and len(errors) > 5
+def test_waits_come_first(two: Path, runs: dict[str, pd.DataFrame]) -> None:
+    """By seconds times actuations, which fall; the others by standard errors. The
+    first number is the mean wait for each actuation on yellow and red, in both runs:
+    their difference."""
+    rows = Page(two.read_text()).tables["unlike: "]
+    assert rows[0] == [
+        "what", "of", "seconds × actuations", "A: main_and_oak, pattern 1",
+        "B: shorter_cycle, pattern 1", "difference", "standard errors",
+    ]  # fmt: skip
+    lost = [abs(_number(it[2])) for it in rows[1:] if it[2] != "–"]
+    errors = [float(it[6]) for it in rows[1 + len(lost) :]]
+    assert lost == sorted(lost, reverse=True) and len(lost) > 5
+    assert errors == sorted(errors, reverse=True) and len(errors) > 3
+    assert all(it[0].startswith("wait") == (it[2] != "–") for it in rows[1:])
+    phases = Plan.read(EXAMPLES / "main_and_oak.json")["vehicleDetectorCallPhase"]
+    for phase in (4, 5):
+        named = ["wait from call to green, mean", f"phase {phase}"]
+        (row,) = (it for it in rows if it[:2] == named)
+        totals = []
+        for events in runs.values():
+            waits = measures.waits(events).query(f"phase == {phase}")["wait_s"]
+            came = measures.arrivals(events, phases).loc[phase]
+            totals.append(waits.mean() * (came["on_yellow"] + came["on_red"]))
+        assert _number(row[2]) == round(totals[1] - totals[0])
+
+
+def _number(cell: str) -> int:
+    return int(cell.replace("−", "-").replace(",", ""))
+
+
+def test_splits_have_their_causes(two: Path, runs: dict[str, pd.DataFrame]) -> None:
+    """Beside each programmed split, of services that are over."""
+    caption = "Programmed splits, in seconds, and the causes of their greens' ends"
+    table = Page(two.read_text()).tables[f"splits: {caption}"]
+    assert table[0][2:] == [
+        "programmed split", "services", "mean", "85 %", "gap-out", "max-out",
+        "force-off",
+    ]  # fmt: skip
+    for run, events in runs.items():
+        served = measures.services(events).dropna(subset=["over"])
+        for phase, split in ((4, 25), (2, 25 if run == "B" else 35)):
+            of = served[served["phase"] == phase]
+            (row,) = (it for it in table if it[:2] == [str(phase), run])
+            shares = [
+                f"{100 * (of['cause'] == it).mean():.1f} %"
+                for it in ("gap", "maximum", "force-off")
+            ]
+            assert row[2:4] == [f"{split}.0", str(len(of))] and row[6:] == shares
+
+
+def test_ends_in_a_row(two: Path, tmp_path: Path) -> None:
+    """With a word fewer ends have marks, and the table of marks has no more; shares
+    stay."""
+    words = ["--plan-a", EXAMPLES / "main_and_oak.json", "--pattern-a", 1]
+    words += ["--log", EXAMPLES / "hour_of_traffic.log", "--consecutive"]
+    ends = []
+    for several in (1, 3):
+        page = made([*words, several], tmp_path / "page.html")
+        several_of = (
+            " with 3 or more of its phase in a row by one cause" if several == 3 else ""
+        )
+        name = "terminations: main_and_oak, pattern 1: greens that ended"
+        parts = page.tables[f"{name}{several_of}, each 5 minutes"]
+        ends.append(sum(int(it[6]) for it in parts[1:]))
+        text = (tmp_path / "page.html").read_text()
+        assert f"Each green's end{several_of}: a mark" in text.replace("&#39;", "'")
+        shares = page.tables["terminations: Greens that ended"]
+        assert sum(int(it[5]) for it in shares[1:]) == ends[0]
+    assert 0 < ends[1] < ends[0]
+
+
+def test_actuations_have_no_place(two: Path) -> None:
+    """One sentence beside their table says so, and none of the page is about cars on
+    green."""
+    text = two.read_text()
+    at = text.index("<caption>Actuations</caption>")
+    beside = text[text.index("</table>", at) :][:300]
+    assert beside.count("No detector has a place") == 1 and beside.count("<p") == 1
+    assert "platoon ratio" in text and "actuations on green" in text
+    assert not re.search(r"cars (that come )?on green", text)
 
 
 def test_places_in_the_cycle_are_the_local_counter(examples: Path) -> None:
@@ -300,8 +383,9 @@ def test_channels_of_a_street(
     words = ["--street", "--plan-a", examples / "quad.json", "--from", START]
     words += ["--export", export, "--vehicle", "21=2"]
     page = made(words, tmp_path / "page.html")
-    cars = {it[1]: it[2] for it in page.tables["arrivals: Cars"] if it[0] == "2"}
-    assert cars == {"A": "386", "B": "386"}
+    table = page.tables["arrivals: Actuations"]
+    came = {it[1]: it[2] for it in table if it[0] == "2"}
+    assert came == {"A": "386", "B": "386"}
     left_out = (
         "left out: 0 rows of other devices, 1 events of channels without an input,"
         " 0 lines that are no rows"
@@ -438,6 +522,10 @@ BAD_WORDS = [
         "--events-b needs --events-a",
     ),
     (["--events-a", "quad.csv", "--plan-b", "quad.json"], "--plan-b needs --events-b"),
+    (
+        ["--events-a", "quad.csv", "--consecutive", "0"],
+        "argument --consecutive: invalid whole number above 0 value: '0'",
+    ),
     (
         ["--plan-a", "a", "--log", "b", "--seconds", "-1"],
         "argument --seconds: invalid whole number above 0 value: '-1'",

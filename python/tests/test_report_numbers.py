@@ -8,7 +8,7 @@ import pandas as pd
 import pytest
 
 from tsb import Event, Plan, frames
-from tsb.report.charts import greens_in_cycles
+from tsb.report.charts import greens_in_cycles, terminations
 from tsb.report.differences import (
     Difference,
     differences,
@@ -17,9 +17,10 @@ from tsb.report.differences import (
     of_shares,
 )
 from tsb.report.numbers import Numbers, period_of
-from tsb.report.page import glance
+from tsb.report.page import glance, unlike
 from tsb.report.runs import Run, whole_minutes
 
+LOST_BY_ALL = "call to green (seconds × actuations)"
 START = np.datetime64("2026-11-22T07:00:00", "ns")
 
 
@@ -34,11 +35,13 @@ def plan() -> Plan:
 
 
 def numbers(
-    *events: tuple[int, int, int], ticks: int = 1000, place: int = 0, of: int = 1
-) -> Numbers:
+    *events: tuple[int, int, int], ticks: int = 1000, place: int = 0, of: int = 1,
+    consecutive: int = 1, known: Plan | None = None,
+) -> Numbers:  # fmt: skip
     """The numbers of events of tick, code and parameter."""
     table = frames.of_events(Event(*it) for it in events)
-    return Numbers(Run("hand", table, START, ticks, plan()), place, of)
+    run = Run("hand", table, START, ticks, known or plan())
+    return Numbers(run, place, of, consecutive)
 
 
 def rows(found: pd.DataFrame) -> list[tuple[object, ...]]:
@@ -63,9 +66,45 @@ def test_why_greens_ended() -> None:
 
 
 def test_why_greens_ended_by_time() -> None:
-    """Minutes, as the run is short: tick 600 is the last of the first one."""
-    of = numbers(*GREENS)
-    assert rows(of.ended_by_time) == [(0, 2, 1, 0, 0, 1, 2), (1, 4, 0, 1, 0, 0, 1)]
+    """Minutes, as the run is short: tick 600 is the last of the first one, and has a
+    walk. In the second one phase 6 has a walk and no green that ends."""
+    of = numbers(*GREENS, (600, 21, 4), (900, 21, 6))
+    assert rows(of.marked_by_time) == [
+        (0, 2, 1, 0, 0, 1, 2, 0), (0, 4, 0, 0, 0, 0, 0, 1),
+        (1, 4, 0, 1, 0, 0, 1, 0), (1, 6, 0, 0, 0, 0, 0, 1),
+    ]  # fmt: skip
+
+
+# Six greens of phase 2, by gap, three times by maximum, by gap and by maximum; between
+# them two of phase 4 by force-offs. The last green of phase 2 goes on.
+IN_A_ROW = [
+    (begin + more, code, phase)
+    for begin, cause, phase in [
+        (0, 4, 2), (100, 5, 2), (150, 6, 4), (200, 5, 2), (300, 5, 2), (350, 6, 4),
+        (400, 4, 2), (500, 5, 2), (600, 0, 2),
+    ]
+    for more, code in ((1, 1), (40, cause), (40, 7))
+    if cause or code == 1
+]  # fmt: skip
+
+
+@pytest.mark.parametrize(
+    ("consecutive", "ends"),
+    [
+        (1, [40, 140, 190, 240, 340, 390, 440, 540]),
+        (2, [240, 340, 390]),
+        (3, [340]),
+        (4, []),
+    ],
+)
+def test_ends_in_a_row(consecutive: int, ends: list[int]) -> None:
+    """Of each phase by itself; shares are those of all greens, whatever is marked."""
+    of = numbers(*IN_A_ROW, (600, 21, 2), consecutive=consecutive)
+    assert of.marked["end"].to_list() == ends
+    assert of.marked_by_time["walks"].sum() == 1
+    assert terminations([of]).startswith("<svg")
+    assert of.marked_by_time["greens"].sum() == len(ends)
+    assert rows(of.ended) == [(2, 2, 4, 0, 0, 6), (4, 0, 0, 2, 0, 2)]
 
 
 @pytest.mark.parametrize(
@@ -91,6 +130,28 @@ def test_splits() -> None:
     ]
     found = numbers(*told, *services).splits
     assert rows(found) == [(2, 3, 17.0, 9.0, 12.0, 30.0, 30.0, 35.0)]
+
+
+def test_programmed_splits() -> None:
+    """Of phase 2 one service of 9 s before a split is told, two of 40 s programmed (12
+    and 30 s; a gap and a force-off), and one where it is 35 s, that a preempt ends. A
+    split that is told as a green begins counts for it; with 0 there is none."""
+    told = [(300, 134 + 1, 40), (300, 134 + 3, 20), (899, 134 + 1, 35), (1500, 135, 0)]
+    services = [
+        (begin + more, code, 2)
+        for begin, length, cause in [
+            (100, 90, 4), (300, 120, 4), (500, 300, 6), (900, 200, 0), (1500, 50, 5)
+        ]
+        for more, code in (
+            (0, 1), (length - 40, cause), (length - 40, 7), (length, 12)
+        )
+        if code
+    ]  # fmt: skip
+    assert rows(numbers(*told, *services, (1600, 1, 2)).programmed)[:3] == [
+        (0, 2, 35.0, 1, 20.0, 20.0, 0.0, 0.0, 0.0),
+        (1, 2, 40.0, 2, 21.0, 30.0, 0.5, 0.0, 0.5),
+        (2, 2, None, 2, 7.0, 9.0, 0.5, 0.5, 0.0),
+    ]
 
 
 def test_waits() -> None:
@@ -121,10 +182,13 @@ PATTERN = [
 
 
 def test_arrivals() -> None:
-    """Two of four cars on green, which 650 of 1000 ticks are: a ratio of 0.77."""
-    (found,) = rows(numbers(*PATTERN).arrivals)
-    assert found[:7] == (2, 2, 1, 1, 4, 0.5, 0.65)
-    assert found[7] == pytest.approx(0.5 / 0.65)
+    """Two of four actuations on green, which 650 of 1000 ticks are: a platoon ratio of
+    0.77."""
+    found = numbers(*PATTERN).arrivals
+    assert list(found.columns[-2:]) == ["time_green", "platoon_ratio"]
+    (row,) = rows(found)
+    assert row[:7] == (2, 2, 1, 1, 4, 0.5, 0.65)
+    assert row[7] == pytest.approx(0.5 / 0.65)
 
 
 def test_arrivals_over_the_cycle() -> None:
@@ -169,8 +233,9 @@ def test_preempts() -> None:
 
 
 def test_at_a_glance() -> None:
-    """All phases together: three greens; calls of 3 and 5 s, of which one waits on;
-    a walk after 2 s; one of four cars on green; whole cycles of 30 and 40 s."""
+    """All phases together: three greens; calls of 3 and 5 s for phase 4, for which two
+    actuations waited, and one that waits on; a walk after 2 s; one of four actuations
+    on green; whole cycles of 30 and 40 s."""
     of = numbers(
         *GREENS, (100, 31, 1), (400, 31, 1), (800, 31, 1), (850, 84, 9),
         (570, 43, 4), (650, 43, 2), (650, 43, 4), (40, 45, 2), (60, 21, 2),
@@ -184,12 +249,13 @@ def test_at_a_glance() -> None:
         "of them by other": "33.3 %",
         "whole cycles": "2",
         "cycle, mean (s)": "35.0",
+        LOST_BY_ALL: "8",
         "call to green, mean (s)": "4.0",
         "call to green, longest (s)": "5.0",
         "calls that wait at the end": "1",
         "button to walk, mean (s)": "2.0",
         "button to walk, longest (s)": "2.0",
-        "cars on green": "25.0 %",
+        "actuations on green": "25.0 %",
         "services of preempts": "0",
         "detector alarms": "1",
     }
@@ -217,9 +283,46 @@ def test_means_differ() -> None:
     assert of_means(a, pd.Series([4.0])) == 0
 
 
+def test_waits_by_seconds_and_actuations() -> None:
+    """Two calls of phase 4 wait for 2 and 4 s, and in B for 5 and 9 s. In A four and in
+    B three actuations came on red: 3 s for each of four, then 7 s for each of three.
+    Two presses wait for a second less each. What is no wait comes last."""
+    red = [(begin, 82, 4) for begin in (10, 12, 14, 500)]
+    a = numbers(
+        *red, (10, 43, 4), (30, 1, 4), (40, 7, 4), (500, 43, 4), (540, 1, 4),
+        (10, 45, 4), (30, 21, 4), (100, 45, 4), (540, 21, 4), of=2,
+    )  # fmt: skip
+    b = numbers(
+        *red[1:], (10, 43, 4), (60, 1, 4), (70, 7, 4), (500, 43, 4), (590, 1, 4),
+        (10, 45, 4), (20, 21, 4), (100, 45, 4), (530, 21, 4), (600, 43, 6),
+        place=1, of=2,
+    )  # fmt: skip
+    assert [(it.what, it.of, it.lost) for it in differences(a, b)] == [
+        ("wait from call to green, mean", "phase 4", 9.0),
+        ("wait from button to walk, mean", "phase 4", -2.0),
+        ("calls that wait at the end", "phase 6", None),
+    ]
+    assert [a.lost, b.lost] == [12.0, 21.0]
+    head, first = unlike(a, b)[0].head, unlike(a, b)[0].rows
+    assert head[2] == "seconds × actuations" and head[-1] == "standard errors"
+    assert [it[2] for it in first] == ["+9", "−2", "–"]
+
+
+def test_waits_without_a_plan() -> None:
+    """Which phase a detector counts for is not known: the calls count, two and two."""
+    calls = [(10, 43, 4), (500, 43, 4), (10, 82, 4)]
+    a = numbers(*calls, (30, 1, 4), (40, 7, 4), (540, 1, 4), of=2, known=Plan())
+    b = numbers(*calls, (60, 1, 4), (70, 7, 4), (590, 1, 4), of=2, known=Plan())
+    assert [it.lost for it in differences(a, b)] == [8.0]
+    assert a.lost is None and [LOST_BY_ALL, "–"] in glance([a]).rows
+    with_plan = numbers(*calls, (30, 1, 4), (40, 7, 4), (540, 1, 4), of=2)
+    assert with_plan.lost == 3.0, "one actuation, for 3 s at the mean"
+    assert [it.lost for it in differences(with_plan, b)] == [8.0], "B has none"
+
+
 def test_what_differs() -> None:
-    """The most telling first: phase 2 has 4 greens and then 1, of which all and then
-    none end by a gap. Of one split nothing is known of how splits spread."""
+    """By standard errors what is no wait: phase 2 has 4 greens and then 1, of which all
+    and then none end by a gap. Of one split nothing is known of how splits spread."""
     greens = [
         (begin + more, code, 2)
         for begin in (0, 200, 400, 600)

@@ -52,6 +52,7 @@ __all__ = [
     "greens",
     "greens_a_cycle",
     "greens_of",
+    "in_a_row",
     "in_cycle",
     "patterns",
     "percentile",
@@ -143,6 +144,15 @@ def terminations(events: pd.DataFrame) -> pd.DataFrame:
     return found.reindex(columns=columns, fill_value=0)
 
 
+def in_a_row(ended: pd.DataFrame) -> "pd.Series[int]":
+    """Of each green that ended (`greens`), how many greens of its phase up to it ended
+    by its cause in a row: 1 where the one before ended by another."""
+    by_phase = ended.groupby("phase")["cause"]
+    changes = (ended["cause"] != by_phase.shift()).groupby(ended["phase"]).cumsum()
+    found: pd.Series[int] = ended.groupby([ended["phase"], changes]).cumcount() + 1
+    return found
+
+
 def _waits(events: pd.DataFrame, begins: int, goes: int, served: int) -> pd.DataFrame:
     """Each wait of a phase from a call to what serves it, if the call stays."""
     rows: list[Row] = []
@@ -174,11 +184,12 @@ def walk_waits(events: pd.DataFrame) -> pd.DataFrame:
 
 
 def arriving(events: pd.DataFrame, phases: Mapping[int, int]) -> pd.DataFrame:
-    """Each car that comes: its `phase`, `detector` and `tick`, and what its phase
-    `shows` then: green, yellow or red.
+    """Each actuation of a detector: its `phase`, `detector` and `tick`, and what its
+    phase `shows` then: green, yellow or red.
 
-    A car comes where the input of its detector goes on. `phases` has the phase of
-    each detector that counts cars, as `plan["vehicleDetectorCallPhase"]` has it.
+    It is where the input goes on, and the detector has no place: a queue over a loop
+    is one. `phases` has the phase of each detector that counts, as
+    `plan["vehicleDetectorCallPhase"]` has it.
     """
     leads = {detector: phase for detector, phase in phases.items() if phase}
     cars = events[(events["code"] == DETECTOR_ON) & events["parameter"].isin(leads)]
@@ -201,14 +212,14 @@ def arriving(events: pd.DataFrame, phases: Mapping[int, int]) -> pd.DataFrame:
 
 
 def arrivals(events: pd.DataFrame, phases: Mapping[int, int]) -> pd.DataFrame:
-    """How many cars came (`arriving`) while their phase was green, yellow and red: a
-    row for a phase, with `on_green`, `on_yellow`, `on_red`, `arrivals` and the share
-    `green`."""
+    """How many actuations (`arriving`) there were while their phase was green, yellow
+    and red: a row for a phase, with `on_green`, `on_yellow`, `on_red`, all of them
+    (`arrivals`) and the share `green`."""
     return counted(arriving(events, phases), phases)
 
 
 def counted(came: pd.DataFrame, phases: Mapping[int, int]) -> pd.DataFrame:
-    """The `arrivals` of cars that came (`arriving`)."""
+    """The `arrivals` of actuations (`arriving`)."""
     columns = {"green": "on_green", "yellow": "on_yellow", "red": "on_red"}
     counts = pd.crosstab(came["phase"], came["shows"]).rename(columns=columns)
     known = pd.Index(sorted({it for it in phases.values() if it}), name="phase")

@@ -21,20 +21,23 @@ Columns = Mapping[str, tuple[str, Form]]
 
 @dataclass(frozen=True)
 class Table:
-    """A table: what it shows, the names of its columns, and its rows."""
+    """A table: what it shows, the names of its columns, its rows, and what is said
+    beside it."""
 
     caption: str
     head: Sequence[str]
     rows: Sequence[Sequence[Cell]]
+    note: str = ""
 
 
 @dataclass(frozen=True)
 class Chart:
-    """A chart and the tables that it is drawn from."""
+    """A chart, the tables that it is drawn from, and those that are read beside it."""
 
     caption: str
     svg: Markup
     tables: Sequence[Table]
+    beside: Sequence[Table] = field(default=())
 
 
 @dataclass(frozen=True)
@@ -69,7 +72,7 @@ def ratio(value: Any) -> Cell:
 
 def table_of(
     caption: str, both: Both, of: Callable[[Numbers], pd.DataFrame],
-    columns: Columns, key: str = "phase",
+    columns: Columns, key: str = "phase", note: str = "",
 ) -> Table:  # fmt: skip
     """A table of the same rows of each run, by its index: runs below each other."""
     letters = ["run"] if len(both) > 1 else []
@@ -82,7 +85,7 @@ def table_of(
             rows.append((at, numbers.place, [str(at), *run, *told]))
     rows.sort(key=lambda it: it[:2])
     head = [key, *letters, *(name for name, _ in columns.values())]
-    return Table(caption, head, [cells for _, _, cells in rows])
+    return Table(caption, head, [cells for _, _, cells in rows], note)
 
 
 def clock(numbers: Numbers, tick: Any) -> Cell:

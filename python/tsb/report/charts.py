@@ -27,7 +27,8 @@ BAR = 0.38  # width of one of two bars of a phase
 DAY = 864000  # ticks
 FEW = 6  # phases for which there is always room
 NUMBERED = 60  # marks of preempts, of which each may have its number
-DENSE = 1000  # cars, above which dots are small
+DENSE = 1000  # actuations, above which dots are small
+WALKS, WALKS_ABOVE = "#7a3e9d", 0.38  # of walks, their colour and place
 
 
 def _phases(tables: Sequence[pd.DataFrame]) -> list[int]:
@@ -69,16 +70,17 @@ def _span(axis: Any, numbers: Numbers) -> None:
 
 
 def terminations(both: Both) -> str:
-    """A mark for the end of each green, by time of day and phase."""
-    phases = _phases([it.ended for it in both])
-    lanes = dict(zip(ENDS, (-0.27, 0.0, 0.2, 0.36), strict=True))
-    heights = [0.5 + 0.26 * len(phases)] * len(both)
+    """A mark for the end of each green that is marked, by time of day and phase, and
+    above it one for the begin of each walk."""
+    phases = _phases([table.set_index("phase") for it in both for table in _marks(it)])
+    lanes = dict(zip(ENDS, (-0.16, 0.02, 0.2, 0.36), strict=True))
+    heights = [0.5 + 0.32 * len(phases)] * len(both)
     with drawn("terminations", heights) as drawing:
         for run, numbers in enumerate(both):
             axis = drawing.axes[run, 0]
             rows = {phase: place for place, phase in enumerate(phases)}
             for cause in ENDS:
-                of = numbers.greens[numbers.greens["cause"] == cause]
+                of = numbers.marked[numbers.marked["cause"] == cause]
                 color, _, mark = CAUSES[cause]
                 axis.plot(
                     _dates(numbers, of["end"]),
@@ -86,14 +88,25 @@ def terminations(both: Both) -> str:
                     linestyle="", marker=mark, markersize=3.8, markeredgewidth=0.8,
                     color=color, label=cause, rasterized=True,
                 )  # fmt: skip
+            axis.plot(
+                _dates(numbers, numbers.walked["tick"]),
+                [rows[it] + WALKS_ABOVE for it in numbers.walked["phase"]],
+                linestyle="", marker="|", markersize=4.5, markeredgewidth=1.3,
+                color=WALKS, label="walk begins", rasterized=True,
+            )  # fmt: skip
             axis.set_yticks(range(len(phases)), [str(it) for it in phases])
             axis.set_ylim(-0.6, len(phases) - 0.4)
             axis.set_ylabel("phase")
             axis.set_title(numbers.label)
             _span(axis, numbers)
             if run == 0:
-                legend(axis, 4)
+                legend(axis, 5)
     return drawing.svg
+
+
+def _marks(numbers: Numbers) -> Sequence[pd.DataFrame]:
+    """What has a mark: ends of greens, and walks."""
+    return numbers.marked, numbers.walked
 
 
 def causes(both: Both) -> str:
@@ -235,7 +248,7 @@ def greens_a_cycle(both: Both) -> str:
 
 
 def arrivals(both: Both) -> str:
-    """What share of each phase's cars came while it was green."""
+    """What share of each phase's actuations came while it was green."""
     values = [100 * it.arrivals["green"] for it in both]
     return _bars("arrivals", both, values, "per cent on green", None)
 
@@ -244,8 +257,8 @@ def arrivals(both: Both) -> str:
 
 
 def coordination(both: Both, phases: Sequence[int]) -> str:
-    """Of each phase and run, the cars by time of day and by their place in the cycle,
-    over the greens; beside it the cars of each part of the cycle."""
+    """Of each phase and run, the actuations by time of day and by their place in the
+    cycle, over the greens; beside it those of each part of the cycle."""
     rows = [(phase, numbers) for phase in phases for numbers in both]
     with drawn("coordination", [1.5] * len(rows), [5, 1]) as drawing:
         for (phase, numbers), (dots, bars) in zip(rows, drawing.axes, strict=True):
@@ -257,13 +270,13 @@ def coordination(both: Both, phases: Sequence[int]) -> str:
             bars.set_yticklabels([])
             dots.set_title(f"phase {phase}, {numbers.label}")
             dots.set_ylabel("seconds in cycle")
-        drawing.axes[-1, 1].set_xlabel("cars")
+        drawing.axes[-1, 1].set_xlabel("actuations")
     return drawing.svg
 
 
 def _dots(axis: Any, numbers: Numbers, phase: int) -> None:
-    """The cars of a phase as dots, over its greens as pale bars: each at its time and
-    at its place in the cycle."""
+    """The actuations of a phase as dots, over its greens as pale bars: each at its time
+    and at its place in the cycle."""
     begin, low, end, high = greens_in_cycles(numbers, phase)
     from_to = [
         np.column_stack([_dates(numbers, ticks), place / 10])
@@ -311,7 +324,7 @@ def _reaches(greens: pd.DataFrame, whole: pd.DataFrame) -> Iterator[Any]:
 
 
 def _fold(axis: Any, numbers: Numbers, phase: int, cycle: float) -> None:
-    """The cars of each part of the cycle, on green and not."""
+    """The actuations of each part of the cycle, on green and not."""
     folded = numbers.folded
     if phase in folded.index.get_level_values("phase"):
         of = folded.loc[phase].reindex(range(1, FOLDS + 1), fill_value=0)

@@ -10,7 +10,6 @@ from pathlib import Path
 from tsb.errors import Error
 from tsb.report.numbers import Numbers
 from tsb.report.page import page_of
-from tsb.report.runs import Run
 from tsb.report.sources import runs_of
 from tsb.report.words import PROGRAM, read_words
 
@@ -24,7 +23,9 @@ def main(words: Sequence[str]) -> int:
             warnings.simplefilter("always", UserWarning)
             runs = runs_of(given)
         notes = [str(it.message) for it in told if it.category is UserWarning]
-        text = _text(runs, given.title, notes)
+        several = len(runs), given.consecutive
+        numbers = [Numbers(run, place, *several) for place, run in enumerate(runs)]
+        text = page_of(numbers, given.title, notes)
         _write(given.out, text.encode(errors="replace"))
     except OSError as fault:
         where = fault.filename or given.out
@@ -36,11 +37,6 @@ def main(words: Sequence[str]) -> int:
     for note in notes:
         print(f"{PROGRAM}: {note}", file=sys.stderr)
     return 0
-
-
-def _text(runs: Sequence[Run], title: str | None, notes: Sequence[str]) -> str:
-    numbers = [Numbers(run, place, len(runs)) for place, run in enumerate(runs)]
-    return page_of(numbers, title, notes)
 
 
 def _write(path: Path, text: bytes) -> None:

@@ -1,7 +1,7 @@
-"""What differs between two runs, most telling first."""
+"""What differs between two runs: waits first, by the seconds of all who waited."""
 
 from collections.abc import Iterator
-from dataclasses import dataclass
+from dataclasses import dataclass, replace
 from math import sqrt
 from typing import Any
 
@@ -15,8 +15,9 @@ TICK = 0.1  # seconds: what times deviate by at least
 @dataclass(frozen=True)
 class Difference:
     """A number that two runs have, `a` and `b`: `what` it is, `of` which phase,
-    preempt or detector, its `unit` ("s", "%" of a share of 1, or "" of a count), and
-    how many standard `errors` it differs by."""
+    preempt or detector, its `unit` ("s", "%" of a share of 1, or "" of a count), how
+    many standard `errors` it differs by, and of a wait the seconds times actuations
+    that are `lost` by it, None of a number that is no wait."""
 
     what: str
     of: str
@@ -24,6 +25,7 @@ class Difference:
     a: float
     b: float
     errors: float
+    lost: float | None = None
 
 
 def of_counts(a: float, b: float) -> float:
@@ -52,10 +54,17 @@ def of_means(a: "pd.Series[float]", b: "pd.Series[float]") -> float:
 
 
 def differences(a: Numbers, b: Numbers) -> list[Difference]:
-    """All numbers that differ, by their standard errors: the greatest first."""
-    found = [*_counts(a, b), *_shares(a, b), *_means(a, b)]
+    """All numbers that differ: waits by seconds times actuations, then the others by
+    their standard errors, each the greatest first."""
+    found = [*_waits(a, b), *_counts(a, b), *_shares(a, b), *_means(a, b)]
     unlike = [it for it in found if it.errors]
-    return sorted(unlike, key=lambda it: (-abs(it.errors), it.what, it.of))
+    return sorted(unlike, key=_place)
+
+
+def _place(it: Difference) -> tuple[float, float, str, str]:
+    """The place of a difference in their order: the least comes first."""
+    lost = -1.0 if it.lost is None else abs(it.lost)
+    return -lost, -abs(it.errors), it.what, it.of
 
 
 def _number(table: pd.DataFrame, key: Any, column: str) -> float:
@@ -94,14 +103,14 @@ def _count(what: str, of: str, a: float, b: float) -> Difference:
 
 
 def _shares(a: Numbers, b: Numbers) -> Iterator[Difference]:
-    """What share of greens ended by a maximum or a force-off, of cars came on green,
-    of cycles had no green: of phases that have some in both runs."""
+    """What share of greens ended by a maximum or a force-off, of actuations came on
+    green, of cycles had no green: of phases that have some in both runs."""
     asked = [
         (f"greens that end by {cause}", a.ended, b.ended, cause, "greens")
         for cause in ("gap", "maximum", "force-off")
     ]
     asked += [
-        ("cars that come on green", a.arrivals, b.arrivals, "on_green", "arrivals"),
+        ("actuations on green", a.arrivals, b.arrivals, "on_green", "arrivals"),
         ("cycles without a green", a.a_cycle, b.a_cycle, "without", "cycles"),
     ]
     for what, of_a, of_b, column, of in asked:
@@ -118,22 +127,43 @@ def _shares(a: Numbers, b: Numbers) -> Iterator[Difference]:
                 )
 
 
-def _means(a: Numbers, b: Numbers) -> Iterator[Difference]:
-    """How long waits, services, cycles and the way to a preempt's green are."""
-    for what, of_a, of_b, column, name in [
-        ("wait from call to green, mean", a.each_wait, b.each_wait, "wait_s", "phase"),
-        ("wait from button to walk, mean", a.each_walk, b.each_walk, "wait_s", "phase"),
-        ("split, mean", a.each_split, b.each_split, "split_s", "phase"),
-        ("request to green, mean", a.preempts, b.preempts, "wait_s", "preempt"),
+def _waits(a: Numbers, b: Numbers) -> Iterator[Difference]:
+    """How long waits for green and for walk and the way to a preempt's green are. What
+    is lost is the mean times how many waited, in `b` less in `a`: actuations of
+    detectors (`Numbers.waited`; where a plan is not known, calls), of buttons, and
+    requests."""
+    known = bool(a.run.phases and b.run.phases)
+    for what, of_a, of_b, name in [
+        ("wait from call to green, mean", a.each_wait, b.each_wait, "phase"),
+        ("wait from button to walk, mean", a.each_walk, b.each_walk, "phase"),
+        ("request to green, mean", a.preempts, b.preempts, "preempt"),
     ]:
-        known = [it.dropna(subset=[column]) for it in (of_a, of_b)]
-        for key in sorted({int(k) for it in known for k in it[name].unique()}):
-            x, y = (it.loc[it[name] == key, column] for it in known)
-            if len(x) and len(y):
-                yield _mean(what, f"{name} {key}", x, y)
+        for key, x, y in _pairs(of_a, of_b, "wait_s", name):
+            waited = len(x), len(y)
+            if known and of_a is a.each_wait:
+                waited = a.waited(key), b.waited(key)
+            found = _mean(what, f"{name} {key}", x, y)
+            yield replace(found, lost=found.b * waited[1] - found.a * waited[0])
+
+
+def _means(a: Numbers, b: Numbers) -> Iterator[Difference]:
+    """How long services and cycles are."""
+    for phase, x, y in _pairs(a.each_split, b.each_split, "split_s", "phase"):
+        yield _mean("split, mean", f"phase {phase}", x, y)
     lengths = [it.cycles["cycle_s"] for it in (a, b)]
     if all(map(len, lengths)):
         yield _mean("cycle, mean", "all", *lengths)
+
+
+def _pairs(
+    a: pd.DataFrame, b: pd.DataFrame, column: str, name: str
+) -> Iterator[tuple[int, "pd.Series[float]", "pd.Series[float]"]]:
+    """The values of a column for each phase or preempt that has some in both runs."""
+    known = [it.dropna(subset=[column]) for it in (a, b)]
+    for key in sorted({int(k) for it in known for k in it[name].unique()}):
+        x, y = (it.loc[it[name] == key, column] for it in known)
+        if len(x) and len(y):
+            yield key, x, y
 
 
 def _mean(

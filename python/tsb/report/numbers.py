@@ -3,6 +3,7 @@ it under "What the report's numbers mean"."""
 
 from dataclasses import dataclass
 from functools import cached_property
+from typing import Any
 
 import numpy as np
 import pandas as pd
@@ -10,7 +11,7 @@ import pandas as pd
 from tsb import measures
 from tsb.plan import Plan
 from tsb.report.runs import Run
-from tsb.told import CAUSES, OTHER
+from tsb.told import CAUSES, OTHER, WALK
 
 ENDS = [*CAUSES.values(), OTHER]
 SHOWN = ["green", "yellow", "red"]
@@ -31,11 +32,13 @@ def period_of(ticks: int) -> int:
 class Numbers:
     """The numbers of a run, which stands at a place (0 or 1) of so many runs. Tables
     have a row for a phase and are in the order of phases, where no more is said;
-    seconds end with `_s`, shares are 0 to 1."""
+    seconds end with `_s`, shares are 0 to 1. An end of a green is marked where it is at
+    least the `consecutive`-th of its phase in a row by one cause."""
 
     run: Run
     place: int = 0
     of: int = 1
+    consecutive: int = 1
 
     @property
     def letter(self) -> str:
@@ -72,15 +75,33 @@ class Numbers:
         return counts.assign(greens=counts.sum(axis=1))
 
     @cached_property
-    def ended_by_time(self) -> pd.DataFrame:
-        """The same for each `period` (its number from 0 on) and `phase` in which a
-        green ended: the period that the end is in."""
-        period = (self.greens["end"] - 1) // period_of(self.run.ticks)
-        by = [period.rename("period"), self.greens["phase"]]
-        found = pd.crosstab(by, self.greens["cause"])
-        counts = found.reindex(columns=ENDS, fill_value=0)
+    def marked(self) -> pd.DataFrame:
+        """The greens that ended with so many of their phase in a row by one cause
+        (`measures.in_a_row`)."""
+        return self.greens[measures.in_a_row(self.greens) >= self.consecutive]
+
+    @cached_property
+    def walked(self) -> pd.DataFrame:
+        """Each walk: its `phase` and the `tick` at which it began."""
+        events = self.run.events
+        found = events.loc[events["code"] == WALK, ["parameter", "tick"]]
+        return found.rename(columns={"parameter": "phase"}).reset_index(drop=True)
+
+    @cached_property
+    def marked_by_time(self) -> pd.DataFrame:
+        """How many greens of those `marked` ended by each cause, and how many walks
+        (`walks`) began, for each `period` (its number from 0 on) and `phase` in which
+        one did: the period that the end or the begin is in."""
+        length = period_of(self.run.ticks)
+        by = [((self.marked["end"] - 1) // length).rename("period")]
+        counts = pd.crosstab([*by, self.marked["phase"]], self.marked["cause"])
+        counts = counts.reindex(columns=ENDS, fill_value=0)
         counts.columns.name = None
-        return counts.assign(greens=counts.sum(axis=1))
+        period = ((self.walked["tick"] - 1) // length).rename("period")
+        walks = self.walked.groupby([period, "phase"]).size().rename("walks")
+        found = pd.concat([counts.assign(greens=counts.sum(axis=1)), walks], axis=1)
+        found.index.names = ["period", "phase"]
+        return found.fillna(0).astype("Int64").sort_index()
 
     @cached_property
     def each_split(self) -> pd.DataFrame:
@@ -93,15 +114,48 @@ class Numbers:
         the split that the events told last (codes 134 to 149), NA for none."""
         each = self.each_split
         found = measures.spread(each["split_s"], each["phase"])
-        return found.assign(planned_s=self._planned().reindex(found.index))
+        last = self._planned().groupby("phase")["planned_s"].last()
+        return found.assign(planned_s=last.where(last > 0).reindex(found.index))
 
-    def _planned(self) -> "pd.Series[int]":
-        """The split of each phase in seconds, as told last; none of 0."""
-        codes = self.run.events["code"]
-        told = self.run.events[(codes >= FIRST_SPLIT) & (codes <= LAST_SPLIT)]
-        last = told.groupby("code")["parameter"].last()
-        last.index = last.index - FIRST_SPLIT + 1
-        return last.where(last > 0).astype("Float64")
+    @cached_property
+    def programmed(self) -> pd.DataFrame:
+        """The services of each phase beside each split that was programmed as their
+        greens began (`planned_s`, NA for none): `phase`, `planned_s`, the `count` of
+        those that are over, their `mean` and `p85` in seconds, and the share of all
+        their greens that ended by each cause. Not of greens that go on."""
+        each = self.each_split.assign(cause=self.services["cause"])
+        each = each.dropna(subset=["over"])
+        rows: list[dict[str, Any]] = []
+        by = [each["phase"], self._planned_at(each)]
+        for (phase, planned), of in each.groupby(by, dropna=False):
+            shares = {it: (of["cause"] == it).mean() for it in CAUSES.values()}
+            told = {"phase": phase, "planned_s": planned, "count": len(of), **shares}
+            told["mean"] = of["split_s"].mean()
+            rows.append({**told, "p85": measures.percentile(of["split_s"], 85)})
+        names = ["phase", "planned_s", "count", "mean", "p85", *CAUSES.values()]
+        return pd.DataFrame(rows, columns=names)
+
+    def _planned(self) -> pd.DataFrame:
+        """Each split that the events tell: `tick`, `phase`, `planned_s` (0 for none),
+        in the order of ticks."""
+        events = self.run.events
+        told = events[events["code"].between(FIRST_SPLIT, LAST_SPLIT)]
+        found = {
+            "tick": told["tick"],
+            "phase": told["code"] - FIRST_SPLIT + 1,
+            "planned_s": told["parameter"].astype("Float64"),
+        }
+        return pd.DataFrame(found).sort_values("tick", kind="stable")
+
+    def _planned_at(self, each: pd.DataFrame) -> "pd.Series[float]":
+        """The split that was told last by the begin of each service."""
+        found = pd.Series(pd.NA, each.index, dtype="Float64", name="planned_s")
+        for phase, told in self._planned().groupby("phase"):
+            begins = each.loc[each["phase"] == phase, "begin"]
+            place = np.searchsorted(told["tick"], begins.astype("int64"), side="right")
+            known = [pd.NA, *told["planned_s"].where(told["planned_s"] > 0)]
+            found[begins.index] = pd.array([known[it] for it in place], "Float64")
+        return found
 
     @cached_property
     def patterns(self) -> pd.DataFrame:
@@ -141,7 +195,7 @@ class Numbers:
 
     @cached_property
     def arriving(self) -> pd.DataFrame:
-        """Each car that came (`measures.arriving`), with its place in the cycle:
+        """Each actuation (`measures.arriving`), with its place in the cycle:
         `in_cycle_s`, NA in free operation."""
         found = measures.arriving(self.run.events, self.run.phases)
         place = measures.in_cycle(self.run.events, found["tick"])
@@ -149,9 +203,9 @@ class Numbers:
 
     @cached_property
     def arrivals(self) -> pd.DataFrame:
-        """Cars while green, yellow and red were shown, and the share on green; of the
-        phases to which one came. `time_green`: the share of the run that was green,
-        and `ratio`: the first share for each of the second."""
+        """Actuations while green, yellow and red were shown, and the share on green; of
+        the phases that have some. `time_green`: the share of the run that was green,
+        and `platoon_ratio`: the first share for each of the second."""
         found = measures.counted(self.arriving, self.run.phases)
         came = found[found["arrivals"] > 0]
         length = (self.greens["end"] - self.greens["begin"]).groupby(
@@ -159,12 +213,29 @@ class Numbers:
         )
         time = (length.sum() / max(self.run.ticks, 1)).reindex(came.index)
         time = time.astype("Float64")
-        return came.assign(time_green=time, ratio=came["green"] / time.where(time > 0))
+        share = came["green"] / time.where(time > 0)
+        return came.assign(time_green=time, platoon_ratio=share)
+
+    def waited(self, phase: int) -> int:
+        """How many actuations waited for the green of a phase: those on yellow and on
+        red."""
+        came = self.arrivals
+        return int(came["on_yellow"].get(phase, 0) + came["on_red"].get(phase, 0))
+
+    @property
+    def lost(self) -> float | None:
+        """The seconds times the actuations that waited for green: of all phases, the
+        mean wait from call to green for each of them. None where no plan says which
+        detectors those are of."""
+        if not self.run.phases:
+            return None
+        means = self.waits["mean"].dropna()
+        return sum((mean * self.waited(phase) for phase, mean in means.items()), 0.0)
 
     @cached_property
     def folded(self) -> pd.DataFrame:
-        """The cars of cycles of patterns by phase and by the part of the cycle, 1 to
-        20, in which they came: `part`, `green`, `yellow`, `red`."""
+        """The actuations in cycles of patterns by phase and by the part of the cycle, 1
+        to 20, that they are in: `part`, `green`, `yellow`, `red`."""
         came = self.arriving.dropna(subset=["in_cycle_s"])
         lengths = self._cycle_lengths(came["tick"])
         part = (came["in_cycle_s"].astype(float) * FOLDS // lengths).astype(int) + 1
@@ -182,7 +253,7 @@ class Numbers:
     @cached_property
     def coordinated(self) -> list[int]:
         """The phases that the plan coordinates in the patterns that ran; where it
-        names none, all to which a car came in a cycle."""
+        names none, all that have an actuation in a cycle."""
         plan, found = self.run.plan or Plan(), set[int]()
         for pattern in self.patterns["pattern"].dropna().unique():
             first = 16 * (plan["patternSplitNumber"][int(pattern)] - 1)

@@ -11,6 +11,7 @@ from tsb.report.numbers import ENDS, Numbers
 from tsb.report.sections import SECTIONS
 
 FIRST = 15  # differences that are shown at once
+LOST = "seconds × actuations"
 
 
 def page_of(both: Both, title: str | None, notes: Sequence[str]) -> str:
@@ -57,12 +58,13 @@ def glance(both: Both) -> Table:
         *((f"of them by {cause}", _ended_by(cause)) for cause in ENDS),
         ("whole cycles", lambda it: count(len(it.cycles))),
         ("cycle, mean (s)", lambda it: seconds(it.cycles["cycle_s"].mean())),
+        (f"call to green ({LOST})", _lost),
         ("call to green, mean (s)", lambda it: _mean(it.each_wait)),
         ("call to green, longest (s)", lambda it: _longest(it.each_wait)),
         ("calls that wait at the end", lambda it: count(it.waits["still"].sum())),
         ("button to walk, mean (s)", lambda it: _mean(it.each_walk)),
         ("button to walk, longest (s)", lambda it: _longest(it.each_walk)),
-        ("cars on green", _on_green),
+        ("actuations on green", _on_green),
         ("services of preempts", lambda it: count(len(it.preempts))),
         ("detector alarms", lambda it: count(len(it.alarms))),
     ]  # fmt: skip
@@ -72,6 +74,10 @@ def glance(both: Both) -> Table:
 
 def _mean(waits: pd.DataFrame) -> Cell:
     return seconds(waits["wait_s"].mean())
+
+
+def _lost(numbers: Numbers) -> Cell:
+    return NONE if numbers.lost is None else f"{numbers.lost:,.0f}"
 
 
 def _longest(waits: pd.DataFrame) -> Cell:
@@ -92,8 +98,8 @@ def _on_green(numbers: Numbers) -> Cell:
 
 
 def unlike(a: Numbers, b: Numbers) -> tuple[Table, Table]:
-    """What differs between two runs: what tells most, and the rest."""
-    head = ["what", "of", a.label, b.label, "difference", "standard errors"]
+    """What differs between two runs: what stands first, and the rest."""
+    head = ["what", "of", LOST, a.label, b.label, "difference", "standard errors"]
     rows = [_unlike(it) for it in differences(a, b)]
     return Table("", head, rows[:FIRST]), Table("", head, rows[FIRST:])
 
@@ -105,5 +111,7 @@ def _unlike(it: Difference) -> Sequence[Cell]:
         "": (count, f"{it.b - it.a:+.0f}"),
     }
     form, change = forms[it.unit]
-    minus = change.replace("-", "−")
-    return [it.what, it.of, form(it.a), form(it.b), minus, f"{abs(it.errors):.1f}"]
+    lost = NONE if it.lost is None else f"{it.lost:+,.0f}"
+    errors = f"{abs(it.errors):.1f}"
+    told = [lost, form(it.a), form(it.b), change, errors]
+    return [it.what, it.of, *(cell.replace("-", "−") for cell in told)]

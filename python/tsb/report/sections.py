@@ -1,6 +1,7 @@
 """The sections of a page: each with its charts, and the tables behind them."""
 
 from collections.abc import Callable, Iterable, Sequence
+from dataclasses import replace
 from typing import Any
 
 import pandas as pd
@@ -43,6 +44,14 @@ ENDED = {
     **{it: (it, count) for it in ENDS},
     "greens": ("greens", count),
 }
+MARKED = {**ENDED, "walks": ("walks", count)}
+#: Of causes, the names that reports of splits have.
+BY_CAUSE = {"gap": "gap-out", "maximum": "max-out", "force-off": "force-off"}
+NO_PLACE = (
+    "No detector has a place, that is a type and a distance from the stop bar: so each"
+    " actuation counts in the moment in which the input goes on, and these are"
+    " actuations on green, not arrivals on green."
+)
 SPREAD = {
     "count": ("count", count),
     "mean": ("mean", seconds),
@@ -57,8 +66,10 @@ def terminations(both: Both) -> Section:
     """Why greens ended."""
 
     def made() -> Iterable[Chart]:
+        several = in_a_row(both[0].consecutive)
         yield _chart(
-            "Each green's end: a mark by its time of day, its phase and its cause",
+            f"Each green's end{several}: a mark by its time of day, its phase and its"
+            " cause; above the phase a mark for each walk that begins",
             charts.terminations(both),
             *(_by_time(it) for it in both),
         )
@@ -77,17 +88,26 @@ def terminations(both: Both) -> Section:
     )  # fmt: skip
 
 
+def in_a_row(consecutive: int) -> str:
+    """Which ends of greens are marked, where not all are."""
+    if consecutive == 1:
+        return ""
+    return f" with {consecutive} or more of its phase in a row by one cause"
+
+
 def _by_time(numbers: Numbers) -> Table:
-    """Greens that ended, by period of the day and phase."""
+    """Greens that ended and walks that began, by period of the day and phase."""
     length = period_of(numbers.run.ticks)
-    table = numbers.ended_by_time.reset_index()
+    table = numbers.marked_by_time.reset_index()
     rows = [
         [clock(numbers, 1 + it["period"] * length)[:-2], str(it["phase"])]
-        + [count(it[name]) for name in ENDED]
+        + [count(it[name]) for name in MARKED]
         for it in table.to_dict("records")
     ]
-    caption = f"{numbers.label}: greens that ended, each {length // 600} minutes"
-    return Table(caption, ["from", "phase", *ENDED], rows)
+    several = in_a_row(numbers.consecutive)
+    ended = f"{numbers.label}: greens that ended{several}"
+    caption = f"{ended}, each {length // 600} minutes"
+    return Table(caption, ["from", "phase", *MARKED], rows)
 
 
 def splits(both: Both) -> Section:
@@ -95,17 +115,33 @@ def splits(both: Both) -> Section:
 
     def made() -> Iterable[Chart]:
         columns = {**SPREAD, "planned_s": ("split of the pattern", seconds)}
-        yield _chart(
+        drawn = _chart(
             "Bar: 15 to 85 per cent of the splits; mark: median; line: the longest",
             charts.splits(both),
             table_of("Splits, in seconds", both, lambda it: it.splits, columns),
         )
+        yield replace(drawn, beside=[_programmed(both)])
 
     return _section(
         "splits", "Splits",
-        "The split of a service is its green, yellow and red clearance together.",
+        "The split of a service is its green, yellow and red clearance together. Beside"
+        " each programmed split is the share of its greens that gapped out, maxed out"
+        " and were forced off; a dash is for no split, as in free operation.",
         any(it.splits["count"].sum() for it in both), "No service ended.", made,
     )  # fmt: skip
+
+
+def _programmed(both: Both) -> Table:
+    """Services beside each programmed split, with the shares of causes."""
+    columns = {
+        "planned_s": ("programmed split", seconds),
+        "count": ("services", count),
+        "mean": ("mean", seconds),
+        "p85": ("85 %", seconds),
+        **{cause: (name, share) for cause, name in BY_CAUSE.items()},
+    }
+    caption = "Programmed splits, in seconds, and the causes of their greens' ends"
+    return table_of(caption, both, lambda it: it.programmed.set_index("phase"), columns)
 
 
 def cycles(both: Both) -> Section:
@@ -148,8 +184,8 @@ def waits(both: Both) -> Section:
     """From call to green."""
     return _waits(
         both, "waits", "Waits from call to green",
-        "A call comes with the first car that counts, or with a recall from the end"
-        " of the green on. What still waits at the end is counted apart.",
+        "A call comes with the first actuation that counts, or with a recall from the"
+        " end of the green on. What still waits at the end is counted apart.",
         lambda it: it.waits, charts.waits, "No vehicle call was served.",
     )  # fmt: skip
 
@@ -186,52 +222,57 @@ def _waits(
 
 
 def arrivals(both: Both) -> Section:
-    """Arrivals on green, and over the cycle."""
+    """Actuations on green, and over the cycle."""
 
     def made() -> Iterable[Chart]:
         columns = {
-            "arrivals": ("cars", count),
+            "arrivals": ("actuations", count),
             "on_green": ("on green", count),
             "on_yellow": ("on yellow", count),
             "on_red": ("on red", count),
             "green": ("share on green", share),
             "time_green": ("time green", share),
-            "ratio": ("ratio", ratio),
+            "platoon_ratio": ("platoon ratio", ratio),
         }
         yield _chart(
-            "What share of the cars came while their phase was green",
+            "What share of the actuations came while their phase was green",
             charts.arrivals(both),
-            table_of("Cars", both, lambda it: it.arrivals, columns),
+            table_of(
+                "Actuations", both, lambda it: it.arrivals, columns, note=NO_PLACE
+            ),
         )
         runs = [it for it in both if len(it.folded)]
         if runs:
             phases = sorted({phase for it in runs for phase in it.coordinated})
             yield _chart(
-                "Each car of the coordinated phases by its time of day and its place"
-                " in the cycle, over the greens as pale bars; at the right the cars of"
-                " each part of the cycle",
+                "Each actuation of the coordinated phases by its time of day and its"
+                " place in the cycle, over the greens as pale bars; at the right those"
+                " of each part of the cycle",
                 charts.coordination(runs, phases),
                 *(_folded(it) for it in runs),
             )
 
-    text = "A car comes where the input of its detector goes on."
+    text = (
+        "An actuation is the input of a detector that goes on: a queue that stands over"
+        " a loop is one."
+    )
     if not any(len(it.folded) for it in both):
         text += " No pattern ran, so there is no diagram over the cycle."
     known = any(it.run.phases for it in both)
-    none = "No car came." if known else (
+    none = "No detector had an actuation." if known else (
         "Which phase a detector counts for only a plan says: give it with --plan-a."
     )  # fmt: skip
     there = any(len(it.arrivals) for it in both)
-    return _section("arrivals", "Arrivals and coordination", text, there, none, made)
+    return _section("arrivals", "Actuations and coordination", text, there, none, made)
 
 
 def _folded(numbers: Numbers) -> Table:
-    """The cars of each part of the cycle."""
+    """The actuations of each part of the cycle."""
     rows = [
         [str(it["phase"]), f"{it['part']} of {FOLDS}"] + [count(it[s]) for s in SHOWN]
         for it in numbers.folded.reset_index().to_dict("records")
     ]
-    caption = f"{numbers.label}: cars by the part of the cycle in which they came"
+    caption = f"{numbers.label}: actuations by the part of the cycle"
     return Table(caption, ["phase", "part", *(f"on {it}" for it in SHOWN)], rows)
 
 

@@ -57,6 +57,10 @@ def _words() -> argparse.ArgumentParser:
         "--commands", metavar="FILE", type=Path,
         help="the commands of a session, in place of ticks alone",
     )  # fmt: skip
+    words.add_argument(
+        "--consecutive", type=_positive, default=1, metavar="N",
+        help="mark ends of greens with N or more of a phase in a row by one cause",
+    )  # fmt: skip
     for kind in ("vehicle", "pedestrian", "preempt"):
         words.add_argument(
             f"--{kind}", action="append", default=[], type=_lead,
