@@ -11,7 +11,7 @@ from tsb import programs
 from tsb.errors import Error, NoProgram
 
 # Modules with a function `main(words)`, which gives the status to end with.
-COMMANDS = ("sumo", "sweep", "panel", "report")
+COMMANDS = ("new", "sumo", "sweep", "panel", "report")
 
 
 def commands() -> Iterator[tuple[str, str]]:
