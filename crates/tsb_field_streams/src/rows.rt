@@ -1,17 +1,15 @@
 //! Rows of a log on their way out.
-ghost use Rattle.std.specs.Prelude.{◌≡◌, ◌+◌, ◌≤◌, ◌++◌, Err, OnErr, OnOk, option_to_list};
+ghost use Rattle.std.specs.Prelude.{◌≡◌, ◌+◌, ◌≤◌, ◌++◌, Err, OnErr, OnOk, length, option_to_list};
 ghost use Rattle.std.specs.Io.KnownBytes.{Appends, Keeps};
-ghost use Rattle.arrayvec.specs.ArrayVec.{array_vec_len};
 ghost use Rattle.tsb_lines.specs.Writes.{AppendsFront};
 ghost use Rattle.tsb_field_log.specs.Streets.{rows_in};
 ghost use Rattle.tsb_log_text.specs.LogText.{log_text};
 ghost use Rattle.tsb_field_streams.specs.declared.error.FilterError.TheVariants.{Write as write};
 
 use crate::error::FilterError;
-use arrayvec::ArrayVec;
 use std::io::Write;
 use tsb_field_log::Rows;
-use tsb_lines::{pass_on, write_text};
+use tsb_lines::{ShortLine, pass_on, write_text};
 use tsb_log_text::{LogRow, row_line};
 
 /// How many bytes the lines of two rows have.
@@ -24,7 +22,7 @@ pub(crate) fn write_rows<W: Write>(writer: &mut W, rows: Rows) -> Result<(), Fil
     ensures fault { OnErr result (result ≡ Err write) }
 {
     let text = rows_text(rows);
-    match write_text(writer, &text) {
+    match write_text(writer, text.as_bytes()) {
         Ok(()) => Ok(()),
         Err(_) => Err(FilterError::Write),
     }
@@ -55,10 +53,10 @@ fn pass_rows_on<W: Write>(writer: &mut W) -> Result<(), FilterError>
 
 /// The lines of rows.
 #[tactic(auto, using(crate::proofs::RowLemmas::two_rows))]
-fn rows_text(rows: Rows) -> ArrayVec<u8, ROWS>
-    ensures { result.items ≡ log_text (rows_in rows) }
+fn rows_text(rows: Rows) -> ShortLine<ROWS>
+    ensures { result ≡ log_text (rows_in rows) }
 {
-    let mut text = ArrayVec::new();
+    let mut text = ShortLine::new();
     append(&mut text, rows.first);
     append(&mut text, rows.second);
     text
@@ -66,16 +64,16 @@ fn rows_text(rows: Rows) -> ArrayVec<u8, ROWS>
 
 /// Adds the line of a row to a text, where there is one.
 #[tactic(auto, using(crate::proofs::RowLemmas::some_row))]
-fn append(text: &mut ArrayVec<u8, ROWS>, row: Option<LogRow>)
-    requires { array_vec_len text.old + 39 ≤ 78 }
-    ensures items { text.new.items ≡ text.old.items ++ log_text (option_to_list row) }
-    ensures few { array_vec_len text.new ≤ array_vec_len text.old + 39 }
+fn append(text: &mut ShortLine<ROWS>, row: Option<LogRow>)
+    requires { length text.old + 39 ≤ 78 }
+    ensures items { text.new ≡ text.old ++ log_text (option_to_list row) }
+    ensures few { length text.new ≤ length text.old + 39 }
 {
     match row {
         None => {}
         Some(row) => {
             // There is room for it.
-            let _ = text.try_extend_from_slice(&row_line(row));
+            text.push(row_line(row).as_bytes());
         }
     }
 }

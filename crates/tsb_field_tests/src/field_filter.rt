@@ -17,10 +17,10 @@ struct Filtered {
 
 fn push_rows(text: &mut Vec<u8>, rows: Rows) -> Result<(), AllocError> {
     if let Some(row) = rows.first {
-        text.extend_from_slice(&row_line(row))?;
+        text.extend_from_slice(row_line(row).as_bytes())?;
     }
     if let Some(row) = rows.second {
-        text.extend_from_slice(&row_line(row))?;
+        text.extend_from_slice(row_line(row).as_bytes())?;
     }
     Ok(())
 }

@@ -39,7 +39,7 @@ fn goes(on: bool, nanos: u128) -> InputEvent {
 
 /// Whether this is the line of the row.
 fn is_line(row: LogRow, wanted: &[u8]) -> bool {
-    row_line(row).as_slice() == wanted
+    row_line(row).as_bytes() == wanted
 }
 
 /// Whether rows have their lines.
@@ -120,10 +120,10 @@ fn mapped_channels_lead_only_there(rt: HostRuntime) -> Result<(), Fail> {
 
 fn write(text: &mut Vec<u8>, rows: Rows) -> Result<(), AllocError> {
     if let Some(row) = rows.first {
-        text.extend_from_slice(&row_line(row))?;
+        text.extend_from_slice(row_line(row).as_bytes())?;
     }
     if let Some(row) = rows.second {
-        text.extend_from_slice(&row_line(row))?;
+        text.extend_from_slice(row_line(row).as_bytes())?;
     }
     Ok(())
 }

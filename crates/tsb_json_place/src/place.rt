@@ -1,13 +1,11 @@
 //! Where a text stops being JSON, by lines and columns.
-ghost use Rattle.std.specs.Prelude.{◌≡◌, ◌+◌, ◌++◌, ◌≤◌, length};
-ghost use Rattle.arrayvec.specs.ArrayVec.{array_vec_len};
-ghost use Rattle.tsb_json_place.specs.declared.place.TheConstants.{TOLD};
+ghost use Rattle.std.specs.Prelude.{◌≡◌, ◌≤◌, length};
 ghost use Rattle.tsb_json_place.specs.Places.{column_behind, end_text, json_place, line_behind, place_in, place_text, wanted_text};
 
 use crate::machine::{Stop, stop_of};
 use crate::next::Next;
-use arrayvec::ArrayVec;
 use itoa::Buffer;
+use tsb_lines::ShortLine;
 
 /// The greatest length of what is told of a place, in bytes.
 pub const TOLD: usize = 120;
@@ -82,28 +80,19 @@ fn column_behind(bytes: &[u8]) -> usize
 }
 
 /// What is told of a place: its line and column, and what has to come there.
-pub fn place_text(place: JsonPlace) -> ArrayVec<u8, TOLD>
-    ensures { result.items ≡ place_text place }
+pub fn place_text(place: JsonPlace) -> ShortLine<TOLD>
+    ensures { result ≡ place_text place }
 {
     let mut lines = Buffer::new();
     let mut columns = Buffer::new();
-    let mut text = ArrayVec::new();
-    add(&mut text, b"line ");
-    add(&mut text, lines.format(place.line).as_bytes());
-    add(&mut text, b", column ");
-    add(&mut text, columns.format(place.column).as_bytes());
-    add(&mut text, end_text(place.ends));
-    add(&mut text, wanted_text(place.next));
+    let mut text = ShortLine::new();
+    text.push(b"line ");
+    text.push(lines.format(place.line).as_bytes());
+    text.push(b", column ");
+    text.push(columns.format(place.column).as_bytes());
+    text.push(end_text(place.ends));
+    text.push(wanted_text(place.next));
     text
-}
-
-/// Adds bytes to a text, which has room for them.
-fn add(text: &mut ArrayVec<u8, TOLD>, bytes: &[u8])
-    requires { array_vec_len text.old + length bytes.now ≤ TOLD }
-    ensures items { text.new.items ≡ text.old.items ++ bytes.now }
-    ensures len { array_vec_len text.new ≡ array_vec_len text.old + length bytes.now }
-{
-    let _ = text.try_extend_from_slice(bytes);
 }
 
 /// What stands between a place and what has to come there.

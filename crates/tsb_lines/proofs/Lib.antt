@@ -1,5 +1,6 @@
 pub mod LineLemmas
 pub mod KeptLemmas
+pub mod ShortLemmas
 pub mod WordLemmas
 pub mod LawLemmas
 pub mod DigitLemmas

@@ -8,3 +8,5 @@ pub mod Digits
 pub mod Laws
 -- what a writer has taken of a text
 pub mod Writes
+-- lines of a greatest length
+pub mod ShortLines

@@ -8,11 +8,13 @@ pub mod digits;
 pub mod kept;
 pub mod laws;
 pub mod lines;
+pub mod short;
 pub mod words;
 pub mod writes;
 
 pub use digits::{digit, seven_digits};
 pub use kept::KeptLine;
 pub use lines::{cut_at_feed, is_skipped, next_line, without_return};
+pub use short::ShortLine;
 pub use words::{next_word, number};
 pub use writes::{WriteError, pass_on, write_text};

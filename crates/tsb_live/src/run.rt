@@ -115,7 +115,7 @@ fn talk<R: Read, W: Write, E: Write>(
         Ok(None) => Status::Done.number(),
         Ok(Some(stop)) => {
             let line = fault_line(b"line ", stop.number, &stop.line, stop.fault);
-            tell(errors, Status::Stopped, &line)
+            tell(errors, Status::Stopped, line.as_bytes())
         }
         Err(fault) => tell_input_end(errors, fault),
     }

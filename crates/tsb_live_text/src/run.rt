@@ -167,15 +167,15 @@ impl LiveRun {
             LiveCommand::Plan => self.tell_plan(&echo, pending, writer),
             LiveCommand::Status => {
                 let status = status_line(&self.course.bench().status());
-                tell(&echo, &status, None, pending, writer)
+                tell(&echo, status.as_bytes(), None, pending, writer)
             }
             LiveCommand::Edits => {
                 let edits = edits_line(self.course.bench().desk());
-                tell(&echo, &edits, None, pending, writer)
+                tell(&echo, edits.as_bytes(), None, pending, writer)
             }
             LiveCommand::When(which) => {
                 let change = when_line(self.course.kept().last_change(which));
-                tell(&echo, &change, None, pending, writer)
+                tell(&echo, change.as_bytes(), None, pending, writer)
             }
             LiveCommand::Events(on) => {
                 self.course.tell(on);

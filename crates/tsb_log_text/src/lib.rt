@@ -15,7 +15,7 @@ mod row_text;
 mod search;
 
 pub use error::LogError;
-pub use line::row_line;
+pub use line::{RowLine, row_line};
 pub use log::{Log, LogRow};
 pub use read::{LIMIT, read_log};
 pub use row_text::inputs_of;

@@ -1,5 +1,4 @@
 pub mod TokenLemmas
-pub mod RoomLemmas
 pub mod ListLemmas
 pub mod TextLemmas
 pub mod DeskLemmas

@@ -1,20 +1,11 @@
 -- The line of the desk byte by byte, which clauses of private functions speak of.
-use Rattle.std.specs.Prelude.{◌≡◌, ℕ, Bool, false, true, if◌then◌else◌, List, [], ◌∷◌, ◌++◌, Option, Some, None, codes, decimal, take}
+use Rattle.std.specs.Prelude.{ℕ, Bool, false, true, if◌then◌else◌, List, [], ◌∷◌, ◌++◌, Option, Some, None, codes, decimal}
 use Rattle.tsb_objects.specs.tsb_rules.declared.rules.Rule.{Rule}
 use Rattle.tsb_plan.specs.Names.{name_of}
 use Rattle.tsb_plan_text.specs.RuleLines.{rule_name}
 use Rattle.tsb_transact.specs.declared.edit.Edit.{Edit}
 use Rattle.tsb_transact.specs.Desk.{Desk}
-use Rattle.tsb_plan_line.specs.declared.line.TheConstants.{LONGEST}
 use Rattle.tsb_plan_line.specs.EditsLine.{state_name}
-
--- the first bytes of a text, as many as a line has room for
-unfoldable pub kept : List ℕ → List ℕ
-kept text = take LONGEST text
-
--- a text was added to a line, as far as there was room for it
-pub record Adds (old text new : List ℕ) : Type 0 where
-  pub line : new ≡ kept (old ++ text)
 
 -- a station
 abbrev pub owner_bytes : Option ℕ → List ℕ

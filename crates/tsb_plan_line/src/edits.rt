@@ -1,13 +1,14 @@
 //! The line of the desk.
 ghost use Rattle.std.specs.Prelude.{◌≡◌, true};
-ghost use Rattle.tsb_plan_line.specs.Bytes.{Adds, comma, edit_bytes, list_bytes, owner_bytes, rule_bytes};
+ghost use Rattle.tsb_lines.specs.ShortLines.{Adds};
+ghost use Rattle.tsb_plan_line.specs.declared.line.TheConstants.{LONGEST};
+ghost use Rattle.tsb_plan_line.specs.Bytes.{comma, edit_bytes, list_bytes, owner_bytes, rule_bytes};
 ghost use Rattle.tsb_plan_line.specs.EditsLine.{edits_text, state_name};
 ghost use Rattle.tsb_plan_text.specs.RuleLines.{rule_name};
 ghost use Rattle.tsb_transact.specs.Cells.{desk_in};
 ghost use Rattle.tsb_transact.specs.Layer.{cells_of};
 
-use crate::line::{EditsLine, push, push_number};
-use arrayvec::ArrayVec;
+use crate::line::EditsLine;
 use tsb_objects::{Rule, Station};
 use tsb_plan_text::rule_line;
 use tsb_transact::{Desk, DeskState, Edit};
@@ -22,28 +23,28 @@ const RULE_WORD: usize = "rule ".len();
 /// were set first, each with the words of a command `set`: object, index, value. The line has at most `LONGEST` bytes
 /// and takes no memory.
 pub fn edits_line(desk: &Desk) -> EditsLine
-    ensures { result.items ≡ edits_text (desk_in (cells_of desk.now)) }
+    ensures { result ≡ edits_text (desk_in (cells_of desk.now)) }
 {
-    let mut line = ArrayVec::new();
-    push(&mut line, b"{\"owner\":");
+    let mut line = EditsLine::new();
+    line.push(b"{\"owner\":");
     push_owner(&mut line, desk.owner());
-    push(&mut line, b",\"state\":\"");
-    push(&mut line, state_name(desk.state()));
-    push(&mut line, b"\",\"rule\":");
+    line.push(b",\"state\":\"");
+    line.push(state_name(desk.state()));
+    line.push(b"\",\"rule\":");
     push_rule(&mut line, desk.rule());
-    push(&mut line, b",\"edits\":[");
+    line.push(b",\"edits\":[");
     push_edits(&mut line, desk.edits().as_slice());
-    push(&mut line, b"}");
+    line.push(b"}");
     line
 }
 
 /// Adds the number of a station to a line, or null where there is none.
 fn push_owner(line: &mut EditsLine, owner: Option<Station>)
-    ensures { Adds line.old.items (owner_bytes owner) line.new.items }
+    ensures { Adds LONGEST line.old (owner_bytes owner) line.new }
 {
     match owner {
-        None => push(line, b"null"),
-        Some(station) => push_number(line, u32::from(station.number())),
+        None => line.push(b"null"),
+        Some(station) => line.push_number(u32::from(station.number())),
     }
 }
 
@@ -61,14 +62,14 @@ fn state_name(state: DeskState) -> &'static [u8]
 
 /// Adds the name of a rule to a line, or null where there is none.
 fn push_rule(line: &mut EditsLine, rule: Option<Rule>)
-    ensures { Adds line.old.items (rule_bytes rule) line.new.items }
+    ensures { Adds LONGEST line.old (rule_bytes rule) line.new }
 {
     match rule {
-        None => push(line, b"null"),
+        None => line.push(b"null"),
         Some(rule) => {
-            push(line, b"\"");
-            push(line, rule_name(rule));
-            push(line, b"\"");
+            line.push(b"\"");
+            line.push(rule_name(rule));
+            line.push(b"\"");
         }
     }
 }
@@ -82,7 +83,7 @@ fn rule_name(rule: Rule) -> &'static [u8]
 
 /// Adds edits to a line, with commas between them, and closes their list.
 fn push_edits(line: &mut EditsLine, edits: &[Edit])
-    ensures { Adds line.old.items (list_bytes true edits.now) line.new.items }
+    ensures { Adds LONGEST line.old (list_bytes true edits.now) line.new }
 {
     let mut first = true;
     for edit in edits {
@@ -90,29 +91,29 @@ fn push_edits(line: &mut EditsLine, edits: &[Edit])
         push_edit(line, *edit);
         first = false;
     }
-    push(line, b"]");
+    line.push(b"]");
 }
 
 /// Adds the comma that stands before each edit but the first.
 fn separate(line: &mut EditsLine, first: bool)
-    ensures { Adds line.old.items (comma first) line.new.items }
+    ensures { Adds LONGEST line.old (comma first) line.new }
 {
     if first {
-        push(line, b"");
+        line.push(b"");
     } else {
-        push(line, b",");
+        line.push(b",");
     }
 }
 
 /// Adds an edit to a line.
 fn push_edit(line: &mut EditsLine, edit: Edit)
-    ensures { Adds line.old.items (edit_bytes edit) line.new.items }
+    ensures { Adds LONGEST line.old (edit_bytes edit) line.new }
 {
-    push(line, b"{\"object\":\"");
-    push(line, edit.id.object.name().as_bytes());
-    push(line, b"\",\"index\":");
-    push_number(line, edit.id.index);
-    push(line, b",\"value\":");
-    push_number(line, edit.value);
-    push(line, b"}");
+    line.push(b"{\"object\":\"");
+    line.push(edit.id.object.name().as_bytes());
+    line.push(b"\",\"index\":");
+    line.push_number(edit.id.index);
+    line.push(b",\"value\":");
+    line.push_number(edit.value);
+    line.push(b"}");
 }

@@ -15,6 +15,7 @@ use arrayvec::ArrayVec;
 use std::alloc::{AllocError, Global};
 use std::io::Write;
 use tsb_json_place::{JsonPlace, TOLD, place_text};
+use tsb_lines::ShortLine;
 use tsb_log_text::LogError;
 use tsb_plan_text::PlanError;
 use tsb_text::SessionError;
@@ -45,7 +46,7 @@ pub fn refuse_plan<E: Write>(
         ReadError::Refused(why) => match line_of(alloc, why.line()) {
             Ok(line) => {
                 let second = place_line(place);
-                tell_both(errors, Status::Refused, line.as_bytes(), &second)
+                tell_both(errors, Status::Refused, line.as_bytes(), second.as_bytes())
             }
             Err(_) => fail(errors, Failure::Memory),
         },
@@ -86,7 +87,7 @@ pub fn plan_lines(alloc: Global, fault: PlanError, text: &[u8]) -> Result<Vec<u8
     let line = line_of(alloc, fault.line())?;
     let mut lines = Vec::new(alloc);
     lines.extend_from_slice(line.as_bytes())?;
-    lines.extend_from_slice(&place_line(place))?;
+    lines.extend_from_slice(place_line(place).as_bytes())?;
     Ok(lines)
 }
 
@@ -98,7 +99,7 @@ pub fn fail_file<E: Write>(errors: &mut Watched<E>, path: &str, why: FileError) 
         FileError::Memory => fail(errors, Failure::Memory),
         FileError::Read(cause) => {
             let second = file_line(path, cause);
-            tell_both(errors, Status::Failed, b"read fault\n", &second)
+            tell_both(errors, Status::Failed, b"read fault\n", second.as_bytes())
         }
     }
 }
@@ -129,15 +130,14 @@ fn write_both<W: Write>(
 }
 
 /// The line of a file that was not read.
-fn file_line(path: &str, cause: Cause) -> ArrayVec<u8, FILE_LINE>
-    ensures { result.items ≡ file_line path.now cause }
+fn file_line(path: &str, cause: Cause) -> ShortLine<FILE_LINE>
+    ensures { result ≡ file_line path.now cause }
 {
-    let name = shown(path.as_bytes());
-    let mut text = ArrayVec::new();
-    let _ = text.try_extend_from_slice(b"file \"");
-    let _ = text.try_extend_from_slice(&name);
-    let _ = text.try_extend_from_slice(b"\"");
-    let _ = text.try_extend_from_slice(cause_text(cause));
+    let mut text = ShortLine::new();
+    text.push(b"file \"");
+    text.push(&shown(path.as_bytes()));
+    text.push(b"\"");
+    text.push(cause_text(cause));
     text
 }
 
@@ -155,16 +155,16 @@ fn cause_text(cause: Cause) -> &'static [u8]
 }
 
 /// The line of a place at which a plan's text stops being JSON: nothing where there is none.
-fn place_line(place: Option<JsonPlace>) -> ArrayVec<u8, PLACE_LINE>
-    ensures { result.items ≡ place_line place }
+fn place_line(place: Option<JsonPlace>) -> ShortLine<PLACE_LINE>
+    ensures { result ≡ place_line place }
 {
-    let mut text = ArrayVec::new();
+    let mut text = ShortLine::new();
     match place {
         None => {}
         Some(place) => {
-            let _ = text.try_extend_from_slice(b"plan ");
-            let _ = text.try_extend_from_slice(&place_text(place));
-            let _ = text.try_extend_from_slice(b"\n");
+            text.push(b"plan ");
+            text.push(place_text(place).as_bytes());
+            text.push(b"\n");
         }
     }
     text

@@ -3,7 +3,7 @@ ghost use Rattle.std.specs.Prelude.{◌≡◌};
 ghost use Rattle.tsb_record.specs.Faults.{fault_line};
 ghost use Rattle.tsb_record.specs.Leaves.{stop_at};
 
-use arrayvec::ArrayVec;
+use tsb_lines::ShortLine;
 use tsb_text::faults::TOLD;
 use tsb_text::{LineFault, OnFault};
 
@@ -31,8 +31,8 @@ pub(crate) fn stop_at(
 }
 
 /// What is told of a line by its number, with its line feed: its own text, and what is wrong with it.
-pub(crate) fn fault_line(number: u32, line: &[u8], fault: LineFault) -> ArrayVec<u8, TOLD>
-    ensures { result.items ≡ fault_line number line.now fault }
+pub(crate) fn fault_line(number: u32, line: &[u8], fault: LineFault) -> ShortLine<TOLD>
+    ensures { result ≡ fault_line number line.now fault }
 {
     tsb_text::fault_line(b"command ", number, line, fault)
 }

@@ -102,7 +102,7 @@ fn tell<W: Write>(
     ensures blame { writer.old.failed ≡ false → AfterCalls result writer.new.failed }
 {
     match fault {
-        Some(fault) => pending.add(writer, &fault_line(number, line, *fault)),
+        Some(fault) => pending.add(writer, fault_line(number, line, *fault).as_bytes()),
         None => Ok(()),
     }
 }

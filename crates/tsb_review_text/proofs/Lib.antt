@@ -1,4 +1,3 @@
-pub mod RoomLemmas
 pub mod LineLemmas
 pub mod WriteLemmas
 pub mod BreachLemmas

@@ -1,5 +1,5 @@
 -- The line of a finding or of a breach, and how long it is.
-use Rattle.std.proofs.Common.{◌≡◌, ◌∙◌, ℕ, suc, ◌+◌, ◌/◌, ◌%◌, ◌<◌, ◌≤◌, ◌==◌, nat_le, Bool, false, true, ◌&&◌, if◌then◌else◌, List, [], ◌∷◌, ◌++◌, append_assoc, length, length-append, drop, drop-cons, get_or, sum_by, flat_map, decimal, refl, sym, ap, arith, rules}
+use Rattle.std.proofs.Common.{◌≡◌, ◌∙◌, ℕ, suc, ◌+◌, ◌/◌, ◌%◌, ◌<◌, ◌≤◌, ◌==◌, nat_le, Bool, false, true, ◌&&◌, if◌then◌else◌, List, [], ◌∷◌, ◌++◌, append_assoc, length, length-append, drop, drop-cons, get_or, sum_by, flat_map, decimal, refl, sym, subst, ap, arith, rules}
 use Rattle.std.proofs.lemmas.Bool.Decides.{nat_tests}
 use Rattle.std.proofs.lemmas.Fmt.{length-decimal-le}
 use Rattle.std.proofs.lemmas.List.Sums.{sum_by-cons}
@@ -7,23 +7,24 @@ use Rattle.tsb_review.specs.declared.advice.Advice.{Advice}
 use Rattle.tsb_review.specs.declared.numbers.Numbers.{Numbers}
 use Rattle.tsb_breaches.specs.declared.fault.Fault.{Fault}
 use Rattle.tsb_review_text.specs.declared.line.TheConstants.{LONGEST}
-use Rattle.tsb_review_text.specs.Bytes.{Adds, ended, kept}
+use Rattle.tsb_lines.specs.ShortLines.{Adds, fitting}
+use Rattle.tsb_review_text.specs.Bytes.{ended}
 use Rattle.tsb_review_text.specs.Lines.{filled, fraction, part, seconds}
 use Rattle.tsb_review_text.specs.BreachTemplates.{breach_template}
 use Rattle.tsb_review_text.specs.Templates.{template}
-use Rattle.tsb_review_text.proofs.RoomLemmas.{all-kept, onto-kept}
+use Rattle.tsb_lines.proofs.ShortLemmas.{all-of, onto-fitting}
 
 -- a byte is added, of those that are left
-pub part-on : (n : Numbers) (text : List ℕ) (k : ℕ) (line new all : List ℕ) → k < length text → Adds line (part n (get_or text k 0)) new →
-    kept (line ++ ended n (drop k text)) ≡ all → kept (new ++ ended n (drop (k + 1) text)) ≡ all
+pub part-on : (n : Numbers) (text : List ℕ) (k : ℕ) (line new all : List ℕ) → k < length text → Adds LONGEST line (part n (get_or text k 0)) new →
+    fitting LONGEST (line ++ ended n (drop k text)) ≡ all → fitting LONGEST (new ++ ended n (drop (k + 1) text)) ≡ all
 part-on n text k line new all below added so =
     let rest : List ℕ = ended n (drop (k + 1) text) in
     let next : suc k ≡ k + 1 = omega arith in
-    ap (λ (ts : List ℕ). kept (ts ++ rest)) added.line
-    ∙ onto-kept (line ++ part n (get_or text k 0)) rest
-    ∙ ap kept (append_assoc line (part n (get_or text k 0)) rest)
-    ∙ ap (λ (m : ℕ). kept (line ++ ended n (get_or text k 0 ∷ drop m text))) (sym next)
-    ∙ ap (λ (bs : List ℕ). kept (line ++ ended n bs)) (sym (drop-cons text k 0 below))
+    ap (λ (ts : List ℕ). fitting LONGEST (ts ++ rest)) added.line
+    ∙ onto-fitting LONGEST (line ++ part n (get_or text k 0)) rest
+    ∙ ap (fitting LONGEST) (append_assoc line (part n (get_or text k 0)) rest)
+    ∙ ap (λ (m : ℕ). fitting LONGEST (line ++ ended n (get_or text k 0 ∷ drop m text))) (sym next)
+    ∙ ap (λ (bs : List ℕ). fitting LONGEST (line ++ ended n bs)) (sym (drop-cons text k 0 below))
     ∙ so
 
 -- with its line feed a text is filled
@@ -113,22 +114,19 @@ breach-room f = search rules
 
 -- a text that has room, filled
 text-done : (n : Numbers) (wanted items text empty : List ℕ) → AreSmall n → sum_by cost wanted + 1 ≤ LONGEST → empty ≡ [] → text ≡ wanted →
-    Adds empty (ended n text) items → items ≡ filled n wanted ++ 10 ∷ []
+    Adds LONGEST empty (ended n text) items → items ≡ filled n wanted ++ 10 ∷ []
 text-done n wanted items text empty small room none is added =
     let all : List ℕ = ended n wanted in
     let few : length all ≤ sum_by cost wanted + 1 = short-ended n small wanted in
-    added.line
-    ∙ ap (λ (ts : List ℕ). kept (ts ++ ended n text)) none
-    ∙ ap (λ (ts : List ℕ). kept (ended n ts)) is
-    ∙ all-kept all (omega (arith, few, room))
+    all-of none (omega (arith, few, room)) (subst (λ (ts : List ℕ). Adds LONGEST empty (ended n ts) items) is added)
     ∙ ended-filled n wanted
 
 -- the line of a finding
 pub line-done : (n : Numbers) (x : Advice) (items text empty : List ℕ) → AreSmall n → empty ≡ [] → text ≡ template x →
-    Adds empty (ended n text) items → items ≡ filled n (template x) ++ 10 ∷ []
+    Adds LONGEST empty (ended n text) items → items ≡ filled n (template x) ++ 10 ∷ []
 line-done n x items text empty small none is added = text-done n (template x) items text empty small (template-room x) none is added
 
 -- the line of a breach
 pub breach-line-done : (n : Numbers) (f : Fault) (items text empty : List ℕ) → AreSmall n → empty ≡ [] → text ≡ breach_template f →
-    Adds empty (ended n text) items → items ≡ filled n (breach_template f) ++ 10 ∷ []
+    Adds LONGEST empty (ended n text) items → items ≡ filled n (breach_template f) ++ 10 ∷ []
 breach-line-done n f items text empty small none is added = text-done n (breach_template f) items text empty small (breach-room f) none is added

@@ -129,5 +129,5 @@ fn write_breach<W: Write>(
     ensures { Wrote result (seen W.contents output.old) (seen W.contents output.new) (breach_line (plan_of plan.now) breach.now) }
 {
     let line = breach_line(plan, breach);
-    output.write_text(line.as_slice())
+    output.write_text(line.as_bytes())
 }

@@ -100,5 +100,5 @@ fn write_finding<W: Write>(
     ensures { Wrote result (seen W.contents output.old) (seen W.contents output.new) (line_of (plan_of plan.now) finding.now) }
 {
     let line = line_of(plan, finding);
-    output.write_text(line.as_slice())
+    output.write_text(line.as_bytes())
 }

@@ -64,7 +64,7 @@ fn say_row<W: Write>(
     ensures blame { writer.old.failed ≡ false → AfterCalls result writer.new.failed }
 {
     let line = row_line(row);
-    let (line, _) = line.as_slice().split_at(ROW);
+    let (line, _) = line.as_bytes().split_at(ROW);
     say_line(line, pending, writer)
 }
 

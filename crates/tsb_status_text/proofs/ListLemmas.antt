@@ -3,8 +3,11 @@ use Rattle.std.proofs.Common.{◌≡◌, ◌∙◌, ℕ, zero, suc, ◌+◌, ◌
 use Rattle.std.proofs.lemmas.Bool.{cases_lt, lt-ltb, le-ltb}
 use Rattle.std.proofs.lemmas.Option.{cond_some}
 use Rattle.tsb_status_text.specs.Json.{more, closed, following, values_from, onto, comma, number_in, numbers}
-use Rattle.tsb_status_text.specs.Room.{kept, Adds}
-use Rattle.tsb_status_text.proofs.RoomLemmas.{onto-kept, one-digit, two-digits}
+use Rattle.tsb_lines.specs.ShortLines.{fitting}
+use Rattle.tsb_lines.proofs.ShortLemmas.{onto-fitting}
+use Rattle.tsb_status_text.specs.declared.line.TheConstants.{LONGEST}
+use Rattle.tsb_status_text.specs.Room.{AddsShort}
+use Rattle.tsb_status_text.proofs.RoomLemmas.{one-digit, two-digits}
 
 -- a number that has no value
 passes : (value : ℕ → Option (List ℕ)) (first : Bool) (a n close : ℕ) → value a ≡ None →
@@ -26,46 +29,46 @@ ends value true a close = refl
 ends value false a close = refl
 
 -- the start of a loop: what opens the list is added
-pub step-begin : (value : ℕ → Option (List ℕ)) (a b n m byte close : ℕ) (line new : List ℕ) → b ≡ a → m ≡ n → new ≡ kept (line ++ byte ∷ []) →
-    kept (new ++ following true (values_from value b m) close) ≡ kept (line ++ byte ∷ closed (values_from value a n) close)
+pub step-begin : (value : ℕ → Option (List ℕ)) (a b n m byte close : ℕ) (line new : List ℕ) → b ≡ a → m ≡ n → new ≡ fitting LONGEST (line ++ byte ∷ []) →
+    fitting LONGEST (new ++ following true (values_from value b m) close) ≡ fitting LONGEST (line ++ byte ∷ closed (values_from value a n) close)
 step-begin value a b n m byte close line new same all opens =
     let rest : List ℕ = closed (values_from value a n) close in
-    rw (same, all) (ap (λ (ts : List ℕ). kept (ts ++ rest)) opens ∙ onto-kept (line ++ byte ∷ []) rest ∙ ap kept (append_assoc line (byte ∷ []) rest))
+    rw (same, all) (ap (λ (ts : List ℕ). fitting LONGEST (ts ++ rest)) opens ∙ onto-fitting LONGEST (line ++ byte ∷ []) rest ∙ ap (fitting LONGEST) (append_assoc line (byte ∷ []) rest))
 
 -- a step of a loop over a number with no value
 pub step-over : (value : ℕ → Option (List ℕ)) (first : Bool) (a b n m close : ℕ) (line all : List ℕ) → b ≡ a + 1 → n ≡ suc m → value a ≡ None →
-    kept (line ++ following first (values_from value a n) close) ≡ all →
-    kept (line ++ following first (values_from value b m) close) ≡ all
+    fitting LONGEST (line ++ following first (values_from value a n) close) ≡ all →
+    fitting LONGEST (line ++ following first (values_from value b m) close) ≡ all
 step-over value first a b n m close line all next fewer none so =
     rw next
-    (ap (λ (ts : List ℕ). kept (line ++ ts)) (sym (passes value first a m close none))
-    ∙ ap (λ (k : ℕ). kept (line ++ following first (values_from value a k) close)) (sym fewer) ∙ so)
+    (ap (λ (ts : List ℕ). fitting LONGEST (line ++ ts)) (sym (passes value first a m close none))
+    ∙ ap (λ (k : ℕ). fitting LONGEST (line ++ following first (values_from value a k) close)) (sym fewer) ∙ so)
 
 -- a step over one that has a value, which is added
 pub step-on : {most : ℕ} (value : ℕ → Option (List ℕ)) (first : Bool) (a b n m close : ℕ) (v line with_comma with_value all : List ℕ) →
-    b ≡ a + 1 → n ≡ suc m → value a ≡ Some v → Adds 1 line (comma first) with_comma → Adds most with_comma v with_value →
-    kept (line ++ following first (values_from value a n) close) ≡ all →
-    kept (with_value ++ following false (values_from value b m) close) ≡ all
+    b ≡ a + 1 → n ≡ suc m → value a ≡ Some v → AddsShort 1 line (comma first) with_comma → AddsShort most with_comma v with_value →
+    fitting LONGEST (line ++ following first (values_from value a n) close) ≡ all →
+    fitting LONGEST (with_value ++ following false (values_from value b m) close) ≡ all
 step-on value first a b n m close v line with_comma with_value all next fewer is comma_in value_in so =
     let rest : List ℕ = following false (values_from value (a + 1) m) close in
     rw next
-    (ap (λ (ts : List ℕ). kept (ts ++ rest)) value_in.line
-    ∙ onto-kept (with_comma ++ v) rest
-    ∙ ap kept (append_assoc with_comma v rest)
-    ∙ ap (λ (ts : List ℕ). kept (ts ++ (v ++ rest))) comma_in.line
-    ∙ onto-kept (line ++ comma first) (v ++ rest)
-    ∙ ap kept (append_assoc line (comma first) (v ++ rest))
-    ∙ ap (λ (ts : List ℕ). kept (line ++ ts)) (sym (stands value first a m close v is))
-    ∙ ap (λ (k : ℕ). kept (line ++ following first (values_from value a k) close)) (sym fewer)
+    (ap (λ (ts : List ℕ). fitting LONGEST (ts ++ rest)) value_in.line
+    ∙ onto-fitting LONGEST (with_comma ++ v) rest
+    ∙ ap (fitting LONGEST) (append_assoc with_comma v rest)
+    ∙ ap (λ (ts : List ℕ). fitting LONGEST (ts ++ (v ++ rest))) comma_in.line
+    ∙ onto-fitting LONGEST (line ++ comma first) (v ++ rest)
+    ∙ ap (fitting LONGEST) (append_assoc line (comma first) (v ++ rest))
+    ∙ ap (λ (ts : List ℕ). fitting LONGEST (line ++ ts)) (sym (stands value first a m close v is))
+    ∙ ap (λ (k : ℕ). fitting LONGEST (line ++ following first (values_from value a k) close)) (sym fewer)
     ∙ so)
 
 -- the end of a loop: what closes the list is added
-pub step-end : (value : ℕ → Option (List ℕ)) (first : Bool) (a n close : ℕ) (line new all : List ℕ) → n ≡ 0 → new ≡ kept (line ++ close ∷ []) →
-    kept (line ++ following first (values_from value a n) close) ≡ all → new ≡ all
+pub step-end : (value : ℕ → Option (List ℕ)) (first : Bool) (a n close : ℕ) (line new all : List ℕ) → n ≡ 0 → new ≡ fitting LONGEST (line ++ close ∷ []) →
+    fitting LONGEST (line ++ following first (values_from value a n) close) ≡ all → new ≡ all
 step-end value first a n close line new all none closes so =
     closes
-    ∙ ap (λ (ts : List ℕ). kept (line ++ ts)) (sym (ends value first a close))
-    ∙ ap (λ (k : ℕ). kept (line ++ following first (values_from value a k) close)) (sym none)
+    ∙ ap (λ (ts : List ℕ). fitting LONGEST (line ++ ts)) (sym (ends value first a close))
+    ∙ ap (λ (k : ℕ). fitting LONGEST (line ++ following first (values_from value a k) close)) (sym none)
     ∙ so
 
 -- ## How long they are
@@ -140,13 +143,13 @@ of-four : room_from digit_room 1 4 ≡ 9
 of-four = refl
 
 -- those of phases and of overlaps
-pub sixteen : {old new : List ℕ} (set : ℕ → Bool) → {most : ℕ} → Adds most old (numbers set 16) new → Adds 40 old (numbers set 16) new
+pub sixteen : {old new : List ℕ} (set : ℕ → Bool) → {most : ℕ} → AddsShort most old (numbers set 16) new → AddsShort 40 old (numbers set 16) new
 unfolding numbers
 sixteen set adds =
     let short = closed-short (number_in set) digit_room 1 15 93 (have-digits set 16 (omega arith)) in
     record { line = adds.line; short = omega (arith, short, of-sixteen) }
 
-pub four : {old new : List ℕ} (set : ℕ → Bool) → {most : ℕ} → Adds most old (numbers set 4) new → Adds 9 old (numbers set 4) new
+pub four : {old new : List ℕ} (set : ℕ → Bool) → {most : ℕ} → AddsShort most old (numbers set 4) new → AddsShort 9 old (numbers set 4) new
 unfolding numbers
 four set adds =
     let short = closed-short (number_in set) digit_room 1 3 93 (have-digits set 4 (omega arith)) in

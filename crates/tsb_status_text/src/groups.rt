@@ -6,16 +6,13 @@ ghost use Rattle.tsb_status.specs.Plain.{resting, ring_place, ring_status_of, st
 ghost use Rattle.tsb_status_text.specs.Alike.{TellsAllAlike};
 ghost use Rattle.tsb_status_text.specs.Json.{numbers, optional, string};
 ghost use Rattle.tsb_status_text.specs.Names.{preempt_name};
-ghost use Rattle.tsb_status_text.specs.Room.{Adds};
+ghost use Rattle.tsb_status_text.specs.Room.{AddsShort};
 ghost use Rattle.tsb_status_text.specs.StatusText.{desk_text, detectors_text, overlaps_text, phases_text, preempts_text, rings_text, status_text, waits_text};
 
-use crate::line::{
-    StatusLine, push, push_byte, push_named, push_number, push_numbers, push_optional,
-};
+use crate::line::{StatusLine, push_byte, push_named, push_numbers, push_optional};
 use crate::names::{desk_name, flash_name, free_name, preempt_name};
 use crate::rings::push_ring;
 use crate::waits::push_waits;
-use arrayvec::ArrayVec;
 use tsb_status::{RingStatus, Status};
 use tsb_step::PreemptState;
 use tsb_types::{NumberSet, Station};
@@ -31,21 +28,21 @@ const OVERLAPS: u8 = 4;
 /// "profile". A set is the list of its numbers, what is none is null, and times are in tenths of a second. It has at
 /// most `LONGEST` bytes and takes no memory.
 pub fn status_line(status: &Status) -> StatusLine
-    ensures line { result.items ≡ status_text (status_of status.entry.now) }
-    ensures alike { TellsAllAlike (status_of status.entry.now) result.items }
+    ensures line { result ≡ status_text (status_of status.entry.now) }
+    ensures alike { TellsAllAlike (status_of status.entry.now) result }
 {
-    let mut line = ArrayVec::new();
-    push(&mut line, b"{\"tick\":");
-    push_number(&mut line, status.now);
-    push(&mut line, b",\"phaseStatusGroup\":");
+    let mut line = StatusLine::new();
+    line.push(b"{\"tick\":");
+    line.push_number(status.now);
+    line.push(b",\"phaseStatusGroup\":");
     push_phases(&mut line, status);
-    push(&mut line, b",\"overlapStatusGroup\":");
+    line.push(b",\"overlapStatusGroup\":");
     push_overlaps(&mut line, status);
-    push(&mut line, b",\"vehicleDetectorStatusGroup\":");
+    line.push(b",\"vehicleDetectorStatusGroup\":");
     push_detectors(&mut line, status);
-    push(&mut line, b",\"preemptState\":");
+    line.push(b",\"preemptState\":");
     push_preempts(&mut line, &status.preempts);
-    push(&mut line, b",\"coordPatternStatus\":");
+    line.push(b",\"coordPatternStatus\":");
     push_byte(&mut line, status.pattern);
     push_named(&mut line, b",\"localFreeStatus\":", free_name(status.free));
     push_optional(&mut line, b",\"localCounter\":", status.local);
@@ -55,42 +52,42 @@ pub fn status_line(status: &Status) -> StatusLine
         b",\"unitFlashStatus\":",
         flash_name(status.flash),
     );
-    push(&mut line, b",\"desk\":");
+    line.push(b",\"desk\":");
     push_desk(&mut line, status);
-    push(&mut line, b",\"rings\":");
+    line.push(b",\"rings\":");
     push_rings(&mut line, &status.rings);
-    push(&mut line, b",\"waits\":");
+    line.push(b",\"waits\":");
     push_waits(&mut line, &status.waits);
-    push(&mut line, b"}");
+    line.push(b"}");
     line
 }
 
 /// Adds a set of phases or vehicle detectors to a line, after a name.
 fn push_set(line: &mut StatusLine, name: &[u8], set: NumberSet)
-    ensures { Adds (length name.now + 40) line.old.items (name.now ++ numbers (has_number set) 16) line.new.items }
+    ensures { AddsShort (length name.now + 40) line.old (name.now ++ numbers (has_number set) 16) line.new }
 {
-    push(line, name);
+    line.push(name);
     push_numbers(line, set, PHASES);
 }
 
 /// Adds a set of overlaps to a line, after a name.
 fn push_overlap_set(line: &mut StatusLine, name: &[u8], set: NumberSet)
-    ensures { Adds (length name.now + 9) line.old.items (name.now ++ numbers (has_number set) 4) line.new.items }
+    ensures { AddsShort (length name.now + 9) line.old (name.now ++ numbers (has_number set) 4) line.new }
 {
-    push(line, name);
+    line.push(name);
     push_numbers(line, set, OVERLAPS);
 }
 
 /// Adds preemptState of a preempt to a line, after a name.
 fn push_preempt(line: &mut StatusLine, name: &[u8], state: PreemptState)
-    ensures { Adds (length name.now + 19) line.old.items (name.now ++ string (preempt_name state)) line.new.items }
+    ensures { AddsShort (length name.now + 19) line.old (name.now ++ string (preempt_name state)) line.new }
 {
     push_named(line, name, preempt_name(state));
 }
 
 /// Adds phaseStatusGroup to a line.
 fn push_phases(line: &mut StatusLine, status: &Status)
-    ensures { Adds 515 line.old.items (phases_text (status_of status.entry.now)) line.new.items }
+    ensures { AddsShort 515 line.old (phases_text (status_of status.entry.now)) line.new }
 {
     push_set(line, b"{\"reds\":", status.reds);
     push_set(line, b",\"yellows\":", status.yellows);
@@ -102,66 +99,66 @@ fn push_phases(line: &mut StatusLine, status: &Status)
     push_set(line, b",\"pedCalls\":", status.pedestrian_calls);
     push_set(line, b",\"phaseOns\":", status.phase_ons);
     push_set(line, b",\"phaseNexts\":", status.phase_nexts);
-    push(line, b"}");
+    line.push(b"}");
 }
 
 /// Adds overlapStatusGroup to a line.
 fn push_overlaps(line: &mut StatusLine, status: &Status)
-    ensures { Adds 57 line.old.items (overlaps_text (status_of status.entry.now)) line.new.items }
+    ensures { AddsShort 57 line.old (overlaps_text (status_of status.entry.now)) line.new }
 {
     push_overlap_set(line, b"{\"reds\":", status.overlap_reds);
     push_overlap_set(line, b",\"yellows\":", status.overlap_yellows);
     push_overlap_set(line, b",\"greens\":", status.overlap_greens);
-    push(line, b"}");
+    line.push(b"}");
 }
 
 /// Adds vehicleDetectorStatusGroup to a line.
 fn push_detectors(line: &mut StatusLine, status: &Status)
-    ensures { Adds 101 line.old.items (detectors_text (status_of status.entry.now)) line.new.items }
+    ensures { AddsShort 101 line.old (detectors_text (status_of status.entry.now)) line.new }
 {
     push_set(line, b"{\"active\":", status.active);
     push_set(line, b",\"alarms\":", status.alarms);
-    push(line, b"}");
+    line.push(b"}");
 }
 
 /// Adds preemptState of preempts 1 to 4 to a line.
 fn push_preempts(line: &mut StatusLine, states: &[PreemptState; 4])
-    ensures { Adds 81 line.old.items (preempts_text (λ n. get_or states.now (n - 1) NotActive)) line.new.items }
+    ensures { AddsShort 81 line.old (preempts_text (λ n. get_or states.now (n - 1) NotActive)) line.new }
 {
     push_preempt(line, b"[", states[0]);
     push_preempt(line, b",", states[1]);
     push_preempt(line, b",", states[2]);
     push_preempt(line, b",", states[3]);
-    push(line, b"]");
+    line.push(b"]");
 }
 
 /// Adds the number of the desk's owner to a line, or null where there is none.
 fn push_owner(line: &mut StatusLine, owner: Option<Station>)
-    ensures { Adds 4 line.old.items (optional owner) line.new.items }
+    ensures { AddsShort 4 line.old (optional owner) line.new }
 {
     match owner {
-        None => push(line, b"null"),
+        None => line.push(b"null"),
         Some(station) => push_byte(line, station.number()),
     }
 }
 
 /// Adds the desk to a line.
 fn push_desk(line: &mut StatusLine, status: &Status)
-    ensures { Adds 36 line.old.items (desk_text (status_of status.entry.now)) line.new.items }
+    ensures { AddsShort 36 line.old (desk_text (status_of status.entry.now)) line.new }
 {
-    push(line, b"{\"owner\":");
+    line.push(b"{\"owner\":");
     push_owner(line, status.owner);
     push_named(line, b",\"state\":", desk_name(status.desk));
-    push(line, b"}");
+    line.push(b"}");
 }
 
 /// Adds both rings to a line.
 fn push_rings(line: &mut StatusLine, rings: &[RingStatus; 2])
-    ensures { Adds 541 line.old.items (rings_text (λ r. ring_status_of (get_or rings.now (ring_place r) resting))) line.new.items }
+    ensures { AddsShort 541 line.old (rings_text (λ r. ring_status_of (get_or rings.now (ring_place r) resting))) line.new }
 {
-    push(line, b"[");
+    line.push(b"[");
     push_ring(line, &rings[0]);
-    push(line, b",");
+    line.push(b",");
     push_ring(line, &rings[1]);
-    push(line, b"]");
+    line.push(b"]");
 }

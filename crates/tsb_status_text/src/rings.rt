@@ -1,15 +1,15 @@
 //! A ring.
 ghost use Rattle.tsb_status.specs.Plain.{ring_status_of};
-ghost use Rattle.tsb_status_text.specs.Room.{Adds};
+ghost use Rattle.tsb_status_text.specs.Room.{AddsShort};
 ghost use Rattle.tsb_status_text.specs.StatusText.{ring_text};
 
-use crate::line::{StatusLine, push, push_named, push_optional, push_phase};
+use crate::line::{StatusLine, push_named, push_optional, push_phase};
 use crate::names::part_name;
 use tsb_status::RingStatus;
 
 /// Adds a ring to a line.
 pub(crate) fn push_ring(line: &mut StatusLine, ring: &RingStatus)
-    ensures { Adds 269 line.old.items (ring_text (ring_status_of ring.now)) line.new.items }
+    ensures { AddsShort 269 line.old (ring_text (ring_status_of ring.now)) line.new }
 {
     push_named(line, b"{\"ringStatus\":", part_name(ring.part));
     push_phase(line, b",\"phase\":", ring.phase);
@@ -23,5 +23,5 @@ pub(crate) fn push_ring(line: &mut StatusLine, ring: &RingStatus)
     push_optional(line, b",\"yellowLeft\":", ring.yellow_left);
     push_optional(line, b",\"redClearanceLeft\":", ring.red_clearance_left);
     push_optional(line, b",\"forceOffIn\":", ring.force_off_in);
-    push(line, b"}");
+    line.push(b"}");
 }

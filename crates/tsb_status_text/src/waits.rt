@@ -1,10 +1,10 @@
 //! What phases wait for.
 ghost use Rattle.std.specs.Prelude.{◌≡◌, ℕ, ◌+◌, ◌-◌, [], ◌∷◌, ◌++◌, ◌≤◌, None, codes, decimal, get_or, length};
 ghost use Rattle.tsb_status_text.specs.Json.{member, more, optional};
-ghost use Rattle.tsb_status_text.specs.Room.{Adds};
+ghost use Rattle.tsb_status_text.specs.Room.{AddsShort};
 ghost use Rattle.tsb_status_text.specs.StatusText.{lack_members, lack_name, lack_time, wait_members, wait_name, wait_text, waits_text};
 
-use crate::line::{StatusLine, push, push_byte, push_named, push_number, push_phase, separate};
+use crate::line::{StatusLine, push_byte, push_named, push_phase, separate};
 use tsb_step::{Lack, Wait};
 use tsb_types::{Phase, Preempt};
 
@@ -60,52 +60,52 @@ fn wait_name(wait: &Wait) -> &'static [u8]
 
 /// Adds the phase that is waited for to a line.
 fn push_of(line: &mut StatusLine, phase: Phase)
-    ensures { Adds 8 line.old.items (codes ",\"of\":" ++ decimal phase) line.new.items }
+    ensures { AddsShort 8 line.old (codes ",\"of\":" ++ decimal phase) line.new }
 {
-    push(line, b",\"of\":");
+    line.push(b",\"of\":");
     push_byte(line, phase.number());
 }
 
 /// Adds the time that is left to a line, and closes what it is of.
 fn push_left(line: &mut StatusLine, left: u32)
-    ensures { Adds 19 line.old.items (more (member (codes "left") (decimal left) ∷ []) 125) line.new.items }
+    ensures { AddsShort 19 line.old (more (member (codes "left") (decimal left) ∷ []) 125) line.new }
 {
-    push(line, b",\"left\":");
-    push_number(line, left);
-    push(line, b"}");
+    line.push(b",\"left\":");
+    line.push_number(left);
+    line.push(b"}");
 }
 
 /// Adds what is lacking to a line, and closes what it is of.
 fn push_lack(line: &mut StatusLine, lack: &Lack)
-    ensures { Adds 38 line.old.items (more (lack_members lack.now) 125) line.new.items }
+    ensures { AddsShort 38 line.old (more (lack_members lack.now) 125) line.new }
 {
     push_named(line, b",\"lack\":", lack_name(lack));
     match lack_time(lack) {
-        None => push(line, b"}"),
+        None => line.push(b"}"),
         Some(left) => push_left(line, left),
     }
 }
 
 /// Adds the phase that is waited for to a line, if there is one, and closes what it is of.
 fn push_keeper(line: &mut StatusLine, phase: Option<Phase>)
-    ensures { Adds 11 line.old.items (more (member (codes "of") (optional phase) ∷ []) 125) line.new.items }
+    ensures { AddsShort 11 line.old (more (member (codes "of") (optional phase) ∷ []) 125) line.new }
 {
     push_phase(line, b",\"of\":", phase);
-    push(line, b"}");
+    line.push(b"}");
 }
 
 /// Adds the phase that is waited for to a line, and closes what it is of.
 fn push_only(line: &mut StatusLine, phase: Phase)
-    ensures { Adds 9 line.old.items (more (member (codes "of") (decimal phase) ∷ []) 125) line.new.items }
+    ensures { AddsShort 9 line.old (more (member (codes "of") (decimal phase) ∷ []) 125) line.new }
 {
     push_of(line, phase);
-    push(line, b"}");
+    line.push(b"}");
 }
 
 /// Adds the phase that is waited for to a line, with the time that is left, and closes what they are of.
 fn push_clearing(line: &mut StatusLine, phase: Phase, left: u32)
-    ensures { Adds 27 line.old.items
-        (more (member (codes "of") (decimal phase) ∷ member (codes "left") (decimal left) ∷ []) 125) line.new.items }
+    ensures { AddsShort 27 line.old
+        (more (member (codes "of") (decimal phase) ∷ member (codes "left") (decimal left) ∷ []) 125) line.new }
 {
     push_of(line, phase);
     push_left(line, left);
@@ -113,16 +113,16 @@ fn push_clearing(line: &mut StatusLine, phase: Phase, left: u32)
 
 /// Adds the preempt that is waited for to a line, and closes what it is of.
 fn push_preempt(line: &mut StatusLine, preempt: Preempt)
-    ensures { Adds 15 line.old.items (more (member (codes "preempt") (decimal preempt) ∷ []) 125) line.new.items }
+    ensures { AddsShort 15 line.old (more (member (codes "preempt") (decimal preempt) ∷ []) 125) line.new }
 {
-    push(line, b",\"preempt\":");
+    line.push(b",\"preempt\":");
     push_byte(line, preempt.number());
-    push(line, b"}");
+    line.push(b"}");
 }
 
 /// Adds a green that is waited for to a line, with what it lacks, and closes what they are of.
 fn push_green(line: &mut StatusLine, phase: Phase, lack: &Lack)
-    ensures { Adds 46 line.old.items (more (member (codes "of") (decimal phase) ∷ lack_members lack.now) 125) line.new.items }
+    ensures { AddsShort 46 line.old (more (member (codes "of") (decimal phase) ∷ lack_members lack.now) 125) line.new }
 {
     push_of(line, phase);
     push_lack(line, lack);
@@ -130,13 +130,13 @@ fn push_green(line: &mut StatusLine, phase: Phase, lack: &Lack)
 
 /// Adds the parts of a wait to a line, and closes it.
 fn push_members(line: &mut StatusLine, wait: &Wait)
-    ensures { Adds (51 - length (wait_name wait.now)) line.old.items (more (wait_members wait.now) 125) line.new.items }
+    ensures { AddsShort (51 - length (wait_name wait.now)) line.old (more (wait_members wait.now) 125) line.new }
 {
     match wait {
-        Wait::Flash => push(line, b"}"),
-        Wait::Omitted => push(line, b"}"),
-        Wait::Due => push(line, b"}"),
-        Wait::Turn => push(line, b"}"),
+        Wait::Flash => line.push(b"}"),
+        Wait::Omitted => line.push(b"}"),
+        Wait::Due => line.push(b"}"),
+        Wait::Turn => line.push(b"}"),
         Wait::RedRevert(left) => push_left(line, *left),
         Wait::Crossing(q) => push_keeper(line, *q),
         Wait::Barrier(q) => push_keeper(line, *q),
@@ -152,9 +152,9 @@ fn push_members(line: &mut StatusLine, wait: &Wait)
 
 /// Adds to a line what a phase waits for.
 fn push_wait(line: &mut StatusLine, phase: u8, wait: &Wait)
-    ensures { Adds (69 + length (decimal phase)) line.old.items (wait_text phase wait.now) line.new.items }
+    ensures { AddsShort (69 + length (decimal phase)) line.old (wait_text phase wait.now) line.new }
 {
-    push(line, b"{\"phase\":");
+    line.push(b"{\"phase\":");
     push_byte(line, phase);
     push_named(line, b",\"for\":", wait_name(wait));
     push_members(line, wait);
@@ -162,9 +162,9 @@ fn push_wait(line: &mut StatusLine, phase: u8, wait: &Wait)
 
 /// Adds to a line what phases 1 to 16 wait for, those that do.
 pub(crate) fn push_waits(line: &mut StatusLine, waits: &[Option<Wait>; 16])
-    ensures { Adds 1144 line.old.items (waits_text (λ p. get_or waits.now (p - 1) None)) line.new.items }
+    ensures { AddsShort 1144 line.old (waits_text (λ p. get_or waits.now (p - 1) None)) line.new }
 {
-    push(line, b"[");
+    line.push(b"[");
     let mut first = true;
     for k in 0..16 {
         match &waits[k] {
@@ -176,5 +176,5 @@ pub(crate) fn push_waits(line: &mut StatusLine, waits: &[Option<Wait>; 16])
             }
         }
     }
-    push(line, b"]");
+    line.push(b"]");
 }

@@ -177,7 +177,7 @@ fn say_answer<W: Write>(
         Answer::Undone(kind) => pending.say(writer, undone_line(kind)),
         Answer::Moved => pending.say(writer, &line_bytes(lines, bench)),
         Answer::Nothing => pending.say(writer, b"nothing"),
-        Answer::Changed(tick) => pending.say(writer, &when_line(tick)),
+        Answer::Changed(tick) => pending.say(writer, when_line(tick).as_bytes()),
     }
 }
 

@@ -4,11 +4,9 @@ ghost use Rattle.tsb_dialog.specs.Blame.{AfterCalls};
 ghost use Rattle.tsb_dialog.specs.Said.{SaidUntilFault};
 ghost use Rattle.tsb_text.specs.Obeys.{event_line, events_text};
 
-use arrayvec::ArrayVec;
-use itoa::Buffer;
 use std::io::Write;
 use tsb_dialog::{Pending, Watched, WriteError};
-use tsb_lines::seven_digits;
+use tsb_lines::{ShortLine, seven_digits};
 use tsb_types::Event;
 
 /// The greatest length of the line of an event, without its line feed, in bytes.
@@ -25,22 +23,21 @@ pub(crate) fn say_events<W: Write>(
     ensures blame { writer.old.failed ≡ false → AfterCalls result writer.new.failed }
 {
     for event in events {
-        pending.say(writer, &event_line(event))?;
+        pending.say(writer, event_line(event).as_bytes())?;
     }
     Ok(())
 }
 
 /// The line of an event, without its line feed: its tick in seven digits, its code and its parameter.
-fn event_line(event: &Event) -> ArrayVec<u8, LINE>
-    ensures { result.items ≡ event_line event.now }
+fn event_line(event: &Event) -> ShortLine<LINE>
+    ensures { result ≡ event_line event.now }
 {
-    let mut digits = Buffer::new();
-    let mut line = ArrayVec::new();
-    let _ = line.try_extend_from_slice(b"event ");
-    let _ = line.try_extend_from_slice(&seven_digits(event.tick));
-    let _ = line.try_extend_from_slice(b" ");
-    let _ = line.try_extend_from_slice(digits.format(event.code).as_bytes());
-    let _ = line.try_extend_from_slice(b" ");
-    let _ = line.try_extend_from_slice(digits.format(event.parameter).as_bytes());
+    let mut line = ShortLine::new();
+    line.push(b"event ");
+    line.push(&seven_digits(event.tick));
+    line.push(b" ");
+    line.push_number(u32::from(event.code));
+    line.push(b" ");
+    line.push_number(u32::from(event.parameter));
     line
 }

@@ -5,7 +5,7 @@ ghost use Rattle.tsb_text.specs.Faults.{fault_line, fault_words, shown, shown_by
 
 use crate::lines::refused_line;
 use arrayvec::ArrayVec;
-use itoa::Buffer;
+use tsb_lines::ShortLine;
 use tsb_objects::Refusal;
 
 /// What a run does after a line that is no command, or that is refused.
@@ -36,20 +36,18 @@ pub const TOLD: usize = 287;
 const START: usize = 9;
 
 /// What is told of a line by its number, behind these words, with its line feed: its own text, and what is wrong with it.
-pub fn fault_line(start: &[u8], number: u32, line: &[u8], fault: LineFault) -> ArrayVec<u8, TOLD>
+pub fn fault_line(start: &[u8], number: u32, line: &[u8], fault: LineFault) -> ShortLine<TOLD>
     requires { length start.now ≤ START }
-    ensures { result.items ≡ fault_line start.now number line.now fault }
+    ensures { result ≡ fault_line start.now number line.now fault }
 {
-    let mut digits = Buffer::new();
-    let shown = shown(line);
-    let mut text = ArrayVec::new();
-    let _ = text.try_extend_from_slice(start);
-    let _ = text.try_extend_from_slice(digits.format(number).as_bytes());
-    let _ = text.try_extend_from_slice(b": ");
-    let _ = text.try_extend_from_slice(&shown);
-    let _ = text.try_extend_from_slice(b": ");
-    let _ = text.try_extend_from_slice(fault_words(fault));
-    let _ = text.try_extend_from_slice(b"\n");
+    let mut text = ShortLine::new();
+    text.push(start);
+    text.push_number(number);
+    text.push(b": ");
+    text.push(&shown(line));
+    text.push(b": ");
+    text.push(fault_words(fault));
+    text.push(b"\n");
     text
 }
 

@@ -4,10 +4,10 @@ ghost use Rattle.std.specs.Prelude.{◌≡◌, ◌≤◌, length};
 ghost use Rattle.tsb_text.specs.Answers.{busy_line, display_line, preempt_in_service, refused_line, taken_line, undone_line, verified_line, when_line};
 ghost use Rattle.tsb_bench.specs.Held.{state_of};
 
-use arrayvec::{ArrayString, ArrayVec};
+use arrayvec::ArrayString;
 use tsb_bench::{Bench, Cmd, Input, Kind};
 use tsb_display_text::{LineBytes, LineMaker};
-use tsb_lines::seven_digits;
+use tsb_lines::{ShortLine, seven_digits};
 use tsb_objects::{Preempt, Refusal, Rule, Station};
 use tsb_plan_text::rule_line;
 use tsb_preempt::preempt_of;
@@ -103,17 +103,17 @@ fn verified_line(found: Option<Rule>) -> &'static [u8]
 }
 
 /// The line that gives the tick number of the last change.
-pub fn when_line(tick: Option<u32>) -> ArrayVec<u8, 12>
-    ensures line { result.items ≡ when_line tick }
-    ensures short { length result.items ≤ 12 }
+pub fn when_line(tick: Option<u32>) -> ShortLine<12>
+    ensures line { result ≡ when_line tick }
+    ensures short { length result ≤ 12 }
 {
-    let mut line = ArrayVec::new();
+    let mut line = ShortLine::new();
     let Some(tick) = tick else {
-        let _ = line.try_extend_from_slice(b"never");
+        line.push(b"never");
         return line;
     };
-    let _ = line.try_extend_from_slice(b"tick ");
-    let _ = line.try_extend_from_slice(&seven_digits(tick));
+    line.push(b"tick ");
+    line.push(&seven_digits(tick));
     line
 }
 

@@ -8,5 +8,5 @@ use Rattle.tsb_field_streams.proofs.rows.append.Goals as goal
 
 pub returns-in-None-clause-items : goal.returns-in-None-clause-items
 returns-in-None-clause-items c =
-    sym (ap (λ (row : Option LogRow). c.args.text.now.items ++ log_text (option_to_list row)) c.in-None.is
-    ∙ ap (λ (v : List ℕ). c.args.text.now.items ++ v) no_row ∙ append-nil c.args.text.now.items)
+    sym (ap (λ (row : Option LogRow). c.args.text.now ++ log_text (option_to_list row)) c.in-None.is
+    ∙ ap (λ (v : List ℕ). c.args.text.now ++ v) no_row ∙ append-nil c.args.text.now)

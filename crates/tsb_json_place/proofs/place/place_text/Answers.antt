@@ -1,16 +1,25 @@
-use Rattle.std.proofs.Common.{◌∙◌, ◌++◌, List, ℕ, ap, codes}
-use Rattle.std.specs.Fmt.{decimal}
+use Rattle.std.proofs.Common.{◌≡◌, ◌∙◌, ◌≤◌, List, ℕ, ap, arith, codes, decimal, length, subst}
+use Rattle.tsb_lines.proofs.ShortLemmas.{all-of, said, then}
 use Rattle.tsb_json_place.specs.Places.{end_text, wanted_text}
-use Rattle.tsb_json_place.proofs.PieceLemmas.{six-pieces}
+use Rattle.tsb_json_place.proofs.PieceLemmas.{six-long}
 use Rattle.tsb_json_place.proofs.place.place_text.Goals as goal
+
+-- a text is as short as bytes that are the same
+short-as : (most : ℕ) (bytes text : List ℕ) → bytes ≡ text → length bytes ≤ most → length text ≤ most
+short-as most bytes text same short = subst (λ (ts : List ℕ). length ts ≤ most) same short
 
 pub returns : goal.returns
 returns c =
-    six-pieces c.new-text.result.items c.add.new.text.items c.add-2.new.text.items c.add-3.new.text.items c.add-4.new.text.items c.add-5.new.text.items c.add-6.new.text.items
-    (codes "line ") (decimal c.args.place.line) (codes ", column ") (decimal c.args.place.column) (end_text c.args.place.ends) (wanted_text c.args.place.next)
-    c.new-text.ensures c.add.ensures.items
-    (c.add-2.ensures.items ∙ ap (λ (v : List ℕ). c.add.new.text.items ++ v) (c.as_bytes.ensures.value ∙ c.format.ensures.text))
-    c.add-3.ensures.items
-    (c.add-4.ensures.items ∙ ap (λ (v : List ℕ). c.add-3.new.text.items ++ v) (c.as_bytes-2.ensures.value ∙ c.format-2.ensures.text))
-    (c.add-5.ensures.items ∙ ap (λ (v : List ℕ). c.add-4.new.text.items ++ v) c.end_text.ensures.text)
-    (c.add-6.ensures.items ∙ ap (λ (v : List ℕ). c.add-5.new.text.items ++ v) c.wanted_text.ensures.text)
+    let place = c.args.place in
+    let line : length (decimal place.line) ≤ 20 = short-as 20 _ _ c.format.ensures.text c.format.ensures.fits in
+    let column : length (decimal place.column) ≤ 20 = short-as 20 _ _ c.format-2.ensures.text c.format-2.ensures.fits in
+    let end : length (end_text place.ends) ≤ 32 = short-as 32 _ _ c.end_text.ensures.text c.end_text.ensures.short in
+    let wanted : length (wanted_text place.next) ≤ 32 = short-as 32 _ _ c.wanted_text.ensures.text c.wanted_text.ensures.short in
+    let all = six-long (codes "line ") (decimal place.line) (codes ", column ") (decimal place.column) (end_text place.ends) (wanted_text place.next) in
+    all-of c.new-text.ensures (omega (arith, all, line, column, end, wanted))
+    (then c.push.ensures.line
+    (then (said (c.as_bytes.ensures.value ∙ c.format.ensures.text) c.push-2.ensures.line)
+    (then c.push-3.ensures.line
+    (then (said (c.as_bytes-2.ensures.value ∙ c.format-2.ensures.text) c.push-4.ensures.line)
+    (then (said c.end_text.ensures.text c.push-5.ensures.line)
+    (said c.wanted_text.ensures.text c.push-6.ensures.line))))))

@@ -1,12 +1,17 @@
-use Rattle.std.proofs.Common.{◌∙◌, ℕ, List, ap, set}
-use Rattle.tsb_log_text.proofs.RowLineLemmas.{with_field, written, line-written}
+use Rattle.std.proofs.Common.{arith}
+use Rattle.tsb_lines.proofs.ShortLemmas.{all-of, said, then}
+use Rattle.tsb_log_text.specs.LogText.{row_line}
 use Rattle.tsb_log_text.proofs.line.row_line.Goals as goal
 
 pub returns : goal.returns
+unfolding row_line
 returns c =
-    ap (λ (line : List ℕ). set line 38 10)
-    (c.put-4.ensures ∙ ap (with_field 34 4 c.marks-3.result)
-    (c.put-3.ensures ∙ ap (with_field 25 8 c.marks-2.result)
-    (c.put-2.ensures ∙ ap (with_field 8 16 c.marks.result) c.put.ensures)))
-    ∙ (λ i. written (c.seven_digits.ensures i) (c.marks.ensures i) (c.marks-2.ensures i) (c.marks-3.ensures i))
-    ∙ line-written c.args.row
+    all-of c.new-line.ensures (omega arith)
+    (then (said c.seven_digits.ensures c.push.ensures.line)
+    (then c.push-2.ensures.line
+    (then (said c.marks.ensures c.push-3.ensures.line)
+    (then c.push-4.ensures.line
+    (then (said c.marks-2.ensures c.push-5.ensures.line)
+    (then c.push-6.ensures.line
+    (then (said c.marks-3.ensures c.push-7.ensures.line)
+    c.push-8.ensures.line)))))))

@@ -7,5 +7,5 @@ returns-in-Read g c =
     rw c.in-Read.is (
       c.tell_both.ensures.status,
       subst (λ (line : List ℕ). Tells (seen g.E.Write.contents c.args.errors.now) (seen g.E.Write.contents c.tell_both.new.errors) (codes "read fault\n" ++ line))
-          (c.deref.ensures.0 ∙ c.file_line-second.ensures) c.tell_both.ensures.lines,
+          (c.as_bytes.ensures.bytes ∙ c.file_line-second.ensures) c.tell_both.ensures.lines,
     )

@@ -10,6 +10,6 @@ returns-in-Ok g c =
     let new = seen g.E.Write.contents c.tell_both.new.errors in
     refused-so c.args.fault c.args.path.now c.in-Refused.why c.tell_both.result old new c.in-Refused.is (inl (
       c.tell_both.ensures.status,
-      subst (λ (line : List ℕ). Tells old new (plan_line c.in-Refused.why ++ line)) (c.deref.ensures.0 ∙ c.place_line-second.ensures)
-          (subst (λ (line : List ℕ). Tells old new (line ++ c.deref.result.now)) (c.as_bytes.ensures.value ∙ c.in-Ok.ensures ∙ ap plan_line c.line.ensures) c.tell_both.ensures.lines),
+      subst (λ (line : List ℕ). Tells old new (plan_line c.in-Refused.why ++ line)) (c.as_bytes-in-Ok.ensures.bytes ∙ c.place_line-second.ensures)
+          (subst (λ (line : List ℕ). Tells old new (line ++ c.as_bytes-in-Ok.result.now)) (c.as_bytes.ensures.value ∙ c.in-Ok.ensures ∙ ap plan_line c.line.ensures) c.tell_both.ensures.lines),
     ))

@@ -3,5 +3,5 @@ use Rattle.tsb_review_text.proofs.line.push_parts.Goals as goal
 
 pub loop-byte-preserved : goal.loop-byte-preserved
 loop-byte-preserved c =
-    part-on c.args.numbers.now c.args.text.now c.loop-byte.byte-index c.loop-byte.line.items c.push_part.new.line.items _
+    part-on c.args.numbers.now c.args.text.now c.loop-byte.byte-index c.loop-byte.line c.push_part.new.line _
     c.loop-byte-test.true c.push_part.ensures c.loop-byte.invariant

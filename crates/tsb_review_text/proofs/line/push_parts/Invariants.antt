@@ -1,7 +1,9 @@
 use Rattle.std.proofs.Common.{◌≡◌, ◌++◌, drop}
-use Rattle.tsb_review_text.specs.Bytes.{ended, kept}
+use Rattle.tsb_lines.specs.ShortLines.{fitting}
+use Rattle.tsb_review_text.specs.declared.line.TheConstants.{LONGEST}
+use Rattle.tsb_review_text.specs.Bytes.{ended}
 use Rattle.tsb_review_text.proofs.line.push_parts.Given as goal
 
 -- the bytes so far, and those that are left, are all
 abbrev pub invariant-loop-byte : goal.invariant-loop-byte
-invariant-loop-byte l = kept (l.line.items ++ ended l.numbers (drop l.byte-index l.text)) ≡ kept (l.fn.line.items ++ ended l.numbers l.text)
+invariant-loop-byte l = fitting LONGEST (l.line ++ ended l.numbers (drop l.byte-index l.text)) ≡ fitting LONGEST (l.fn.line ++ ended l.numbers l.text)

@@ -4,4 +4,4 @@ use Rattle.tsb_saved.proofs.saved.say_row.Goals as goal
 
 pub returns-clause-told : goal.returns-clause-told
 returns-clause-told g c =
-    row-said c.say_line.result c.args.row c.row_line-line.result c.split_at.result.0.now _ _ _ _ c.row_line-line.ensures (c.split_at.ensures.front ∙ ap (take 38) c.as_slice.ensures) c.say_line.ensures.told
+    row-said c.say_line.result c.args.row c.row_line-line.result c.split_at.result.0.now _ _ _ _ c.row_line-line.ensures (c.split_at.ensures.front ∙ ap (take 38) c.as_bytes.ensures.bytes) c.say_line.ensures.told

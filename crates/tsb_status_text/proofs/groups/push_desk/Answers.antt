@@ -1,5 +1,5 @@
 use Rattle.std.proofs.Common.{arith, codes}
-use Rattle.tsb_status_text.proofs.RoomLemmas.{at-most, named-as, then}
+use Rattle.tsb_status_text.proofs.RoomLemmas.{at-most, named-as, part, then}
 use Rattle.tsb_status_text.specs.StatusText.{desk_text}
 use Rattle.tsb_status_text.proofs.groups.push_desk.Goals as goal
 
@@ -7,7 +7,7 @@ pub returns : goal.returns
 unfolding desk_text
 returns c =
     at-most (omega (arith, c.desk_name.ensures.short))
-    (then c.push.ensures
+    (then (part c.push.ensures.line)
     (then c.push_owner.ensures
     (then (named-as (codes ",\"state\":") c.desk_name.ensures.name c.push_named.ensures)
-    c.push-2.ensures)))
+    (part c.push-2.ensures.line))))

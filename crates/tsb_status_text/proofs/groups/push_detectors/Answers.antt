@@ -1,5 +1,5 @@
 use Rattle.std.proofs.Common.{arith}
-use Rattle.tsb_status_text.proofs.RoomLemmas.{at-most, then}
+use Rattle.tsb_status_text.proofs.RoomLemmas.{at-most, part, then}
 use Rattle.tsb_status_text.specs.StatusText.{detectors_text}
 use Rattle.tsb_status_text.proofs.groups.push_detectors.Goals as goal
 
@@ -9,4 +9,4 @@ returns c =
     at-most (omega arith)
     (then c.push_set.ensures
     (then c.push_set-2.ensures
-    c.push.ensures))
+    (part c.push.ensures.line)))

@@ -1,5 +1,5 @@
 use Rattle.std.proofs.Common.{arith}
-use Rattle.tsb_status_text.proofs.RoomLemmas.{at-most, then}
+use Rattle.tsb_status_text.proofs.RoomLemmas.{at-most, part, then}
 use Rattle.tsb_types.specs.Sets.{has_number}
 use Rattle.tsb_status_text.proofs.ListLemmas.{four}
 use Rattle.tsb_status_text.proofs.groups.push_overlap_set.Goals as goal
@@ -7,5 +7,5 @@ use Rattle.tsb_status_text.proofs.groups.push_overlap_set.Goals as goal
 pub returns : goal.returns
 returns c =
     at-most (omega arith)
-    (then c.push.ensures
+    (then (part c.push.ensures.line)
     (four (has_number c.args.set) c.push_numbers.ensures))

@@ -1,5 +1,5 @@
 use Rattle.std.proofs.Common.{arith}
-use Rattle.tsb_status_text.proofs.RoomLemmas.{at-most, then}
+use Rattle.tsb_status_text.proofs.RoomLemmas.{at-most, part, then}
 use Rattle.tsb_status_text.specs.StatusText.{phases_text}
 use Rattle.tsb_status_text.proofs.groups.push_phases.Goals as goal
 
@@ -17,4 +17,4 @@ returns c =
     (then c.push_set-8.ensures
     (then c.push_set-9.ensures
     (then c.push_set-10.ensures
-    c.push.ensures))))))))))
+    (part c.push.ensures.line)))))))))))

@@ -1,5 +1,5 @@
 use Rattle.std.proofs.Common.{arith, ap, codes, ◌++◌}
-use Rattle.tsb_status_text.proofs.RoomLemmas.{at-most, then, text-as}
+use Rattle.tsb_status_text.proofs.RoomLemmas.{at-most, part, text-as, then}
 use Rattle.tsb_status_text.specs.StatusText.{preempts_text}
 use Rattle.std.proofs.lemmas.List.{get_or_default}
 use Rattle.tsb_step.specs.declared.status.PreemptState.{PreemptState}
@@ -16,4 +16,4 @@ returns c =
     (then (text-as (ap (λ (s : PreemptState). codes "," ++ string (preempt_name s)) (get_or_default c.args.states.now 1 _ preempt_states.NotActive (omega arith))) c.push_preempt-2.ensures)
     (then (text-as (ap (λ (s : PreemptState). codes "," ++ string (preempt_name s)) (get_or_default c.args.states.now 2 _ preempt_states.NotActive (omega arith))) c.push_preempt-3.ensures)
     (then (text-as (ap (λ (s : PreemptState). codes "," ++ string (preempt_name s)) (get_or_default c.args.states.now 3 _ preempt_states.NotActive (omega arith))) c.push_preempt-4.ensures)
-    c.push.ensures))))
+    (part c.push.ensures.line)))))

@@ -1,11 +1,11 @@
 use Rattle.std.proofs.Common.{arith}
-use Rattle.tsb_status_text.proofs.RoomLemmas.{at-most, number-as, then}
+use Rattle.tsb_status_text.proofs.RoomLemmas.{at-most, number-as, part, then}
 use Rattle.tsb_status_text.proofs.line.push_phase.Goals as goal
 
 pub returns-in-None : goal.returns-in-None
-returns-in-None c = rw c.in-None.is (at-most (omega arith) (then c.push.ensures c.push-in-None.ensures))
+returns-in-None c = rw c.in-None.is (at-most (omega arith) (then (part c.push.ensures.line) (part c.push-in-None.ensures.line)))
 
 pub returns-in-Some : goal.returns-in-Some
 returns-in-Some c =
     rw c.in-Some.is
-    (at-most (omega (arith, c.push_byte.ensures.short)) (then c.push.ensures (number-as c.number.result _ c.number.ensures.same c.push_byte.ensures.line)))
+    (at-most (omega (arith, c.push_byte.ensures.short)) (then (part c.push.ensures.line) (number-as c.number.result _ c.number.ensures.same c.push_byte.ensures.line)))

@@ -1,5 +1,5 @@
 use Rattle.std.proofs.Common.{arith, codes}
-use Rattle.tsb_status_text.proofs.RoomLemmas.{at-most, named-as, then}
+use Rattle.tsb_status_text.proofs.RoomLemmas.{at-most, named-as, part, then}
 use Rattle.tsb_status_text.specs.StatusText.{ring_text}
 use Rattle.tsb_status_text.proofs.rings.push_ring.Goals as goal
 
@@ -19,4 +19,4 @@ returns c =
     (then c.push_optional-7.ensures
     (then c.push_optional-8.ensures
     (then c.push_optional-9.ensures
-    c.push.ensures))))))))))))
+    (part c.push.ensures.line)))))))))))))

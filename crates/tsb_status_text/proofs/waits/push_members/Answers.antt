@@ -1,18 +1,18 @@
 use Rattle.std.proofs.Common.{arith}
-use Rattle.tsb_status_text.proofs.RoomLemmas.{at-most}
+use Rattle.tsb_status_text.proofs.RoomLemmas.{at-most, part}
 use Rattle.tsb_status_text.proofs.waits.push_members.Goals as goal
 
 pub returns-in-Flash : goal.returns-in-Flash
-returns-in-Flash c = rw c.in-Flash.is (at-most (omega arith) c.push.ensures)
+returns-in-Flash c = rw c.in-Flash.is (at-most (omega arith) (part c.push.ensures.line))
 
 pub returns-in-Omitted : goal.returns-in-Omitted
-returns-in-Omitted c = rw c.in-Omitted.is (at-most (omega arith) c.push-in-Omitted.ensures)
+returns-in-Omitted c = rw c.in-Omitted.is (at-most (omega arith) (part c.push-in-Omitted.ensures.line))
 
 pub returns-in-Due : goal.returns-in-Due
-returns-in-Due c = rw c.in-Due.is (at-most (omega arith) c.push-in-Due.ensures)
+returns-in-Due c = rw c.in-Due.is (at-most (omega arith) (part c.push-in-Due.ensures.line))
 
 pub returns-in-Turn : goal.returns-in-Turn
-returns-in-Turn c = rw c.in-Turn.is (at-most (omega arith) c.push-in-Turn.ensures)
+returns-in-Turn c = rw c.in-Turn.is (at-most (omega arith) (part c.push-in-Turn.ensures.line))
 
 pub returns-in-RedRevert : goal.returns-in-RedRevert
 returns-in-RedRevert c = rw c.in-RedRevert.is (at-most (omega arith) c.push_left.ensures)

@@ -1,9 +1,9 @@
 use Rattle.std.proofs.Common.{arith}
-use Rattle.tsb_status_text.proofs.RoomLemmas.{at-most, number-as, then, two-digits}
+use Rattle.tsb_status_text.proofs.RoomLemmas.{at-most, number-as, part, then, two-digits}
 use Rattle.tsb_status_text.proofs.waits.push_of.Goals as goal
 
 pub returns : goal.returns
 returns c =
     at-most (omega (arith, two-digits c.number.result (omega (arith, c.number.ensures.within))))
-    (then c.push.ensures
+    (then (part c.push.ensures.line)
     (number-as c.number.result c.args.phase c.number.ensures.same c.push_byte.ensures.line))

@@ -1,10 +1,10 @@
 use Rattle.std.proofs.Common.{arith}
-use Rattle.tsb_status_text.proofs.RoomLemmas.{at-most, number-as, then}
+use Rattle.tsb_status_text.proofs.RoomLemmas.{at-most, number-as, part, then}
 use Rattle.tsb_status_text.proofs.waits.push_preempt.Goals as goal
 
 pub returns : goal.returns
 returns c =
     at-most (omega (arith, c.push_byte.ensures.short))
-    (then c.push.ensures
+    (then (part c.push.ensures.line)
     (then (number-as c.number.result c.args.preempt c.number.ensures.same c.push_byte.ensures.line)
-    c.push-2.ensures))
+    (part c.push-2.ensures.line)))

@@ -1,5 +1,5 @@
 use Rattle.std.proofs.Common.{arith, ap, length, codes, ℕ, List}
-use Rattle.tsb_status_text.proofs.RoomLemmas.{at-most, named-as, then}
+use Rattle.tsb_status_text.proofs.RoomLemmas.{at-most, named-as, part, then}
 use Rattle.tsb_status_text.specs.StatusText.{wait_text}
 use Rattle.tsb_status_text.proofs.waits.push_wait.Goals as goal
 
@@ -7,7 +7,7 @@ pub returns : goal.returns
 unfolding wait_text
 returns c =
     at-most (omega (arith, c.wait_name.ensures.short, ap (λ (ts : List ℕ). length ts) c.wait_name.ensures.name))
-    (then c.push.ensures
+    (then (part c.push.ensures.line)
     (then c.push_byte.ensures.line
     (then (named-as (codes ",\"for\":") c.wait_name.ensures.name c.push_named.ensures)
     c.push_members.ensures)))

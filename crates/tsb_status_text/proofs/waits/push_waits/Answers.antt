@@ -18,7 +18,7 @@ room p = 69 + length (decimal p)
 pub loop-k-init : goal.loop-k-init
 unfolding waits_text
 loop-k-init c = record {
-  told = step-begin (wait_in (wait_at c.args.waits.now)) 1 1 16 (16 - 0) 91 93 c.args.line.now.items c.push.new.line.items (omega arith) (omega arith) c.push.ensures.line;
+  told = step-begin (wait_in (wait_at c.args.waits.now)) 1 1 16 (16 - 0) 91 93 c.args.line.now c.push.new.self (omega arith) (omega arith) c.push.ensures.line.line;
   short = λ p v from below is. absurd (omega (arith, from, below));
 }
 
@@ -37,7 +37,7 @@ loop-k-preserved c =
           let none : value (k + 1) ≡ None = rw (found ∙ w.in-None.is) refl in
           rw (w.line-is, w.first-is) (record {
             told =
-                step-over value c.loop-k.first (k + 1) (k + 1 + 1) (16 - k) (16 - (k + 1)) 93 c.loop-k.line.items _ (omega arith) (omega (arith, c.loop-k-test.true)) none
+                step-over value c.loop-k.first (k + 1) (k + 1 + 1) (16 - k) (16 - (k + 1)) 93 c.loop-k.line _ (omega arith) (omega (arith, c.loop-k-test.true)) none
                 c.loop-k.invariant.told;
             short = room-for-one value room k c.loop-k.invariant.short (λ v is. absurd (none-some v (sym none ∙ is)));
           })
@@ -45,7 +45,7 @@ loop-k-preserved c =
           let some : value (k + 1) ≡ Some (wait_text (k + 1) w.in-Some.wait) = rw (found ∙ w.in-Some.is) refl in
           rw (w.line-is, w.first-is) (record {
             told =
-                step-on value c.loop-k.first (k + 1) (k + 1 + 1) (16 - k) (16 - (k + 1)) 93 (wait_text (k + 1) w.in-Some.wait) c.loop-k.line.items _ _ _
+                step-on value c.loop-k.first (k + 1) (k + 1 + 1) (16 - k) (16 - (k + 1)) 93 (wait_text (k + 1) w.in-Some.wait) c.loop-k.line _ _ _
                 (omega arith) (omega (arith, c.loop-k-test.true)) some w.separate.ensures w.push_wait.ensures c.loop-k.invariant.told;
             short = room-for-one value room k c.loop-k.invariant.short
                 (λ v is. subst (λ (ts : List ℕ). length ts ≤ room (k + 1)) (same_Some (wait_text (k + 1) w.in-Some.wait) v (sym some ∙ is)) w.push_wait.ensures.short);
@@ -58,7 +58,7 @@ returns c =
     let value = wait_in (wait_at c.args.waits.now) in
     record {
       line =
-          step-end value c.loop-k.first (c.loop-k.k + 1) (16 - c.loop-k.k) 93 c.loop-k.line.items c.push-2.new.line.items _
-          (omega (arith, c.loop-k-test.false)) c.push-2.ensures.line c.loop-k.invariant.told;
+          step-end value c.loop-k.first (c.loop-k.k + 1) (16 - c.loop-k.k) 93 c.loop-k.line c.push-2.new.self _
+          (omega (arith, c.loop-k-test.false)) c.push-2.ensures.line.line c.loop-k.invariant.told;
       short = waits-short value (λ p v from below is. c.loop-k.invariant.short p v from (omega (arith, below, c.loop-k-test.false)) is);
     }

@@ -8,7 +8,7 @@ loop-event-init g c = record { wrote = events-start c.args.events.now _ _; well 
 
 pub loop-event-preserved : goal.loop-event-preserved
 loop-event-preserved g c = record {
-  wrote = events-more c.args.events.now c.loop-event.event-index _ c.deref.result.now _ _ _ _ _ _ c.loop-event-test.true (c.deref.ensures.0 ∙ c.event_line.ensures) c.loop-event.invariant.wrote c.in_ok-say.ensures.ok;
+  wrote = events-more c.args.events.now c.loop-event.event-index _ c.as_bytes.result.now _ _ _ _ _ _ c.loop-event-test.true (c.as_bytes.ensures.bytes ∙ c.event_line.ensures) c.loop-event.invariant.wrote c.in_ok-say.ensures.ok;
   well = λ w. c.in_ok-say.ensures.blame (c.loop-event.invariant.well w);
 }
 

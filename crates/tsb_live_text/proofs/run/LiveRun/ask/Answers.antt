@@ -29,23 +29,20 @@ returns-in-Plan-clause-done g c s stands =
 pub returns-in-Status-clause-done : goal.returns-in-Status-clause-done
 returns-in-Status-clause-done g c s stands =
     does-as c.tell.result s _ c.args.line.now c.args.command asks.Status _ _ _ _ c.in-Status.is
-    (does-tell c.tell.result None _ s s c.args.line.now c.deref-in-Status.result.now c.deref-in-Status-2.result.now (status_text (status (present s))) _ _ _ _ stands
-    (same-echo c.args.self.now s c.args.line.now c.deref-in-Status.result.now stands (c.deref-in-Status.ensures.0 ∙ c.echo-echo.ensures)) (let same : c.deref-in-Status-2.result.now ≡ c.status_line-status.result.items = search rules in
-    same ∙ c.status_line-status.ensures.alike (status (present s)) (subst (λ (v : State). Alike (status_of c.status.result) (status v)) (ap state_of c.bench.ensures ∙ present-state c.args.self.now s stands) c.status.ensures)) c.tell.ensures.told)
+    (does-tell c.tell.result None _ s s c.args.line.now c.deref-in-Status.result.now c.as_bytes-in-Status.result.now (status_text (status (present s))) _ _ _ _ stands
+    (same-echo c.args.self.now s c.args.line.now c.deref-in-Status.result.now stands (c.deref-in-Status.ensures.0 ∙ c.echo-echo.ensures)) (c.as_bytes-in-Status.ensures.bytes ∙ c.status_line-status.ensures.alike (status (present s)) (subst (λ (v : State). Alike (status_of c.status.result) (status v)) (ap state_of c.bench.ensures ∙ present-state c.args.self.now s stands) c.status.ensures)) c.tell.ensures.told)
 
 pub returns-in-Edits-clause-done : goal.returns-in-Edits-clause-done
 returns-in-Edits-clause-done g c s stands =
     does-as c.tell-in-Edits.result s _ c.args.line.now c.args.command asks.Edits _ _ _ _ c.in-Edits.is
-    (does-tell c.tell-in-Edits.result None _ s s c.args.line.now c.deref-in-Edits.result.now c.deref-in-Edits-2.result.now (edits_text (present s).desk) _ _ _ _ stands
-    (same-echo c.args.self.now s c.args.line.now c.deref-in-Edits.result.now stands (c.deref-in-Edits.ensures.0 ∙ c.echo-echo.ensures)) (let same : c.deref-in-Edits-2.result.now ≡ c.edits_line-edits.result.items = search rules in
-    same ∙ c.edits_line-edits.ensures ∙ ap edits_text c.desk.ensures ∙ ap (λ (v : State). edits_text v.desk) (ap state_of c.bench-in-Edits.ensures ∙ present-state c.args.self.now s stands)) c.tell-in-Edits.ensures.told)
+    (does-tell c.tell-in-Edits.result None _ s s c.args.line.now c.deref-in-Edits.result.now c.as_bytes-in-Edits.result.now (edits_text (present s).desk) _ _ _ _ stands
+    (same-echo c.args.self.now s c.args.line.now c.deref-in-Edits.result.now stands (c.deref-in-Edits.ensures.0 ∙ c.echo-echo.ensures)) (c.as_bytes-in-Edits.ensures.bytes ∙ c.edits_line-edits.ensures ∙ ap edits_text c.desk.ensures ∙ ap (λ (v : State). edits_text v.desk) (ap state_of c.bench-in-Edits.ensures ∙ present-state c.args.self.now s stands)) c.tell-in-Edits.ensures.told)
 
 pub returns-in-When-clause-done : goal.returns-in-When-clause-done
 returns-in-When-clause-done g c s stands =
     does-as c.tell-in-When.result s _ c.args.line.now c.args.command (asks.When c.in-When.which) _ _ _ _ c.in-When.is
-    (does-tell c.tell-in-When.result None _ s s c.args.line.now c.deref-in-When.result.now c.deref-in-When-2.result.now (when_line (last_change (value_of c.in-When.which) s.plan s.inputs)) _ _ _ _ stands
-    (same-echo c.args.self.now s c.args.line.now c.deref-in-When.result.now stands (c.deref-in-When.ensures.0 ∙ c.echo-echo.ensures)) (let same : c.deref-in-When-2.result.now ≡ c.when_line-change.result.items = search rules in
-    same ∙ c.when_line-change.ensures.line ∙ ap when_line (c.last_change.ensures s.plan s.inputs (c.kept.ensures ∙ present-kept c.args.self.now s stands))) c.tell-in-When.ensures.told)
+    (does-tell c.tell-in-When.result None _ s s c.args.line.now c.deref-in-When.result.now c.as_bytes-in-When.result.now (when_line (last_change (value_of c.in-When.which) s.plan s.inputs)) _ _ _ _ stands
+    (same-echo c.args.self.now s c.args.line.now c.deref-in-When.result.now stands (c.deref-in-When.ensures.0 ∙ c.echo-echo.ensures)) (c.as_bytes-in-When.ensures.bytes ∙ c.when_line-change.ensures.line ∙ ap when_line (c.last_change.ensures s.plan s.inputs (c.kept.ensures ∙ present-kept c.args.self.now s stands))) c.tell-in-When.ensures.told)
 
 pub returns-in-Events-clause-done : goal.returns-in-Events-clause-done
 returns-in-Events-clause-done g c s stands =
