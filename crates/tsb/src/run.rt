@@ -6,6 +6,7 @@ ghost use Rattle.tsb_words.specs.declared.error.WordsError.{WordsError};
 ghost use Rattle.tsb_words.specs.BenchWords.{Spells};
 ghost use Rattle.tsb_text.specs.tsb_objects.Checked.{checked_plan};
 ghost use Rattle.tsb_text.specs.tsb_plan_text.FaultLines.{plan_fault};
+ghost use Rattle.tsb_program.specs.tsb_log_text.FaultLines.{log_fault};
 ghost use Rattle.tsb.specs.Lines.{TellsWords};
 ghost use Rattle.tsb_program.specs.Lines.{Refuses};
 ghost use Rattle.tsb_program.specs.Statuses.{number};
@@ -19,7 +20,7 @@ use tsb_program::{
     Failure, Files, ReadError, Status, Watched, fail, line_of, log_of, plan_of, refuse, tell,
     tell_end, write_line,
 };
-use tsb_text::{Checked, Log, Plan, PlanError, session};
+use tsb_text::{Checked, Log, LogError, Plan, PlanError, session};
 use tsb_words::WordsError;
 use tsb_words::bench::{Asked, read_words};
 
@@ -136,7 +137,7 @@ fn run<F: Files, R: Read, W: Write, E: Write>(
     };
     let rows = match log_of(alloc, files, log) {
         Ok(rows) => rows,
-        Err(fault) => return refuse(alloc, errors, fault),
+        Err(fault) => return refuse_log(alloc, errors, fault),
     };
     talk(alloc, checked, &rows, input, output, errors)
 }
@@ -164,6 +165,16 @@ fn run_built_in<R: Read, W: Write, E: Write>(
 /// Says why there is no plan, and gives the status that the program ends with.
 fn refuse_plan<E: Write>(alloc: Global, errors: &mut Watched<E>, fault: ReadError<PlanError>) -> u8
     ensures { Refuses (λ why. Some (plan_fault why)) fault result (seen E.contents errors.old) (seen E.contents errors.new) }
+{
+    match fault {
+        ReadError::Failed(why) => fail(errors, why.failure()),
+        ReadError::Refused(why) => refuse(alloc, errors, ReadError::Refused(why.line())),
+    }
+}
+
+/// Says why there is no log, and gives the status that the program ends with.
+fn refuse_log<E: Write>(alloc: Global, errors: &mut Watched<E>, fault: ReadError<LogError>) -> u8
+    ensures { Refuses (λ why. Some (log_fault why)) fault result (seen E.contents errors.old) (seen E.contents errors.new) }
 {
     match fault {
         ReadError::Failed(why) => fail(errors, why.failure()),

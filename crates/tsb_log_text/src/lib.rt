@@ -14,7 +14,7 @@ mod read;
 mod row_text;
 mod search;
 
-pub use error::LogError;
+pub use error::{LogError, LogLine};
 pub use line::{RowLine, row_line};
 pub use log::{Log, LogRow};
 pub use read::{LIMIT, read_log};

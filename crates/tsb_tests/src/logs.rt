@@ -1,7 +1,7 @@
 //! Logs: rows in force, and the lines of faults.
 
 use std::alloc::Global;
-use tsb_log_text::{Log, laws, read_log};
+use tsb_log_text::{Log, LogError, laws, read_log};
 use tsb_types::{NumberSet, Row};
 
 const TEXT: &str =
@@ -99,9 +99,27 @@ fn faults_name_their_line(rt: HostRuntime) {
 fn says(alloc: Global, text: &[u8], message: &str) -> bool {
     match read_log(alloc, text) {
         Ok(_) => false,
-        Err(fault) => match format!(in alloc; "{fault}") {
-            Ok(said) => said.as_str() == message,
-            Err(_) => false,
-        },
+        Err(fault) => is_printed(alloc, &fault, message),
+    }
+}
+
+/// Whether the fault is printed as this line.
+fn is_printed(alloc: Global, fault: &LogError, line: &str) -> bool {
+    match format!(in alloc; "{fault}") {
+        Ok(given) => given.as_str() == line,
+        Err(_) => false,
+    }
+}
+
+#[test]
+fn each_fault_is_printed_as_its_line(rt: HostRuntime) {
+    let faults = [
+        (LogError::Memory, "memory"),
+        (LogError::TooLarge, "log: too large"),
+        (LogError::Malformed(3), "log line 3: malformed"),
+        (LogError::TickOrder(2), "log line 2: tick order"),
+    ];
+    for (fault, line) in &faults {
+        assert!(rt; is_printed(rt.alloc(), fault, line));
     }
 }

@@ -5,19 +5,23 @@ ghost use Rattle.clap.specs.Words.{kind_of};
 ghost use Rattle.tsb_words.specs.declared.error.WordsError.TheVariants.{Memory};
 ghost use Rattle.tsb_words.specs.Words.{given_fault, words_fault};
 
-use clap::Error;
 use clap::error::ErrorKind;
 use std::alloc::AllocError;
 use std::io::{self, ErrorKind as DeviceKind};
+use thiserror::Error;
 
 /// Why words ask for nothing.
-#[derive(Clone, Copy)]
+#[derive(Clone, Copy, Debug, Error)]
 pub enum WordsError {
     /// There was no memory to read them.
+    #[error("memory")]
     Memory,
     /// They are not words of the program, or they ask for help.
+    #[error("bad words")]
     Bad,
 }
+
+// These are written by hand: of what `#[from]` would write, no clause says which fault `?` makes.
 
 impl From<AllocError> for WordsError {
     ghost from_gives = { λ _ fault. fault ≡ Memory };
@@ -27,10 +31,10 @@ impl From<AllocError> for WordsError {
     }
 }
 
-impl From<Error> for WordsError {
+impl From<clap::Error> for WordsError {
     ghost from_gives = { λ error fault. fault ≡ words_fault (kind_of error) };
 
-    fn from(error: Error) -> WordsError {
+    fn from(error: clap::Error) -> WordsError {
         match error.kind() {
             ErrorKind::OutOfMemory => WordsError::Memory,
             _ => WordsError::Bad,
