@@ -1,6 +1,6 @@
 -- Answers are said one after another, and go out in any pieces.
 use Rattle.std.proofs.Common.{◌≡◌, ℕ, ◌+◌, ◌-◌, ◌<◌, ◌≤◌, List, [], ◌∷◌, ◌++◌, length, take, drop, get_or, refl, sym, ap, ◌∙◌, append_assoc, arith, subst, zero, suc, OnOk, OnErr, Ok, Err}
-use Rattle.std.proofs.lemmas.List.{append-nil, take-append-drop, drop-drop, drop-take}
+use Rattle.std.proofs.lemmas.List.{append-nil, take-append-drop, drop-drop, length-drop, take_all}
 use Rattle.std.specs.declared.option.Option.{Option}
 use Rattle.std.specs.declared.result.Result.{Result}
 use Rattle.std.specs.Io.KnownBytes.{Appends, Keeps}
@@ -20,12 +20,11 @@ said-more a b c w v u t x s r = record {
   kept = sym (append_assoc w t x) ∙ ap (λ (l : List ℕ). l ++ x) s.kept ∙ append_assoc s.gone v x ∙ ap (λ (l : List ℕ). s.gone ++ l) r.kept ∙ sym (append_assoc s.gone r.gone u);
 }
 
--- of the k bytes that were said, n more have gone after the first g
-pub said-gone : (a b c : Option (List ℕ)) (w bytes : List ℕ) (k g n : ℕ) → g ≤ k → Said a b w (drop g (take k bytes)) [] → Appends b c (take n (take (k - g) (drop g bytes))) → Said a c w (drop (g + n) (take k bytes)) []
-said-gone a b c w bytes k g n le s out =
-    let items : List ℕ = take k bytes in
-    let part : take (k - g) (drop g bytes) ≡ drop g items = sym (drop-take g (k - g) bytes) ∙ (let same : g + (k - g) ≡ k = omega (arith, le) in rw same refl) in
-    let sent : Appends b c (take n (drop g items)) = subst (λ (l : List ℕ). Appends b c (take n l)) part out in
+-- of the bytes that were said, n more have gone after the first g
+pub said-gone : (a b c : Option (List ℕ)) (w items lent : List ℕ) (g n : ℕ) → lent ≡ items → Said a b w (drop g items) [] → Appends b c (take n (take (length lent - g) (drop g lent))) → Said a c w (drop (g + n) items) []
+said-gone a b c w items lent g n is s out =
+    let all : take (length items - g) (drop g items) ≡ drop g items = take_all (length items - g) (drop g items) (omega (arith, length-drop g items)) in
+    let sent : Appends b c (take n (drop g items)) = subst (λ (l : List ℕ). Appends b c (take n l)) all (subst (λ (l : List ℕ). Appends b c (take n (take (length l - g) (drop g l)))) is out) in
     let cut : drop g items ≡ take n (drop g items) ++ drop (g + n) items = sym (take-append-drop n (drop g items)) ∙ ap (λ (l : List ℕ). take n (drop g items) ++ l) (drop-drop n g items) in
     record {
       gone = s.gone ++ take n (drop g items);

@@ -1,12 +1,14 @@
 //! Answers on their way out.
 #![tactic(auto)]
 
-ghost use Rattle.std.specs.Prelude.{◌≡◌, ◌∷◌, ◌++◌, ◌+◌, ◌<◌, ◌≤◌, [], ℕ, List, false, length, take, OnOk, OnErr, true};
+ghost use Rattle.std.specs.Prelude.{◌≡◌, ◌∷◌, ◌++◌, ◌+◌, ◌<◌, ◌≤◌, [], ℕ, List, false, length, OnOk, OnErr, true};
 ghost use Rattle.std.specs.Io.{ReadsAtMost};
 ghost use Rattle.std.specs.Io.KnownBytes.{ReadConsumes};
+ghost use Rattle.arrayvec.specs.ArrayVec.{array_vec_len};
 ghost use Rattle.tsb_dialog.specs.Blame.{AfterCalls};
 ghost use Rattle.tsb_dialog.specs.Said.{Said, Wrote, with_feed};
 
+use arrayvec::ArrayVec;
 use std::io::{self, Read, Write};
 use std::marker::Model;
 use tsb_watched::{Watched, WriteError};
@@ -17,55 +19,39 @@ const ROOM: usize = 8192;
 /// Answers that were said and have not gone out yet.
 #[derive(Drop)]
 pub struct Pending {
-    /// The first `count` of these were said. What stands behind them is left as it was, so that no byte is cleared.
-    bytes: [u8; ROOM],
-    count: usize,
+    /// What was said since the room was empty.
+    bytes: ArrayVec<u8, ROOM>,
     /// How many of the bytes have gone out.
     gone: usize,
 }
 
 impl Model for Pending {
-    ghost use Rattle.std.specs.Prelude.{ℕ, List, drop, take, ◌≤◌};
+    ghost use Rattle.std.specs.Prelude.{ℕ, List, drop, length, ◌≤◌};
 
     ghost Value = { List ℕ };
 
-    ghost view = { λ a. drop a.gone (take a.count a.bytes) };
+    ghost view = { λ a. drop a.gone a.bytes.items };
 
-    ghost invariant = { λ a. (a.gone ≤ a.count) × (a.count ≤ 8192) };
+    ghost invariant = { λ a. a.gone ≤ length a.bytes.items };
 }
 
-/// Puts a text into a room from `at` on, and gives where it ends.
+/// Puts a text, for which there is room, behind what a room has.
 #[inline(always)]
-fn put(room: &mut [u8; ROOM], at: usize, text: &[u8]) -> usize
-    requires { at + length text.now ≤ 8192 }
-    ensures end { result ≡ at + length text.now }
-    ensures put { take result room.new ≡ take at room.old ++ text.now }
+fn put(room: &mut ArrayVec<u8, ROOM>, text: &[u8])
+    requires { array_vec_len room.old + length text.now ≤ ROOM }
+    ensures { room.new.items ≡ room.old.items ++ text.now }
 {
-    let end = at + text.len();
-    room[at..end].copy_from_slice(text);
-    end
+    let _ = room.try_extend_from_slice(text);
 }
 
-/// Puts a line and its line feed into a room from `at` on, and gives where they end.
+/// Puts a line and its line feed behind what a room has.
 #[inline(always)]
-fn put_line(room: &mut [u8; ROOM], at: usize, line: &[u8]) -> usize
-    requires { at + length line.now < 8192 }
-    ensures end { result ≡ at + (length line.now + 1) }
-    ensures put { take result room.new ≡ take at room.old ++ with_feed line.now }
+fn put_line(room: &mut ArrayVec<u8, ROOM>, line: &[u8])
+    requires { array_vec_len room.old + length line.now < ROOM }
+    ensures { room.new.items ≡ room.old.items ++ with_feed line.now }
 {
-    let end = put(room, at, line);
-    put_byte(room, end, b'\n')
-}
-
-/// Puts a byte into a room at this place, and gives the next place.
-#[inline(always)]
-fn put_byte(room: &mut [u8; ROOM], at: usize, byte: u8) -> usize
-    requires { at < 8192 }
-    ensures end { result ≡ at + 1 }
-    ensures put { take result room.new ≡ take at room.old ++ byte ∷ [] }
-{
-    room[at] = byte;
-    at + 1
+    put(room, line);
+    room.push(b'\n');
 }
 
 impl Pending {
@@ -77,8 +63,7 @@ impl Pending {
         ensures { result ≡ [] }
     {
         Pending {
-            bytes: [0; ROOM],
-            count: 0,
+            bytes: ArrayVec::new(),
             gone: 0,
         }
     }
@@ -91,13 +76,14 @@ impl Pending {
         ensures fault { OnErr result (Said (W.contents writer.old.device) (W.contents writer.new.device) self.old self.new []) }
         ensures blame { writer.old.failed ≡ false → AfterCalls result writer.new.failed }
     {
-        if ROOM - self.count < Self::LINE {
+        if self.bytes.remaining_capacity() < Self::LINE {
             self.write_out(writer)?;
             self.gone = 0;
-            self.count = put_line(&mut self.bytes, 0, line);
+            self.bytes.clear();
+            put_line(&mut self.bytes, line);
             return Ok(());
         }
-        self.count = put_line(&mut self.bytes, self.count, line);
+        put_line(&mut self.bytes, line);
         Ok(())
     }
 
@@ -108,8 +94,8 @@ impl Pending {
         ensures front { Wrote (W.contents writer.old.device) (W.contents writer.new.device) self.old self.new (λ said. (rest : List ℕ) × (text.now ≡ said ++ rest)) }
         ensures blame { writer.old.failed ≡ false → AfterCalls result writer.new.failed }
     {
-        if text.len() <= ROOM - self.count {
-            self.count = put(&mut self.bytes, self.count, text);
+        if text.len() <= self.bytes.remaining_capacity() {
+            put(&mut self.bytes, text);
             return Ok(());
         }
         for byte in text {
@@ -124,13 +110,14 @@ impl Pending {
         ensures fault { OnErr result (Said (W.contents writer.old.device) (W.contents writer.new.device) self.old self.new []) }
         ensures blame { writer.old.failed ≡ false → AfterCalls result writer.new.failed }
     {
-        if self.count == ROOM {
+        if self.bytes.is_full() {
             self.write_out(writer)?;
             self.gone = 0;
-            self.count = put_byte(&mut self.bytes, 0, byte);
+            self.bytes.clear();
+            self.bytes.push(byte);
             return Ok(());
         }
-        self.count = put_byte(&mut self.bytes, self.count, byte);
+        self.bytes.push(byte);
         Ok(())
     }
 
@@ -140,8 +127,8 @@ impl Pending {
         ensures ok { OnOk result (self.new ≡ []) }
         ensures blame { writer.old.failed ≡ false → AfterCalls result writer.new.failed }
     {
-        while self.gone < self.count {
-            match writer.write_once(&self.bytes[self.gone..self.count]) {
+        while self.gone < self.bytes.len() {
+            match writer.write_once(&self.bytes.as_slice()[self.gone..]) {
                 Ok(count) => self.gone += count,
                 Err(fault) => return Err(fault),
             }
