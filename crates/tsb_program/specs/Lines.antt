@@ -6,7 +6,8 @@ use Rattle.tsb_log_text.specs.declared.error.LogError.{LogError}
 use Rattle.tsb_log_text.specs.FaultLines.{log_fault}
 use Rattle.tsb_text.specs.declared.error.SessionError.{SessionError}
 use Rattle.tsb_text.specs.declared.error.SessionError.TheVariants as ends
-use Rattle.tsb_program.specs.Failures.{Fails, failure_line, failure_of}
+use Rattle.tsb_text.specs.EndLines.{session_fault}
+use Rattle.tsb_program.specs.Failures.{Fails, failure_of}
 use Rattle.tsb_program.specs.declared.failure.Failure.TheVariants.{Memory, Read, Write}
 use Rattle.tsb_program.specs.declared.files.FileError.{FileError}
 use Rattle.tsb_program.specs.declared.read.ReadError.{ReadError}
@@ -15,10 +16,7 @@ use Rattle.tsb_watched.specs.Seen.{Seen, Tells}
 
 -- the line of what ended a session
 abbrev pub end_line : SessionError → List ℕ
-end_line ends.Memory = failure_line Memory
-end_line ends.Read = failure_line Read
-end_line ends.Write = failure_line Write
-end_line ends.TooLarge = codes "commands: too large\n"
+end_line fault = session_fault fault ++ 10 ∷ []
 
 -- what ended a session is told, with 3: a failure, or commands without end
 abbrev pub TellsEnd : SessionError → ℕ → Seen → Seen → Type 0

@@ -1,10 +1,9 @@
 //! What a program says of what ended its run.
-ghost use Rattle.std.specs.Prelude.{◌≡◌};
-ghost use Rattle.tsb_program.specs.Lines.{Refuses, TellsEnd, TellsRefusal, end_line};
+ghost use Rattle.tsb_program.specs.Lines.{Refuses, TellsEnd, TellsRefusal};
 ghost use Rattle.tsb_watched.specs.Seen.{seen};
 
-use crate::failure::{Failure, fail, failure_line};
-use crate::lines::{line_of, tell};
+use crate::failure::{Failure, fail};
+use crate::lines::{line_of, tell, with_end};
 use crate::read::ReadError;
 use crate::status::Status;
 use std::alloc::Global;
@@ -45,17 +44,5 @@ pub(crate) fn tell_refusal<E: Write, T: Display + Drop>(
 pub fn tell_end<E: Write>(errors: &mut Watched<E>, fault: SessionError) -> u8
     ensures { TellsEnd fault result (seen E.contents errors.old) (seen E.contents errors.new) }
 {
-    tell(errors, Status::Failed, end_line(fault))
-}
-
-/// The line of what ended a session.
-fn end_line(fault: SessionError) -> &'static [u8]
-    ensures { result.now ≡ end_line fault }
-{
-    match fault {
-        SessionError::Memory => failure_line(Failure::Memory),
-        SessionError::Read => failure_line(Failure::Read),
-        SessionError::Write => failure_line(Failure::Write),
-        SessionError::TooLarge => b"commands: too large\n",
-    }
+    tell(errors, Status::Failed, with_end(fault.line()).as_bytes())
 }

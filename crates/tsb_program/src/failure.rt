@@ -1,15 +1,17 @@
 //! What fails a program, and the line that it writes then.
-ghost use Rattle.std.specs.Prelude.{◌≡◌};
-ghost use Rattle.tsb_program.specs.Failures.{Fails, failure_line};
+ghost use Rattle.std.specs.Prelude.{◌≡◌, ◌≤◌, length};
+ghost use Rattle.tsb_program.specs.Failures.{Fails, failure_text};
 ghost use Rattle.tsb_watched.specs.Seen.{seen};
 
-use crate::lines::tell;
+use crate::lines::{tell, with_end};
 use crate::status::Status;
 use std::io::Write;
+use thiserror::Error;
 use tsb_watched::Watched;
 
-/// What failed.
-#[derive(Clone, Copy)]
+/// What failed. Each is printed as its line.
+#[derive(Clone, Copy, Debug, Error)]
+#[error("{}", self.line())]
 pub enum Failure {
     /// There was no memory.
     Memory,
@@ -21,21 +23,24 @@ pub enum Failure {
     Write,
 }
 
+impl Failure {
+    /// The failure's line, without its end; that of standard input has a second one, which names it.
+    pub fn line(&self) -> &'static str
+        ensures line { result.now ≡ failure_text self.now }
+        ensures short { length result.now ≤ 25 }
+    {
+        match self {
+            Failure::Memory => "memory",
+            Failure::Read => "read fault",
+            Failure::Input => "read fault\nstandard input",
+            Failure::Write => "write fault",
+        }
+    }
+}
+
 /// Says that a read, a write or memory failed, and gives the status that the program ends with.
 pub fn fail<E: Write>(errors: &mut Watched<E>, failure: Failure) -> u8
     ensures { Fails failure result (seen E.contents errors.old) (seen E.contents errors.new) }
 {
-    tell(errors, Status::Failed, failure_line(failure))
-}
-
-/// The line of a failure, or both lines.
-pub(crate) fn failure_line(failure: Failure) -> &'static [u8]
-    ensures { result.now ≡ failure_line failure }
-{
-    match failure {
-        Failure::Memory => b"memory\n",
-        Failure::Read => b"read fault\n",
-        Failure::Input => b"read fault\nstandard input\n",
-        Failure::Write => b"write fault\n",
-    }
+    tell(errors, Status::Failed, with_end(failure.line()).as_bytes())
 }

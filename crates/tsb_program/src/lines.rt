@@ -1,5 +1,5 @@
 //! Lines that a program writes.
-ghost use Rattle.std.specs.Prelude.{◌≡◌, ◌++◌, ◌∷◌, [], IfOk, IfSome, OnErr, OnOk, string_bytes, true};
+ghost use Rattle.std.specs.Prelude.{◌≡◌, ◌++◌, ◌∷◌, ◌≤◌, [], length, IfOk, IfSome, OnErr, OnOk, string_bytes, true};
 ghost use Rattle.tsb_lines.specs.Writes.{AppendsFront};
 ghost use Rattle.tsb_program.specs.Statuses.{number};
 ghost use Rattle.tsb_watched.specs.Seen.{GoesOut, Tells, seen};
@@ -8,7 +8,11 @@ use crate::status::Status;
 use std::alloc::{AllocError, Global};
 use std::fmt::Display;
 use std::io::Write;
+use tsb_lines::ShortLine;
 use tsb_watched::{Watched, WriteError};
+
+/// The greatest length of a line of what failed, with its end, in bytes.
+const ENDED: usize = 26;
 
 /// Writes a line of faults, has the writer pass it on, and gives the number of the status. Where the line can't be
 /// written, nobody can be told of it.
@@ -31,6 +35,17 @@ pub fn write_line<W: Write>(writer: &mut Watched<W>, line: &[u8]) -> Result<(), 
         Ok(()) => writer.pass_on(),
         Err(fault) => Err(fault),
     }
+}
+
+/// A text of at most 25 bytes and the end of its line.
+pub(crate) fn with_end(text: &str) -> ShortLine<ENDED>
+    requires { length text.now ≤ 25 }
+    ensures { result ≡ text.now ++ 10 ∷ [] }
+{
+    let mut line = ShortLine::new();
+    line.push(text.as_bytes());
+    line.push(b"\n");
+    line
 }
 
 /// The line of a fault. The error is that memory ran out.

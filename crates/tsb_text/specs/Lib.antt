@@ -18,6 +18,8 @@ pub mod Text
 pub mod Ended
 -- which device is blamed for its fault
 pub mod Blame
+-- the line of that fault
+pub mod EndLines
 -- the names of crates below, for those above
 pub use Rattle.tsb_dialog.specs.Said as Written
 pub use Rattle.tsb_lines.specs as tsb_lines

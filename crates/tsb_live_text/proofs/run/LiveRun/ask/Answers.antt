@@ -29,8 +29,8 @@ returns-in-Plan-clause-done g c s stands =
 pub returns-in-Status-clause-done : goal.returns-in-Status-clause-done
 returns-in-Status-clause-done g c s stands =
     does-as c.tell.result s _ c.args.line.now c.args.command asks.Status _ _ _ _ c.in-Status.is
-    (does-tell c.tell.result None _ s s c.args.line.now c.deref-in-Status.result.now c.as_bytes-in-Status.result.now (status_text (status (present s))) _ _ _ _ stands
-    (same-echo c.args.self.now s c.args.line.now c.deref-in-Status.result.now stands (c.deref-in-Status.ensures.0 ∙ c.echo-echo.ensures)) (c.as_bytes-in-Status.ensures.bytes ∙ c.status_line-status.ensures.alike (status (present s)) (subst (λ (v : State). Alike (status_of c.status.result) (status v)) (ap state_of c.bench.ensures ∙ present-state c.args.self.now s stands) c.status.ensures)) c.tell.ensures.told)
+    (does-tell c.tell.result None _ s s c.args.line.now c.deref-in-Status.result.now c.as_bytes.result.now (status_text (status (present s))) _ _ _ _ stands
+    (same-echo c.args.self.now s c.args.line.now c.deref-in-Status.result.now stands (c.deref-in-Status.ensures.0 ∙ c.echo-echo.ensures)) (c.as_bytes.ensures.bytes ∙ c.status_line-status.ensures.alike (status (present s)) (subst (λ (v : State). Alike (status_of c.status.result) (status v)) (ap state_of c.bench.ensures ∙ present-state c.args.self.now s stands) c.status.ensures)) c.tell.ensures.told)
 
 pub returns-in-Edits-clause-done : goal.returns-in-Edits-clause-done
 returns-in-Edits-clause-done g c s stands =
