@@ -161,7 +161,7 @@ def test_the_numbers_are_those_of_the_measures(
             found = sum(int(it[place]) for it in parts[1:])
             assert found == wanted[cause].sum()
         walks = (events["code"] == 21).sum()
-        assert sum(int(it[7]) for it in parts[1:]) == walks > 50
+        assert sum(int(it[7]) for it in parts[1:]) == walks > 30
         longest = measures.waits(events).groupby("phase")["wait_s"].max()
         waits = of_run(tables["waits: Waits, in seconds"], run)
         assert {it[0]: it[7] for it in waits} == {
