@@ -72,6 +72,14 @@ pub row-cut : (r : LogRow) → take 38 (row_line r ++ 10 ∷ []) ≡ row_line r
 unfolding row_line
 row-cut r = refl
 
+row-length : (r : LogRow) → length (row_line r ++ 10 ∷ []) ≡ 39
+unfolding row_line
+row-length r = refl
+
+-- which has 38 bytes, so that its end can be cut off
+pub row-long : (r : LogRow) (line bytes : List ℕ) → line ≡ row_line r ++ 10 ∷ [] → bytes ≡ line → 38 ≤ length bytes
+row-long r line bytes is same = omega (arith, ap length same, ap length is, row-length r)
+
 pub row-said : (r : Result (Unit {0}) WriteError) (row : LogRow) (line cut_line : List ℕ) (a b : Option (List ℕ)) (p q : List ℕ) → line ≡ row_line row ++ 10 ∷ [] → cut_line ≡ take 38 line
     → (are_plain cut_line ≡ true → SaysText r (escape (with_feed cut_line)) a b p q) → SaysText r (escape (with_feed (row_line row))) a b p q
 row-said r row line cut_line a b p q is cuts said =
