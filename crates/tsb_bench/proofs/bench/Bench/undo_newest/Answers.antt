@@ -26,22 +26,22 @@ undo-requires-clause-desk c =
     record { by = held.by.desk; sound = held.desk }
 
 -- the record begins where the history says
-pub pop-requires : goal.pop-requires
-pop-requires c = record { start = start-told _ _ _ c.newest-change.ensures.newest }
+pub pop_from-requires : goal.pop_from-requires
+pop_from-requires c = record { start = start-told _ _ _ c.newest-change.ensures.newest }
 
 -- what the record says, of the state that was
-newest : (c : goal.After-pop) → IsNewest c.self.inside.tick (rows_of c.self.inside.cabinet) c.self.inside.history.records c.newest-change.result.0
+newest : (c : goal.After-pop_from) → IsNewest c.self.inside.tick (rows_of c.self.inside.cabinet) c.self.inside.history.records c.newest-change.result.0
 newest c = newest-is _ _ _ c.newest-change.result.0 c.self.invariant.1 (newest-told _ _ _ c.newest-change.ensures.newest)
 
-ticks-are : (c : goal.After-pop) → c.ticks_of.result ≡ ticks_of c.newest-change.result.0.kind
+ticks-are : (c : goal.After-pop_from) → c.ticks_of.result ≡ ticks_of c.newest-change.result.0.kind
 ticks-are c = c.ticks_of.ensures ∙ ap ticks_of c.kind-kind.ensures
 
 pub invariant_of-self : goal.invariant_of-self
 invariant_of-self c = (
   c.undo.ensures.shut,
-  subst (λ (t : ℕ). HasSoundPast (c.self.inside.tick - t) (rows_of c.undo.new.self) c.pop.new.self.records) (sym (ticks-are c))
-      (subst (λ (a : All). HasSoundPast (c.self.inside.tick - ticks_of c.newest-change.result.0.kind) a c.pop.new.self.records) (sym c.undo.ensures.rows)
-      (subst (λ (rs : List Change). HasSoundPast (c.self.inside.tick - ticks_of c.newest-change.result.0.kind) (all_put_back (rows_of c.self.inside.cabinet) c.newest-change.result.0.entries) rs) (sym c.pop.ensures.rest)
+  subst (λ (t : ℕ). HasSoundPast (c.self.inside.tick - t) (rows_of c.undo.new.self) c.pop_from.new.self.records) (sym (ticks-are c))
+      (subst (λ (a : All). HasSoundPast (c.self.inside.tick - ticks_of c.newest-change.result.0.kind) a c.pop_from.new.self.records) (sym c.undo.ensures.rows)
+      (subst (λ (rs : List Change). HasSoundPast (c.self.inside.tick - ticks_of c.newest-change.result.0.kind) (all_put_back (rows_of c.self.inside.cabinet) c.newest-change.result.0.entries) rs) (sym c.pop_from.ensures.rest)
       (newest c).before)),
   c.undo.ensures.passing (c.self.inside.tick - c.ticks_of.result),
   subst (IsShown (rows_of c.undo.new.self)) (sym c.forget_shown.ensures) tt,
@@ -51,15 +51,15 @@ pub returns-clause-back : goal.returns-clause-back
 returns-clause-back c =
     (λ i. record {
       state = ap₂ (λ (t : ℕ) (a : All). all_in (c.self.inside.tick - t) a) (ticks-are c) c.undo.ensures.rows i;
-      records = c.pop.ensures.rest i;
+      records = c.pop_from.ensures.rest i;
     })
     ∙ sym (newest c).whole_is
     ∙ ap (λ (h : Held). taken_back (state_of h) h.records) c.self.view_is
 
 pub returns-clause-memory : goal.returns-clause-memory
-returns-clause-memory c = c.pop.ensures.room ∙ ap memory c.self.view_is
+returns-clause-memory c = c.pop_from.ensures.room ∙ ap memory c.self.view_is
 
 pub returns-clause-room : goal.returns-clause-room
 returns-clause-room c =
-    subst (λ (n : ℕ). n ≤ c.pop.new.self.room) (ap (λ (h : Held). h.room) c.self.view_is)
-    (more-left c.self.inside.history.records c.pop.new.self.records c.self.inside.history.room c.pop.new.self.room c.pop.ensures.rest c.pop.ensures.room)
+    subst (λ (n : ℕ). n ≤ c.pop_from.new.self.room) (ap (λ (h : Held). h.room) c.self.view_is)
+    (more-left c.self.inside.history.records c.pop_from.new.self.records c.self.inside.history.room c.pop_from.new.self.room c.pop_from.ensures.rest c.pop_from.ensures.room)
