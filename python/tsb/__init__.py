@@ -24,6 +24,8 @@ from tsb.rows import Log, row
 from tsb.status import Status
 from tsb.values import seconds
 
+__version__ = "1.0.0"
+
 __all__ = [
     "BadCommand",
     "Bench",
