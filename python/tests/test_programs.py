@@ -9,6 +9,9 @@ from pathlib import Path
 import pytest
 import tsb
 from tsb import programs
+from tsb.panel.keep import Source
+from tsb.panel.run import Run
+from tsb.panel.state import state_of
 
 
 def a_program(folder: Path, name: str = "tsb") -> Path:
@@ -39,6 +42,47 @@ def test_the_first_folder_that_has_it(
     with pytest.raises(tsb.NoProgram, match="`tools/build tsb`") as told:
         programs.find("tsb")
     assert "\n" not in str(told.value)
+
+
+def test_programs_without_a_proof(
+    tmp_path: Path, monkeypatch: pytest.MonkeyPatch
+) -> None:
+    """Only where they are asked for by name; then no other is taken, and all that
+    they make is marked."""
+    proved = a_program(tmp_path / "named")
+    unproved = a_program(tmp_path / "unproved", "unproved_tsb")
+    monkeypatch.setenv("TSB_BIN", f"{unproved.parent}{os.pathsep}{proved.parent}")
+    monkeypatch.delenv("TSB_UNPROVED", raising=False)
+    assert programs.find("tsb") == proved and programs.marked("a") == "a"
+    monkeypatch.setenv("TSB_UNPROVED", str(unproved.parent))
+    assert programs.find("tsb") == unproved
+    assert programs.marked("a") == "UNPROVED: a"
+    unproved.unlink()
+    with pytest.raises(tsb.NoProgram, match="tools/look builds it"):
+        programs.find("tsb")
+
+
+def test_what_the_panel_says_of_unproved_programs(
+    examples: Path, tmp_path: Path, monkeypatch: pytest.MonkeyPatch
+) -> None:
+    """The heading of its page says so."""
+    for it in programs.PROGRAMS:
+        (tmp_path / f"unproved_{it}").symlink_to(programs.find(it))
+    monkeypatch.setenv("TSB_UNPROVED", str(tmp_path))
+    plan, log = examples / "quad.json", examples / "preempt_and_undo.log"
+    run = Run(Source.read(plan, log))
+    try:
+        assert state_of(run)["source"].startswith("UNPROVED: quad.json")
+    finally:
+        run.close()
+
+
+def test_the_version() -> None:
+    """It is told, and it is that of the change log, once it has one."""
+    words = [sys.executable, "-m", "tsb", "--version"]
+    done = subprocess.run(words, capture_output=True, text=True, check=True)
+    assert done.stdout == f"tsb {tsb.__version__}\n"
+    assert all(it.isdecimal() for it in tsb.__version__.split("."))
 
 
 def test_a_program_that_ends_badly() -> None:

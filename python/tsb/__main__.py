@@ -1,4 +1,7 @@
-"""`python3 -m tsb` lists what there is; `python3 -m tsb WORD ..` does it."""
+"""`python3 -m tsb` lists what there is; `python3 -m tsb WORD ..` does it.
+
+`python3 -m tsb --version` tells the version.
+"""
 
 import ast
 import importlib
@@ -7,7 +10,7 @@ import sys
 from collections.abc import Iterator
 from pathlib import Path
 
-from tsb import programs
+from tsb import __version__, programs
 from tsb.errors import Error, NoProgram
 
 # Modules with a function `main(words)`, which gives the status to end with.
@@ -27,7 +30,7 @@ def commands() -> Iterator[tuple[str, str]]:
 
 def listed() -> Iterator[str]:
     """What there is."""
-    yield "programs:"
+    yield programs.marked("programs:")
     for name in programs.PROGRAMS:
         try:
             yield f"  {name:9} {programs.find(name)}"
@@ -43,6 +46,9 @@ def main(words: list[str]) -> int:
         print("\n".join(listed()))
         return 0
     name, *more = words
+    if words == ["--version"]:
+        print(f"tsb {__version__}")
+        return 0
     if name not in dict(commands()):
         print(f"there is no command {name}; python3 -m tsb lists them", file=sys.stderr)
         return 2
@@ -57,5 +63,10 @@ def main(words: list[str]) -> int:
     return status
 
 
+def console() -> int:
+    """The command `tsb-py` of an installed package."""
+    return main(sys.argv[1:])
+
+
 if __name__ == "__main__":
-    sys.exit(main(sys.argv[1:]))
+    sys.exit(console())

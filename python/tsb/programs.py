@@ -2,12 +2,15 @@
 
 They are looked for in the folders of `TSB_BIN` (as many as one likes, parted as in
 `PATH`), then beside the repository that this package is part of, where
-`tools/build` leaves them, then on `PATH`.
+`tools/build` leaves them, then beside the programs of this Python's environment,
+where a wheel puts them, then on `PATH`. Where `TSB_UNPROVED` names a folder, as
+`tools/look` does, they are those alone that were built there without a proof.
 """
 
 import os
 import shutil
 import subprocess
+import sysconfig
 from collections.abc import Iterator, Sequence
 from pathlib import Path
 
@@ -21,11 +24,27 @@ def folders(name: str) -> Iterator[str]:
     """Where a program is looked for, in this order."""
     yield from filter(None, os.environ.get("TSB_BIN", "").split(os.pathsep))
     yield str(REPOSITORY / "crates" / name / "out")
+    yield sysconfig.get_path("scripts")
     yield from filter(None, os.environ.get("PATH", os.defpath).split(os.pathsep))
+
+
+def is_unproved() -> bool:
+    """Whether the programs are those that were built without a proof."""
+    return bool(os.environ.get("TSB_UNPROVED"))
+
+
+def marked(title: str) -> str:
+    """A title of what the programs made: it says so where they are unproved."""
+    return f"UNPROVED: {title}" if is_unproved() else title
 
 
 def find(name: str) -> Path:
     """The path of a program; `NoProgram` where there is none."""
+    if is_unproved():
+        path = Path(os.environ["TSB_UNPROVED"]) / f"unproved_{name}"
+        if not path.is_file():
+            raise NoProgram(f"there is no program {path}: tools/look builds it")
+        return path
     found = shutil.which(name, path=os.pathsep.join(folders(name)))
     if found is None:
         raise NoProgram(

@@ -11,6 +11,7 @@ from pathlib import Path
 from tsb.errors import Error
 from tsb.panel.keep import Keep, Source
 from tsb.panel.layout import Layout
+from tsb.programs import marked
 
 PROGRAM = "python3 -m tsb panel"
 PORTS = 65_535  # the greatest port
@@ -73,7 +74,7 @@ async def _serve(
     try:
         await web.TCPSite(runner, HOST, given.port).start()
         panel.port = runner.addresses[0][1]
-        print(f"{source.name}: {panel.address}", flush=True)
+        print(f"{marked(source.name)}: {panel.address}", flush=True)
         if given.open:
             webbrowser.open(panel.address)
         await _interrupted(panel.watch())

@@ -6,6 +6,7 @@ from tsb.manual import OBJECTS, RULES
 from tsb.panel import words
 from tsb.panel.layout import Layout, layout_of
 from tsb.panel.run import Run, is_tripped
+from tsb.programs import marked
 from tsb.status import Edits, Status
 
 GIVEN_SHOWN = 100  # inputs that a page lists, the newest
@@ -29,7 +30,7 @@ def state_of(run: Run) -> dict[str, Any]:
             {"tick": it.tick, "line": it.what.line} for it in given[-GIVEN_SHOWN:]
         ],
         "given_count": len(given),
-        "source": run.source.name,
+        "source": marked(run.source.name),
         "saved": run.is_saved,
         **_told(bench.status),
         "desk": _desk(bench.edits),

@@ -5,6 +5,7 @@ from collections.abc import Callable, Sequence
 import jinja2
 import pandas as pd
 
+from tsb.programs import marked
 from tsb.report.cells import NONE, Both, Cell, Form, Table, count, seconds, share
 from tsb.report.differences import Difference, differences
 from tsb.report.numbers import ENDS, Numbers
@@ -22,7 +23,7 @@ def page_of(both: Both, title: str | None, notes: Sequence[str]) -> str:
         loader=loader, autoescape=True, trim_blocks=True, lstrip_blocks=True
     )
     found: str = pages.get_template("page.html.j2").render(
-        title=title or f"Signal report: {named}",
+        title=marked(title or f"Signal report: {named}"),
         glance=glance(both),
         unlike=unlike(*both) if len(both) > 1 else None,
         sections=[make(both) for make in SECTIONS],
