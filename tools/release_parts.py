@@ -18,6 +18,7 @@ import time
 import tomllib
 import zipfile
 
+import manual_pages
 from proved_programs import RELEASED, Proof
 
 # The command of the package in Python, beside the programs.
@@ -46,9 +47,7 @@ class Release:
 
     def version(self) -> str:
         """The version, from the one place where it stands."""
-        found = re.search(r'^__version__ = "([^"]+)"$', (self.top / "python/tsb/__init__.py").read_text(), re.M)
-        assert found is not None
-        return found[1]
+        return manual_pages.version(self.top)
 
     def name(self) -> str:
         """The name and the version, with which each file begins."""
@@ -149,8 +148,8 @@ def debian(release: Release, to: pathlib.Path) -> None:
         for name, path in release.programs.items():
             _put(root / "usr/bin" / name, path.read_bytes(), 0o755)
         _put(root / "usr/bin" / COMMAND, CONSOLE.encode(), 0o755)
-        for name, page in manual_pages(release).items():
-            _put(root / "usr/share/man/man1" / f"{name}.gz", gzip.compress(page, 6, mtime=0))
+        for name in RELEASED:
+            _put(root / f"usr/share/man/man1/{name}.1.gz", gzip.compress(manual(release, name), 6, mtime=0))
         documents = root / "usr/share/doc/tsb"
         for it in PAGES:
             _put(documents / it, (release.top / it).read_bytes())
@@ -182,9 +181,9 @@ def _put(path: pathlib.Path, data: bytes, mode: int = 0o644) -> None:
     path.chmod(mode)
 
 
-def manual_pages(release: Release) -> dict[str, bytes]:
-    """The manual pages by their names, where there are any."""
-    return {it.name: it.read_bytes() for it in sorted((release.top / "man").glob("*.1"))}
+def manual(release: Release, name: str) -> bytes:
+    """The manual page of a program."""
+    return manual_pages.page(name, release.version()).encode()
 
 
 def archive(release: Release, to: pathlib.Path) -> None:
@@ -193,7 +192,7 @@ def archive(release: Release, to: pathlib.Path) -> None:
     listed = subprocess.run(words, cwd=release.top, capture_output=True, text=True, check=True).stdout
     files = {it: ((release.top / it).read_bytes(), 0o644) for it in [*PAGES, *filter(None, listed.split("\0"))]}
     files |= {f"bin/{it}": (release.programs[it].read_bytes(), 0o755) for it in RELEASED}
-    files |= {f"man/man1/{it}": (page, 0o644) for it, page in manual_pages(release).items()}
+    files |= {f"man/man1/{it}.1": (manual(release, it), 0o644) for it in RELEASED}
     files["PROVED.txt"] = proved(release).encode(), 0o644
     packed = io.BytesIO()
     with tarfile.open(fileobj=packed, mode="w", format=tarfile.PAX_FORMAT) as made:

@@ -100,6 +100,19 @@ def the_archive_is_whole(made: pathlib.Path, room: pathlib.Path) -> None:
     check(ran([folder / "bin/tsb", "check", folder / "examples/quad.json"], room, {}) == "plan ok\n", "tsb check")
     pages = [*release_parts.PAGES, "PROVED.txt", "docs/MANUAL.md"]
     check(all((folder / it).is_file() for it in pages), "a page is missing")
+    for name in proved_programs.RELEASED:
+        the_manual_page_is_well(folder / "man/man1" / f"{name}.1", room)
+
+
+def the_manual_page_is_well(page: pathlib.Path, room: pathlib.Path) -> None:
+    """It has its parts and no mark of the document, and groff has nothing to say of it, where there is groff."""
+    text = page.read_text()
+    check(text.startswith(f".TH {page.stem.upper()} 1 ") and ".SH SYNOPSIS\n" in text, f"{page.name}: its head")
+    check(not re.search(r"\*\*|`|^\|", text, re.M) and text.count("\n.TP\n") > 5, f"{page.name}: its marks")
+    if shutil.which("groff", path=os.defpath):
+        words = ["groff", "-man", "-ww", "-Tutf8", str(page)]
+        done = subprocess.run(words, cwd=room, capture_output=True, text=True, timeout=SECONDS)
+        check(done.returncode == 0 and not done.stderr, f"{page.name}: {done.stderr}")
 
 
 def the_sums_are_right(made: pathlib.Path, _room: pathlib.Path) -> None:
@@ -118,7 +131,7 @@ def it_is_made_alike(made: pathlib.Path, room: pathlib.Path, release: release_pa
 
 def it_refuses(room: pathlib.Path, programs: dict[str, pathlib.Path]) -> None:
     """What is not clean, not proved, proved of another commit, or not the program that was proved."""
-    tools = ["release", "release_parts.py", "proved_programs.py"]
+    tools = ["release", "release_parts.py", "proved_programs.py", "manual_pages.py"]
     for name in [*(f"tools/{it}" for it in tools), "python/tsb/__init__.py", "CHANGELOG.md", ".gitignore"]:
         (room / name).parent.mkdir(parents=True, exist_ok=True)
         shutil.copy2(TOP / name, room / name)
