@@ -25,6 +25,7 @@ from itertools import takewhile
 import stored_cases
 from mangled_texts import mangled
 from option_families import broken_plans, family_of, options
+from reference_options import with_options
 from session_families import FAMILIES, brisk, odd_words
 from trip_families import trips
 
@@ -49,7 +50,7 @@ class Reference:
         sys.path[:0] = [folder, os.path.join(folder, "py")]
         self.even = importlib.import_module("gen")
         self.late = importlib.import_module("gen_late")
-        self.bench = importlib.import_module("tsb_oracle")
+        self.bench = with_options(importlib.import_module("tsb_oracle"))
 
     def accepts(self, plan):
         """Whether a plan has no fault."""

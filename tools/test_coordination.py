@@ -27,6 +27,7 @@ from typing import Any
 import coordinated_plans
 from counters_in_step import Counters
 from recycled_walks import Walks, Watch
+from reference_options import with_options
 from served_calls import SIDES, is_called
 
 CYCLES = 8
@@ -72,7 +73,7 @@ def reference(folder: str) -> Any:
     """The module of the reference that takes inputs."""
     sys.dont_write_bytecode = True
     sys.path[:0] = [os.path.join(folder, "py")]
-    return importlib.import_module("tsb_oracle")
+    return with_options(importlib.import_module("tsb_oracle"))
 
 
 def rows(rng: random.Random) -> Iterator[tuple[tuple[bool, ...], ...]]:

@@ -21,6 +21,7 @@ import random
 import sys
 
 import served_calls
+from reference_options import with_options
 
 LISTS = {"Track": "preemptTrackPhase", "Dwell": "preemptDwellPhase", "Exit": "preemptExitPhase"}
 
@@ -29,7 +30,7 @@ def reference(folder):
     """The modules of the reference: that which makes plans at random, and that which takes inputs."""
     sys.dont_write_bytecode = True
     sys.path[:0] = [folder, os.path.join(folder, "py")]
-    return importlib.import_module("gen"), importlib.import_module("tsb_oracle")
+    return importlib.import_module("gen"), with_options(importlib.import_module("tsb_oracle"))
 
 
 # --- runs ---
