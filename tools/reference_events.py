@@ -512,14 +512,11 @@ def commands_of(bench: Any, text: bytes) -> Iterator[Given]:
             yield command
 
 
-def replayed(reference: Reference, plan: dict[str, list[int]], inputs: list[Given]) -> Iterator[Event]:
-    """The events of inputs from power-up on, one input after the other."""
-    bench = reference.bench
-    state, row = bench.power_up(plan, bench.V2), bench.OFF
-    for given in inputs:
-        after = bench.step(state, given)
-        yield from events_of(reference, state, given, after, row)
-        state = after
+def replayed(reference: Reference, session: Any) -> Iterator[Event]:
+    """The events of the inputs that remain of a session, one input after the other."""
+    row = reference.bench.OFF
+    for before, given, after in zip(session.states, session.inputs, session.states[1:]):
+        yield from events_of(reference, before, given, after, row)
         if given[0] == "tick":
             row = given[1]
 
@@ -542,5 +539,4 @@ def record(reference: Reference, plan: bytes, log: bytes, commands: bytes, from_
         return None
     for command in commands_of(reference.bench, commands):
         session.answer(command, [])
-    events = replayed(reference, session.states[0].plan, session.inputs)
-    return HEADER + b"".join(spelled(event, from_time, device) for event in events)
+    return HEADER + b"".join(spelled(event, from_time, device) for event in replayed(reference, session))

@@ -2,12 +2,15 @@
 
 `with_options` gives the module `tsb_oracle` of a reference the seven objects of docs/MANUAL.md, "Coordination options":
 `coordForceMode`, `coordMaximumMode`, `coordCorrectionMode`, `coordCorrectionLimit`, `patternPermissiveTime`,
-`patternLeadLag` and `phasePedestrianRecycle`, with K23 and what `patternLeadLag` changes of K20. It replaces the
-functions of the module that an option changes. The tick of the reference is taken as it is: it is not told the local
-counter, but which greens a pattern ends in this tick. What a tick without options finds stays the reference's own.
+`patternLeadLag` and `phasePedestrianRecycle`, with K23 and what `patternLeadLag` changes of K20. All tools that take
+`--reference FOLDER` do so; a reference that has the options stays as it is.
 
-Each rule is that of chapter 8. Nothing here is fast, and nothing of it comes from the program. The options are those of
-plans of version 2: the reference's smaller numbers of phases stay without.
+It replaces the functions that an option changes. The tick of the reference itself is taken as it is. It is not told the
+local counter, by which it would force phases off, but which greens the pattern ends for a conflict in this tick: as
+though these had been forced off before. What such a tick leaves of that is then put right.
+
+Each rule is that of chapter 8 of docs/MANUAL.md. Nothing here is fast, and nothing of it comes from the program. The
+options are those of the final numbers of phases and sides alone.
 """
 import functools
 from collections.abc import Iterator
@@ -19,14 +22,12 @@ Row = tuple[tuple[bool, ...], ...]
 Given = tuple[Any, ...]
 Plan = dict[str, list[int]]
 
-# The objects of the options, each with how many indices it has and its greatest value.
+# The objects of the options, each with how many indices it has and its greatest value. They come last, in this order,
+# in the plan that a live session tells (docs/LIVE.md).
 OBJECTS = {
-    "phasePedestrianRecycle": (16, 1), "coordForceMode": (1, 2), "coordMaximumMode": (1, 2),
-    "coordCorrectionMode": (1, 3), "coordCorrectionLimit": (1, 50), "patternPermissiveTime": (16, 255),
-    "patternLeadLag": (16, 1),
+    "coordForceMode": (1, 2), "coordMaximumMode": (1, 2), "patternPermissiveTime": (16, 255), "patternLeadLag": (16, 1),
+    "phasePedestrianRecycle": (16, 1), "coordCorrectionMode": (1, 3), "coordCorrectionLimit": (1, 50),
 }
-# What names of objects begin with, in the order of docs/MANUAL.md.
-GROUPS = "phase vehicleDetector pedestrianDetector overlap coord pattern split sequence preempt unit".split()
 # What a state has besides: the tick of the newest selection, how far ahead the counter was then, and whether it is kept
 # from the tick of the reference.
 FIELDS = ("since", "ahead", "is_blind")
@@ -46,14 +47,14 @@ class Pattern:
 
     def __init__(self, bench: Any, plan: Plan, lim: Limits, number: int):
         self.plan, self.number, self.cycle = plan, number, 10 * plan["patternCycleTime"][number]
-        self.table = lim.phases * (plan["patternSplitNumber"][number] - 1)
-        phases = bench.enabled(plan, lim)
+        self.table: int = lim.phases * (plan["patternSplitNumber"][number] - 1)
+        phases: list[int] = bench.enabled(plan, lim)
         held = [p for p in phases if self.of_split("splitCoordPhase", p)]
         # That of ring 1 first: instants are counted from the end of its split.
         self.coord = sorted(held, key=lambda p: plan["phaseRing"][p])
         self.first = self.coord[0]
         order, table = plan["patternSequenceNumber"][number], plan["patternSplitNumber"][number]
-        ends = {p: bench.ends_at(plan, lim, order, table, p) for p in phases}
+        ends: dict[int, int] = {p: bench.ends_at(plan, lim, order, table, p) for p in phases}
         self.fo = {p: (10 * (ends[p] - ends[self.first]) - self.clearance(p)) % self.cycle for p in phases}
 
     def of_split(self, name: str, phase: int) -> int:
@@ -88,22 +89,24 @@ class Pattern:
 
 def correction(state: State) -> tuple[int, int]:
     """The correction mode of the plan in effect, and its limit in percent: all modes but dwell are 0 with limit 0."""
-    mode, limit = state.plan["coordCorrectionMode"][1], state.plan["coordCorrectionLimit"][1]
+    plan: Plan = state.plan
+    mode, limit = plan["coordCorrectionMode"][1], plan["coordCorrectionLimit"][1]
     return (AT_ONCE if limit == 0 and mode != DWELL else mode), limit
 
 
 def waited(ticks: int, way: int, most: int, cycle: int) -> int:
-    """How many of so many ticks a dwelling counter has stood still, which is so many ticks before its waiting place at
-    first: that is so many ticks at most each time that it is there, a cycle after each other."""
+    """How many of so many ticks a counter has stood still that dwells: it has a way to go to its waiting place, stands
+    there for `most` ticks, and is there again a cycle later."""
     whole, more = divmod(max(0, ticks - way), most + cycle)
     return whole * most + min(more, most)
 
 
 class Counter:
-    """A local counter that comes into step, in ticks behind the newest selection."""
+    """The local counter of a pattern that runs: it comes into step from where it stood at the newest selection."""
 
     def __init__(self, pattern: Pattern, state: State):
-        self.pattern, self.since, self.ahead = pattern, state.since, state.ahead % pattern.cycle
+        self.pattern, self.since = pattern, int(state.since)
+        self.ahead = int(state.ahead) % pattern.cycle
         self.mode, self.limit = correction(state)
 
     def ahead_at(self, tick: int) -> int:
@@ -117,7 +120,7 @@ class Counter:
         return self.ahead - min(lost, self.ahead)
 
     def dwelled(self, ticks: int) -> int:
-        """How many of so many ticks it has stood still at its waiting place, if it is never in step."""
+        """How many of so many ticks it has stood still at its waiting place, where it is not in step before."""
         pattern = self.pattern
         most = max(1, pattern.cycle * self.limit // 100) if self.limit else pattern.cycle
         stood = pattern.in_step(self.since) + self.ahead
@@ -153,7 +156,7 @@ def has_maxed_out(pattern: Pattern, state: State, phase: int) -> bool:
     name = PATTERN_MAXIMUMS.get(pattern.plan["coordMaximumMode"][1])
     if name is None or phase in pattern.coord:
         return False
-    stood = 0 if state.conf[phase] is None else state.conf[phase] + 1
+    stood: int = 0 if state.conf[phase] is None else state.conf[phase] + 1
     return stood >= 10 * pattern.plan[name][phase]
 
 
@@ -274,11 +277,11 @@ class Options:
         is_on = plan["phasePedestrianRecycle"][phase] == 1
         return is_on and rests and called and not after.forced[phase] and left >= time
 
-    # --- what other functions give ---
+    # --- heads, and other inputs ---
 
     def overlap(self, state: State, number: int) -> str:
         """What an overlap shows: red without asking further where it includes no phase, as most do."""
-        return self.old["overlap"](state, number) if state.plan["overlapIncludedPhases"][number] else "R"
+        return str(self.old["overlap"](state, number)) if state.plan["overlapIncludedPhases"][number] else "R"
 
     def step(self, before: State, given: Given) -> State:
         """The state after an input."""
@@ -318,24 +321,16 @@ def state_with_options(base: Any) -> Any:
     return type("State", (base,), {"__slots__": (*base.__slots__, *FIELDS)})
 
 
-def ordered(objects: dict[str, tuple[int, int]]) -> dict[str, tuple[int, int]]:
-    """Objects in the order of docs/MANUAL.md."""
-    def place(name: str) -> int:
-        return next(at for at, group in enumerate(GROUPS) if name.startswith(group))
-
-    return {name: objects[name] for name in sorted(objects, key=place)}
-
-
 def with_options(bench: Any) -> Any:
     """The module of a reference, which has the options from now on. One that had them stays as it was."""
     if OBJECTS.keys() <= bench.V2.objects.keys():
         return bench
     options = Options(bench)
-    bench.V2.objects = ordered(bench.V2.objects | OBJECTS)
+    bench.V2.objects |= OBJECTS
     bench.State = state_with_options(bench.State)
     for name in (*REPLACED, "local_at", "ahead_at"):
         setattr(bench, name, getattr(options, name))
-    # (half of the time of a tick goes into these lists, which nothing changes)
+    # (a quarter of the time goes into these lists, which nothing changes)
     bench.members = functools.cache(bench.members)
     bench.correction = correction
     bench.Pattern = lambda plan, lim, number: Pattern(bench, plan, lim, number)
