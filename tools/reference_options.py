@@ -13,14 +13,15 @@ Each rule is that of chapter 8 of docs/MANUAL.md. Nothing here is fast, and noth
 options are those of the final numbers of phases and sides alone.
 """
 import functools
-from collections.abc import Iterator
-from typing import Any
+from collections.abc import Callable, Iterator
+from typing import Any, TypeVar
 
 State = Any  # a state of the reference
 Limits = Any  # its numbers of phases and sides, and its objects
 Row = tuple[tuple[bool, ...], ...]
 Given = tuple[Any, ...]
 Plan = dict[str, list[int]]
+Found = TypeVar("Found")
 
 # The objects of the options, each with how many indices it has and its greatest value. They come last, in this order,
 # in the plan that a live session tells (docs/LIVE.md).
@@ -28,9 +29,6 @@ OBJECTS = {
     "coordForceMode": (1, 2), "coordMaximumMode": (1, 2), "patternPermissiveTime": (16, 255), "patternLeadLag": (16, 1),
     "phasePedestrianRecycle": (16, 1), "coordCorrectionMode": (1, 3), "coordCorrectionLimit": (1, 50),
 }
-# What a state has besides: the tick of the newest selection, how far ahead the counter was then, and whether it is kept
-# from the tick of the reference.
-FIELDS = ("since", "ahead", "is_blind")
 # The functions of the reference that are replaced.
 REPLACED = ("clear", "local_of", "check", "tick", "step", "overlap")
 
@@ -316,9 +314,32 @@ class Options:
         return min((rule for rule in self.rules(plan, lim) if rule is not None), default=None)
 
 
-def state_with_options(base: Any) -> Any:
-    """The class of states that have the options' fields besides."""
-    return type("State", (base,), {"__slots__": (*base.__slots__, *FIELDS)})
+class OptionState:
+    """A state of the reference, with what a state of a controller with options has besides: the tick of the newest
+    selection (`since`), how far `ahead` the counter was then, and whether it `is_blind` to the counter."""
+
+    def copy(self) -> "OptionState":
+        """Another state with the same fields."""
+        made = OptionState.__new__(OptionState)
+        made.__dict__.update(self.__dict__)
+        return made
+
+
+def kept(function: Callable[..., Found]) -> Callable[..., Found]:
+    """A function of a plan and other things that keeps what it finds, as long as it is asked of one plan: plans stay as
+    they are, and so do lists that are found of them."""
+    newest: list[Plan] = [{}]
+    found: dict[tuple[Any, ...], Found] = {}
+
+    def asked(plan: Plan, *others: Any) -> Found:
+        if plan is not newest[0]:
+            newest[0] = plan
+            found.clear()
+        if others not in found:
+            found[others] = function(plan, *others)
+        return found[others]
+
+    return asked
 
 
 def with_options(bench: Any) -> Any:
@@ -327,11 +348,12 @@ def with_options(bench: Any) -> Any:
         return bench
     options = Options(bench)
     bench.V2.objects |= OBJECTS
-    bench.State = state_with_options(bench.State)
+    bench.State = OptionState
     for name in (*REPLACED, "local_at", "ahead_at"):
         setattr(bench, name, getattr(options, name))
-    # (a quarter of the time goes into these lists, which nothing changes)
+    # (else these are found anew, many times in a tick)
     bench.members = functools.cache(bench.members)
+    bench.enabled, bench.ends_at = kept(bench.enabled), kept(bench.ends_at)
     bench.correction = correction
     bench.Pattern = lambda plan, lim, number: Pattern(bench, plan, lim, number)
     return bench
