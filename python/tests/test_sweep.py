@@ -1,19 +1,25 @@
-"""Tests of tsb.sweep with the programs of the bench, on clusters of processes."""
+"""Tests of tsb.sweep with the programs of the bench, on processes of this machine."""
 
+import importlib
 import os
+import resource
 import signal
+import subprocess
+import sys
 import threading
 import time
 from collections.abc import Iterator
+from contextlib import suppress
 from pathlib import Path
 from typing import Any
 
 import pandas as pd
 import pytest
 
-from tsb import Error, Plan, frames, measures, programs
+from tsb import Error, Plan, frames, kept, measures, programs
+from tsb.processes import local
 from tsb.sumo import crossroads
-from tsb.sweep import Runs, SweepFailed, local, main, sweep
+from tsb.sweep import Runs, SweepFailed, main, sweep
 from tsb.tasks import Day, Traffic, one_run, record
 
 SECONDS = 600
@@ -21,8 +27,22 @@ SECONDS = 600
 
 @pytest.fixture(scope="session")
 def cluster() -> Iterator[Any]:
-    """A cluster of four processes."""
+    """Four processes."""
     with local(4) as client:
+        yield client
+
+
+@pytest.fixture
+def dask() -> Iterator[Any]:
+    """A cluster of Dask that runs already, with a process."""
+    distributed = importlib.import_module("distributed")
+    with (
+        distributed.LocalCluster(
+            n_workers=1, threads_per_worker=1, processes=True, silence_logs=50,
+            dashboard_address=None, worker_dashboard_address="127.0.0.1:0",
+        ) as cluster,
+        distributed.Client(cluster) as client,
+    ):  # fmt: skip
         yield client
 
 
@@ -225,7 +245,7 @@ def test_the_command(
     assert main([str(plans[0]), str(bad), *words]) == 1
     told = capsys.readouterr()
     assert told.out.startswith("2 runs done, 2 of them now, 2 failed\n")
-    assert told.err.count("PlanFault: plan: rule K1: ") == 2
+    assert told.err.count("PlanFault: plan: rule K1: ") == 1  # (of both days)
     assert told.err.count("bad.2026-11-2") == 2 and "cure: " in told.err
     assert main([str(plans[0]), *words]) == 0
     assert capsys.readouterr().out.startswith("2 runs done, 0 of them now, 0 failed\n")
@@ -234,24 +254,211 @@ def test_the_command(
 
 
 def test_the_command_on_a_cluster_that_runs_already(
-    cluster: Any, plans: list[Path], days: list[Path], tmp_path: Path
+    dask: Any, plans: list[Path], days: list[Path], tmp_path: Path
 ) -> None:
     """Its workers do the runs, and it is there afterwards."""
     words = [str(plans[0]), "--days", str(days[0]), "--out", str(tmp_path)]
     words += ["--begin", "07:00:00", "--seconds", "60", "--device", "7"]
-    assert main([*words, "--scheduler", cluster.scheduler.address]) == 0
+    assert main([*words, "--scheduler", dask.scheduler.address]) == 0
     table = pd.read_csv(tmp_path / "all_runs.txt")
     assert set(table["day"]) == {days[0].stem} and len(table) > 0
-    assert cluster.submit(os.getpid).result() != os.getpid()
+    assert dask.submit(os.getpid).result() != os.getpid()
+    out = tmp_path / "failed"
+    with pytest.raises(SweepFailed, match="ValueError: it has a delay"):
+        sweep(plans, days[:1], [none_with_delays], dask, out=out, **HOURS)
 
 
 def test_a_run_is_safe_to_run_twice(
     plans: list[Path], days: list[Path], tmp_path: Path
 ) -> None:
     task = Day(str(plans[0]), str(days[0]), "07:00:00", SECONDS, "7", 0)
-    found = Runs([task], ["greens"], tmp_path)
-    (path,) = found.paths
-    one_run(task, path, ["greens"])
-    before = Path(path).read_bytes()
-    one_run(task, path, ["greens"])
-    assert Path(path).read_bytes() == before and len(list(tmp_path.iterdir())) == 1
+    (name,) = Runs([task], ["greens"], tmp_path).missing
+    path = tmp_path / one_run(task, str(tmp_path), name, ["greens"])
+    before = path.read_bytes()
+    one_run(task, str(tmp_path), name, ["greens"])
+    assert path.read_bytes() == before and len(list(tmp_path.iterdir())) == 1
+    assert Runs([task], ["greens"], tmp_path).missing == []
+
+
+def test_a_result_that_is_not_whole_is_made_again(
+    cluster: Any, plans: list[Path], days: list[Path], tmp_path: Path
+) -> None:
+    def swept() -> pd.DataFrame:
+        asked = ["splits"]
+        return sweep(plans[:1], days[:1], asked, cluster, out=tmp_path, **HOURS)
+
+    table = swept()
+    (path,) = tmp_path.iterdir()
+    text = path.read_bytes()
+    lines = text.splitlines(keepends=True)
+    others = [b"", text[:-1], b"".join(lines[:-1]), b"\0" * len(text), b"a,b\n1,2\n"]
+    for other in others:
+        path.write_bytes(other)
+        pd.testing.assert_frame_equal(swept(), table)
+        assert [it.read_bytes() for it in tmp_path.iterdir()] == [text]
+    # one that was made by something else under the name of this run goes
+    path.rename(path.with_name(path.name[:-5] + "0.csv"))
+    pd.testing.assert_frame_equal(swept(), table)
+    assert list(tmp_path.iterdir()) == [path]
+    # of a folder in its place it is told
+    path.unlink()
+    path.mkdir()
+    with pytest.raises(SweepFailed, match=f"{tmp_path}: Is a directory"):
+        swept()
+    assert list(tmp_path.iterdir()) == [path]
+
+
+def too_large(events: pd.DataFrame, plan: Plan) -> pd.DataFrame:
+    """A measure whose table the disk does not take: no file may be over 64 KiB."""
+    resource.setrlimit(resource.RLIMIT_FSIZE, (1 << 16, resource.RLIM_INFINITY))
+    return pd.DataFrame({"row": range(100_000)})
+
+
+def test_a_disk_that_is_full_is_told_and_nothing_is_left(
+    plans: list[Path], days: list[Path], tmp_path: Path
+) -> None:
+    out = tmp_path / "out"
+    with local(1) as client, pytest.raises(SweepFailed) as failed:
+        sweep(plans[:1], days, [too_large], client, out=out, **HOURS)
+    assert len(failed.value.failures) == 2 and list(out.iterdir()) == []
+    assert set(failed.value.failures.values()) == {f"{out}: File too large"}
+
+
+def test_the_summary_is_there_as_a_whole_or_as_it_was(tmp_path: Path) -> None:
+    path = tmp_path / "all_runs.txt"
+    kept.write(path, b"before\n")
+    words = "import resource, sys; from pathlib import Path; from tsb import kept\n"
+    words += "resource.setrlimit(resource.RLIMIT_FSIZE, (4096, 4096))\n"
+    words += "kept.write(Path(sys.argv[1]), bytes(5000))\n"
+    done = subprocess.run([sys.executable, "-c", words, path], stderr=subprocess.PIPE)
+    assert done.returncode == 1 and b"File too large" in done.stderr
+    assert list(tmp_path.iterdir()) == [path] and path.read_bytes() == b"before\n"
+
+
+def test_parts_that_a_dead_process_left_go(tmp_path: Path) -> None:
+    old, young, other = (
+        tmp_path / name for name in (f".{'0' * 32}.part", f".{'1' * 32}.part", ".part")
+    )
+    for path in (old, young, other):
+        path.write_bytes(b"some")
+        if path is not young:
+            os.utime(path, (1, 1))
+    kept.tidy(tmp_path)
+    assert sorted(tmp_path.iterdir()) == sorted([young, other])
+
+
+def heard(events: pd.DataFrame, plan: Plan) -> pd.DataFrame:
+    """A measure of the processes: how many sockets of it and of its parent wait for
+    callers, and whether Ctrl-C comes to it."""
+    ends = set()
+    for pid in (os.getpid(), os.getppid()):
+        for it in Path(f"/proc/{pid}/fd").iterdir():
+            with suppress(FileNotFoundError):
+                ends.add(os.readlink(it))
+    waiting = 0
+    for name in ("tcp", "tcp6"):
+        for line in Path(f"/proc/net/{name}").read_text().splitlines()[1:]:
+            fields = line.split()
+            waiting += fields[3] == "0A" and f"socket:[{fields[9]}]" in ends
+    named = [it for it in Path("/proc/net/unix").read_text().split() if "tsb" in it]
+    is_deaf = signal.SIGINT in signal.pthread_sigmask(signal.SIG_BLOCK, ())
+    return pd.DataFrame({"heard": [waiting + len(named)], "is_deaf": [is_deaf]})
+
+
+def test_nobody_else_hears_a_sweep(
+    plans: list[Path], days: list[Path], tmp_path: Path
+) -> None:
+    table = sweep(plans[:1], days, [heard], **HOURS)
+    assert list(table["heard"]) == [0, 0] and list(table["is_deaf"]) == [True, True]
+
+
+def dies(events: pd.DataFrame, plan: Plan) -> pd.DataFrame:
+    """A measure that ends its process, for a plan without a delay of a preempt."""
+    if not plan["preemptDelay"]:
+        os.kill(os.getpid(), signal.SIGKILL)
+    return pd.DataFrame({"events": [len(events)]})
+
+
+def test_a_run_that_kills_its_process_is_told(
+    plans: list[Path], days: list[Path]
+) -> None:
+    """It is tried three times, and the runs beside it are done."""
+    with local(2) as client, pytest.raises(SweepFailed) as failed:
+        sweep(plans, days, [dies], client, **HOURS)
+    assert set(failed.value.failures.values()) == {"its process died, 3 times"}
+    assert all(it.startswith("quad.") for it in failed.value.failures)
+    assert list(failed.value.table["plan"]) == ["main_and_oak"] * 2
+
+
+def test_what_processes_cannot_find(plans: list[Path], days: list[Path]) -> None:
+    words = "import sys, tsb.sweep as s\n"
+    words += "def mine(events, plan): pass\n"
+    words += "s.sweep(sys.argv[1:2], sys.argv[2:3], [mine])\n"
+    done = subprocess.run(
+        [sys.executable, "-c", words, plans[0], days[0]], capture_output=True
+    )
+    assert b"Error: mine: write this measure into a module" in done.stderr
+    with local(1) as client, pytest.raises(SweepFailed, match="pickle"):
+        sweep(plans[:1], days[:1], [lambda events, plan: events], client, **HOURS)
+
+
+@pytest.mark.parametrize("number", [signal.SIGINT, signal.SIGTERM, signal.SIGKILL])
+def test_a_sweep_that_is_stopped_leaves_nothing(
+    plans: list[Path], days: list[Path], tmp_path: Path, number: signal.Signals
+) -> None:
+    """Ctrl-C and SIGTERM are a line; and whoever kills it finds the room empty."""
+    out, room = tmp_path / "out", tmp_path / "room"
+    room.mkdir()
+    words = [sys.executable, "-m", "tsb", "sweep", *map(str, plans), "--workers", "2"]
+    words += ["--days", *map(str, days), "--begin", "07:00:00", "--device", "7"]
+    begun = subprocess.Popen(
+        [*words, "--out", str(out)], start_new_session=True, text=True,
+        stdout=subprocess.PIPE, stderr=subprocess.PIPE,
+        env={**os.environ, "TMPDIR": str(room)},
+    )  # fmt: skip
+    until = time.monotonic() + 60
+    while not list(room.glob("*/*")) and time.monotonic() < until:
+        time.sleep(0.01)
+    if number == signal.SIGKILL:
+        begun.kill()
+    else:  # (Ctrl-C goes to all processes of a terminal)
+        os.killpg(begun.pid, number)
+    said = begun.communicate(timeout=60)[1]
+    while list(room.iterdir()) and time.monotonic() < until:
+        time.sleep(0.01)
+    assert list(room.iterdir()) == [] and list(out.glob(".*")) == []
+    if number != signal.SIGKILL:
+        assert begun.returncode == 130
+        assert said.startswith("stopped: ") and said.count("\n") == 1
+        assert "of 4 runs are kept, the same command does the others" in said
+
+
+def test_words_that_cannot_be(
+    plans: list[Path],
+    days: list[Path],
+    tmp_path: Path,
+    capsys: pytest.CaptureFixture[str],
+) -> None:
+    words = [str(plans[0]), "--days", str(days[0]), "--out"]
+    for count in ("-1", "0"):
+        with pytest.raises(SystemExit):
+            main([*words, str(tmp_path), "--workers", count])
+        assert "--workers: invalid" in capsys.readouterr().err
+    with pytest.raises(Error, match="-1 processes do nothing"), local(-1):
+        pass
+    for out, said in (
+        (plans[0], "File exists"),
+        (plans[0] / "below", "Not a directory"),
+        (Path("/proc/tsb"), "No such file"),
+    ):
+        with pytest.raises(Error, match=f"{out}: {said}"):
+            main([*words, str(out)])
+    # names tell runs apart in the tables
+    other = tmp_path / plans[0].name
+    other.write_bytes(plans[1].read_bytes())
+    with pytest.raises(Error, match="two plans of one name: .*quad.json: rename one"):
+        sweep([plans[0], other], days)
+    day = tmp_path / days[0].name
+    day.write_bytes(days[1].read_bytes())
+    with pytest.raises(Error, match="two days of one name: "):
+        sweep(plans, [days[0], day])

@@ -1,38 +1,54 @@
-"""Many plans on many days, or on many seeds of SUMO's traffic, by Dask.
+"""Many plans on many days, or on many seeds of SUMO's traffic, on all processors.
 
 Each run is a task: one process that reads files and writes one file of a table. A task
 can be run twice, and is run again where its worker died. So a sweep can be stopped and
-started again: what is in the folder of results is not run anew, unless its plan, its
-day or what was asked is another now.
+started again: what is whole in the folder of results is not run anew, unless its plan,
+its day or what was asked is another now.
 """
 
 import argparse
 import importlib
 import itertools
-import os
+import signal
 import sys
 import tempfile
 import uuid
-from collections.abc import Iterable, Iterator, Sequence
+from collections.abc import Generator, Iterable, Iterator, Mapping, Sequence
 from contextlib import contextmanager, nullcontext
 from dataclasses import asdict
 from pathlib import Path
+from types import FrameType
 from typing import Any
 
 import pandas as pd
 
+from tsb import kept
 from tsb.errors import Error
 from tsb.measures import MEASURES
+from tsb.processes import RETRIES, Processes, local
 from tsb.progress import progress
-from tsb.tasks import TRIPS, AnyPath, Day, Measure, Seed, Task, Traffic, key_of, one_run
+from tsb.tasks import (
+    TRIPS,
+    AnyPath,
+    Day,
+    Measure,
+    Seed,
+    Task,
+    Traffic,
+    key_of,
+    name_of,
+    one_run,
+    tried,
+)
 
-RETRIES = 2
+#: The name of a run, and what went wrong with it.
+Ended = tuple[str, str | None]
 SUMMARY = "all_runs.txt"  # in the folder of results, the tables of all runs
 
 
 class SweepFailed(Error):
-    """Some runs failed, after they were tried again: `failures` has what each said,
-    by the name of its file; `table` has the others."""
+    """Some runs failed: `failures` has what each said, by its name, and `table` has
+    the others."""
 
     def __init__(self, failures: dict[str, str], table: pd.DataFrame) -> None:
         first, said = next(iter(failures.items()))
@@ -59,10 +75,10 @@ def sweep(
 
     `logs` are files of days or of inputs, and `begin`, `seconds`, `device`, `pattern`
     what `Day` says of them. The table has the columns `plan`, `day`, `measure` and
-    those of the measures, empty where a measure has no such column. `client` is Dask's;
-    without one, processes of this machine do the runs. Results are kept in the folder
-    `out`, and taken from there. Files are read and written by the workers, so those of
-    other machines have to see them under the same names.
+    those of the measures, empty where a measure has no such column. `client` is Dask's,
+    or what `local` gives; without one, processes of this machine do the runs. Results
+    are kept in the folder `out`, and taken from there. Files are read and written by
+    the workers, so those of other machines have to see them under the same names.
 
     `SweepFailed` says which runs failed; all others were done.
     """
@@ -130,26 +146,6 @@ def _whole(traffic: Traffic) -> Traffic:
     return Traffic(**said)
 
 
-@contextmanager
-def local(workers: int | None = None) -> Iterator[Any]:
-    """A client of so many processes of this machine, one for each processor. They have
-    a folder of their own for a while, since a machine may have several users."""
-    dask = _dask()
-    with (
-        tempfile.TemporaryDirectory(prefix="tsb-sweep-") as room,
-        dask.LocalCluster(
-            n_workers=workers or os.cpu_count(),
-            threads_per_worker=1,
-            processes=True,
-            local_directory=room,
-            dashboard_address="127.0.0.1:0",
-            silence_logs=50,
-        ) as cluster,
-        dask.Client(cluster) as client,
-    ):
-        yield client
-
-
 def _dask() -> Any:
     """Dask's cluster, which needs a second to be imported."""
     return importlib.import_module("distributed")
@@ -168,41 +164,88 @@ class Runs:
             )
         if unknown and any(isinstance(it, Day) for it in tasks):
             raise Error(f"{TRIPS}: a day has none, but traffic of SUMO alone")
-        folder.mkdir(parents=True, exist_ok=True)
-        self._measures = list(measures)
-        self.paths: dict[str, Task] = {}
+        _apart("plans", {it.plan for it in tasks})
+        _apart("days", {it.source for it in tasks if isinstance(it, Day)})
+        self._measures, self._folder = list(measures), folder.resolve()
+        self.names: dict[str, Task] = {}
         for it in tasks:
-            name = f"{Path(it.plan).stem}.{it.name}.{key_of(it, measures)}.csv"
-            self.paths[str(folder.resolve() / name)] = it
-        if len(self.paths) < len(tasks):
+            name = f"{Path(it.plan).stem}.{it.name}.{key_of(it, measures)}"
+            self.names[name] = it
+        if len(self.names) < len(tasks):
             raise Error("the same run comes twice")
-        self.missing = [it for it in self.paths if not Path(it).exists()]
+        try:
+            self._folder.mkdir(parents=True, exist_ok=True)
+            kept.tidy(self._folder)
+        except OSError as fault:
+            raise Error(f"{folder}: {fault.strerror}") from None
+        self.kept = kept.whole(self._folder, self.names)
+        self.missing = [it for it in self.names if it not in self.kept]
         self.failures: dict[str, str] = {}
 
     def run(self, client: Any) -> None:
-        """Runs what is missing."""
+        """Runs what is missing, on processes of this machine or on those of Dask."""
+        own = isinstance(client, Processes)
+        done = self._here(client) if own else self._by_dask(client)
+        try:
+            for name, said in progress(done, "sweep", len(self.missing)):
+                if said is not None:
+                    self.failures[name] = said
+        finally:
+            done.close()
+            self.kept = kept.whole(self._folder, self.names)
+
+    def _words(self, name: str) -> tuple[Task, str, str, list[Measure]]:
+        """What a run is asked by."""
+        return self.names[name], str(self._folder), name, self._measures
+
+    def _here(self, workers: Processes) -> Generator[Ended, None, None]:
+        """The names of the runs, each with what went wrong."""
+        for it in self._measures:
+            if not isinstance(it, str) and _is_of_session(it):
+                what = "write this measure into a module, which processes can import"
+                raise Error(f"{name_of(it)}: {what}")
+        work = [self._words(it) for it in self.missing]
+        for words, said in workers.done(tried, work):
+            yield words[2], said
+
+    def _by_dask(self, client: Any) -> Generator[Ended, None, None]:
+        """As `_here`, on a cluster."""
         waiting = {
             client.submit(
-                one_run, self.paths[it], it, self._measures,
-                key=f"tsb {Path(it).name} {uuid.uuid4().hex}", retries=RETRIES,
+                one_run, *self._words(it),
+                key=f"tsb {it} {uuid.uuid4().hex}", retries=RETRIES,
             ): it
             for it in self.missing
         }  # fmt: skip
-        done = _dask().as_completed(list(waiting))
-        for future in progress(done, "sweep", len(waiting)):
-            if future.status != "finished":
-                fault = future.exception()
-                name = Path(waiting[future]).name
-                self.failures[name] = f"{type(fault).__name__}: {fault}"
+        for future in _dask().as_completed(list(waiting)):
+            fault = None if future.status == "finished" else future.exception()
+            said = None if fault is None else f"{type(fault).__name__}: {fault}"
+            yield waiting[future], said
 
     def table(self) -> pd.DataFrame:
         """The tables of all that is done, as one: whole numbers stay whole where a
         measure has no such column."""
-        there = [it for it in self.paths if Path(it).exists()]
+        there = [self.kept[it] for it in self.names if it in self.kept]
         if not there:
             return pd.DataFrame(columns=["plan", "day", "measure"])
         found = pd.concat([pd.read_csv(it) for it in there], ignore_index=True)
         return found.convert_dtypes()
+
+
+def _apart(what: str, files: Iterable[str]) -> None:
+    """In the tables a plan and a day are the names of their files alone."""
+    named: dict[str, str] = {}
+    for it in sorted(files):
+        other = named.setdefault(Path(it).stem, it)
+        if other != it:
+            raise Error(f"two {what} of one name: {other} and {it}: rename one")
+
+
+def _is_of_session(measure: Any) -> bool:
+    """Whether a function was written in a session or a notebook, where no process
+    finds it."""
+    has_file = hasattr(sys.modules["__main__"], "__file__")
+    return getattr(measure, "__module__", "") == "__main__" and not has_file
 
 
 # The command
@@ -220,19 +263,50 @@ def main(words: Sequence[str]) -> int:
         raise Error("there is nothing to run: name --days, or --sumo and --seeds")
     measures = given.measure or ([TRIPS] if traffic else ["terminations"])
     found = Runs(tasks, measures, given.out)
-    new = len(found.missing)
-    if new:
-        with _client(given.scheduler, given.workers) as client:
-            found.run(client)
-    found.table().to_csv(given.out / SUMMARY, index=False)
-    failed = len(found.failures)
+    try:
+        if found.missing:
+            with _ended_by_terms(), _client(given.scheduler, given.workers) as client:
+                found.run(client)
+    except KeyboardInterrupt:
+        done = f"{len(found.kept)} of {len(tasks)} runs are kept"
+        print(f"stopped: {done}, the same command does the others", file=sys.stderr)
+        return 130
+    failed, new = len(found.failures), len(found.missing)
     print(
         f"{len(tasks) - failed} runs done, {new - failed} of them now, {failed} failed"
     )
-    for name, said in found.failures.items():
-        print(f"{name}: {said}", file=sys.stderr)
-    print(f"all tables: {given.out / SUMMARY}")
+    for said, names in _by_fault(found.failures).items():
+        print(f"{', '.join(names)}: {said}", file=sys.stderr)
+    text: str = found.table().to_csv(index=False)
+    path = given.out / SUMMARY
+    try:
+        kept.write(path, text.encode())
+    except OSError as fault:
+        raise Error(f"{path}: {fault.strerror}; it is as it was") from None
+    print(f"all tables: {path}")
     return 1 if failed else 0
+
+
+def _by_fault(failures: Mapping[str, str]) -> dict[str, list[str]]:
+    """The runs that failed, by what each said."""
+    found: dict[str, list[str]] = {}
+    for name, said in failures.items():
+        found.setdefault(said, []).append(name)
+    return found
+
+
+@contextmanager
+def _ended_by_terms() -> Iterator[None]:
+    """SIGTERM ends a sweep as Ctrl-C does, so that nothing is left behind."""
+
+    def stop(number: int, frame: FrameType | None) -> None:
+        raise KeyboardInterrupt
+
+    before = signal.signal(signal.SIGTERM, stop)
+    try:
+        yield
+    finally:
+        signal.signal(signal.SIGTERM, before)
 
 
 def _traffic(given: argparse.Namespace) -> Traffic | None:
@@ -268,8 +342,16 @@ def _words() -> argparse.ArgumentParser:
     words.add_argument(
         "--scheduler", metavar="ADDRESS", help="a Dask that runs already"
     )
-    words.add_argument("--workers", type=int, help="processes, if there is none")
+    words.add_argument("--workers", type=workers_of, help="processes, if there is none")
     return words
+
+
+def workers_of(text: str) -> int:
+    """A number of processes; `ValueError` where it is none."""
+    number = int(text)
+    if number < 1:
+        raise ValueError
+    return number
 
 
 @contextmanager

@@ -3,10 +3,8 @@
 import hashlib
 import io
 import json
-import os
 import re
 import tempfile
-import uuid
 from collections.abc import Callable, Iterator, Sequence
 from dataclasses import dataclass
 from functools import lru_cache
@@ -16,8 +14,9 @@ from pathlib import Path
 import numpy as np
 import pandas as pd
 
-from tsb import programs
+from tsb import kept, programs
 from tsb.errors import Error, PlanFault, ProgramDied
+from tsb.files import word
 from tsb.frames import events_of_export, log_of_export
 from tsb.measures import MEASURES
 from tsb.plan import Plan
@@ -177,7 +176,7 @@ def recorded(plan: AnyPath, log: Log, commands: str) -> pd.DataFrame:
     with tempfile.TemporaryDirectory() as folder:
         path = Path(folder) / "inputs.log"
         log.write(path)
-        words = ["record", f"--from={POWER_UP}", "--device=1", str(plan), str(path)]
+        words = ["record", f"--from={POWER_UP}", "--device=1", word(plan), str(path)]
         try:
             done = programs.run("tsb_field", words, commands.encode())
         except ProgramDied as died:
@@ -202,24 +201,39 @@ def name_of(measure: Measure) -> str:
     return measure if isinstance(measure, str) else measure.__name__
 
 
-def one_run(task: Task, path: str, measures: Sequence[Measure]) -> str:
-    """Runs a task, and writes its table to a file, which is there once it is whole."""
+def one_run(task: Task, folder: str, name: str, measures: Sequence[Measure]) -> str:
+    """Runs a task, and keeps its table in a folder: the name of its file, which is
+    there once it is whole."""
     tables = [
-        table.assign(plan=Path(task.plan).stem, day=task.name, measure=name)
-        for name, table in task.tables(measures)
+        table.assign(plan=Path(task.plan).stem, day=task.name, measure=measure)
+        for measure, table in task.tables(measures)
     ]
     first = ["plan", "day", "measure"]
     table = pd.concat(tables, ignore_index=True)
     table = table[first + [it for it in table.columns if it not in first]]
-    part = Path(path).with_name(f".{uuid.uuid4().hex}{Path(path).suffix}")
-    table.to_csv(part, index=False)
-    os.replace(part, path)
-    return path
+    text: str = table.to_csv(index=False)
+    return kept.keep(Path(folder), name, text.encode()).name
+
+
+def tried(
+    task: Task, folder: str, name: str, measures: Sequence[Measure]
+) -> str | None:
+    """Runs a task as `one_run`: what went wrong, or None."""
+    try:
+        one_run(task, folder, name, measures)
+    except OSError as fault:
+        # (the same of all runs that a full disk ends)
+        mine = fault.filename is None or Path(fault.filename).parent == Path(folder)
+        return f"{folder if mine else fault.filename}: {fault.strerror or fault}"
+    except Exception as fault:
+        return f"{type(fault).__name__}: {fault}"
+    return None
 
 
 @lru_cache(maxsize=None)
 def _sum(path: str, changed: int) -> str:
-    return hashlib.sha256(Path(path).read_bytes()).hexdigest()
+    with Path(path).open("rb") as file:
+        return hashlib.file_digest(file, "sha256").hexdigest()
 
 
 def key_of(task: Task, measures: Sequence[Measure]) -> str:
