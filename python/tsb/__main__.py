@@ -6,12 +6,14 @@
 import ast
 import importlib
 import importlib.util
+import os
 import sys
 from collections.abc import Iterator
+from contextlib import suppress
 from pathlib import Path
 
 from tsb import __version__, programs
-from tsb.errors import Error, NoProgram
+from tsb.errors import Error, NoProgram, shown
 
 # Modules with a function `main(words)`, which gives the status to end with.
 COMMANDS = ("new", "sumo", "sweep", "panel", "report")
@@ -40,6 +42,15 @@ def listed() -> Iterator[str]:
     yield from (f"  {name:9} {said}" for name, said in commands())
 
 
+def forget_folder() -> None:
+    """Nothing more is imported from the folder in which the command is given: Python
+    looks there first, and its files may be anybody's."""
+    with suppress(FileNotFoundError):
+        here = os.getcwd()
+        if sys.path[:1] == [here] and str(Path(__file__).resolve().parents[1]) != here:
+            del sys.path[0]
+
+
 def main(words: list[str]) -> int:
     """Runs a command, and gives the status to end with."""
     if not words:
@@ -57,6 +68,10 @@ def main(words: list[str]) -> int:
     except Error as fault:
         print(fault, file=sys.stderr)
         return 1
+    except OSError as fault:
+        where = fault.filename or name
+        print(f"{shown(where)}: {fault.strerror or fault}", file=sys.stderr)
+        return 1
     except KeyboardInterrupt:
         print("stopped", file=sys.stderr)
         return 130
@@ -69,4 +84,5 @@ def console() -> int:
 
 
 if __name__ == "__main__":
+    forget_folder()
     sys.exit(console())

@@ -5,12 +5,13 @@ import re
 import tempfile
 from collections.abc import Iterable, Iterator
 from contextlib import contextmanager, suppress
+from numbers import Integral
 from os import PathLike, fspath
 from pathlib import Path
 from types import TracebackType
 from typing import Literal, NamedTuple, Self
 
-from tsb import programs
+from tsb import files, programs
 from tsb.errors import (
     BadCommand,
     Error,
@@ -106,7 +107,7 @@ class Bench:
 
     def _ask(self, command: str) -> str:
         """The answer to a line that has just one."""
-        if "\n" in command:
+        if not command.isascii() or "\n" in command:
             raise BadCommand(command)
         *told, answer = self._talk.ask(command).split("\n")
         self._told += [Event(*map(int, it.split(" ")[1:])) for it in told]
@@ -188,7 +189,7 @@ class Bench:
     def step(self, count: int = 1) -> Lines:
         """So many ticks, with the rows of the log, or without one with the row last
         given: what the heads showed."""
-        if count <= LONG:
+        if _counted("step", count) <= LONG:
             return self._block(self._asked("step", count))
         pieces = [LONG] * (count // LONG) + [count % LONG]
         shown = []
@@ -207,7 +208,7 @@ class Bench:
 
     def _asked(self, word: str, count: int) -> str:
         """The lines that ask for so many ticks."""
-        _counted(word, count)
+        count = _counted(word, count)
         if self._log is None:
             return f"{word} {count}\n"
         rows = self._log.stretches(self._now + 1, self._now + count)
@@ -400,7 +401,7 @@ def _started(plan: Plan | str | PathLike[str]) -> Talk:
 
 def _answering(path: str) -> Talk:
     """A live program on a plan's file, once it has answered: the plan is read."""
-    talk = Talk(programs.find("tsb_live"), [path])
+    talk = Talk(programs.find("tsb_live"), [files.word(path)])
     try:
         talk.ask("show")
     except ProgramDied as died:
@@ -411,11 +412,13 @@ def _answering(path: str) -> Talk:
     return talk
 
 
-def _counted(word: str, count: int) -> int:
+def _counted(what: str, count: int) -> int:
     """A number of ticks, or of one."""
+    if isinstance(count, bool) or not isinstance(count, Integral):
+        raise OutOfRange(f"{what} {count!r}: a number of ticks is a whole one")
     if count < 0:
-        raise OutOfRange(f"{word} {count}: a number of ticks is 0 or more")
-    return count
+        raise OutOfRange(f"{what} {count}: a number of ticks is 0 or more")
+    return int(count)
 
 
 def _changed(before: Display, shown: Lines) -> Iterator[Display]:

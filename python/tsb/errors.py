@@ -5,6 +5,7 @@ as it was before it.
 """
 
 import re
+import unicodedata
 from typing import Any
 
 from tsb.manual import REFUSALS, RULES, Refusal, Rule, plan_fault
@@ -13,8 +14,28 @@ from tsb.manual import REFUSALS, RULES, Refusal, Rule, plan_fault
 NOT_JSON = "plan: not JSON"
 
 
+def shown(text: object, keeps: str = "") -> str:
+    """A text as a terminal may have it: `?` for each sign that is not shown, but for
+    those that it keeps."""
+    return "".join(
+        "?" if _is_hidden(it) and it not in keeps else it for it in str(text)
+    )
+
+
+def _is_hidden(sign: str) -> bool:
+    return unicodedata.category(sign) in _HIDDEN
+
+
+# Controls, signs that turn the text around, halves of signs, and ends of lines.
+_HIDDEN = frozenset(("Cc", "Cf", "Cs", "Co", "Cn", "Zl", "Zp"))
+
+
 class Error(Exception):
     """Whatever goes wrong with a plan, a log, a bench or its programs."""
+
+    def __str__(self) -> str:
+        """What is told: names in it that come from files have no controls."""
+        return shown(super().__str__(), "\n\t")
 
     def __reduce__(self) -> tuple[Any, ...]:
         """As it is, also where another process is told of it."""
@@ -100,7 +121,7 @@ class PlanFault(Error):
     def __init__(self, lines: str) -> None:
         # A name in a line may have a line feed, but this one has no name.
         is_placed = lines.startswith(f"{NOT_JSON}\n")
-        line, place = lines.split("\n", 1) if is_placed else (lines, "")
+        line, place = lines.split("\n", 1) if is_placed else (shown(lines), "")
         self.line = line
         self.place: str | None = place.removeprefix("plan ") or None
         self.rule: Rule | None = RULES.get(line.removeprefix("plan: rule "))

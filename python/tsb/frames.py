@@ -25,7 +25,8 @@ import numpy.typing as npt
 import pandas as pd
 
 from tsb import programs
-from tsb.errors import Error, ProgramDied
+from tsb.errors import Error, ProgramDied, shown
+from tsb.files import read
 from tsb.forms import INPUTS, columns_of, moments_of, numbers_of, places_of
 from tsb.lines import WIDTH, Event, Lines
 from tsb.manual import COLUMNS
@@ -38,6 +39,7 @@ EVENT = ["tick", "code", "parameter"]
 # and its letters.
 _HEADS = {"P": (8, 16, "GYRF-"), "W": (25, 16, "WCD-"), "O": (42, 4, "GYRF-")}
 _PREEMPT, _LOCAL = 47, 49
+PIECE, LONGEST = 1 << 20, 1 << 30  # bytes of an export: read at a time, and at most
 _INPUTS = {"V": (0, VEHICLES), "B": (17, PEDESTRIANS), "I": (26, PREEMPTS)}
 
 AnyPath = str | PathLike[str]
@@ -147,12 +149,25 @@ def read_export(path: AnyPath) -> pd.DataFrame:
     try:
         if Path(path).suffix == ".parquet":
             return export_of_table(_read_parquet(path))
-        text = Path(path).read_bytes()
-        if b"\0" in text:
-            raise Error("it has a byte 0, as no CSV has: convert it, or export as CSV")
+        text = _csv_text(path)
         return export_of_table(columns_of(text.decode("utf-8-sig", "replace")))
     except Error as fault:
         raise Error(f"{path}: {fault}") from None
+
+
+def _csv_text(path: AnyPath) -> bytes:
+    """The bytes of a file of CSV, as far as it is one."""
+    parts, size = [], 0
+    with Path(path).open("rb") as file:
+        while part := file.read(PIECE):
+            if b"\0" in part:
+                what = "convert it, or export as CSV"
+                raise Error(f"it has a byte 0, as no CSV has: {what}")
+            parts.append(part)
+            size += len(part)
+            if size > LONGEST:
+                raise Error(f"too large: over {LONGEST >> 30} GiB: cut it by days")
+    return b"".join(parts)
 
 
 def _read_parquet(path: AnyPath) -> pd.DataFrame:
@@ -165,8 +180,9 @@ def _read_parquet(path: AnyPath) -> pd.DataFrame:
 def export_of_table(table: pd.DataFrame) -> pd.DataFrame:
     """The export of a table from elsewhere, as a database: columns have the names of
     docs/FIELD.md, in any order, and others are left out. Times are moments, or texts
-    in one of its forms. A row whose parameter is no number is left out, as NULL; of
-    an input it is an `Error`. Without a column of devices all are the same one, ""."""
+    in one of its forms. A row whose parameter is no number is left out, as NULL, and
+    a warning tells how many; of an input it is an `Error`. Without a column of devices
+    all are the same one, ""."""
     places = places_of(table.columns)
     time, code, parameter = (
         table.iloc[:, places[it]] for it in ("time", "code", "parameter")
@@ -180,11 +196,21 @@ def export_of_table(table: pd.DataFrame) -> pd.DataFrame:
             at = int((~fine).to_numpy().argmax())
             what = f"{name} {of.iloc[at]!r} is no whole number"
             raise Error(f"line {of.index[at]}: {what}")
+    if not parameters.notna().all():
+        _tell_left_out(parameter[parameters.isna()])
     device = table.iloc[:, places["device"]].astype(str) if "device" in places else ""
     said = {"time": moments_of(time), "code": codes, "parameter": parameters}
     found = pd.DataFrame({"device": device, **said}, table.index)
     found = found[parameters.notna()].reset_index(drop=True)
     return found.astype({"code": np.int64, "parameter": np.int64})
+
+
+def _tell_left_out(parameter: "pd.Series[Any]") -> None:
+    """Tells of rows that are left out for their parameters."""
+    count, line, first = len(parameter), parameter.index[0], shown(parameter.iloc[0])
+    rows = "1 row whose parameter is" if count == 1 else f"{count} rows whose parameter is"
+    what = f"left out: {rows} no whole number, first line {line}: {first!r}"
+    warnings.warn(what, stacklevel=3)
 
 
 def write_export(table: pd.DataFrame, path: AnyPath) -> None:
@@ -274,7 +300,7 @@ def _logged(
     if not isinstance(export, pd.DataFrame):
         if Path(export).suffix != ".parquet":
             try:
-                return programs.run("tsb_field", words, Path(export).read_bytes())
+                return programs.run("tsb_field", words, read(export, LONGEST))
             except ProgramDied as died:
                 if ": time order: " not in died.stderr:
                     raise

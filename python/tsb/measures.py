@@ -270,7 +270,9 @@ def preempts(events: pd.DataFrame, plan: Plan) -> pd.DataFrame:
 
 
 def _wanted(plan: Plan, preempt: int) -> frozenset[int]:
-    """The phases that a preempt is for."""
+    """The phases that a preempt is for; none of one that no plan has."""
+    if not 1 <= preempt <= plan["preemptDwellPhase"].count:
+        return frozenset()
     track = plan["preemptTrackPhase"].phases(preempt)
     return track or plan["preemptDwellPhase"].phases(preempt)
 

@@ -12,7 +12,8 @@ from os import PathLike
 from pathlib import Path
 from typing import Any
 
-from tsb.errors import NoSuchObject, OutOfRange, PlanFault
+from tsb.errors import NoSuchObject, OutOfRange, PlanFault, shown
+from tsb.files import up_to
 from tsb.manual import OBJECTS
 from tsb.programs import run
 from tsb.values import (
@@ -26,6 +27,7 @@ from tsb.values import (
 )
 
 OK = "plan ok"
+LONGEST = 1 << 20  # bytes of a plan's text
 
 
 class Values(MutableMapping[int, int]):
@@ -39,6 +41,11 @@ class Values(MutableMapping[int, int]):
         self.object = object_of(name, version)
         self._version = version
         self._values: dict[int, int] = {}
+
+    @property
+    def count(self) -> int:
+        """The greatest index."""
+        return self.object.counts(self._version)
 
     def index(self, index: Index) -> int:
         """An index as the plan text has it: of (table, phase) or (sequence, ring,
@@ -94,6 +101,8 @@ class Plan:
     def of_text(cls, text: str | bytes) -> "Plan":
         """The plan of a JSON text. `PlanFault`, `NoSuchObject` or `OutOfRange` says
         what is wrong with it; rules are not judged here (`check`)."""
+        if len(text) > LONGEST:
+            raise PlanFault("plan: too large")
         try:
             told = json.loads(text)
         except (ValueError, RecursionError):
@@ -115,7 +124,8 @@ class Plan:
             raise PlanFault(f"plan: {name}: not a table")
         for index, value in values.items():
             if not index.isdecimal() or str(int(index)) != index:
-                raise NoSuchObject(f"{name}.{index}: an index is a number")
+                what = f"{name}.{shown(index)}"
+                raise NoSuchObject(f"{what}: an index is a number")
             if type(value) is not int:
                 raise PlanFault(f"plan: {name}.{index}: not a whole number")
             taken[int(index)] = value
@@ -123,7 +133,7 @@ class Plan:
     @classmethod
     def read(cls, path: str | PathLike[str]) -> "Plan":
         """The plan of a file."""
-        return cls.of_text(Path(path).read_bytes())
+        return cls.of_text(up_to(path, LONGEST))
 
     def write(self, path: str | PathLike[str]) -> None:
         """Writes the text to a file."""

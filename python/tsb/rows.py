@@ -12,6 +12,7 @@ from os import PathLike
 from pathlib import Path
 
 from tsb.errors import LogFault, OutOfRange
+from tsb.files import up_to
 from tsb.manual import LAST_TICK
 
 VEHICLES, PEDESTRIANS, PREEMPTS = 16, 8, 4
@@ -87,7 +88,7 @@ class Log:
     @classmethod
     def read(cls, path: str | PathLike[str]) -> "Log":
         """The log of a file."""
-        return cls.of_text(Path(path).read_bytes())
+        return cls.of_text(up_to(path, LONGEST))
 
     @property
     def text(self) -> str:

@@ -48,14 +48,13 @@ class Talk:
 
     def ask(self, line: str) -> str:
         """The answer to a line that has one: its last line, behind lines of events."""
+        left = memoryview(line.encode() + b"\n")
         self._begin()
-        try:
-            os.write(self._to, line.encode() + b"\n")
-        except BrokenPipeError:
-            raise self.died() from None
-        told = self._more()
-        while not told.endswith(b"\n") or _last(told).startswith(b"event"):
-            told += self._more()
+        told = b""
+        while left or not told.endswith(b"\n") or _last(told).startswith(b"event"):
+            is_told, left = self._wait(left)
+            if is_told:
+                told += self._more()
         self._is_asked = False
         return told[:-1].decode()
 
@@ -65,13 +64,8 @@ class Talk:
         self._begin()
         left, told = memoryview(lines + CLOSING), bytearray()
         while not told.endswith(CLOSED):
-            ready, free, _ = select.select([self._from], [self._to] if left else [], [])
-            if free:
-                try:
-                    left = left[os.write(self._to, left) :]
-                except BrokenPipeError:
-                    raise self.died() from None
-            if ready:
+            is_told, left = self._wait(left)
+            if is_told:
                 told += self._more()
             if len(left) > len(CLOSING) and stops():
                 line, end, _ = bytes(left).partition(b"\n")
@@ -87,6 +81,21 @@ class Talk:
         if self._is_asked and self._process.poll() is None:
             raise Error("an answer of this bench was interrupted: it cannot go on")
         self._is_asked = True
+
+    def _wait(self, left: memoryview) -> tuple[bool, memoryview]:
+        """Waits until the program has told something or takes more of what is left to
+        write: whether it has told something, and what is left then."""
+        ends = select.poll()
+        ends.register(self._from, select.POLLIN)
+        if left:
+            ends.register(self._to, select.POLLOUT)
+        ready = dict(ends.poll())
+        if self._to in ready:
+            try:
+                left = left[os.write(self._to, left) :]
+            except BrokenPipeError:
+                raise self.died() from None
+        return self._from in ready, left
 
     def _more(self) -> bytes:
         more = os.read(self._from, PIECE)

@@ -4,7 +4,7 @@ from collections.abc import Iterable
 from datetime import timedelta
 from numbers import Integral, Real
 
-from tsb.errors import NoSuchObject, OutOfRange
+from tsb.errors import NoSuchObject, OutOfRange, shown
 from tsb.manual import OBJECTS, Object
 
 #: A number in the object's own unit, a time, or the phases of a list.
@@ -25,7 +25,7 @@ def object_of(name: str, version: int = 2) -> Object:
     """An object by its name; `NoSuchObject` where a version has none."""
     found = OBJECTS.get(name)
     if found is None or not found.counts(version):
-        raise NoSuchObject(f"version {version} has no object {name}")
+        raise NoSuchObject(f"version {version} has no object {shown(name)}")
     return found
 
 

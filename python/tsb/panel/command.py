@@ -2,13 +2,14 @@
 
 import argparse
 import asyncio
+import logging
 import signal
 import webbrowser
 from collections.abc import Coroutine, Sequence
 from contextlib import suppress
 from pathlib import Path
 
-from tsb.errors import Error
+from tsb.errors import Error, shown
 from tsb.panel.keep import Keep, Source
 from tsb.panel.layout import Layout
 from tsb.programs import marked
@@ -65,23 +66,36 @@ async def _serve(
     try:
         from aiohttp import web
 
-        from tsb.panel.server import HOST, Panel
+        from tsb.panel.server import HOST, Door, Panel
     except ImportError as missing:
         raise Error(f"a panel needs aiohttp: python/setup.sh ({missing})") from None
     panel = Panel(source, keep, layout)
-    runner = web.AppRunner(panel.app(), access_log=None)
+    runner = web.AppRunner(panel.app(), access_log=None, logger=_quiet())
     await runner.setup()
+    assert runner.server is not None
+    door = Door(runner.server, panel.busy)
+    port = None
     try:
-        await web.TCPSite(runner, HOST, given.port).start()
-        panel.port = runner.addresses[0][1]
-        print(f"{marked(source.name)}: {panel.address}", flush=True)
+        port = await asyncio.get_running_loop().create_server(door, HOST, given.port)
+        panel.port = port.sockets[0].getsockname()[1]
+        print(f"{marked(shown(source.name))}: {panel.address}", flush=True)
         if given.open:
             webbrowser.open(panel.address)
         await _interrupted(panel.watch())
     finally:
+        if port is not None:
+            port.close()
         await panel.close()
         await runner.cleanup()
     return 0
+
+
+def _quiet() -> logging.Logger:
+    """Where requests that are none are told: nowhere."""
+    found = logging.getLogger("tsb.panel")
+    found.addHandler(logging.NullHandler())
+    found.propagate = False
+    return found
 
 
 async def _interrupted(work: Coroutine[object, object, None]) -> None:

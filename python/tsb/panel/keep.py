@@ -15,12 +15,13 @@ from pathlib import Path
 
 from tsb.bench import Bench, Saved
 from tsb.errors import Error
+from tsb.files import regular, up_to
 from tsb.panel.requests import NAME, BadRequest, Given, given_of
 from tsb.programs import run
 from tsb.rows import Log
 
 PLAN, LOG, COMMANDS = "plan.json", "run.log", "run.commands"
-PLAN_LONGEST = (1 << 20) + 1  # bytes that are read: more than a plan can have
+PLAN_LONGEST = 1 << 20  # bytes of a plan; one more is read of one that has more
 COMMANDS_LONGEST = 16 << 20
 RUNS_MOST = 500  # runs that are listed
 GIVEN_MOST = 100_000  # inputs of a run that are no ticks
@@ -46,8 +47,7 @@ class Source:
         """The source of a plan's file, and of a log's."""
         rows = Log() if log is None else Log.read(log)
         name = plan.name if log is None else f"{plan.name} with {log.name}"
-        with plan.open("rb") as file:
-            return cls(name, file.read(PLAN_LONGEST), rows)
+        return cls(name, up_to(plan, PLAN_LONGEST), rows)
 
     def open(self) -> Bench:
         """A bench on the plan."""
@@ -95,11 +95,9 @@ class Keep:
         """The source of a saved run."""
         path = self.folder / name
         try:
-            with (path / PLAN).open("rb") as file:
-                plan = file.read(PLAN_LONGEST)
-            log = Log.read(path / LOG)
-            with (path / COMMANDS).open("rb") as file:
-                commands = file.read(COMMANDS_LONGEST + 1)
+            plan = up_to(regular(path / PLAN), PLAN_LONGEST)
+            log = Log.read(regular(path / LOG))
+            commands = up_to(regular(path / COMMANDS), COMMANDS_LONGEST)
         except OSError as fault:
             raise NotKept(f"{path}: {fault.strerror}") from None
         if len(commands) > COMMANDS_LONGEST:

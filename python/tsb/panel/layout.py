@@ -22,6 +22,7 @@ from pathlib import Path
 from typing import Any
 
 from tsb.errors import Error
+from tsb.files import up_to
 from tsb.plan import Plan
 from tsb.values import phases_of
 
@@ -67,7 +68,7 @@ class Layout:
     @classmethod
     def read(cls, path: str | PathLike[str]) -> "Layout":
         """The layout of a file; `LayoutFault` says what is wrong with it."""
-        text = Path(path).read_bytes()
+        text = up_to(path, LONGEST)
         if len(text) > LONGEST:
             raise LayoutFault(f"{path}: over 64 KiB")
         try:

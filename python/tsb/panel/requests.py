@@ -348,12 +348,17 @@ def given_of(line: str) -> Given:
         if found is not None:
             kinds = {it.name: it.type for it in fields(what)}
             told = {
-                name: int(text) if kinds[name] is int and text.isdecimal() else text
+                name: int(text) if kinds[name] is int and _is_number(text) else text
                 for name, text in found.groupdict().items()
             }
             read: Given = _checked(what, told)
             return read
     raise BadRequest(f"{line[:80]}: no input of a bench")
+
+
+def _is_number(text: str) -> bool:
+    """Whether a word is a number that a command can have."""
+    return text.isascii() and text.isdecimal() and len(text) <= len(str(NUMBER_MOST))
 
 
 @dataclass(frozen=True)

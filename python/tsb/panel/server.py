@@ -10,6 +10,7 @@ import hmac
 import json
 import re
 import secrets
+import sys
 import time
 from collections.abc import Awaitable, Callable
 from dataclasses import dataclass, field
@@ -18,7 +19,7 @@ from typing import Any
 
 from aiohttp import web
 
-from tsb.errors import Error
+from tsb.errors import Error, shown
 from tsb.panel import keep
 from tsb.panel.faults import RELOAD, told, told_of
 from tsb.panel.keep import Keep, Source
@@ -35,6 +36,7 @@ from tsb.panel.session import Session
 HOST = "127.0.0.1"
 BODY_MOST = 16 << 10  # bytes of a request
 BENCHES_MOST = 16  # benches at a time
+CONNECTIONS_MOST = 200  # connections at a time: above them the oldest idle one goes
 # Seconds after which a page that says nothing may lose its bench to another page, and
 # after which its bench is closed.
 SILENT, GONE = 180, 3600
@@ -96,6 +98,8 @@ class Panel:
         self._held: dict[str, Held] = {}
         self.token = secrets.token_urlsafe(24)
         self.port = 0
+        #: Connections of which a request is being answered.
+        self.busy: set[object] = set()
 
     @property
     def address(self) -> str:
@@ -133,6 +137,7 @@ class Panel:
     @web.middleware
     async def _guard(self, request: web.Request, handler: Handler) -> Any:
         """Answers no one else's pages, and tells faults as objects of JSON."""
+        self.busy.add(request.protocol)
         try:
             self._check(request)
             answer = await handler(request)
@@ -151,6 +156,12 @@ class Panel:
             answer = _fault(413, told("too much at a time", text))
         except web.HTTPException as fault:
             answer = _fault(fault.status, told("there is no such page", fault.reason))
+        except Exception as fault:
+            said = f"{type(fault).__name__}: {shown(fault)}"
+            print(f"panel: {said}", file=sys.stderr)
+            answer = _fault(500, told("this went wrong", said, RELOAD))
+        finally:
+            self.busy.discard(request.protocol)
         answer.headers.update(HEADERS)
         return answer
 
@@ -158,7 +169,7 @@ class Panel:
         hosts = {f"{name}:{self.port}" for name in (HOST, "localhost")}
         if request.headers.get("Host") not in hosts:
             raise Stopped(403, "wrong host", f"this panel is at {HOST}:{self.port}")
-        token = request.path.split("/")[1].encode(errors="replace")
+        token = request.path.lstrip("/").partition("/")[0].encode(errors="replace")
         if not hmac.compare_digest(token, self.token.encode()):
             text = "the address has another token"
             raise Stopped(404, "wrong address", text, "use the address it printed")
@@ -309,6 +320,26 @@ class Panel:
             return await asyncio.to_thread(held.session.saved)
 
 
+class Door:
+    """Lets connections in, so many at a time that no file is lacking for a bench. One
+    more takes the place of the oldest that asks for nothing."""
+
+    def __init__(self, server: web.Server, busy: set[object]) -> None:
+        self._server, self._busy = server, busy
+
+    def __call__(self) -> Any:
+        """What handles a new connection."""
+        known = [it for it in self._server.connections if not _is_closing(it)]
+        idle = [it for it in known if it not in self._busy]
+        for it in idle[: max(len(known) + 1 - CONNECTIONS_MOST, 0)]:
+            it.force_close()
+        return self._server()
+
+
+def _is_closing(connection: Any) -> bool:
+    return connection.transport is None or connection.transport.is_closing()
+
+
 def _busy(held: Held) -> Stopped:
     """What a page is told whose bench does something else."""
     text = f"the bench is busy with an earlier request: {held.doing}"
@@ -318,7 +349,13 @@ def _busy(held: Held) -> Stopped:
 async def _body(request: web.Request) -> dict[str, Any]:
     """The object of JSON that a page has sent."""
     try:
-        told = json.loads(await request.read())
+        text = await request.read()
+    except web.HTTPException:
+        raise
+    except Exception as fault:  # (as of a packed body that is too large unfolded)
+        raise BadRequest(f"no body: {type(fault).__name__}") from None
+    try:
+        told = json.loads(text)
     except (ValueError, RecursionError):
         raise BadRequest("no JSON") from None
     if type(told) is not dict:

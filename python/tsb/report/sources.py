@@ -8,11 +8,14 @@ from pathlib import Path
 import pandas as pd
 
 from tsb.errors import Error
+from tsb.files import read
 from tsb.frames import log_of_export, read_export
 from tsb.plan import Plan
 from tsb.report.runs import Run, moment, of_plan, of_rows, whole_minutes, with_inputs_of
 from tsb.rows import Log
 from tsb.tasks import POWER_UP
+
+COMMANDS_LONGEST = 16 << 20  # bytes of commands
 
 
 def runs_of(given: argparse.Namespace) -> list[Run]:
@@ -100,7 +103,8 @@ def _session(
 ) -> tuple[str, int | None]:
     """The commands of a session, and how many ticks it has, where that is known."""
     if given.commands is not None:
-        return given.commands.read_text(encoding="utf-8", errors="replace"), None
+        text = read(given.commands, COMMANDS_LONGEST)
+        return text.decode("utf-8", "replace"), None
     ticks = 10 * given.seconds if given.seconds else _length(given, log, rows)
     return f"step {ticks}\n", ticks
 

@@ -7,7 +7,8 @@ from collections.abc import Sequence
 from pathlib import Path
 from typing import Any
 
-from tsb.errors import Error
+from tsb.errors import Error, shown
+from tsb.files import word
 from tsb.programs import run
 from tsb.progress import progress
 from tsb.rows import Log
@@ -36,19 +37,30 @@ def main(words: Sequence[str]) -> int:
         return 1
 
 
+def _file(out: Path, tls: str, ending: str) -> Path:
+    """A file of a traffic light in a folder. Its name comes from a net, so it may not
+    lead out of the folder."""
+    name = f"{tls}{ending}"
+    if name != Path(name).name or name.startswith(".") or shown(name) != name:
+        raise Error(f"the traffic light {shown(tls)!r} cannot name a file: rename it")
+    return out / name
+
+
 # A run
 
 
 def _run(words: Sequence[str]) -> int:
     given = _words().parse_args(words)
     out: Path = given.out
-    out.mkdir(parents=True, exist_ok=True)
     if len(given.plan) != len(given.mapping):
         raise Error("as many --plan as --mapping: one of each for an intersection")
     at = [
         Intersection.of(given.net, None, mapping, plan)
         for plan, mapping in zip(given.plan, given.mapping, strict=True)
     ]
+    for it in at:
+        _file(out, it.tls, ".log")
+    out.mkdir(parents=True, exist_ok=True)
     with Loop(
         given.net, given.routes.split(","), at,
         additional=given.additional.split(",") if given.additional else (),
@@ -110,12 +122,12 @@ def _events(
     out: Path, tls: str, plan: str, log: Log, pattern: int, ticks: int, begin: str
 ) -> None:
     """Writes the log of an intersection, and the events of a run on it."""
-    path = out / f"{tls}.log"
+    path = _file(out, tls, ".log")
     log.write(path)
     commands = f"pattern {pattern}\n" if pattern else ""
-    words = ["record", f"--from={begin}", f"--device={tls}", plan, str(path)]
+    words = ["record", f"--from={begin}", f"--device={tls}", word(plan), word(path)]
     done = run("tsb_field", words, f"{commands}step {ticks}\n".encode())
-    (out / f"{tls}.events.csv").write_bytes(done.stdout)
+    _file(out, tls, ".events.csv").write_bytes(done.stdout)
 
 
 def _summary(out: Path, given: argparse.Namespace, ticks: int) -> None:
@@ -161,7 +173,7 @@ def _propose(words: Sequence[str]) -> int:
     draft = propose(given.net, given.tls, files)
     _write(given.out, given.tls, draft)
     if not files:
-        path = given.out / f"{given.tls}.zones.xml"
+        path = _file(given.out, given.tls, ".zones.xml")
         path.write_text(zones(given.net, given.tls))
         print(f"wrote {path}, a zone at each stop line")
     return 0
@@ -183,10 +195,11 @@ def _nema(words: Sequence[str]) -> int:
 
 def _write(out: Path, tls: str, draft: Draft) -> None:
     """Writes a draft, and says what to look at."""
+    plan, mapping = _file(out, tls, ".plan.json"), _file(out, tls, ".mapping.json")
     out.mkdir(parents=True, exist_ok=True)
-    draft.plan.write(out / f"{tls}.plan.json")
-    draft.mapping.write(out / f"{tls}.mapping.json")
-    print(f"wrote {out / tls}.plan.json and {out / tls}.mapping.json; look at this:")
+    draft.plan.write(plan)
+    draft.mapping.write(mapping)
+    print(f"wrote {plan} and {mapping}; look at this:")
     fault = draft.plan.fault()
     for note in [*draft.notes, *([] if fault is None else [str(fault)])]:
         print(f"- {note}")

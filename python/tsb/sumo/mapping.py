@@ -26,9 +26,11 @@ from pathlib import Path
 from typing import Any
 
 from tsb.errors import Error
+from tsb.files import read
 from tsb.rows import PEDESTRIANS, PREEMPTS, VEHICLES
 
 PHASES, OVERLAPS = 16, 4
+LONGEST = 1 << 20  # bytes of a mapping
 
 
 class MappingFault(Error):
@@ -86,8 +88,8 @@ class Mapping:
     def read(cls, path: str | PathLike[str]) -> "Mapping":
         """The mapping of a file."""
         try:
-            said = json.loads(Path(path).read_text(encoding="utf-8"))
-        except ValueError as fault:
+            said = json.loads(read(path, LONGEST))
+        except (ValueError, RecursionError) as fault:
             raise MappingFault(f"{path}: not JSON: {fault}") from None
         try:
             return cls.of(said)

@@ -24,6 +24,7 @@ from tsb.errors import Error
 from tsb.sumo.intersection import Intersection
 from tsb.sumo.simulation import Eyes, SumoFailed, States, binary
 
+BEGINS = "import sys; from tsb.sumo.worker import main; main(int(sys.argv[1]))"
 PACKAGES = str(Path(__file__).resolve().parents[2])
 
 
@@ -37,7 +38,8 @@ class Libsumo:
         ours, theirs = socket.socketpair()
         self._errors = tempfile.TemporaryFile()
         path = os.pathsep.join(filter(None, [PACKAGES, os.environ.get("PYTHONPATH")]))
-        words = [sys.executable, "-m", "tsb.sumo.worker", str(theirs.fileno())]
+        # (-P: nothing is imported from the folder that one stands in)
+        words = [sys.executable, "-P", "-c", BEGINS, str(theirs.fileno())]
         with theirs:
             self._process = subprocess.Popen(
                 words,
@@ -101,6 +103,8 @@ class Libsumo:
 
     def close(self) -> None:
         """Ends SUMO, and the process with its forks."""
+        if self._channel.closed:
+            return
         try:
             self._ask("close")
         finally:
@@ -219,6 +223,3 @@ def main(fd: int) -> None:
     signal.signal(signal.SIGINT, signal.SIG_IGN)
     Worker(Connection(fd)).serve()
 
-
-if __name__ == "__main__":
-    main(int(sys.argv[1]))
