@@ -2,6 +2,7 @@
 
 import contextlib
 import io
+import itertools
 import json
 import re
 import signal
@@ -31,9 +32,10 @@ from tsb.sumo import (
     read_trips,
     summary,
 )
+from tsb.sumo import net as net_module
 from tsb.sumo.command import log_of, main
 from tsb.sumo.nema import NemaFault, nema_of
-from tsb.sumo.net import light
+from tsb.sumo.net import light, read_net
 from tsb.sumo.propose import zones
 from tsb.sumo.simulation import binary
 
@@ -451,6 +453,157 @@ def test_a_proposal_for_a_net_with_three_legs(tmp_path: Path) -> None:
     # nobody turns right over the crossing of the east leg
     assert draft.mapping.pedestrians == {4: (":B0_c2",), 6: (":B0_c0",)}
     assert "crossing :B0_c1: its phase could not be told" in draft.notes
+
+
+def made_net(folder: Path, words: str) -> Path:
+    """A net of netgenerate."""
+    command = [binary("netgenerate"), *words.split(), "-o", "made.net.xml"]
+    subprocess.run(command, cwd=folder, check=True, capture_output=True)
+    return folder / "made.net.xml"
+
+
+def test_no_draft_has_greens_that_meet(tmp_path: Path) -> None:
+    """A turn back from a lane that goes straight too yields; and a mapping in which it
+    does not is refused, by the net's own word."""
+    words = "--grid --grid.number 3 --grid.length 200 -L 1 --no-turnarounds false"
+    words += " --default-junction-type traffic_light"
+    net = made_net(tmp_path, words)
+    met, foes = 0, 0
+    for name in (it.getID() for it in read_net(net).getTrafficLights()):
+        draft = propose(net, name)
+        at = Intersection.of(net, name, draft.mapping, draft.plan)
+        turns = {it.index: it.turn for it in at.light.links}
+        foes += len(at.light.foes)
+        for phase, links in draft.mapping.permissive.items():
+            for link in (it for it in links if turns[it] == "t"):
+                phases = {**draft.mapping.phases}
+                phases[phase] = (*phases.get(phase, ()), link)
+                with contextlib.suppress(MappingFault):
+                    own = replace(draft.mapping, phases=phases)
+                    Intersection.of(net, name, own, draft.plan)
+                    continue
+                met += 1
+    assert met > 3 and foes > 20
+
+
+def test_foes_by_hand(cars: Path) -> None:
+    """Through from the north crosses through from the west, and not that from the
+    south; a pair in one phase, or in phases that go at once, is refused."""
+    at = Intersection.of(cars / "net.xml", "C", cars / "mapping.json")
+    straight = {it.index for it in at.light.links if it.turn == "s"}
+    through = {
+        phase: next(it for it in at.mapping.phases[phase] if it in straight)
+        for phase in (2, 4, 6, 8)
+    }
+    pairs = {
+        (one, two)
+        for one, two in itertools.combinations(through, 2)
+        if tuple(sorted((through[one], through[two]))) in at.light.foes
+    }
+    assert pairs == {(2, 4), (2, 8), (4, 6), (6, 8)}
+    plan = crossroads.plan()
+    assert Intersection.of(cars / "net.xml", "C", at.mapping, plan)
+    phases = dict(at.mapping.phases)
+    phases[2] = (*phases[2], through[4])
+    phases[4] = tuple(it for it in phases[4] if it != through[4])
+    moved = replace(at.mapping, phases={k: v for k, v in phases.items() if v})
+    with pytest.raises(MappingFault, match="are green at once, and meet in the net"):
+        Intersection.of(cars / "net.xml", "C", moved, plan)
+    plan["phaseConcurrency"][2] = {4, 5, 6}
+    with pytest.raises(MappingFault, match="are green at once"):
+        Intersection.of(cars / "net.xml", "C", at.mapping, plan)
+
+
+def test_a_proposal_for_five_legs_is_no_mapping_that_is_refused(tmp_path: Path) -> None:
+    words = "--spider --spider.arm-number 5 --spider.circle-number 1 -L 2 --tls.set A1"
+    words += " --spider.space-radius 150 --default-junction-type traffic_light"
+    net, name = made_net(tmp_path, words), "A1"
+    draft = propose(net, name)
+    assert len({it.from_edge for it in light(net, name).links}) == 5
+    assert Intersection.of(net, name, draft.mapping, draft.plan)
+    said = [it for it in draft.notes if "could not be numbered: its links [" in it]
+    links = {it.index for it in light(net, name).links}
+    of_phases = (draft.mapping.phases, draft.mapping.permissive)
+    mapped = {link for table in of_phases for it in table.values() for link in it}
+    assert said and set(draft.mapping.free) == links - mapped
+    # the main street can be named
+    edges = sorted({it.from_edge for it in light(net, name).links})
+    for edge in edges:
+        other = propose(net, name, (), edge)
+        assert any(
+            it.startswith("named: the main street is ") and edge in it
+            for it in other.notes
+        )
+    with pytest.raises(NetFault, match=f"no edge X comes to {name}: "):
+        propose(net, name, (), "X")
+
+
+def test_the_main_street_of_a_corridor_is_named(walks: Path) -> None:
+    draft = propose(walks / "net.xml", "C", (), "N_near")
+    said = [it for it in draft.notes if it.startswith("named: the main street is ")]
+    assert len(said) == 1 and "N_near" in said[0] and "S_near" in said[0]
+    guessed = propose(walks / "net.xml", "C", ()).mapping.phases
+    named = draft.mapping.phases
+    assert {named[2], named[6]} == {guessed[4], guessed[8]}
+
+
+def test_a_light_of_crossings_alone(walks: Path) -> None:
+    net = read_net(walks / "net.xml")
+    crossing = next(iter(light(net, "C").crossings))
+    for edge in net.getEdges():
+        for it in itertools.chain.from_iterable(edge.getOutgoing().values()):
+            ends = {it.getFrom().getID(), it.getTo().getID()}
+            if it.getTLSID() == "C" and crossing in ends:
+                it._tls = "X"
+    try:
+        with pytest.raises(NetFault, match="light X has crossings alone"):
+            light(net, "X")
+    finally:
+        net_module._read.cache_clear()
+
+
+def test_cycles_of_programs_of_type_nema(cars: Path, tmp_path: Path) -> None:
+    """Each key that SUMO reads for a cycle, and none; what is none is told."""
+    at = Intersection.of(cars / "net.xml", "C", cars / "mapping.json")
+    text = nema_of(crossroads.plan(pattern=True), at, pattern=1)
+    said = '<param key="total-cycle-length" value="110"/>'
+    assert said in text
+    path = tmp_path / "nema.xml"
+    for more, cycle in (
+        (said, 110),
+        ('<param key="cycle-length" value="100"/>', 100),
+        ('<param key="cycleTime" value="90"/>', 90),
+        (said + '<param key="cycleTime" value="90"/>', 110),
+        ("", 60),
+    ):
+        path.write_text(text.replace(said, more))
+        draft = read_nema(cars / "net.xml", path, "C")
+        assert draft.plan["patternCycleTime"][1] == cycle
+        assert draft.plan["patternOffsetTime"][1] < cycle
+    for cycle_s in ("0", "-5", "some", "nan", "inf"):
+        path.write_text(text.replace('value="110"', f'value="{cycle_s}"'))
+        with pytest.raises(NemaFault, match=f"a cycle of .*{cycle_s}.* is none"):
+            read_nema(cars / "net.xml", path, "C")
+    path.write_text(text.replace('value="110"', 'value="90.4"'))
+    notes = read_nema(cars / "net.xml", path, "C").notes
+    assert "the cycle of 90.4 s is 90 s: whole seconds" in notes
+
+
+def test_phases_of_nema_in_no_ring(cars: Path, tmp_path: Path) -> None:
+    """They are left out, and told, and the draft fits its plan."""
+    at = Intersection.of(cars / "net.xml", "C", cars / "mapping.json")
+    text = nema_of(crossroads.plan(), at)
+    path = tmp_path / "nema.xml"
+    text = text.replace('"ring1" value="1,2,3,4"', '"ring1" value="0,2,0,4"')
+    more = '<param key="crossPhaseSwitching" value="true"/>'
+    path.write_text(text.replace('<param key="ring1"', f'{more}<param key="ring1"'))
+    draft = read_nema(cars / "net.xml", path, "C")
+    assert "phases [1, 3] are in no ring, and left out" in draft.notes
+    assert "crossPhaseSwitching of 'true' is left out" in draft.notes
+    assert draft.plan.fault() is None and not {1, 3} & set(draft.mapping.phases)
+    left = {link for it in (1, 3) for link in at.mapping.phases[it]}
+    own = replace(draft.mapping, free=tuple(sorted(left)))
+    assert Intersection.of(cars / "net.xml", "C", own, draft.plan)
 
 
 def test_a_program_of_type_nema_is_read_back(cars: Path, tmp_path: Path) -> None:

@@ -162,6 +162,7 @@ def _propose(words: Sequence[str]) -> int:
     of.add_argument("net")
     of.add_argument("tls", nargs="?", help="its name; without it all are listed")
     of.add_argument("--additional", default="", help="files with the detectors")
+    of.add_argument("--main", metavar="EDGE", help="an edge of the main street")
     of.add_argument("--out", type=Path, default=Path(), metavar="FOLDER")
     given = of.parse_args(words)
     if given.tls is None:
@@ -170,7 +171,7 @@ def _propose(words: Sequence[str]) -> int:
         print(*(it.getID() for it in read_net(given.net).getTrafficLights()), sep="\n")
         return 0
     files = given.additional.split(",") if given.additional else []
-    draft = propose(given.net, given.tls, files)
+    draft = propose(given.net, given.tls, files, given.main)
     _write(given.out, given.tls, draft)
     if not files:
         path = _file(given.out, given.tls, ".zones.xml")

@@ -1,6 +1,7 @@
 """An intersection of a net: what its links show for a display of the bench."""
 
 from collections import defaultdict
+from collections.abc import Iterator
 from dataclasses import dataclass, field
 from os import PathLike
 from pathlib import Path
@@ -55,7 +56,13 @@ class Intersection:
             plan = Path(plan)
         it = cls(found, mapping, plan)
         if plan is not None:
-            _check_plan(plan if isinstance(plan, Plan) else Plan.read(plan), it)
+            read = plan if isinstance(plan, Plan) else Plan.read(plan)
+            _check_plan(read, it)
+            for link, other in met(found, mapping, read):
+                raise MappingFault(
+                    f"links {link} and {other} are green at once, and meet in the net:"
+                    " one of them is permissive, or an overlap's"
+                )
         return it
 
     @property
@@ -127,6 +134,18 @@ def _check_links(light: Light, mapping: Mapping) -> None:
             for name in names:
                 if name not in light.crossings:
                     raise MappingFault(f"{table}.{at}: there is no crossing {name}")
+
+
+def met(light: Light, mapping: Mapping, plan: Plan) -> Iterator[tuple[int, int]]:
+    """The pairs of links that the plan gives a protected green at once, though their
+    ways meet in the net."""
+    phase_of = {link: at for at, links in mapping.phases.items() for link in links}
+    beside = {at: {at} | plan["phaseConcurrency"].phases(at) for at in mapping.phases}
+    for link, other in sorted(light.foes):
+        one, two = phase_of.get(link), phase_of.get(other)
+        if one is not None and two is not None:
+            if two in beside[one] or one in beside[two]:
+                yield link, other
 
 
 def _check_plan(plan: Plan, at: Intersection) -> None:

@@ -19,6 +19,8 @@ from tsb.sumo.mapping import Mapping
 
 # coordForceMode with floating force-off.
 FLOATING = 2
+# The keys that SUMO reads for a cycle, in this order, and what it takes without one.
+CYCLES, DEFAULT = ("total-cycle-length", "cycle-length", "cycleTime"), "60"
 
 
 class NemaFault(Error):
@@ -156,12 +158,21 @@ class _Program:
         for phase in (it for ring in rings for it in ring):
             if phase not in self._phases:
                 raise NemaFault(f"ring has phase {phase}, which is not described")
+        if left := sorted(set(self._phases) - {it for ring in rings for it in ring}):
+            self.notes.append(f"phases {left} are in no ring, and left out")
+        self._left_out()
         self._rings(rings)
         self._times()
         if self._coordinated:
             self._pattern(rings)
         mapping = self._mapping()
         return Draft(self.plan, mapping, self.notes)
+
+    def _left_out(self) -> None:
+        """Notes what SUMO does by this program, and no plan says."""
+        for key in ("crossPhaseSwitching", "cabinetType"):
+            if key in self._keys:
+                self.notes.append(f"{key} of {self._keys[key]!r} is left out")
 
     def _rings(self, rings: list[list[int]]) -> None:
         plan = self.plan
@@ -229,7 +240,7 @@ class _Program:
 
     def _pattern(self, rings: list[list[int]]) -> None:
         plan = self.plan
-        cycle = round(float(self._keys.get("total-cycle-length", "0")))
+        cycle = self._cycle()
         coordinated = self._list(
             "coordinatePhases", self._keys.get("barrier2Phases", "")
         )
@@ -258,12 +269,28 @@ class _Program:
             plan["coordForceMode"][1] = FLOATING
             self.notes.append("floating force-off is late here too, and not in SUMO")
 
+    def _cycle(self) -> int:
+        """The cycle in seconds, by the first of the keys that SUMO reads for it."""
+        said = next((self._keys[it] for it in CYCLES if it in self._keys), DEFAULT)
+        try:
+            cycle = float(said)
+        except ValueError:
+            raise NemaFault(f"a cycle of {said!r} s is none") from None
+        whole = round(cycle) if math.isfinite(cycle) else 0
+        if whole < 1:
+            raise NemaFault(f"a cycle of {said} s is none")
+        if whole != cycle:
+            self.notes.append(f"the cycle of {said} s is {whole} s: whole seconds")
+        return whole
+
     def _mapping(self) -> Mapping:
         phases: dict[int, tuple[int, ...]] = {}
         beside: dict[int, tuple[int, ...]] = {}
         crossings = {link for it in self._light.crossings.values() for link in it.links}
         own: set[int] = set()
         for phase, it in sorted(self._phases.items()):
+            if phase not in self.plan.phases:
+                continue
             green = [at for at, letter in enumerate(it.state) if letter in "Gg"]
             links = [at for at in green if at not in crossings]
             taken = [at for at in links if it.state[at] == "G" and at not in own]

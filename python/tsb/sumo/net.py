@@ -1,5 +1,6 @@
 """What a net of SUMO says of one traffic light, read with sumolib."""
 
+import itertools
 from collections import defaultdict
 from collections.abc import Mapping as Table
 from dataclasses import dataclass
@@ -40,12 +41,15 @@ class Crossing:
 
 @dataclass(frozen=True)
 class Light:
-    """A traffic light: `size` is the length of its state, `crossings` are by name."""
+    """A traffic light: `size` is the length of its state, `crossings` are by name.
+    `foes` are pairs of links, the lower first, whose ways meet in the junction, as its
+    `request` in the net has them."""
 
     name: str
     size: int
     links: tuple[Link, ...]
     crossings: Table[str, Crossing]
+    foes: frozenset[tuple[int, int]] = frozenset()
 
 
 @lru_cache(maxsize=4)
@@ -54,7 +58,7 @@ def _read(path: str, changed: int) -> Any:
     from sumolib.net import readNet
 
     return readNet(
-        path, withInternal=True, withPedestrianConnections=True, withFoes=False
+        path, withInternal=True, withPedestrianConnections=True, withFoes=True
     )
 
 
@@ -71,6 +75,7 @@ def light(net: Any, tls: str) -> Light:
     if isinstance(net, str | PathLike):
         net = read_net(net)
     links, crossings = [], defaultdict(list)
+    places: dict[Any, list[tuple[int, int]]] = {}
     for edge in net.getEdges():
         for connections in edge.getOutgoing().values():
             for it in connections:
@@ -86,13 +91,30 @@ def light(net: Any, tls: str) -> Light:
                 lane = it.getFromLane().getIndex()
                 turn = it.getDirection()
                 links.append(Link(it.getTLLinkIndex(), names[0], lane, names[1], turn))
+                junction = it.getFrom().getToNode()
+                place = junction.getLinkIndex(it), it.getTLLinkIndex()
+                places.setdefault(junction, []).append(place)
+    if not links and crossings:
+        raise NetFault(f"the traffic light {tls} has crossings alone, and no phase")
     if not links:
         names_of_all = ", ".join(it.getID() for it in net.getTrafficLights())
         raise NetFault(f"the net has no traffic light {tls}; it has {names_of_all}")
     of = {name: _crossing(net, name, at) for name, at in sorted(crossings.items())}
     found = [it.index for it in links] + [at for it in of.values() for at in it.links]
     links.sort(key=lambda it: it.index)
-    return Light(tls, max(found) + 1, tuple(links), of)
+    return Light(tls, max(found) + 1, tuple(links), of, _foes(places))
+
+
+def _foes(places: Table[Any, list[tuple[int, int]]]) -> frozenset[tuple[int, int]]:
+    """The pairs of links that meet: of each junction, the places of its links in it,
+    each with its index in the light's state."""
+    found = set()
+    for junction, of in places.items():
+        known = [it for it in of if it[0] in junction._foes]
+        for (one, link), (two, other) in itertools.combinations(known, 2):
+            if link != other and junction.areFoes(one, two):
+                found.add((min(link, other), max(link, other)))
+    return frozenset(found)
 
 
 def _crossing(net: Any, name: str, links: list[int]) -> Crossing:

@@ -13,14 +13,16 @@ from typing import Any
 
 from tsb.plan import Plan
 from tsb.sumo.draft import Draft
+from tsb.sumo.intersection import met
 from tsb.sumo.mapping import Mapping
-from tsb.sumo.net import Light, Link, light, read_net
+from tsb.sumo.net import Light, Link, NetFault, light, read_net
 
 Path = str | PathLike[str]
 
 # Through phases, and the left turn beside each.
 THROUGH = (2, 4, 6, 8)
 LEFT = {2: 5, 6: 1, 4: 7, 8: 3}
+TURNS = {"l": "left", "t": "back"}
 OPPOSITE = 45  # degrees by which opposite approaches may miss each other
 MINIMUM = {"main": 10, "side": 7, "left": 5}  # seconds of green
 MAXIMUM = {"main": 45, "side": 30, "left": 20}
@@ -45,13 +47,22 @@ class Approach:
         return self.edge.getSpeed(), self.edge.getLaneNumber()
 
 
-def propose(net: Path, tls: str, additional: Path | Sequence[Path] = ()) -> Draft:
+def propose(
+    net: Path,
+    tls: str,
+    additional: Path | Sequence[Path] = (),
+    main: str | None = None,
+) -> Draft:
     """The draft for a traffic light of a net. Detectors of `additional` files become
     channels where they stand on the light's lanes; without such files the mapping has
-    the names that `zones` gives to detectors of its own."""
+    the names that `zones` gives to detectors of its own. `main` is an edge of the main
+    street, which is guessed without it."""
     read = read_net(net)
     found = light(read, tls)
-    return _Proposal(read, found, additional).draft()
+    if main is not None and main not in {it.from_edge for it in found.links}:
+        edges = ", ".join(sorted({it.from_edge for it in found.links}))
+        raise NetFault(f"no edge {main} comes to {tls}: {edges} do")
+    return _Proposal(read, found, additional, main).draft()
 
 
 def zones(net: Path, tls: str, length: float = 20) -> str:
@@ -68,23 +79,31 @@ def zones(net: Path, tls: str, length: float = 20) -> str:
 
 class _Proposal:
     def __init__(
-        self, net: Any, light: Light, additional: Path | Sequence[Path]
+        self,
+        net: Any,
+        light: Light,
+        additional: Path | Sequence[Path],
+        main: str | None,
     ) -> None:
-        self._net, self._light = net, light
+        self._net, self._light, self._main = net, light, main
         if isinstance(additional, str | PathLike):
             additional = [additional]
         self._additional = list(additional)
         self.notes: list[str] = []
         self.phases: dict[int, list[int]] = {}
         self.permissive: dict[int, list[int]] = {}
+        self.free: list[int] = []
 
     def draft(self) -> Draft:
         approaches = self._numbered()
         for it in approaches:
             self._links(it)
         pedestrians = self._crossings(approaches)
+        plan = self._plan(approaches, pedestrians)
+        self._yield(plan)
         channels = self._channels()
-        plan = self._plan(approaches, pedestrians, channels)
+        for phase in channels:
+            plan["vehicleDetectorCallPhase"][phase] = phase
         mapping = Mapping(
             self._light.name,
             phases=_sorted(self.phases),
@@ -92,6 +111,7 @@ class _Proposal:
             pedestrians=pedestrians,
             channels=channels,
             buttons={at: it for at, it in pedestrians.items() if at <= 8},
+            free=tuple(sorted(self.free)),
         )
         return Draft(plan, mapping, self.notes)
 
@@ -110,9 +130,15 @@ class _Proposal:
                 it.through = number
                 numbered.append(it)
             names = " and ".join(it.edge.getID() for it in street)
-            self.notes.append(f"guessed: the {name} street is {names}")
+            how = "named" if name == "main" and self._main else "guessed"
+            self.notes.append(f"{how}: the {name} street is {names}")
         for it in (it for street in streets[2:] for it in street):
-            self.notes.append(f"approach {it.edge.getID()} could not be numbered")
+            links = [link.index for link in it.links]
+            self.free += links
+            self.notes.append(
+                f"approach {it.edge.getID()} could not be numbered: its links {links}"
+                " are free, and yield to all: give them a phase of yours"
+            )
         return numbered
 
     def _streets(self) -> list[list[Approach]]:
@@ -134,7 +160,13 @@ class _Proposal:
             else:
                 left.remove(facing)
                 streets.append([one, facing])
-        return sorted(streets, key=len, reverse=True)
+        named = [self._main in {it.edge.getID() for it in of} for of in streets]
+        order = sorted(
+            zip(named, streets, strict=True),
+            key=lambda it: (it[0], len(it[1])),
+            reverse=True,
+        )
+        return [of for _, of in order]
 
     def _links(self, it: Approach) -> None:
         """Gives each link of an approach its phase."""
@@ -147,16 +179,34 @@ class _Proposal:
             alone = lanes[link.from_lane] <= {"l", "t"}
             if turn in "lt" and goes_on and alone:
                 self.phases.setdefault(LEFT[it.through], []).append(link.index)
-            elif turn == "l" and goes_on:
+            elif turn in "lt" and goes_on:
                 self.permissive.setdefault(it.through, []).append(link.index)
                 self.notes.append(
-                    f"link {link.index} turns left from a lane that it shares:"
+                    f"link {link.index} turns {TURNS[turn]} from a lane that it shares:"
                     f" permissive with phase {it.through}"
                 )
             elif turn == "r" and self._light.crossings:
                 self.permissive.setdefault(it.through, []).append(link.index)
             else:
                 self.phases.setdefault(it.through, []).append(link.index)
+
+    def _yield(self, plan: Plan) -> None:
+        """Where two links that are green at once meet in the net, one of them yields:
+        that which turns back, left or right, in this order."""
+        turns = {it.index: it.turn.lower() for it in self._light.links}
+        while True:
+            mapping = Mapping(self._light.name, phases=_sorted(self.phases))
+            pair = next(met(self._light, mapping, plan), None)
+            if pair is None:
+                return
+            link = min(pair, key=lambda it: ("tlrs".find(turns[it]), it))
+            phase = next(at for at, of in self.phases.items() if link in of)
+            self.phases[phase].remove(link)
+            self.permissive.setdefault(phase, []).append(link)
+            other = pair[0] if link == pair[1] else pair[1]
+            self.notes.append(
+                f"link {link} meets link {other}: permissive with phase {phase}"
+            )
 
     # Pedestrians
 
@@ -241,7 +291,6 @@ class _Proposal:
         self,
         approaches: list[Approach],
         pedestrians: dict[int, tuple[str, ...]],
-        channels: dict[int, tuple[str, ...]],
     ) -> Plan:
         plan = Plan(2)
         used = sorted({*self.phases, *self.permissive})
@@ -249,8 +298,6 @@ class _Proposal:
         for phase in used:
             through = next(it for it in THROUGH if phase in (it, LEFT[it]))
             _give(plan, phase, speeds[through])
-            if phase in channels:
-                plan["vehicleDetectorCallPhase"][phase] = phase
         for ring, phases in ((1, (1, 2, 3, 4)), (2, (5, 6, 7, 8))):
             plan.set_sequence(1, ring, [it for it in phases if it in used])
         for phase in used:
@@ -286,7 +333,7 @@ def _give(plan: Plan, phase: int, speed: float) -> None:
 
 
 def _sorted(table: dict[int, list[Any]]) -> dict[int, tuple[Any, ...]]:
-    return {at: tuple(it) for at, it in sorted(table.items())}
+    return {at: tuple(it) for at, it in sorted(table.items()) if it}
 
 
 def _heading(edge: Any) -> float:
