@@ -33,7 +33,8 @@ def test_the_first_folder_that_has_it(
     monkeypatch.setattr(programs, "REPOSITORY", tmp_path)
     monkeypatch.setenv("PATH", str(on_path.parent))
     monkeypatch.setenv("TSB_BIN", f"{tmp_path / 'none'}{os.pathsep}{named.parent}")
-    assert programs.find("tsb") == named
+    with pytest.warns(UserWarning, match=f"TSB_BIN: there is no folder {tmp_path}/none"):
+        assert programs.find("tsb") == named
     monkeypatch.delenv("TSB_BIN")
     assert programs.find("tsb") == built
     built.unlink()
@@ -83,6 +84,16 @@ def test_the_version() -> None:
     done = subprocess.run(words, capture_output=True, text=True, check=True)
     assert done.stdout == f"tsb {tsb.__version__}\n"
     assert all(it.isdecimal() for it in tsb.__version__.split("."))
+
+
+def test_a_folder_that_is_not_there_is_told(tmp_path: Path) -> None:
+    """In a line, whatever is found elsewhere."""
+    words = [sys.executable, "-m", "tsb"]
+    folder = f"{tmp_path / 'none'}{os.pathsep}{os.environ.get('TSB_BIN', '')}"
+    done = subprocess.run(
+        words, capture_output=True, text=True, env={**os.environ, "TSB_BIN": folder}
+    )
+    assert done.stderr == f"tsb: TSB_BIN: there is no folder {tmp_path}/none\n"
 
 
 def test_a_program_that_ends_badly() -> None:

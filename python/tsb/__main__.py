@@ -8,9 +8,11 @@ import importlib
 import importlib.util
 import os
 import sys
+import warnings
 from collections.abc import Iterator
 from contextlib import suppress
 from pathlib import Path
+from typing import TextIO
 
 from tsb import __version__, programs
 from tsb.errors import Error, NoProgram, shown
@@ -51,8 +53,21 @@ def forget_folder() -> None:
             del sys.path[0]
 
 
+def tell(
+    message: Warning | str,
+    category: type[Warning],
+    filename: str,
+    lineno: int,
+    file: TextIO | None = None,
+    line: str | None = None,
+) -> None:
+    """Tells a warning in its own words, as a person needs no line of a program."""
+    print(f"tsb: {message}", file=sys.stderr)
+
+
 def main(words: list[str]) -> int:
     """Runs a command, and gives the status to end with."""
+    warnings.showwarning = tell
     if not words:
         print("\n".join(listed()))
         return 0

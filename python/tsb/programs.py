@@ -11,10 +11,11 @@ import os
 import shutil
 import subprocess
 import sysconfig
+import warnings
 from collections.abc import Iterator, Sequence
 from pathlib import Path
 
-from tsb.errors import NoProgram, ProgramDied
+from tsb.errors import NoProgram, ProgramDied, shown
 
 PROGRAMS = ("tsb", "tsb_field", "tsb_live")
 REPOSITORY = Path(__file__).resolve().parents[2]
@@ -45,6 +46,9 @@ def find(name: str) -> Path:
         if not path.is_file():
             raise NoProgram(f"there is no program {path}: tools/look builds it")
         return path
+    for it in filter(None, os.environ.get("TSB_BIN", "").split(os.pathsep)):
+        if not Path(it).is_dir():
+            warnings.warn(f"TSB_BIN: there is no folder {shown(it)}", stacklevel=2)
     found = shutil.which(name, path=os.pathsep.join(folders(name)))
     if found is None:
         raise NoProgram(
