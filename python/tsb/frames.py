@@ -33,6 +33,7 @@ from tsb.manual import COLUMNS
 from tsb.rows import PEDESTRIANS, PREEMPTS, VEHICLES, Log
 
 TENTH = np.timedelta64(100, "ms")
+GAP = pd.Timedelta(minutes=15)  # of an export: without a row for so long is told
 EVENT = ["tick", "code", "parameter"]
 
 # Of each kind of head, the place of its first letter in a line, how many there are,
@@ -246,14 +247,28 @@ def events_of_export(
     export: pd.DataFrame, start: str, device: str | None = None
 ) -> pd.DataFrame:
     """The events of an export from a start on, whose tick 1 it is; with a device,
-    those of it alone."""
+    those of it alone. Rows of several devices are an `Error` where none is named."""
     since = export["time"].to_numpy("datetime64[ns]") - np.datetime64(start, "ns")
     counts = (since >= np.timedelta64(0)) & (
         device is None or export["device"] == device
     )
+    if device is None and (several := export.loc[counts, "device"].nunique()) > 1:
+        raise Error(f"rows of {several} devices: name one")
     ticks = since[counts] // TENTH + 1
     found = export.loc[counts, ["code", "parameter"]].assign(tick=ticks)
     return found[EVENT].reset_index(drop=True)
+
+
+def gap_told(export: pd.DataFrame) -> str | None:
+    """The longest time without a row, where it is `GAP` or more: what was on in it is
+    not known."""
+    times = export["time"].sort_values()
+    lengths = times.diff()
+    if len(times) < 2 or lengths.max() < GAP:
+        return None
+    at = int(lengths.to_numpy()[1:].argmax()) + 1
+    begin, end = (str(times.iloc[it]) for it in (at - 1, at))
+    return f"no row from {begin} to {end}: what changed in between is not known"
 
 
 def log_of_export(
@@ -305,5 +320,8 @@ def _logged(
                 if ": time order: " not in died.stderr:
                     raise
         export = read_export(export)
+    several = export["device"].nunique()
+    if several > 1 and not any(it.startswith("--device=") for it in words):
+        warnings.warn(f"rows of {several} devices are taken as one", stacklevel=3)
     ordered = export.sort_values("time", kind="stable")
     return programs.run("tsb_field", words, _csv(ordered))

@@ -98,7 +98,8 @@ def of_rows(
     a street, or of a record that was kept. Without a start they begin with their
     first row."""
     begin = export["time"].min() if start is None else moment(start)
-    events = events_of_export(export, str(begin))
+    ordered = export.sort_values("time", kind="stable")
+    events = events_of_export(ordered, str(begin))
     if ticks is not None:
         events = events[events["tick"] <= ticks].reset_index(drop=True)
     if events.empty:

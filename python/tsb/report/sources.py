@@ -1,6 +1,7 @@
 """From the words of a report to its runs."""
 
 import argparse
+import warnings
 from collections.abc import Iterator
 from concurrent.futures import ThreadPoolExecutor
 from pathlib import Path
@@ -9,7 +10,7 @@ import pandas as pd
 
 from tsb.errors import Error
 from tsb.files import read
-from tsb.frames import log_of_export, read_export
+from tsb.frames import gap_told, log_of_export, read_export
 from tsb.plan import Plan
 from tsb.report.runs import Run, moment, of_plan, of_rows, whole_minutes, with_inputs_of
 from tsb.rows import Log
@@ -73,6 +74,8 @@ def _rows(path: Path, device: str | None) -> pd.DataFrame:
         raise Error(f"{path}: no events")
     if (devices := found["device"].nunique()) > 1:
         raise Error(f"{path}: rows of {devices} devices: name one by --device")
+    if gap := gap_told(found):
+        warnings.warn(f"{path.name}: {gap}", stacklevel=2)
     return found
 
 

@@ -1,0 +1,314 @@
+"""Parts of the panel and of tsb.sumo at their boundaries, worked by hand: first and last
+ticks, pulses of one tick, gaps of just a time."""
+
+from pathlib import Path
+
+import numpy as np
+import pandas as pd
+import pytest
+from hypothesis import given, settings
+from hypothesis import strategies as some
+
+from tsb.lines import Display
+from tsb.panel.keep import Source
+from tsb.panel.marks import MARKS_MOST, Watched
+from tsb.panel.requests import Lamp, Mark, NoLamp, Reset, Switch, View
+from tsb.panel.run import Run
+from tsb.panel.tape import Hand, Tape, ends_trip, place
+from tsb.panel.track import Band, Track
+from tsb.rows import ALL_OFF, Log, row
+from tsb.sumo import crossroads, peers, read_trips, summary
+from tsb.sumo.mapping import Mapping
+from tsb.sumo.nema import _offset
+
+# Marks
+
+
+def marked(*ticks: int) -> Watched:
+    """A value that changed at these ticks."""
+    found = Watched("interval", 2, until=100)
+    for tick in ticks:
+        found.add(tick)
+    return found
+
+
+def test_marks_at_the_ends_of_a_view() -> None:
+    """Those at its first and its last tick are told, and none beside."""
+    of = marked(9, 10, 20, 30, 31)
+    told = of.told(View(10, 30, 100))
+    assert told["ticks"] == [10, 20, 30] and told["count"] == 5
+    assert of.told(View(10, 10, 1))["ticks"] == [10]
+    assert of.told(View(11, 19, 5))["ticks"] == [] == of.told(None)["ticks"]
+    # one for a column at most: of 30 ticks in 3 columns
+    assert of.told(View(1, 30, 3))["ticks"] == [9, 20, 30]
+    assert marked(10, 19, 20).told(View(1, 30, 3))["ticks"] == [10, 20]
+    assert (told["name"], told["watch"], told["number"]) == ("interval 2", "interval", 2)
+    assert Watched("stage", 0).name == "stage"
+
+
+@given(some.lists(some.integers(0, 20), max_size=20), some.integers(0, 20))
+@settings(max_examples=40, deadline=None)
+def test_marks_are_kept_in_order(ticks: list[int], cut: int) -> None:
+    of = marked(*ticks)
+    assert of.ticks == sorted(set(ticks))
+    of.cut(cut)
+    assert of.ticks == sorted(it for it in set(ticks) if it <= cut) and of.until == cut
+    of.cut(1000)
+    assert of.until == cut
+
+
+def test_the_newest_marks_are_kept() -> None:
+    of = Watched("trip", 0, ticks=list(range(MARKS_MOST)))
+    of.add(MARKS_MOST)
+    assert len(of.ticks) == MARKS_MOST and of.ticks[0] == 1 and of.ticks[-1] == MARKS_MOST
+
+
+# The tape
+
+
+def rows_of(tape: Tape, now: int, count: int) -> list[str]:
+    """The rows of the next ticks, one for each."""
+    return [row for row, ticks in tape.next_rows(now, count) for _ in range(ticks)]
+
+
+@pytest.mark.parametrize("ticks", [1, 2, 3])
+def test_a_pulse_is_over_after_its_ticks(ticks: int) -> None:
+    """On in each of them, and off in the next."""
+    tape = Tape()
+    tape.grasp(10, place("vehicle", 2), Hand(True, 10 + ticks))
+    found = rows_of(tape, 10, 5)
+    assert found == [row({2})] * ticks + [ALL_OFF] * (5 - ticks)
+    # what is asked in two parts is the same
+    tape.take(tape.next_rows(10, 5))
+    assert [tape.row(it) for it in range(1, 6)] == found
+
+
+def test_hands_over_a_log() -> None:
+    """A hand that is off hides the log, one that lets go shows it again."""
+    tape = Tape(Log((3, 5), (row({1, 2}), row({1}))))
+    assert rows_of(tape, 0, 6) == [ALL_OFF] * 2 + [row({1, 2})] * 2 + [row({1})] * 2
+    tape.grasp(0, place("vehicle", 1), Hand(False))
+    assert rows_of(tape, 0, 6) == [ALL_OFF] * 2 + [row({2})] * 2 + [ALL_OFF] * 2
+    tape.grasp(0, place("pedestrian", 8), Hand(True))
+    assert rows_of(tape, 3, 1) == [row({2}, {8})]
+    tape.grasp(0, place("preempt", 1), Hand(True, 4))
+    assert rows_of(tape, 3, 2) == [row({2}, {8}, {1}), row((), {8})]
+    tape.grasp(0, place("vehicle", 1), None)
+    assert rows_of(tape, 4, 1) == [row({1}, {8})]
+    assert tape.hands(0).keys() == {24, 26} and tape.hands(0)[26].at(4)
+
+
+def test_rows_that_were_taken() -> None:
+    """Equal ones are one stretch; what lies ahead of a cut is gone."""
+    tape = Tape()
+    tape.take([(row({1}), 2), (row({1}), 1), (row({2}), 3)])
+    assert tape.end == 6
+    assert tape.taken(1, 6) == Log((1, 4), (row({1}), row({2})))
+    assert tape.taken(2, 3) == Log((1,), (row({1}),))
+    assert tape.taken(4, 4) == Log((4,), (row({2}),))
+    assert [tape.row(it) for it in (0, 1, 3, 4, 6)] == [
+        ALL_OFF, row({1}), row({1}), row({2}), row({2})
+    ]  # fmt: skip
+    tape.cut(4)
+    assert tape.end == 4 and tape.taken(1, 9) == Log((1, 4), (row({1}), row({2})))
+    tape.cut(3)
+    assert tape.end == 3 and tape.taken(1, 9) == Log((1,), (row({1}),))
+    tape.cut(9)
+    assert tape.end == 3
+    tape.grasp(2, 0, Hand(True))
+    assert tape.end == 2 and tape.hands(1) == {} and tape.hands(2)[0].on
+
+
+def test_inputs_that_are_no_ticks() -> None:
+    """By their ticks; those at a cut stay, those behind it go."""
+    tape, on, off = Tape(), Switch(1, "on"), Switch(1, "off")
+    for tick, what in ((0, on), (5, Lamp("P2", "R")), (5, off), (8, NoLamp())):
+        tape.give(tick, what, False)
+    assert [it.tick for it in tape.before(5)] == [0, 5, 5] and len(tape.before(4)) == 1
+    assert [tape.next_given(it) for it in (0, 4, 5, 8)] == [5, 5, 8, None]
+    assert [len(tape.given_at(it)) for it in (0, 4, 5, 8)] == [1, 0, 2, 1]
+    assert [sorted(tape.switches(it)) for it in (0, 4, 5)] == [[1], [1], []]
+    assert [tape.lamp(it) for it in (4, 5, 8)] == [None, Lamp("P2", "R"), None]
+    tape.give(6, Reset(), True)
+    assert [it.tick for it in tape.given] == [0, 5, 5, 6] and tape.lamp(6) is None
+    tape.cut(5)
+    assert [it.tick for it in tape.given] == [0, 5, 5]
+    assert ends_trip(Reset(), True) and not ends_trip(Reset(), False)
+    assert not ends_trip(on, True)
+
+
+# The track
+
+
+def test_a_band_by_columns() -> None:
+    """Green from 10 to 19 and from 30 on, of 40 ticks."""
+    band = Band(ord("R"))
+    for tick, letter in ((10, "G"), (20, "Y"), (23, "R"), (30, "G")):
+        band.put(tick, ord(letter))
+    assert list(band.ticks) == [0, 10, 20, 23, 30]
+    assert band.shares(np.array([0.0, 10, 15, 20, 40]), 39) == [0, 100, 100, 50]
+    assert band.shares(np.array([5.0, 15, 35, 40]), 39) == [50, 50, 100]
+    assert [band.bands(*it) for it in ((0, 9), (9, 10), (10, 29), (30, 30))] == [
+        (0, 1), (0, 2), (1, 4), (4, 5)
+    ]  # fmt: skip
+    band.put(30, ord("R"))  # (another letter from the same tick on)
+    assert list(band.ticks) == [0, 10, 20, 23] and not band.is_dark()
+    band.cut(19)
+    assert list(band.ticks) == [0, 10]
+    assert Band(ord("-")).is_dark() and Band(ord("0")).is_dark()
+
+
+def test_a_picture_of_a_track() -> None:
+    """Heads that are never lit are left out, what is not known is not drawn."""
+    dark = ALL_OFF.replace(" ", "")
+    first = Display(0, "R" + "-" * 15, "-" * 16, "----", 0, None)
+    track = Track(first)
+    lit = first._replace(tick=5, vehicles="G" + "-" * 15)
+    track.add([lit, lit._replace(tick=8, preempt=2)], 9)
+    track.take(Log((4,), (row({3}),)))
+    told = track.picture(View(0, 20, 100), inputs=True)
+    assert (told["first"], told["last"], told["known"], told["columns"]) == (0, 20, 9, 100)
+    assert told["heads"] == [
+        {"head": "P1", "bands": [[0, "R"], [5, "G"]]},
+        {"head": "preempt", "bands": [[0, "0"], [8, "2"]]},
+        {"head": "D3", "bands": [[0, "0"], [4, "1"]]},
+    ]
+    assert len(dark) == 28
+    # a view that begins in a band begins it there; more bands than half of the
+    # columns are shares
+    assert track.picture(View(6, 9, 100))["heads"][0] == {"head": "P1", "bands": [[6, "G"]]}
+    assert track.picture(View(0, 9, 4))["heads"][0] == {
+        "head": "P1", "bands": [[0, "R"], [5, "G"]]
+    }  # fmt: skip
+    assert track.picture(View(0, 9, 2))["heads"][0] == {"head": "P1", "shares": [0, 100]}
+    track.cut(7)
+    assert track.end == 7 and [it["head"] for it in track.picture(View(0, 9, 9))["heads"]] == ["P1"]
+    track.cut(4)
+    assert track.picture(View(0, 9, 9))["heads"] == [{"head": "P1", "bands": [[0, "R"]]}]
+    track.add([lit._replace(tick=2)], 3)  # (known already)
+    assert track.end == 4 and len(track.picture(View(0, 9, 9))["heads"][0]["bands"]) == 1
+
+
+# A run
+
+
+def test_marks_after_an_undo(examples: Path) -> None:
+    """A watch of a fault that is taken back by its reset: its marks are those that a
+    new watch finds."""
+    run = Run(Source.read(examples / "quad.json", None))
+    try:
+        run.advance(50)
+        run.mark(Mark("interval", 2, True))
+        run.give(Lamp("P2", "R"))
+        run.advance(run.now + 30)
+        run.give(Reset())
+        run.undo()
+        kept = list(run.watched[0].ticks)
+        run.mark(Mark("interval", 2, True))
+        assert run.watched[0].ticks == kept
+    finally:
+        run.close()
+
+
+# SUMO
+
+
+def test_the_offset_of_a_program_of_type_nema() -> None:
+    """The cycle of SUMO begins with the coordinated green, a tenth before."""
+    plan = crossroads.plan(pattern=True)
+    table = plan["patternSplitNumber"][1]
+    split, cycle = plan["splitTime"][table, 2], plan["patternCycleTime"][1]
+    for offset in (0, 1, split, split + 1, cycle - 1):
+        plan["patternOffsetTime"][1] = offset
+        assert _offset(plan, 1) == pytest.approx((offset - split) % cycle - 0.1)
+    plan["patternOffsetTime"][1] = split
+    assert _offset(plan, 1) == pytest.approx(-0.1)
+
+
+def heads_of(letters: str) -> list[str]:
+    """The heads in which phase 2 alone is lit so."""
+    return [f"R{it}RRRRRR" for it in letters]
+
+
+def test_a_gap_of_just_the_passage_has_not_passed() -> None:
+    """Phase 2 of a passage of 3 ticks is green in ticks 3 to 9, and is off in its last
+    ones; what is off a tick longer has passed."""
+    plan = crossroads.plan()
+    plan["phasePassage"][2] = 3
+    heads = heads_of("RRGGGGGGGYYY")
+    for off, passed in ((0, False), (2, False), (3, False), (4, True), (7, True)):
+        rows = ["01000000"] * (10 - off) + ["00000000"] * off + ["01000000"] * 2
+        (found,) = peers.greens(rows, heads, plan)
+        assert found == peers.Green(2, 3, 7, passed), off
+    # a green that goes on is none
+    assert list(peers.greens(["0" * 8] * 4, heads_of("RGGG"), plan)) == []
+    assert len(list(peers.greens(["0" * 8] * 5, heads_of("RGGGY"), plan))) == 1
+
+
+def test_times_without_green() -> None:
+    heads = heads_of("RRGRRRGR")
+    assert [peers.longest_without(heads, it) for it in ((2,), (1,), (1, 2))] == [3, 8, 3]
+    assert peers.longest_without(heads_of("GG"), (2,)) == 0
+    assert peers.longest_without([], (2,)) == 0
+
+
+def test_spells_and_their_calm() -> None:
+    """A spell ends when both were alike for 100 ticks, and not for 99."""
+    ours = heads_of("G" * 300)
+    for calm, count in ((99, 1), (100, 2)):
+        theirs = list(ours)
+        theirs[10] = theirs[11 + calm] = "RYRRRRRR"
+        found = peers.spells(theirs, ours)
+        assert [it.begin for it in found] == [11, 12 + calm][:count]
+        assert sum(it.ticks for it in found) == 2
+        assert (found[0].theirs, found[0].ours, found[0].cause) == ("2Y", "stays", "end")
+    assert peers.spells(ours, ours) == []
+
+
+def test_causes_of_spells() -> None:
+    """What each did in the first tick that differs, of both greens 2 and 6."""
+    green, yellow = "RGRRRGRR", "RYRRRYRR"
+    for theirs, ours, cause in (
+        ([green, yellow, yellow], [green, green, green], "both"),
+        ([green, green, yellow], [green, yellow, yellow], "later"),
+        ([green, green, green], [green, yellow, yellow], "hold"),
+        ([green, "RYRRRGRR", green], [green, green, green], "end"),
+        ([green, "RYRRRGRR", "GRRRRGRR"], [green, green, green], "return"),
+        (["RRRRRRRR", green], ["RRRRRRRR", "RRRGRRRR"], "choice"),
+    ):
+        found = peers.spells(theirs, ours)
+        assert [it.cause for it in found] == [cause]
+        assert peers.causes(found) == {cause: 1}
+
+
+TRIPS = """<tripinfos>
+<tripinfo id="a" depart="0" departLane="W_0" departDelay="1.5" arrival="10"
+ arrivalLane="E_out_1" duration="10" routeLength="100" waitingTime="2" timeLoss="3" vType="car"/>
+<tripinfo id="b" depart="5" departLane="W_0" departDelay="0" arrival="0" arrivalLane="E_1"
+ duration="0" routeLength="0" waitingTime="4" timeLoss="5" vType="car"/>
+<tripinfo id="c" depart="4.9" departLane="W_0" departDelay="0" arrival="-1" arrivalLane=""
+ duration="90" routeLength="50" waitingTime="80" timeLoss="80" vType="car"/>
+<personinfo id="p"><walk depart="-1" arrival="-1" duration="1" routeLength="1"/>
+<walk depart="0" arrival="9" duration="9" routeLength="12" timeLoss="2"/></personinfo>
+</tripinfos>"""
+
+
+def test_trips_that_did_not_end_have_lost_nothing(tmp_path: Path) -> None:
+    """The one that is under way lost the most, and is not counted; one that ends at
+    time 0 is. A walk that never began is none."""
+    path = tmp_path / "trips.xml"
+    path.write_text(TRIPS)
+    trips = read_trips(path)
+    assert list(trips["lost"]) == [4.5, 5.0, 80.0, 2.0]
+    assert list(trips["from"]) == ["W", "W", "W", ""] and trips["to"][0] == "E_out"
+    found = summary(trips)
+    assert found.loc["car"].to_dict() == {
+        "ended": 2, "under_way": 1, "lost": 4.75, "lost_95": 4.97, "lost_most": 5.0,
+        "waiting": 3.0,
+    }  # fmt: skip
+    assert found.loc["person", "ended"] == 1 and found.loc["person", "lost"] == 2.0
+    assert list(summary(trips, 5).index) == ["car"]
+    assert summary(trips, 4.9).loc["car", "under_way"] == 1
+    assert summary(trips, 5).loc["car", "ended"] == 1
+    assert Mapping("C").json() == {"tls": "C"}
+    assert isinstance(trips, pd.DataFrame)
