@@ -12,7 +12,7 @@ from hypothesis import strategies as some
 from tsb.lines import Display
 from tsb.panel.keep import Source
 from tsb.panel.marks import MARKS_MOST, Watched
-from tsb.panel.requests import Lamp, Mark, NoLamp, Reset, Switch, View
+from tsb.panel.requests import Given, Lamp, Mark, NoLamp, Reset, Switch, View
 from tsb.panel.run import Run
 from tsb.panel.tape import Hand, Tape, ends_trip, place
 from tsb.panel.track import Band, Track
@@ -122,7 +122,8 @@ def test_rows_that_were_taken() -> None:
 def test_inputs_that_are_no_ticks() -> None:
     """By their ticks; those at a cut stay, those behind it go."""
     tape, on, off = Tape(), Switch(1, "on"), Switch(1, "off")
-    for tick, what in ((0, on), (5, Lamp("P2", "R")), (5, off), (8, NoLamp())):
+    inputs: list[Given] = [on, Lamp("P2", "R"), off, NoLamp()]
+    for tick, what in zip((0, 5, 5, 8), inputs, strict=True):
         tape.give(tick, what, False)
     assert [it.tick for it in tape.before(5)] == [0, 5, 5] and len(tape.before(4)) == 1
     assert [tape.next_given(it) for it in (0, 4, 5, 8)] == [5, 5, 8, None]
