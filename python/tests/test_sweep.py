@@ -10,6 +10,7 @@ import threading
 import time
 from collections.abc import Iterator
 from contextlib import suppress
+from dataclasses import replace
 from pathlib import Path
 from typing import Any
 
@@ -20,7 +21,7 @@ from tsb import Error, Plan, frames, kept, measures, programs
 from tsb.processes import local
 from tsb.sumo import crossroads
 from tsb.sweep import Runs, SweepFailed, main, sweep
-from tsb.tasks import Day, Traffic, one_run, record
+from tsb.tasks import Day, Seed, Task, Traffic, key_of, one_run, record
 
 SECONDS = 600
 
@@ -278,6 +279,26 @@ def test_a_run_is_safe_to_run_twice(
     one_run(task, str(tmp_path), name, ["greens"])
     assert path.read_bytes() == before and len(list(tmp_path.iterdir())) == 1
     assert Runs([task], ["greens"], tmp_path).missing == []
+
+
+def test_a_run_is_told_by_all_that_is_asked(plans: list[Path], days: list[Path]) -> None:
+    """Another value of anything makes another run; the order of measures does not."""
+    day = Day(str(plans[0]), str(days[0]), "07:00:00", 60, "7", 0)
+    traffic = Traffic(str(plans[0]), str(plans[0]), str(plans[1]))
+    seed = Seed(str(plans[0]), traffic, 1, 60, 0)
+    tasks: list[Task] = [
+        day, replace(day, begin="07:00:01"), replace(day, seconds=61),
+        replace(day, device=None), replace(day, device="8"), replace(day, pattern=1),
+        replace(day, plan=str(plans[1])), replace(day, source=str(days[1])),
+        seed, replace(seed, seed=2), replace(seed, seconds=61), replace(seed, pattern=1),
+        replace(seed, traffic=replace(traffic, routes=str(plans[1]))),
+        replace(seed, traffic=replace(traffic, additional=str(plans[1]))),
+    ]  # fmt: skip
+    assert len({key_of(it, ["greens"]) for it in tasks}) == len(tasks)
+    asked = [key_of(day, it) for it in (["greens"], ["waits"], ["greens", "waits"])]
+    assert len(set(asked)) == 3 and key_of(day, ["waits", "greens"]) == asked[2]
+    with pytest.raises(Error, match="none.json: there is no such file"):
+        key_of(replace(day, plan="none.json"), ["greens"])
 
 
 def test_a_result_that_is_not_whole_is_made_again(
