@@ -181,7 +181,7 @@ def test_a_run_that_gives_nothing(examples: Path, tmp_path: Path) -> None:
     (run / LOG).unlink()
     (run / LOG).write_bytes(b"")
     (run / COMMANDS).write_bytes(b"step 3\nbegin " + b"1" * 5000 + b"\n")
-    with pytest.raises(Error, match="run.commands, line 2: station: not a whole"):
+    with pytest.raises(Error, match="run.commands, line 2: not a whole number"):
         Keep(tmp_path).load("run")
     with pytest.raises(BadRequest):
         given_of("begin \u0661")

@@ -333,6 +333,65 @@ def test_refusals_in_words_with_their_cures(page: Page) -> None:
     assert not page.shows("message") and page.text("edits") == ""
 
 
+def test_what_is_typed_and_is_no_number(page: Page) -> None:
+    """Nothing is asked of the bench, and the field is told beside its button too."""
+    page.click("begin")
+    assert page.text("desk-said") == "begin 1: ok"
+    page.set("phaseWalk", 2, 7)
+    assert page.text("desk-said") == "set 1 phaseWalk 2 7: ok"
+    edits = page.text("edits")
+    for value, said in (("", "a value is empty"), ("7.5", "7.5 is no whole number")):
+        page.find("value").send_keys(Keys.CONTROL, "a", Keys.NULL, Keys.DELETE, value)
+        page.click("set")
+        assert page.text("message-text") == said and said in page.text("desk-said")
+        assert "enter a value from 0 to " in page.text("message-cure")
+    assert page.text("edits") == edits
+    for tick in ("", "-5", "7000000"):
+        page.find("go").send_keys(Keys.CONTROL, "a", Keys.NULL, Keys.DELETE, tick)
+        page.click("go-there")
+        assert page.text("message-cure") == "Cure: enter a tick from 0 to 6,000,000."
+    assert page.tick == 0
+
+
+def test_lists_take_phases(page: Page) -> None:
+    """As 2,6, and the number behind a sign; what is in effect is shown so too."""
+    page.click("begin")
+    page.choose("object", "overlapIncludedPhases")
+    for typed, number in (("2,6", 34), ("4 8", 136), ("=34", 34), ("0", 0)):
+        page.fill("index", 1)
+        page.fill("value", typed)
+        page.click("set")
+        assert page.text("desk-said") == f"set 1 overlapIncludedPhases 1 {number}: ok"
+    page.fill("value", "26")
+    page.click("set")
+    assert page.text("message-text") == "26 is no phase"
+    page.choose("object", "phaseConcurrency")
+    page.fill("index", 1)
+    page.find("station").click()
+    assert page.find("value").get_attribute("value") == "5,6"
+
+
+def test_the_plan_with_what_was_committed(server: Server) -> None:
+    """It is the plan in effect, and not the one that the run began with."""
+    page = server.opened()
+    asked: list[dict[str, Any]] = [
+        {"do": "begin", "station": 1},
+        {"do": "set", "station": 1, "name": "phaseWalk", "index": 2, "value": 9},
+        {"do": "verify", "station": 1},
+        {"do": "commit", "station": 1},
+        {"do": "advance", "ticks": 1},
+    ]
+    for it in asked:
+        status, found = page.ask(**it)
+        assert status == 200 and not found["fault"], found
+    status, told = server.post("plan.json", {"page": page.page})
+    assert status == 200 and told["phaseWalk"]["2"] == 9
+    status, told = page.ask("go", tick=7_000_000)
+    assert told["fault"]["text"] == (
+        "7,000,000 is too much or too little: enter a tick from 0 to 6,000,000"
+    )
+
+
 def test_a_preempt(page: Page) -> None:
     """Its switch brings phases 3 and 8 at tick 71, as the README has it."""
     page.go(30)

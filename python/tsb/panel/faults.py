@@ -45,7 +45,7 @@ def told_of(fault: Error) -> dict[str, Any]:
         case NoSuchTick():
             return told("there is no such tick", str(fault))
         case BadRequest() | BadCommand():
-            return told("this was not asked of the bench", str(fault))
+            return told("this was not done", str(fault))
         case NotKept():
             saved = "what was saved before is as it was, and so is this run"
             return told("not saved, or not read", str(fault), saved)

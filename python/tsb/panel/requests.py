@@ -42,6 +42,19 @@ WATCHES: Mapping[Watch, int] = {
 }
 
 
+# What a person calls a member of a request.
+SAID = {
+    "tick": "a tick",
+    "ticks": "a number of ticks",
+    "number": "a number",
+    "station": "a station",
+    "index": "an index",
+    "value": "a value",
+    "first": "a first tick in view",
+    "last": "a last tick in view",
+}
+
+
 class BadRequest(Error):
     """A request that is none. Nothing has changed."""
 
@@ -50,10 +63,11 @@ def _number(low: int, high: int) -> Any:
     """A field that is a whole number within bounds."""
 
     def check(name: str, value: Any) -> None:
+        what = f"{SAID.get(name, name)} from {low:,} to {high:,}"
         if type(value) is not int:
-            raise BadRequest(f"{name}: not a whole number")
+            raise BadRequest(f"not a whole number: enter {what}")
         if not low <= value <= high:
-            raise BadRequest(f"{name}: {value} is not in {low} to {high}")
+            raise BadRequest(f"{value:,} is too much or too little: enter {what}")
 
     return field(metadata={"check": check})
 
@@ -338,7 +352,7 @@ def request_of(told: Any) -> Request:
 
 def _within(number: int, most: int, least: int = 1) -> None:
     if not least <= number <= most:
-        raise BadRequest(f"number: {number} is not in {least} to {most}")
+        raise BadRequest(f"there is no number {number}: enter {least} to {most}")
 
 
 def given_of(line: str) -> Given:

@@ -53,6 +53,7 @@ PAGES = {
     "diagram.js": ("diagram.js", "text/javascript"),
     "desk.js": ("desk.js", "text/javascript"),
     "dom.js": ("dom.js", "text/javascript"),
+    "numbers.js": ("numbers.js", "text/javascript"),
 }
 HEADERS = {
     "Content-Security-Policy": "default-src 'none'; script-src 'self'; style-src"
@@ -115,6 +116,7 @@ class Panel:
         app.router.add_post("/{token}/leave", self._leave)
         app.router.add_post("/{token}/events.csv", self._events)
         app.router.add_post("/{token}/diagram.svg", self._diagram)
+        app.router.add_post("/{token}/plan.json", self._plan)
         return app
 
     async def close(self) -> None:
@@ -312,6 +314,14 @@ class Panel:
         plan, saved = await self._saved(asked)
         text = await asyncio.to_thread(keep.diagram, plan, saved, title, seconds)
         return web.Response(body=text, content_type="image/svg+xml")
+
+    async def _plan(self, request: web.Request) -> web.Response:
+        """The plan in effect, with what was committed at the desk."""
+        held = self._mine(await _body(request))
+        async with held.lock:
+            held.doing = "plan"
+            plan = await asyncio.to_thread(held.session.plan)
+        return web.Response(body=plan.text.encode(), content_type="application/json")
 
     async def _saved(self, asked: dict[str, Any]) -> Any:
         held = self._mine(asked)

@@ -25,6 +25,7 @@ from tsb.panel.requests import (
 )
 from tsb.panel.run import Run
 from tsb.panel.state import objects_told, plan_told, state_of
+from tsb.plan import Plan
 
 
 class BenchDied(Error):
@@ -103,6 +104,10 @@ class Session:
     def saved(self) -> tuple[bytes, Saved]:
         """What makes the run again: its plan, its log and its commands."""
         return self.run.source.plan, self.run.bench.save()
+
+    def plan(self) -> Plan:
+        """The plan in effect."""
+        return self.run.bench.plan
 
     # What is told
 

@@ -1,6 +1,9 @@
 // The desk: a station's transaction, by the names, units and ranges of the manual.
 
 import { byId, el, mark, say } from "./dom.js";
+import { listed, phases, whole } from "./numbers.js";
+
+const NUMBER_MOST = 2 ** 32 - 1; // the greatest number that a command can have
 
 /** A value with its unit; a list of phases by their numbers too. */
 function inUnit(value, unit) {
@@ -10,7 +13,7 @@ function inUnit(value, unit) {
 }
 
 export class Desk {
-  constructor(ask) {
+  constructor(ask, told) {
     this.ask = ask;
     const station = () => Number(byId("station").value);
     for (const word of ["begin", "verify", "commit", "abort"]) {
@@ -18,10 +21,22 @@ export class Desk {
     }
     byId("set-form").addEventListener("submit", (event) => {
       event.preventDefault();
-      const [name, index, value] = ["object", "index", "value"].map((id) => byId(id).value);
-      ask({ do: "set", station: station(), name, index: Number(index), value: Number(value) });
+      try {
+        ask({ do: "set", station: station(), ...this.typed() });
+      } catch (fault) {
+        told(fault);
+      }
     });
     for (const id of ["object", "index"]) byId(id).addEventListener("input", () => this.describe());
+  }
+
+  /** What is typed of a value: its object, index and number. */
+  typed() {
+    const name = byId("object").value, text = byId("value").value;
+    // (what is out of the range of an object, the bench refuses in its own words)
+    const index = whole(byId("index").value, "an index", 0, NUMBER_MOST);
+    const isList = this.all[name]?.unit === "list of phases";
+    return { name, index, value: isList ? phases(text, NUMBER_MOST) : whole(text, "a value", 0, NUMBER_MOST) };
   }
 
   /** The objects that there are. */
@@ -42,11 +57,11 @@ export class Desk {
     if (!it) return;
     say(byId("index-name"), it.index);
     byId("index").max = it.count;
-    byId("value").max = it.greatest;
     const now = this.plan?.values[name]?.[byId("index").value] ?? 0;
     const rest = it.structural ? " A commit changes it only while nothing is in service." : "";
     say(byId("object-says"), `${it.meaning}. Index 1 to ${it.count}, value ${it.range}; in effect: ${inUnit(now, it.unit)}.${rest}`);
-    if (document.activeElement !== byId("value")) byId("value").value = now;
+    const shown = it.unit === "list of phases" ? listed(now) : String(now);
+    if (document.activeElement !== byId("value")) byId("value").value = shown;
   }
 
   show(state) {

@@ -5,8 +5,15 @@ import { Desk } from "./desk.js";
 import { Diagram } from "./diagram.js";
 import { byId, clock, el, say } from "./dom.js";
 import { Intersection } from "./intersection.js";
+import { whole } from "./numbers.js";
 
 const WAITING_MOST = 40; // requests that wait for an earlier one
+const LAST_TICK = 6000000;
+// What was asked at the desk or at what is kept is answered there too.
+const BESIDE = {
+  begin: "desk-said", set: "desk-said", verify: "desk-said", commit: "desk-said", abort: "desk-said",
+  save: "keep-said", load: "keep-said",
+};
 const BEAT = 50, SELDOM = 400, ALIVE = 20000; // milliseconds
 const WATCHES = {
   interval: "interval of phase", ped: "pedestrian part of phase", call: "call of phase", output: "output of detector",
@@ -46,7 +53,8 @@ class Page {
     const ask = (what) => this.ask(what);
     this.intersection = new Intersection(ask, () => this.mode());
     this.controller = new Controller(ask);
-    this.desk = new Desk(ask);
+    this.beside = null;
+    this.desk = new Desk(ask, (fault) => this.toldBeside("desk-said", fault));
     this.detail = new Diagram("detail", 13);
     this.overview = new Diagram("overview", 10);
     this.listen();
@@ -95,6 +103,7 @@ class Page {
     const slow = setTimeout(() => (byId("busy").hidden = false), 300);
     try {
       if (request.do !== "advance" && request.do !== "look") this.clear();
+      this.beside = BESIDE[request.do] ?? null;
       const body = { ...request, page: this.page, plan: this.plan, ...this.views(request) };
       this.show(await (await post("ask", body)).json());
     } catch (fault) {
@@ -144,6 +153,7 @@ class Page {
     if (answer.overview) this.overview.draw(answer.overview, this.state.now);
     if (answer.view) this.chips(answer.view.marks);
     if (answer.said) say(byId("said"), answer.said);
+    if (answer.said && this.beside) say(byId(this.beside), answer.said);
     if (answer.fault) this.told(new Fault(answer.fault));
     if (answer.state?.died) this.died(answer.state.died);
   }
@@ -201,6 +211,24 @@ class Page {
     say(byId("message-text"), text);
     say(byId("message-cause"), cause ? `Usual cause: ${cause}.` : "");
     say(byId("message-cure"), cure ? `Cure: ${cure}.` : "");
+    if (this.beside) say(byId(this.beside), [title, text, cure && `Cure: ${cure}.`].filter((it) => it).join(": "));
+  }
+
+  /** Shows what went wrong with what was typed, beside its button too. */
+  toldBeside(id, fault) {
+    this.clear();
+    this.beside = id;
+    this.told(fault);
+    this.beside = null;
+  }
+
+  /** Does what a field asks for, or tells what to enter in it. */
+  tried(id, act) {
+    try {
+      act();
+    } catch (fault) {
+      this.toldBeside(id, fault);
+    }
   }
 
   died(how) {
@@ -211,7 +239,7 @@ class Page {
   clear() {
     byId("message").hidden = true;
     byId("again").hidden = true;
-    say(byId("said"), "");
+    for (const id of ["said", "desk-said", "keep-said"]) say(byId(id), "");
   }
 
   // Time
@@ -273,7 +301,7 @@ class Page {
     onClick("playfast", () => this.play(Infinity));
     onClick("tick-on", () => this.step(1));
     onClick("tick-back", () => this.step(-1));
-    onClick("go-there", () => this.go(Number(byId("go").value)));
+    onClick("go-there", () => this.tried(null, () => this.go(whole(byId("go").value, "a tick", 0, LAST_TICK))));
     onClick("undo", () => this.ask({ do: "undo" }));
     onClick("message-close", () => this.clear());
     onClick("again", () => this.ask({ do: "again" }));
@@ -290,6 +318,9 @@ class Page {
     document.addEventListener("keydown", (event) => this.key(event));
     this.listenMarks();
     this.listenKeep();
+    window.addEventListener("beforeunload", (event) => {
+      if (this.state && !this.state.saved && this.state.end) event.preventDefault();
+    });
     window.addEventListener("pagehide", () => {
       const body = JSON.stringify({ page: this.page });
       fetch("leave", { method: "POST", headers: { "Content-Type": "application/json" }, body, keepalive: true });
@@ -315,8 +346,10 @@ class Page {
     const isOne = () => ["stage", "trip"].includes(byId("watch").value);
     byId("watch").addEventListener("change", () => (byId("watch-number").disabled = isOne()));
     byId("mark").addEventListener("click", () => {
-      const number = isOne() ? 0 : Number(byId("watch-number").value);
-      this.ask({ do: "mark", watch: byId("watch").value, number, on: true });
+      this.tried(null, () => {
+        const number = isOne() ? 0 : whole(byId("watch-number").value, "a number", 1, 16);
+        this.ask({ do: "mark", watch: byId("watch").value, number, on: true });
+      });
     });
   }
 
@@ -332,7 +365,10 @@ class Page {
       if (isSure) this.ask({ do: "load", name: byId("runs").value });
     });
     byId("events").addEventListener("click", () => this.fetched("events.csv", { begin: byId("begin-time").value, device: byId("device").value }));
-    byId("diagram").addEventListener("click", () => this.fetched("diagram.svg", { seconds: Number(byId("seconds").value) }));
+    byId("diagram").addEventListener("click", () => this.tried("keep-said", () => {
+      this.fetched("diagram.svg", { seconds: whole(byId("seconds").value, "the seconds of a line", 1, 86400) });
+    }));
+    byId("plan").addEventListener("click", () => this.fetched("plan.json", {}));
   }
 
   /** Has a file made, and hands it to the browser. */
@@ -348,7 +384,7 @@ class Page {
       link.click();
       link.remove();
       URL.revokeObjectURL(link.href);
-      say(byId("said"), `${name}: made up to tick ${this.state.now}`);
+      for (const id of ["said", "keep-said"]) say(byId(id), `${name}: made up to tick ${this.state.now}`);
     } catch (fault) {
       this.told(fault);
     }

@@ -1,0 +1,47 @@
+// Numbers as they are typed: what is none is told in words, and asked of nobody.
+
+/** What was typed and is none: what to enter. */
+export class Typed extends Error {
+  constructor(what, cure) {
+    super(what);
+    this.told = { title: "this was not done", text: what, cause: "", cure };
+  }
+}
+
+/** A number with commas between thousands. */
+const long = (number) => String(number).replace(/\B(?=(\d{3})+$)/g, ",");
+
+/** The whole number of a field, from one to another; `name` is what it is called. */
+export function whole(text, name, low, high) {
+  const typed = text.trim();
+  const number = Number(typed);
+  const cure = `enter ${name} from ${long(low)} to ${long(high)}`;
+  if (!typed) throw new Typed(`${name} is empty`, cure);
+  if (!/^[-+]?\d+$/.test(typed)) throw new Typed(`${typed} is no whole number`, cure);
+  if (number < low || number > high) throw new Typed(`${typed} is not in this range`, cure);
+  return number;
+}
+
+/** The number of a list of phases: as 2,6, or as `= 34` the number itself. */
+export function phases(text, high) {
+  const typed = text.trim();
+  if (typed.startsWith("=")) return whole(typed.slice(1), "the number behind =", 0, high);
+  const cure = "enter phases with commas between, as 2,6; 0 for none; or = and their number, as =34";
+  const parts = typed.split(/[,;\s]+/).filter((part) => part);
+  if (!parts.length) throw new Typed("the list of phases is empty", cure);
+  let found = 0;
+  for (const it of parts) {
+    const phase = Number(it);
+    if (!/^\d+$/.test(it) || phase > 16) throw new Typed(`${it} is no phase`, cure);
+    if (phase === 0 && typed !== "0") throw new Typed("0 is no phase", cure);
+    if (phase) found += ((found >> (phase - 1)) & 1) ? 0 : 2 ** (phase - 1);
+  }
+  if (found > high) throw new Typed(`${typed} is no list of this object`, cure);
+  return found;
+}
+
+/** The phases of a number, as they are typed. */
+export function listed(number) {
+  const found = Array.from({ length: 16 }, (_, at) => at + 1).filter((it) => (number >> (it - 1)) & 1);
+  return found.join(",") || "0";
+}
