@@ -116,8 +116,8 @@ impl History {
         Some(kind)
     }
 
-    /// Takes the newest record away, as `pop` does, for a caller that has read it and knows from `newest` where it
-    /// begins: so it is found once.
+    /// Takes the newest record away, as `pop` does. The caller has read it, and knows from `newest` where it begins, so
+    /// that it is not looked for again.
     #[inline(always)]
     pub fn pop_from(&mut self, start: usize)
         requires start { newest_start self.old.records ≡ Some start }
@@ -128,8 +128,8 @@ impl History {
         self.count -= 1;
     }
 
-    /// Takes the newest records away as long as they are those of quiet ticks, in which no cell changed, but at most so
-    /// many, and says how many it took. It takes no memory, and gives none back: their bytes are room.
+    /// Takes the newest records away that are those of quiet ticks, in which no cell changed, `most` of them at most. It
+    /// gives the number of those that it took. It takes no memory, and gives none back: their bytes become room.
     #[inline(always)]
     pub fn pop_quiet(&mut self, most: usize) -> usize
         ensures count { result ≡ min most (quiet_ticks self.old.records) }

@@ -80,8 +80,8 @@ pub fn texts_of_version_1_are_wide()
 /// objects. So each definition that reads an option is the one without it (`OptionsOff`).
 ///
 /// Not said: which texts are read. That is the contract of `read_plan`.
-/// Mistake: an option that stands in the plan, as a text of version 2 may name it, `with_option` of Texts
-/// (`option_is_refused`, `would_have_an_option`).
+/// Mistake: the plan has an option, which a text of version 2 may name, `with_option` of Texts (`option_is_refused`,
+/// `would_have_an_option`).
 /// Witness: `is_of_version_1`, `is_read` of Texts.
 pub fn texts_of_version_1_have_no_options()
     ensures options { TextsHaveNoOptions }

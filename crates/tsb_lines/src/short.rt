@@ -6,8 +6,8 @@ use arrayvec::ArrayVec;
 use itoa::Buffer;
 use std::marker::Model;
 
-/// A line of at most `MOST` bytes. Of a part that is added it takes as many bytes as there is room for. Clauses see it as
-/// the list of its bytes.
+/// A line of at most `MOST` bytes. A part that is added goes into it as far as there is room. Clauses see the line as the
+/// list of its bytes.
 #[derive(Drop)]
 pub struct ShortLine<const MOST: usize> {
     bytes: ArrayVec<u8, MOST>,
