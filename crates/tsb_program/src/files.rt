@@ -4,13 +4,14 @@ ghost use Rattle.std.specs.Prelude.{◌≡◌, ◌≢◌, ℕ, List, Option, Non
 ghost use Rattle.std.specs.Io.Take.{take_inner, take_limit};
 ghost use Rattle.std.specs.IoError.{error_kind};
 ghost use Rattle.std.specs.declared.io.Error.{Error};
-ghost use Rattle.tsb_program.specs.Failures.{failure_of};
+ghost use Rattle.tsb_program.specs.Failures.{failure_of, failure_text};
 ghost use Rattle.tsb_program.specs.Read.{IsBlamed, IsFront, file_fault};
 
 use crate::failure::Failure;
 use std::alloc::Global;
 use std::fs::File;
 use std::io::{self, ErrorKind, Read, Take};
+use thiserror::Error;
 use tsb_watched::Watched;
 
 /// A source of files.
@@ -45,7 +46,7 @@ impl Files for Disk<'_> {
 }
 
 /// What a machine says of a file that it does not open or read.
-#[derive(Clone, Copy, PartialEq, Eq)]
+#[derive(Clone, Copy, Debug, PartialEq, Eq)]
 pub enum Cause {
     /// There is none of that name.
     NoSuchFile,
@@ -57,8 +58,10 @@ pub enum Cause {
     Other,
 }
 
-/// Why a file was not read.
-#[derive(Clone, Copy, PartialEq, Eq)]
+/// Why a file was not read. Each is printed as the line of what failed: of a read a second line names the file and its
+/// cause (`fail_file`).
+#[derive(Clone, Copy, Debug, PartialEq, Eq, Error)]
+#[error("{}", self.line())]
 pub enum FileError {
     /// There was no memory for it.
     Memory,
@@ -75,6 +78,13 @@ impl FileError {
             FileError::Memory => Failure::Memory,
             FileError::Read(_) => Failure::Read,
         }
+    }
+
+    /// The line of what failed, without its end.
+    pub fn line(&self) -> &'static str
+        ensures { result.now ≡ failure_text (failure_of self.now) }
+    {
+        self.failure().line()
     }
 }
 

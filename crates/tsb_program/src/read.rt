@@ -4,17 +4,22 @@ ghost use Rattle.tsb_program.specs.Read.{BlamesFile, LogIn, LogRead, PlanFound, 
 
 use crate::files::{FileError, Files, read_file};
 use std::alloc::Global;
+use std::fmt::Display;
+use thiserror::Error;
 use tsb_json_place::{JsonPlace, json_place};
 use tsb_log_text::{LIMIT, Log, LogError, read_log};
 use tsb_objects::Checked;
 use tsb_plan_text::{LIMIT as PLAN_LIMIT, PlanError, read_plan};
 
-/// Why a file gives nothing.
-#[derive(Drop)]
+/// Why a file gives nothing. Each is printed as what it has is.
+#[derive(Debug, Drop, Error)]
+#[error_bound(T: Display)]
 pub enum ReadError<T> {
     /// It was not read, or there was no memory for it.
+    #[error(transparent)]
     Failed(FileError),
     /// It was refused.
+    #[error(transparent)]
     Refused(T),
 }
 

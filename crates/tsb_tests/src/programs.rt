@@ -1,6 +1,6 @@
 //! What programs share: files and writers that fail, at each of their bytes.
 
-use std::alloc::Global;
+use std::alloc::{AllocError, Global};
 use std::io::{self, ErrorKind, Read, Write};
 use tsb_log_text::LogError;
 use tsb_program::{
@@ -160,6 +160,37 @@ fn a_file_gives_a_log_or_its_fault(rt: HostRuntime) {
         panic!(rt; "no line");
     };
     assert!(rt; line.as_str() == "log line 2: tick order\n");
+}
+
+/// Whether a file's fault is printed as this line, alone and as why the file gives no log.
+fn is_printed(alloc: Global, fault: FileError, line: &str) -> bool {
+    let why: ReadError<LogError> = ReadError::Failed(fault);
+    is_text(format!(in alloc; "{fault}"), line) && is_text(format!(in alloc; "{why}"), line)
+}
+
+/// Whether a text was made, and is this one.
+fn is_text(made: Result<String, AllocError>, text: &str) -> bool {
+    match made {
+        Ok(made) => made.as_str() == text,
+        Err(_) => false,
+    }
+}
+
+/// Of a read the cause is told by a second line, with the name of the file.
+#[test]
+fn each_fault_of_a_file_is_printed_as_its_line(rt: HostRuntime) {
+    let faults = [
+        (FileError::Memory, "memory"),
+        (FileError::Read(Cause::NoSuchFile), "read fault"),
+        (FileError::Read(Cause::NotPermitted), "read fault"),
+        (FileError::Read(Cause::Folder), "read fault"),
+        (FileError::Read(Cause::Other), "read fault"),
+    ];
+    for (fault, line) in &faults {
+        assert!(rt; is_printed(rt.alloc(), *fault, line));
+    }
+    let refused: ReadError<LogError> = ReadError::Refused(LogError::Malformed(3));
+    assert!(rt; is_text(format!(in rt.alloc(); "{refused}"), "log line 3: malformed"));
 }
 
 /// Keeps what it takes until it is flushed, as a buffered writer does.
