@@ -1,6 +1,6 @@
 -- What reading a file comes to, by what its text gave, and what is told of it.
 use Rattle.std.proofs.Common.{◌≡◌, ℕ, List, Option, inl, inr, refl, subst, sym, codes}
-use Rattle.std.specs.Prelude.{Result, Ok, Err, Some}
+use Rattle.std.specs.Prelude.{Result, Ok, Err}
 use Rattle.tsb_text.specs.tsb_objects.Checked.{checked_plan}
 use Rattle.tsb_text.specs.tsb_objects.declared.checked.Checked.{Checked}
 use Rattle.tsb_text.specs.tsb_plan.Plan.{Plan}
@@ -17,7 +17,7 @@ use Rattle.tsb_program.specs.Read.{HasPlan, LogRead, PlanRead}
 
 -- a log that is not had ends `run` where there is a plan
 pub stops-log : (fault : ReadError LogError) (found : Plan) (status : ℕ) (plan log : Option (List ℕ)) (told tells : Seen) → HasPlan plan found → LogRead (Err fault) log
-    → Refuses (λ (e : LogError). Some (log_fault e)) fault status told tells → Stops status plan log told tells
+    → Refuses log_fault fault status told tells → Stops status plan log told tells
 stops-log (faults.Failed why) found status plan log old new has read fails = inr (inr (why, fails))
 stops-log (faults.Refused why) found status plan log old new has read (inl line) = inr (inl (line.0, found, has, why, read, line.1))
 stops-log (faults.Refused why) found status plan log old new has read (inr none) = inr (inr (files.Memory, none))

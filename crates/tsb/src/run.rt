@@ -1,14 +1,11 @@
 //! What the program does for its words.
 
-ghost use Rattle.std.specs.Prelude.{◌≡◌, [], Result, Some, false, map, true};
+ghost use Rattle.std.specs.Prelude.{◌≡◌, [], Result, false, map, true};
 ghost use Rattle.tsb_words.specs.declared.bench.Asked.{Asked};
 ghost use Rattle.tsb_words.specs.declared.error.WordsError.{WordsError};
 ghost use Rattle.tsb_words.specs.BenchWords.{Spells};
 ghost use Rattle.tsb_text.specs.tsb_objects.Checked.{checked_plan};
-ghost use Rattle.tsb_text.specs.tsb_plan_text.FaultLines.{plan_fault};
-ghost use Rattle.tsb_program.specs.tsb_log_text.FaultLines.{log_fault};
 ghost use Rattle.tsb.specs.Lines.{TellsWords};
-ghost use Rattle.tsb_program.specs.Lines.{Refuses};
 ghost use Rattle.tsb_program.specs.Statuses.{number};
 ghost use Rattle.tsb_program.specs.tsb_watched.Seen.{seen};
 ghost use Rattle.tsb.specs.Ends.{Checks, Judged, Ran, RanBuiltIn, Reported, Did, Talked};
@@ -20,7 +17,7 @@ use tsb_program::{
     Failure, Files, ReadError, Status, Watched, fail, line_of, log_of, plan_of, refuse, tell,
     tell_end, write_line,
 };
-use tsb_text::{Checked, Log, LogError, Plan, PlanError, session};
+use tsb_text::{Checked, Log, Plan, PlanError, session};
 use tsb_words::WordsError;
 use tsb_words::bench::{Asked, read_words};
 
@@ -133,11 +130,11 @@ fn run<F: Files, R: Read, W: Write, E: Write>(
 {
     let checked = match plan_of(alloc, files, plan) {
         Ok(checked) => checked,
-        Err(fault) => return refuse_plan(alloc, errors, fault),
+        Err(fault) => return refuse(alloc, errors, fault),
     };
     let rows = match log_of(alloc, files, log) {
         Ok(rows) => rows,
-        Err(fault) => return refuse_log(alloc, errors, fault),
+        Err(fault) => return refuse(alloc, errors, fault),
     };
     talk(alloc, checked, &rows, input, output, errors)
 }
@@ -158,27 +155,7 @@ fn run_built_in<R: Read, W: Write, E: Write>(
     match Checked::new(Plan::two()) {
         Ok(plan) => talk(alloc, plan, &Log::empty(alloc), input, output, errors),
         // It meets the rules.
-        Err(rule) => refuse_plan(alloc, errors, ReadError::Refused(PlanError::Rule(rule))),
-    }
-}
-
-/// Says why there is no plan, and gives the status that the program ends with.
-fn refuse_plan<E: Write>(alloc: Global, errors: &mut Watched<E>, fault: ReadError<PlanError>) -> u8
-    ensures { Refuses (λ why. Some (plan_fault why)) fault result (seen E.contents errors.old) (seen E.contents errors.new) }
-{
-    match fault {
-        ReadError::Failed(why) => fail(errors, why.failure()),
-        ReadError::Refused(why) => refuse(alloc, errors, ReadError::Refused(why.line())),
-    }
-}
-
-/// Says why there is no log, and gives the status that the program ends with.
-fn refuse_log<E: Write>(alloc: Global, errors: &mut Watched<E>, fault: ReadError<LogError>) -> u8
-    ensures { Refuses (λ why. Some (log_fault why)) fault result (seen E.contents errors.old) (seen E.contents errors.new) }
-{
-    match fault {
-        ReadError::Failed(why) => fail(errors, why.failure()),
-        ReadError::Refused(why) => refuse(alloc, errors, ReadError::Refused(why.line())),
+        Err(rule) => refuse(alloc, errors, ReadError::Refused(PlanError::Rule(rule))),
     }
 }
 

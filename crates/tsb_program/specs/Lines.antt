@@ -1,5 +1,5 @@
 -- The lines that a program writes of what ended its run, each with its end.
-use Rattle.std.specs.Prelude.{◌≡◌, ◌⊎◌, ℕ, List, [], ◌∷◌, ◌++◌, IfSome, Option, codes}
+use Rattle.std.specs.Prelude.{◌≡◌, ◌⊎◌, ℕ, List, [], ◌∷◌, ◌++◌, codes}
 use Rattle.tsb_plan_text.specs.declared.error.PlanError.{PlanError}
 use Rattle.tsb_plan_text.specs.FaultLines.{plan_fault}
 use Rattle.tsb_log_text.specs.declared.error.LogError.{LogError}
@@ -38,11 +38,10 @@ abbrev pub log_line : LogError → List ℕ
 log_line fault = log_fault fault ++ 10 ∷ []
 
 -- a refusal is told by its own line, with 1, where there is memory for the line
-abbrev pub TellsRefusal : {A : Type 0} → (A → Option (List ℕ)) → A → ℕ → Seen → Seen → Type 0
-TellsRefusal shown why status told tells =
-    ((status ≡ 1) × IfSome (shown why) (λ line. Tells told tells (line ++ 10 ∷ []))) ⊎ Fails Memory status told tells
+abbrev pub TellsRefusal : {A : Type 0} → (A → List ℕ) → A → ℕ → Seen → Seen → Type 0
+TellsRefusal line_of why status told tells = ((status ≡ 1) × Tells told tells (line_of why ++ 10 ∷ [])) ⊎ Fails Memory status told tells
 
 -- why there is no plan or log is told: a failure, or a refusal by its own line
-abbrev pub Refuses : {A : Type 0} → (A → Option (List ℕ)) → ReadError A → ℕ → Seen → Seen → Type 0
-Refuses shown (faults.Failed why) status told tells = Fails (failure_of why) status told tells
-Refuses shown (faults.Refused why) status told tells = TellsRefusal shown why status told tells
+abbrev pub Refuses : {A : Type 0} → (A → List ℕ) → ReadError A → ℕ → Seen → Seen → Type 0
+Refuses line_of (faults.Failed why) status told tells = Fails (failure_of why) status told tells
+Refuses line_of (faults.Refused why) status told tells = TellsRefusal line_of why status told tells

@@ -9,7 +9,7 @@ mod read;
 mod status;
 mod told;
 
-pub use end::{refuse, tell_end};
+pub use end::{Refusal, refuse, tell_end};
 pub use failure::{Failure, fail};
 pub use files::{Cause, Disk, FileError, Files, read_file};
 pub use lines::{line_of, tell, write_line};

@@ -64,7 +64,7 @@ pub fn refuse_log<E: Write>(
 {
     match fault {
         ReadError::Failed(why) => fail_file(errors, path, why),
-        ReadError::Refused(why) => tell_refusal(alloc, errors, why.line()),
+        ReadError::Refused(why) => tell_refusal(alloc, errors, why),
     }
 }
 
