@@ -6,7 +6,7 @@ ghost use Rattle.tsb_event_text.specs.Columns.{columns_at, columns_in, header_by
 use crate::fields::{has_fields, has_third, next_field};
 
 /// What a field of a row says.
-#[derive(Clone, Copy, PartialEq, Eq)]
+#[derive(Clone, Copy, Debug, PartialEq, Eq)]
 pub enum Column {
     /// Which controller wrote the event.
     Device,
@@ -19,7 +19,7 @@ pub enum Column {
 }
 
 /// What parts the fields of a line.
-#[derive(Clone, Copy, PartialEq, Eq)]
+#[derive(Clone, Copy, Debug, PartialEq, Eq)]
 pub enum Separator {
     Comma,
     Semicolon,

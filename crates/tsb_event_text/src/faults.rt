@@ -14,7 +14,7 @@ use crate::wide::{form_by, trimmed, whole};
 pub const SHOWN: usize = 40;
 
 /// The first bytes of a field, as a fault shows them.
-#[derive(Clone, Copy, PartialEq, Eq)]
+#[derive(Clone, Copy, Debug, PartialEq, Eq)]
 pub struct Shown {
     /// Its first bytes, and spaces behind them.
     pub bytes: [u8; SHOWN],
@@ -23,7 +23,7 @@ pub struct Shown {
 }
 
 /// Why a line is no row: the first that applies.
-#[derive(Clone, Copy, PartialEq, Eq)]
+#[derive(Clone, Copy, Debug, PartialEq, Eq)]
 pub enum RowFault {
     /// It begins with the mark of UTF-16.
     Utf16,

@@ -11,7 +11,7 @@ use memchr::memchr;
 use tsb_lines::number;
 
 /// How a text spells times.
-#[derive(Clone, Copy, PartialEq, Eq)]
+#[derive(Clone, Copy, Debug, PartialEq, Eq)]
 pub enum TimeForm {
     /// A year, a month and a day, as `2026-11-22 07:00:03.2`.
     YearFirst,
@@ -49,34 +49,34 @@ const DAY: u128 = 86_400_000_000_000;
 pub fn time_form_named(word: &[u8]) -> Option<TimeForm>
     ensures { result ≡ time_form_named word.now }
 {
-    if word == time_form_word(TimeForm::YearFirst) {
+    if word == time_form_word(TimeForm::YearFirst).as_bytes() {
         return Some(TimeForm::YearFirst);
     }
-    if word == time_form_word(TimeForm::MonthFirst) {
+    if word == time_form_word(TimeForm::MonthFirst).as_bytes() {
         return Some(TimeForm::MonthFirst);
     }
-    if word == time_form_word(TimeForm::DayFirst) {
+    if word == time_form_word(TimeForm::DayFirst).as_bytes() {
         return Some(TimeForm::DayFirst);
     }
-    if word == time_form_word(TimeForm::Seconds) {
+    if word == time_form_word(TimeForm::Seconds).as_bytes() {
         return Some(TimeForm::Seconds);
     }
-    if word == time_form_word(TimeForm::Milliseconds) {
+    if word == time_form_word(TimeForm::Milliseconds).as_bytes() {
         return Some(TimeForm::Milliseconds);
     }
     None
 }
 
 /// The word of a form.
-pub fn time_form_word(form: TimeForm) -> &'static [u8]
+pub fn time_form_word(form: TimeForm) -> &'static str
     ensures { result.now ≡ time_form_word form }
 {
     match form {
-        TimeForm::YearFirst => b"year-first",
-        TimeForm::MonthFirst => b"month-first",
-        TimeForm::DayFirst => b"day-first",
-        TimeForm::Seconds => b"seconds",
-        TimeForm::Milliseconds => b"milliseconds",
+        TimeForm::YearFirst => "year-first",
+        TimeForm::MonthFirst => "month-first",
+        TimeForm::DayFirst => "day-first",
+        TimeForm::Seconds => "seconds",
+        TimeForm::Milliseconds => "milliseconds",
     }
 }
 

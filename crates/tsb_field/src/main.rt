@@ -4,6 +4,7 @@
 #![tactic(auto)]
 
 mod end;
+mod fault_line;
 mod log_run;
 mod outputs_run;
 mod report;

@@ -67,7 +67,7 @@ fn append_form_line(text: &mut Vec<u8>, form: TimeForm) -> Result<(), AllocError
     ensures { OnOk result (text.new.items ≡ text.old.items ++ is_told form) }
 {
     text.extend_from_slice(b"times: ")?;
-    text.extend_from_slice(time_form_word(form))?;
+    text.extend_from_slice(time_form_word(form).as_bytes())?;
     text.extend_from_slice(b", by the first row\n")
 }
 

@@ -6,7 +6,5 @@ pub mod RowLemmas
 pub mod ReadLemmas
 -- what a stream has written, and how it ends
 pub mod StreamLemmas
--- texts that grow piece by piece
-pub mod PieceLemmas
 -- rows that are sorted within a window
 pub mod SortLemmas

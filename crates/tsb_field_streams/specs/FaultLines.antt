@@ -58,13 +58,9 @@ separator_name Comma = codes "commas"
 separator_name Semicolon = codes "semicolons"
 separator_name Tab = codes "tabs"
 
--- which separator a line has
-abbrev pub own_text : Separator → List ℕ
-own_text own = separator_name own ++ codes " part its fields, and "
-
 -- a line that has another separator than all
 abbrev pub parted_text : Separator → Separator → List ℕ
-parted_text all own = own_text own ++ (separator_name all ++ codes " those above: one separator a file")
+parted_text all own = separator_name own ++ (codes " part its fields, and " ++ (separator_name all ++ codes " those above: one separator a file"))
 
 -- what is wrong with a line of a text
 abbrev pub why_text : RowFault → List ℕ

@@ -1,8 +1,9 @@
 //! Times of day, as faults show them.
-ghost use Rattle.std.specs.Prelude.{◌≡◌, ◌++◌, OnOk};
+ghost use Rattle.std.specs.Fmt.{WritesOnOk};
+ghost use Rattle.std.specs.Prelude.{◌≡◌, ◌<◌, All, Some};
 ghost use Rattle.tsb_field_streams.specs.Clocks.{clock_head, clock_text, fraction_text, nine_digits};
 
-use std::alloc::AllocError;
+use std::fmt;
 use tsb_lines::digit;
 
 /// The nanoseconds of a second.
@@ -14,13 +15,18 @@ const SECONDS: u128 = 86_400;
 /// The nanoseconds of a day.
 pub(crate) const DAY: u128 = 86_400_000_000_000;
 
-/// Adds the time of day of a moment, in nanoseconds as a `Moment` counts them: `07:00:03.2`. Its second has one digit
-/// behind its point, three or nine: the fewest of these that tell it all.
-pub(crate) fn append_clock(text: &mut Vec<u8>, nanos: u128) -> Result<(), AllocError>
-    ensures { OnOk result (text.new.items ≡ text.old.items ++ clock_text nanos) }
-{
-    text.extend_from_slice(&clock_head((nanos / SECOND % SECONDS) as u32))?;
-    append_fraction(text, (nanos % SECOND) as u32)
+/// The time of day of a moment, in nanoseconds as a `Moment` counts them: `07:00:03.2`. Its second has one digit behind
+/// its point, three or nine: the fewest of these that tell it all.
+#[derive(Clone, Copy)]
+pub(crate) struct Clock(pub(crate) u128);
+
+impl fmt::Display for Clock {
+    ghost output = { λ clock. Some (clock_text clock.0) };
+
+    fn fmt<W: fmt::Write>(&self, f: &mut fmt::Formatter<W>) -> fmt::Result {
+        write_digits(f, &clock_head((self.0 / SECOND % SECONDS) as u32))?;
+        write_fraction(f, (self.0 % SECOND) as u32)
+    }
 }
 
 /// A second of a day as text, up to its point.
@@ -43,18 +49,29 @@ fn clock_head(second: u32) -> [u8; 9]
     ]
 }
 
-/// Adds the digits of a part of a second, in nanoseconds.
-fn append_fraction(text: &mut Vec<u8>, nano: u32) -> Result<(), AllocError>
-    ensures { OnOk result (text.new.items ≡ text.old.items ++ fraction_text nano) }
+/// Writes the digits of a part of a second, in nanoseconds.
+fn write_fraction<W: fmt::Write>(f: &mut fmt::Formatter<W>, nano: u32) -> fmt::Result
+    ensures { WritesOnOk W.write_str_gives f.old result (fraction_text nano) f.new }
 {
     let digits = nine_digits(nano);
     if nano % 100_000_000 == 0 {
-        text.extend_from_slice(&digits[..1])
+        write_digits(f, &digits[..1])
     } else if nano % 1_000_000 == 0 {
-        text.extend_from_slice(&digits[..3])
+        write_digits(f, &digits[..3])
     } else {
-        text.extend_from_slice(&digits)
+        write_digits(f, &digits)
     }
+}
+
+/// Writes bytes of ASCII.
+fn write_digits<W: fmt::Write>(f: &mut fmt::Formatter<W>, digits: &[u8]) -> fmt::Result
+    requires { All (λ digit. digit < 128) digits.now }
+    ensures { WritesOnOk W.write_str_gives f.old result digits.now f.new }
+{
+    for digit in digits {
+        f.write_char(char::from(*digit))?;
+    }
+    Ok(())
 }
 
 /// A part of a second in nine digits.

@@ -1,8 +1,12 @@
 //! What ends a filter before its events do.
+ghost use Rattle.std.specs.Prelude.{◌≡◌};
+
+use crate::fault_lines::FilterLine;
+use thiserror::Error;
 use tsb_event_text::RowFault;
 
 /// A row that is earlier than one before it, or where rows are sorted, by more than they may be.
-#[derive(Clone, Copy, PartialEq, Eq)]
+#[derive(Clone, Copy, Debug, PartialEq, Eq)]
 pub struct Disorder {
     /// The number of its line, counted from 1.
     pub line: u32,
@@ -16,8 +20,10 @@ pub struct Disorder {
     pub within: Option<u32>,
 }
 
-/// What ends a filter before its events do. What was written until then is a prefix of the log.
-#[derive(Clone, Copy, PartialEq, Eq)]
+/// What ends a filter before its events do. What was written until then is a prefix of the log. Each is printed as its
+/// line.
+#[derive(Clone, Copy, Debug, PartialEq, Eq, Error)]
+#[error("{}", self.line())]
 pub enum FilterError {
     /// There was no memory to begin with: nothing was read, and nothing was written.
     Memory,
@@ -39,4 +45,13 @@ pub enum FilterError {
     PastEnd,
     /// The log has more than 64 MiB, which no reader of logs takes.
     LogTooLarge,
+}
+
+impl FilterError {
+    /// The line that tells it, without its end.
+    pub fn line(&self) -> FilterLine<'_>
+        ensures { result.fault.now ≡ self.now }
+    {
+        FilterLine { fault: self }
+    }
 }

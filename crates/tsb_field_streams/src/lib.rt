@@ -10,7 +10,7 @@ mod rows;
 mod stream;
 
 pub use error::{Disorder, FilterError};
-pub use fault_lines::fault_line;
+pub use fault_lines::FilterLine;
 pub use filter::{Filter, LINE, LeftOut, MOST_HELD, MOST_ROWS, Reading, Summary};
 pub use laws::late_rows_tell_what_sorted_rows_tell;
 pub use stream::{EVENTS, log};

@@ -479,7 +479,7 @@ fn forms_have_words() -> bool {
         && time_form_named(b"milliseconds") == Some(TimeForm::Milliseconds)
         && time_form_named(b"month first").is_none()
         && time_form_named(b"").is_none()
-        && time_form_word(TimeForm::DayFirst) == b"day-first".as_slice()
+        && time_form_word(TimeForm::DayFirst) == "day-first"
 }
 
 #[test]

@@ -26,4 +26,6 @@ mod field_rows;
 #[cfg(test)]
 mod field_words;
 #[cfg(test)]
+mod filter_lines;
+#[cfg(test)]
 mod log_stream;
