@@ -137,7 +137,7 @@ TEXTS = {
     "": tsb.PlanFault,
     "[]": tsb.PlanFault,
     "{}": tsb.PlanFault,
-    '{"version":3}': tsb.PlanFault,
+    '{"version":4}': tsb.PlanFault,
     '{"version":1,"Walk":{}}': tsb.NoSuchObject,
     '{"version":1,"phaseWalk":5}': tsb.PlanFault,
     '{"version":1,"phaseWalk":{"02":1}}': tsb.NoSuchObject,

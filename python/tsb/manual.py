@@ -23,7 +23,7 @@ TIMES = {
 class Object:
     """An object of a plan: what its index counts, and the range of its values.
 
-    `count` is the greatest index and `greatest` the greatest value of version 2 of
+    `count` is the greatest index and `greatest` the greatest value of versions 2 and 3 of
     plan texts; `count_1` and `greatest_1` are those of version 1, None where it has
     no such object. `structural` objects can be changed by a commit only while
     nothing is in service.
@@ -41,11 +41,11 @@ class Object:
 
     def counts(self, version: int) -> int:
         """The greatest index in plan texts of a version; 0 where it has no object."""
-        return (self.count if version == 2 else self.count_1) or 0
+        return (self.count_1 if version == 1 else self.count) or 0
 
     def most(self, version: int) -> int:
         """The greatest value in plan texts of a version."""
-        return (self.greatest if version == 2 else self.greatest_1) or 0
+        return (self.greatest_1 if version == 1 else self.greatest) or 0
 
     @property
     def time(self) -> timedelta | None:

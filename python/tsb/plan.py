@@ -89,10 +89,10 @@ class Values(MutableMapping[int, int]):
 
 class Plan:
     """A plan. `plan["phaseYellowChange"][2] = tsb.seconds(4)` changes a value; what
-    is never given is 0. `version` is that of its text, 1 or 2."""
+    is never given is 0. `version` is that of its text, 1, 2 or 3."""
 
     def __init__(self, version: int = 2) -> None:
-        if version not in (1, 2):
+        if version not in (1, 2, 3):
             raise PlanFault("plan: version")
         self.version = version
         self._objects: dict[str, Values] = {}
@@ -180,13 +180,13 @@ class Plan:
 
     def sequence(self, number: int, ring: int) -> list[int]:
         """The phases of a ring in the order of a sequence."""
-        count = 16 if self.version == 2 else 8
+        count = 8 if self.version == 1 else 16
         values = self["sequenceData"]
         return [it for at in range(count) if (it := values[number, ring, at + 1])]
 
     def set_sequence(self, number: int, ring: int, phases: Iterable[int]) -> None:
         """Gives a ring the order of its phases in a sequence."""
-        count = 16 if self.version == 2 else 8
+        count = 8 if self.version == 1 else 16
         order = list(phases)
         if len(order) > count:
             raise OutOfRange(f"sequenceData: a sequence has at most {count} places")

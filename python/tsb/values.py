@@ -32,7 +32,7 @@ def object_of(name: str, version: int = 2) -> Object:
 def parts_of(what: Object, version: int = 2) -> dict[str, tuple[int, int]]:
     """The parts of an index, each with its greatest number and its step, the last
     changing fastest: (table, phase) of a split, (sequence, ring, place)."""
-    phases = 16 if version == 2 else 8
+    phases = 8 if version == 1 else 16
     if what.index.startswith(SPLITS):
         return {"table": (TABLES, phases), "phase": (phases, 1)}
     if what.index.startswith(SEQUENCE):

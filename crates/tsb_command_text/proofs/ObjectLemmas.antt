@@ -3,7 +3,7 @@ use Rattle.std.proofs.Common.{◌≡◌, ℕ, Bool, true, ◌&&◌, List, [], �
 use Rattle.std.proofs.lemmas.Bool.{cases_Bool}
 use Rattle.std.proofs.lemmas.Slice.Eq.{bytes_eq-Decides}
 use Rattle.tsb_plan.specs.declared.object.Object.{Object}
-use Rattle.tsb_plan.specs.declared.version.Version.TheVariants.{Two}
+use Rattle.tsb_plan.specs.declared.version.TheConstants.Version.{NEWEST}
 use Rattle.tsb_plan.specs.Names.{name_of, object_named}
 use Rattle.tsb_plan.specs.Objects.{objects}
 use Rattle.tsb_plan.specs.Versions.{has_object}
@@ -33,8 +33,8 @@ eq-turned a b =
       ]
     ]
 
-pub among : (fits : ℕ → Bool) (word : List ℕ) → fits (length word) ≡ true → object_named Two word ≡ named_among fits word
+pub among : (fits : ℕ → Bool) (word : List ℕ) → fits (length word) ≡ true → object_named NEWEST word ≡ named_among fits word
 unfolding object_named named_among
-among fits word fit = find-among (λ o. has_object Two o && bytes_eq (name_of o) word) (λ o. bytes_eq word (name_of o)) (λ o. fits (length (name_of o)))
+among fits word fit = find-among (λ o. has_object NEWEST o && bytes_eq (name_of o) word) (λ o. bytes_eq word (name_of o)) (λ o. fits (length (name_of o)))
     (λ o. eq-turned (name_of o) word)
     (λ o e. ap (λ (w : List ℕ). fits (length w)) (sym ((bytes_eq-Decides word (name_of o)).0 e)) ∙ fit) objects

@@ -4,7 +4,7 @@ use Rattle.std.specs.Option.{option_map}
 use Rattle.tsb_lines.specs.Words.{words_of, number_of}
 use Rattle.tsb_plan.specs.Names.{object_named}
 use Rattle.tsb_plan.specs.declared.object.Object.{Object}
-use Rattle.tsb_plan.specs.declared.version.Version.TheVariants.{Two}
+use Rattle.tsb_plan.specs.declared.version.TheConstants.Version.{NEWEST}
 use Rattle.tsb_types.specs.declared.watch.Watch.{Watch}
 use Rattle.tsb_types.specs.declared.watch.Watch.TheVariants.{Interval, Ped, Call, Output, Alarm, Stage, Trip}
 use Rattle.tsb_command_text.specs.Lamps.{phase_of, detector_of, station_of, lamp_of}
@@ -74,7 +74,7 @@ command_of_three w x y =
 -- of five
 unfoldable pub command_of_five : List ℕ → List ℕ → List ℕ → List ℕ → List ℕ → Option Command
 command_of_five w s o i v =
-    if bytes_eq w (codes "set") then set_of (station_of s) (object_named Two o) (number_of i) (number_of v) else None
+    if bytes_eq w (codes "set") then set_of (station_of s) (object_named NEWEST o) (number_of i) (number_of v) else None
 
 -- the command that these words are
 abbrev pub command_in : List (List ℕ) → Option Command

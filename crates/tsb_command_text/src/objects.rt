@@ -2,14 +2,14 @@
 ghost use Rattle.std.specs.Prelude.{◌≡◌, ◌==◌, ◌&&◌, nat_le};
 ghost use Rattle.tsb_command_text.specs.Objects.{named_among};
 ghost use Rattle.tsb_plan.specs.Names.{object_named};
-ghost use Rattle.tsb_plan.specs.declared.version.Version.TheVariants.{Two};
+ghost use Rattle.tsb_plan.specs.declared.version.TheConstants.Version.{NEWEST};
 
 use crate::names::is;
 use tsb_plan::Object;
 
-/// The object of version 2 that has this name. It is looked for among those alone whose names are about as long.
+/// The object of the newest version that has this name. It is looked for among those alone whose names are about as long.
 pub(crate) fn object(word: &[u8]) -> Option<Object>
-    ensures { result ≡ object_named Two word.now }
+    ensures { result ≡ object_named NEWEST word.now }
 {
     match word.len() {
         0..=11 => up_to_11(word),

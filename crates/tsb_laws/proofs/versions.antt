@@ -20,4 +20,5 @@ pub mod RunLemmas
 pub mod PutLemmas
 pub mod TextLemmas
 pub mod OptionLemmas
+pub mod LaterLemmas
 pub mod Examples

@@ -1,15 +1,18 @@
--- Plan texts of version 1: the plan of 8 phases and 2 sides that a text names, and what holds of it and of the plan
--- that is read, as statements. How a text is read, or refused, stands in tsb_plan_text.
+-- Plan texts of versions 1 and 2. Of version 1: the plan of 8 phases and 2 sides that a text names, and what holds of it
+-- and of the plan that is read. Of version 2: what is read where the number of version 3 takes its place. All of it as
+-- statements; how a text is read, or refused, stands in tsb_plan_text.
 --
 -- All are proved, as the contract of a function that does nothing (src/laws.rt).
-use Rattle.std.specs.Prelude.{◌≡◌, ◌↔◌, ℕ, List, map, if◌then◌else◌, Some, None, Ok}
-use Rattle.serde_json.specs.Data.{Data, Members}
+use Rattle.std.specs.Prelude.{◌≡◌, ◌↔◌, ℕ, ◌≤◌, false, List, length, map, if◌then◌else◌, Some, None, Ok, codes}
+use Rattle.serde_json.specs.Data.{Data, Members, number, put, unsigned}
 use Rattle.serde_json.specs.Find.{as_object}
 use Rattle.tsb_step.specs.tsb_types.Lists.{or_number}
-use Rattle.tsb_step.specs.tsb_plan.declared.version.Version.TheVariants.{One}
+use Rattle.tsb_step.specs.tsb_plan.declared.object.Object.{Object}
+use Rattle.tsb_step.specs.tsb_plan.declared.version.Version.{Version}
+use Rattle.tsb_step.specs.tsb_plan.declared.version.Version.TheVariants.{One, Two, Three}
 use Rattle.tsb_step.specs.tsb_plan.Plan.{Plan}
-use Rattle.tsb_step.specs.tsb_plan.Versions.{has_index_in}
-use Rattle.tsb_plan_text.specs.PlanText.{data_of, version_in, reading}
+use Rattle.tsb_step.specs.tsb_plan.Versions.{has_object, has_index_in}
+use Rattle.tsb_plan_text.specs.PlanText.{limit, data_of, version_in, reading}
 use Rattle.tsb_plan_text.specs.PlanTextSays.{number_for}
 use Rattle.tsb_step.specs.tsb_rules.Rules.{first_broken}
 use Rattle.tsb_step.specs.declared.inputs.Input.{Input}
@@ -19,12 +22,12 @@ use Rattle.tsb_laws.specs.Widened.{IsNarrow, widened_input, AreWithin, widened_s
 use Rattle.tsb_laws.specs.Options.{HasNoOptions, OptionsOff}
 use Rattle.tsb_laws.specs.Versions.{SaysTheSame}
 
--- the text is a JSON object that tells version 1, and these are its members
-pub record IsOfVersion1 (text : List ℕ) (members : Members) : Type 0 where
+-- the text is a JSON object that tells this version, and these are its members
+pub record IsOfVersion (v : Version) (text : List ℕ) (members : Members) : Type 0 where
   pub value : Data
   pub is_json : data_of text ≡ Some value
   pub is_table : as_object value ≡ Some members
-  pub tells : version_in members ≡ Some One
+  pub tells : version_in members ≡ Some v
 
 -- the plan of 8 phases and 2 sides that the members of a text name: at an index of version 1 the number that stands
 -- under the object's name and the index, and 0 where none does
@@ -37,7 +40,7 @@ named_plan members = record {
 
 -- what is said of each text of version 1 that is read, by its members and the plan that it gives
 abbrev pub OfReadTexts : (Members → Plan → Type 0) → Type 0
-OfReadTexts fact = (text : List ℕ) (members : Members) (plan : Plan) → IsOfVersion1 text members → reading text ≡ Ok plan → fact members plan
+OfReadTexts fact = (text : List ℕ) (members : Members) (plan : Plan) → IsOfVersion One text members → reading text ≡ Ok plan → fact members plan
 
 -- It names a plan of version 1: each number is within that version's range.
 abbrev pub TextsNameNarrowPlans : Type 0
@@ -70,3 +73,19 @@ TextsHaveNoOptions = OfReadTexts (λ members plan. HasNoOptions plan)
 -- So each definition that reads an option is the one without it.
 abbrev pub TextsLeaveOptionsOff : Type 0
 TextsLeaveOptionsOff = OfReadTexts (λ members plan. OptionsOff plan)
+
+-- ## Versions 2 and 3
+
+-- the same members with the number of version 3
+abbrev pub renumbered : Members → Members
+renumbered members = put (codes "version") (number (unsigned 3)) members
+
+-- A text of version 2 that is read gives the same plan with the number of version 3 in place of 2, however it is written.
+abbrev pub RenumberedTextsGiveTheSame : Type 0
+RenumberedTextsGiveTheSame = (text other : List ℕ) (members : Members) (plan : Plan) → IsOfVersion Two text members → reading text ≡ Ok plan →
+    IsOfVersion Three other (renumbered members) → length other ≤ limit → reading other ≡ Ok plan
+
+-- In the plan that is read each object is 0 that the text's version has not.
+abbrev pub TextsGiveNoLaterObject : Type 0
+TextsGiveNoLaterObject = (v : Version) (text : List ℕ) (members : Members) (plan : Plan) → IsOfVersion v text members → reading text ≡ Ok plan →
+    (o : Object) (i : ℕ) → has_object v o ≡ false → plan.value o i ≡ 0

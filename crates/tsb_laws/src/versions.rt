@@ -1,7 +1,7 @@
 //! What holds of the bench of 8 phases and 2 sides and of that of 16 and 4, each law the contract of a function that does
 //! nothing.
 ghost use Rattle.tsb_laws.specs.Versions.{BreakTheSameRule, CountersAgree, FieldsAgree, HeadsAgree, OthersRest, PutsMakeNarrowPlans, PutsMakeWidePlans, QuadIsWide, RefusalsAgree, StagesAgree, StatesAgree, TakeTheSame, TwoIsWide, WidePlansSayTheSame};
-ghost use Rattle.tsb_laws.specs.Texts.{NamedPlansBreakNoRule, ReadBenchesGoAlike, TextsGiveWidePlans, TextsHaveNoOptions, TextsLeaveOptionsOff, TextsNameNarrowPlans};
+ghost use Rattle.tsb_laws.specs.Texts.{NamedPlansBreakNoRule, ReadBenchesGoAlike, RenumberedTextsGiveTheSame, TextsGiveNoLaterObject, TextsGiveWidePlans, TextsHaveNoOptions, TextsLeaveOptionsOff, TextsNameNarrowPlans};
 
 /// A plan of version 1 has its wide plan. There is one plan of 16 phases and 4 sides that says at translated indices
 /// what a plan of version 1 says, and nothing elsewhere. It breaks the same rule first, or none where that plan breaks
@@ -86,4 +86,17 @@ pub fn texts_of_version_1_are_wide()
 pub fn texts_of_version_1_have_no_options()
     ensures options { TextsHaveNoOptions }
     ensures off { TextsLeaveOptionsOff }
+{}
+
+/// A plan text of version 2 is one of version 3. With the number 3 in place of 2 it gives the same plan. And no text gives
+/// a value to an object that its version has not, so in the plan of a text of version 2 all that version 3 has more is 0.
+///
+/// Needs: a text that is read, and one with its other members that is not too large (`IsOfVersion`, `renumbered`).
+/// Not said: which texts are read. That is the contract of `read_plan`.
+/// Mistake: a version 3 whose indices are those of version 1, `as_in_version_1` of Texts (`stands_at_17`,
+/// `would_stand_at_33`).
+/// Witness: `is_of_version_2`, `is_read_in_2`, `is_of_version_3`, `is_read_in_3` of Texts.
+pub fn texts_of_version_2_are_of_version_3()
+    ensures same { RenumberedTextsGiveTheSame }
+    ensures none { TextsGiveNoLaterObject }
 {}

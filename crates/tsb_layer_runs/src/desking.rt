@@ -34,7 +34,7 @@ impl Desking {
 
     fn set(&mut self, station: Station, numbers: &mut Numbers) -> Result<Told, Fault> {
         let name = str::from_utf8(numbers.word()?).map_err(|_| Fault::Malformed)?;
-        let object = Object::named(Version::Two, name).ok_or(Fault::Malformed)?;
+        let object = Object::named(Version::NEWEST, name).ok_or(Fault::Malformed)?;
         let index = numbers.number()?;
         let value = numbers.number()?;
         self.desk.open();

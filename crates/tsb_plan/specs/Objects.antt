@@ -1,11 +1,20 @@
 -- The table of objects of a plan, in the order in which their cells stand: the name of each, how many indices it has
--- and its greatest value, and what version 1 of plan texts has of it. Names are those of NTCIP 1202; ranges of
--- detector, pattern and preempt objects are the profile's.
-use Rattle.std.specs.Prelude.{ℕ, ◌+◌, ◌-◌, ◌≤◌, Bool, true, false, ◌&&◌, nat_le, if◌then◌else◌, List, Option, Some, None, codes, sum_by, take, slice_index}
+-- and its greatest value, and since which version plan texts have it, with what version 1 has of it. Names are those of
+-- NTCIP 1202; ranges of detector, pattern and preempt objects are the profile's.
+use Rattle.std.specs.Prelude.{ℕ, ◌+◌, ◌-◌, ◌≤◌, Bool, true, false, ◌&&◌, nat_le, if◌then◌else◌, List, codes, sum_by, take, slice_index}
 use Rattle.tsb_plan.specs.declared.object.Object.{Object}
 use Rattle.tsb_plan.specs.declared.object.Object.TheVariants.{PhaseEnabled, PhaseNonLock, PhaseMinRecall, PhaseMaxRecall, PhasePedRecall, PhaseSoftRecall, PhaseDualEntry, PhaseSimGapDisable, PhaseRestInWalk, PhaseVariableInitial, PhaseRing, PhaseSide, PhaseConcurrency, PhaseWalk, PhasePedestrianClear, PhaseMinimumGreen, PhaseMaximum1, PhaseMaximum2, PhaseMaximumInitial, PhaseTimeBeforeReduction, PhaseTimeToReduce, PhasePassage, PhaseYellowChange, PhaseRedClear, PhaseRedRevert, PhaseAddedInitial, PhaseMinimumGap, PhaseCarsBeforeReduction, VehicleDetectorCallPhase, VehicleDetectorDelay, VehicleDetectorExtend, VehicleDetectorNoActivity, VehicleDetectorMaxPresence, VehicleDetectorErraticCounts, VehicleDetectorFailTime, PedestrianDetectorCallPhase, OverlapIncludedPhases, PatternCycleTime, PatternOffsetTime, PatternSplitNumber, PatternSequenceNumber, SplitTime, SplitMode, SplitCoordPhase, SequenceData, PreemptDelay, PreemptMinimumDuration, PreemptMaximumPresence, PreemptMinimumGreen, PreemptMinimumWalk, PreemptEnterPedClear, PreemptTrackGreen, PreemptTrackPhase, PreemptDwellPhase, PreemptExitPhase, UnitRedRevert, UnitMax2, PhaseDynamicMaxLimit, PhaseDynamicMaxStep, OverlapType, OverlapModifierPhases, CoordForceMode, CoordMaximumMode, PatternPermissiveTime, PatternLeadLag, PhasePedestrianRecycle, CoordCorrectionMode, CoordCorrectionLimit}
 use Rattle.tsb_plan.specs.declared.object.Range.{Range}
 use Rattle.tsb_plan.specs.declared.object.TheConstants.Object.{ALL}
+use Rattle.tsb_plan.specs.declared.version.Version.{Version}
+use Rattle.tsb_plan.specs.declared.version.Version.TheVariants.{One, Two, Three}
+
+-- since which version plan texts have an object
+pub data Since : Type 0 where
+  -- since version 1, which has it with these indices and values
+  since_version_1 : Range → Since
+  since_version_2 : Since
+  since_version_3 : Since
 
 -- what there is to know of an object
 pub record ObjectRow : Type 0 where
@@ -15,8 +24,8 @@ pub record ObjectRow : Type 0 where
   pub name : List ℕ
   -- its indices, from 1 on, and its values, from 0 on, in a plan
   pub range : Range
-  -- those in version 1 of plan texts, or `None` where that has no such object
-  pub in_version_1 : Option Range
+  -- since which version plan texts have it
+  pub since : Since
   -- a commit that changes it is refused while a phase is in service
   pub is_structural : Bool
 
@@ -24,13 +33,17 @@ pub record ObjectRow : Type 0 where
 abbrev to : ℕ → ℕ → Range
 to i v = record { indices = i; greatest = v }
 
--- version 1 of plan texts has the object too, with these indices and values
-abbrev in_1 : ℕ → ℕ → Option Range
-in_1 i v = Some (to i v)
+-- all versions of plan texts have the object, version 1 with these indices and values
+abbrev in_1 : ℕ → ℕ → Since
+in_1 i v = since_version_1 (to i v)
 
--- version 1 has no such object
-abbrev absent : Option Range
-absent = None
+-- versions 2 and 3 have it
+abbrev since_2 : Since
+since_2 = since_version_2
+
+-- version 3 alone has it
+abbrev since_3 : Since
+since_3 = since_version_3
 
 -- a commit may change it only while no phase is in service
 abbrev structural : Bool
@@ -40,12 +53,12 @@ structural = true
 abbrev free : Bool
 free = false
 
--- a row of the table: place, name, range in a plan, range in version 1, and whether it is structural
-abbrev object : ℕ → List ℕ → Range → Option Range → Bool → ObjectRow
-object k n r one s = record { place = k; name = n; range = r; in_version_1 = one; is_structural = s }
+-- a row of the table: place, name, range in a plan, since which version texts have it, and whether it is structural
+abbrev object : ℕ → List ℕ → Range → Since → Bool → ObjectRow
+object k n r v s = record { place = k; name = n; range = r; since = v; is_structural = s }
 
 -- THE TABLE OF OBJECTS: the place of each, its name, how many indices it has and its greatest value in a plan, those in
--- version 1, and whether it is structural
+-- version 1 or the first version that has it, and whether it is structural
 abbrev pub row : Object → ObjectRow
 row PhaseEnabled = object 0 (codes "phaseEnabled") (to 16 1) (in_1 8 1) structural
 row PhaseNonLock = object 1 (codes "phaseNonLock") (to 16 1) (in_1 8 1) free
@@ -104,17 +117,17 @@ row PreemptDwellPhase = object 53 (codes "preemptDwellPhase") (to 4 65535) (in_1
 row PreemptExitPhase = object 54 (codes "preemptExitPhase") (to 4 65535) (in_1 4 255) free
 row UnitRedRevert = object 55 (codes "unitRedRevert") (to 1 255) (in_1 1 255) free
 row UnitMax2 = object 56 (codes "unitMax2") (to 1 1) (in_1 1 1) free
-row PhaseDynamicMaxLimit = object 57 (codes "phaseDynamicMaxLimit") (to 16 255) absent free
-row PhaseDynamicMaxStep = object 58 (codes "phaseDynamicMaxStep") (to 16 255) absent free
-row OverlapType = object 59 (codes "overlapType") (to 4 1) absent structural
-row OverlapModifierPhases = object 60 (codes "overlapModifierPhases") (to 4 65535) absent structural
-row CoordForceMode = object 61 (codes "coordForceMode") (to 1 2) absent free
-row CoordMaximumMode = object 62 (codes "coordMaximumMode") (to 1 2) absent free
-row PatternPermissiveTime = object 63 (codes "patternPermissiveTime") (to 16 255) absent free
-row PatternLeadLag = object 64 (codes "patternLeadLag") (to 16 1) absent free
-row PhasePedestrianRecycle = object 65 (codes "phasePedestrianRecycle") (to 16 1) absent free
-row CoordCorrectionMode = object 66 (codes "coordCorrectionMode") (to 1 3) absent free
-row CoordCorrectionLimit = object 67 (codes "coordCorrectionLimit") (to 1 50) absent free
+row PhaseDynamicMaxLimit = object 57 (codes "phaseDynamicMaxLimit") (to 16 255) since_2 free
+row PhaseDynamicMaxStep = object 58 (codes "phaseDynamicMaxStep") (to 16 255) since_2 free
+row OverlapType = object 59 (codes "overlapType") (to 4 1) since_2 structural
+row OverlapModifierPhases = object 60 (codes "overlapModifierPhases") (to 4 65535) since_2 structural
+row CoordForceMode = object 61 (codes "coordForceMode") (to 1 2) since_2 free
+row CoordMaximumMode = object 62 (codes "coordMaximumMode") (to 1 2) since_2 free
+row PatternPermissiveTime = object 63 (codes "patternPermissiveTime") (to 16 255) since_2 free
+row PatternLeadLag = object 64 (codes "patternLeadLag") (to 16 1) since_2 free
+row PhasePedestrianRecycle = object 65 (codes "phasePedestrianRecycle") (to 16 1) since_2 free
+row CoordCorrectionMode = object 66 (codes "coordCorrectionMode") (to 1 3) since_2 free
+row CoordCorrectionLimit = object 67 (codes "coordCorrectionLimit") (to 1 50) since_2 free
 
 -- all objects, in the order of their places
 unfoldable pub objects : List Object
@@ -131,6 +144,16 @@ indices o = (row o).range.indices
 -- the greatest value of the object; the least is 0
 abbrev pub greatest : Object → ℕ
 greatest o = (row o).range.greatest
+
+-- the first version of plan texts that has an object
+abbrev first_version : Since → Version
+first_version (since_version_1 narrow) = One
+first_version since_version_2 = Two
+first_version since_version_3 = Three
+
+-- and that has this one; later versions have it too
+abbrev pub since : Object → Version
+since o = first_version (row o).since
 
 -- a commit that changes the object is refused while a phase is in service
 abbrev pub is_structural : Object → Bool

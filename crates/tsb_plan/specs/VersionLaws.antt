@@ -1,13 +1,14 @@
--- What holds of the two versions of plan texts and of the names in them, in words that do not retrace how an index is
+-- What holds of the versions of plan texts and of the names in them, in words that do not retrace how an index is
 -- translated or a name is found. Each law here is the contract of a function in src/version_laws.rt.
 use Rattle.std.specs.Prelude.{◌≡◌, ℕ, ◌+◌, ◌-◌, ◌*◌, ◌≤◌, true}
 use Rattle.tsb_plan.specs.declared.object.Object.{Object}
 use Rattle.tsb_plan.specs.declared.object.Object.TheVariants.{SequenceData}
 use Rattle.tsb_plan.specs.declared.version.Version.{Version}
-use Rattle.tsb_plan.specs.declared.version.Version.TheVariants.{One}
+use Rattle.tsb_plan.specs.declared.version.TheConstants.Version.{NEWEST}
+use Rattle.tsb_plan.specs.declared.version.Version.TheVariants.{One, Two}
 use Rattle.tsb_plan.specs.Names.{name_of}
 use Rattle.tsb_plan.specs.Objects.{has_index, greatest}
-use Rattle.tsb_plan.specs.Versions.{has_object, has_index_in, is_split, greatest_in, translated}
+use Rattle.tsb_plan.specs.Versions.{has_object, has_index_in, is_split, number_of, indices_in, greatest_in, translated}
 
 -- a translated index is one that the object has
 abbrev pub TranslateWithin : Type 0
@@ -36,6 +37,21 @@ KeepSplits = (o : Object) (t p : ℕ) → is_split o ≡ true → 1 ≤ t → t 
 abbrev pub KeepPlaces : Type 0
 KeepPlaces = (s r k : ℕ) → 1 ≤ s → s ≤ 4 → 1 ≤ r → r ≤ 2 → 1 ≤ k → k ≤ 8 →
     Becomes SequenceData (16 * (s - 1) + 8 * (r - 1) + k) (32 * (s - 1) + 16 * (r - 1) + k)
+
+-- an object of one version that has the same indices and values in another, each at the same index of a plan
+pub record StaysAsIn (v w : Version) (o : Object) : Type 0 where
+  pub there : has_object w o ≡ true
+  pub indices : indices_in w o ≡ indices_in v o
+  pub values : greatest_in w o ≡ greatest_in v o
+  pub at : (i : ℕ) → translated w o i ≡ translated v o i
+
+-- version 3 has what version 2 has, as it has it
+abbrev pub KeepVersion2 : Type 0
+KeepVersion2 = (o : Object) → has_object Two o ≡ true → StaysAsIn Two NEWEST o
+
+-- no version has an object that a later one has not
+abbrev pub LoseNoObject : Type 0
+LoseNoObject = (v w : Version) (o : Object) → number_of v ≤ number_of w → has_object v o ≡ true → has_object w o ≡ true
 
 -- two objects of one name are one
 abbrev pub AreToldByName : Type 0

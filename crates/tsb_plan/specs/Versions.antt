@@ -1,17 +1,32 @@
--- The two versions of plan texts: which objects each has, at how many indices, up to which value, and the index in
--- version 2 of what a text names. Version 2 is the table of objects; here stands how version 1 differs.
-use Rattle.std.specs.Prelude.{ℕ, ◌+◌, ◌-◌, ◌*◌, ◌/◌, ◌%◌, Bool, true, false, ◌&&◌, nat_le, if◌then◌else◌, Option, Some, None, is_some}
+-- The versions of plan texts: which objects each has, at how many indices, up to which value, and the index in a plan of
+-- what a text names. The last version is the table of objects; here stands how those before it differ.
+use Rattle.std.specs.Prelude.{ℕ, ◌+◌, ◌-◌, ◌*◌, ◌/◌, ◌%◌, Bool, true, false, ◌&&◌, nat_le, if◌then◌else◌, Option, Some, None}
 use Rattle.tsb_plan.specs.declared.object.Object.{Object}
 use Rattle.tsb_plan.specs.declared.object.Object.TheVariants.{PhaseCarsBeforeReduction, SplitTime, SplitMode, SplitCoordPhase, SequenceData}
 use Rattle.tsb_plan.specs.declared.object.Range.{Range}
 use Rattle.tsb_plan.specs.declared.version.Version.{Version}
-use Rattle.tsb_plan.specs.declared.version.Version.TheVariants.{One, Two}
-use Rattle.tsb_plan.specs.Objects.{order, row}
+use Rattle.tsb_plan.specs.declared.version.Version.TheVariants.{One, Two, Three}
+use Rattle.tsb_plan.specs.Objects.{Since, since_version_1, since_version_2, since_version_3, order, row, since}
+
+-- the number that a text of the version tells
+abbrev pub number_of : Version → ℕ
+number_of One = 1
+number_of Two = 2
+number_of Three = 3
+
+-- the first version has what there is since the second
+abbrev pub includes : Version → Version → Bool
+includes One One = true
+includes One Two = false
+includes One Three = false
+includes Two One = true
+includes Two Two = true
+includes Two Three = false
+includes Three v = true
 
 -- the version's texts may name the object
 abbrev pub has_object : Version → Object → Bool
-has_object One o = is_some (row o).in_version_1
-has_object Two o = true
+has_object v o = includes v (since o)
 
 -- its index is a phase, in version 1 too: from phaseEnabled to phaseCarsBeforeReduction
 abbrev pub is_by_phase : Object → Bool
@@ -30,14 +45,16 @@ is_in_rows SequenceData = true
 is_in_rows o = is_split o
 
 -- the range of version 1, and that of a plan where version 1 has none
-abbrev or_else : Option Range → Range → Range
-or_else (Some narrow) wide = narrow
-or_else None wide = wide
+abbrev or_else : Since → Range → Range
+or_else (since_version_1 narrow) wide = narrow
+or_else since_version_2 wide = wide
+or_else since_version_3 wide = wide
 
--- the object's range in the version; for one that version 1 has not, its range in a plan
+-- the object's range in the version; for one that the version has not, its range in a plan
 abbrev range_of : Version → Object → Range
-range_of One o = or_else (row o).in_version_1 (row o).range
+range_of One o = or_else (row o).since (row o).range
 range_of Two o = (row o).range
+range_of Three o = (row o).range
 
 -- how many indices the object has, from 1 on
 abbrev pub indices_in : Version → Object → ℕ
@@ -55,7 +72,8 @@ range_in v o = if has_object v o then Some (record { indices = indices_in v o; g
 abbrev pub has_index_in : Version → Object → ℕ → Bool
 has_index_in v o i = has_object v o && (nat_le 1 i && nat_le i (indices_in v o))
 
--- the index in version 2 of what the version has at the index: the same place of the same row
+-- the index in a plan of what the version has at the index: the same place of the same row
 abbrev pub translated : Version → Object → ℕ → ℕ
 translated One o i = if is_in_rows o then 16 * ((i - 1) / 8) + (i - 1) % 8 + 1 else i
 translated Two o i = i
+translated Three o i = i

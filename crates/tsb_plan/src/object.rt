@@ -1,6 +1,8 @@
 //! The objects of a plan, and the table of what there is to know of each.
 ghost use Rattle.std.specs.Prelude.{◌≡◌};
-ghost use Rattle.tsb_plan.specs.Objects.{indices, greatest, first_cell, is_structural};
+ghost use Rattle.tsb_plan.specs.Objects.{indices, greatest, first_cell, is_structural, since};
+
+use crate::version::Version;
 
 /// An object of a plan: one of NTCIP 1202 section 2, by its name there, or one of the profile's own.
 ///
@@ -151,8 +153,8 @@ pub enum Object {
 }
 
 /// THE TABLE OF OBJECTS, each row as the macro that is named takes it: the object, its name in plan texts,
-/// its first cell, its number of indices and greatest value in a plan, those in version 1 of plan texts,
-/// and whether it is structural.
+/// its first cell, its number of indices and greatest value in a plan, those in version 1 of plan texts or
+/// the first version that has it (`since 2`), and whether it is structural.
 ///
 /// The order is that of the objects' cells in a plan. An object's first cell is after the cells of the one
 /// before it.
@@ -216,17 +218,17 @@ macro_rules! table {
             PreemptExitPhase            "preemptExitPhase"             1184 [4 65535]   [4 255]     free
             UnitRedRevert               "unitRedRevert"                1188 [1 255]     [1 255]     free
             UnitMax2                    "unitMax2"                     1189 [1 1]       [1 1]       free
-            PhaseDynamicMaxLimit        "phaseDynamicMaxLimit"         1190 [16 255]    [absent]    free
-            PhaseDynamicMaxStep         "phaseDynamicMaxStep"          1206 [16 255]    [absent]    free
-            OverlapType                 "overlapType"                  1222 [4 1]       [absent]    structural
-            OverlapModifierPhases       "overlapModifierPhases"        1226 [4 65535]   [absent]    structural
-            CoordForceMode              "coordForceMode"               1230 [1 2]       [absent]    free
-            CoordMaximumMode            "coordMaximumMode"             1231 [1 2]       [absent]    free
-            PatternPermissiveTime       "patternPermissiveTime"        1232 [16 255]    [absent]    free
-            PatternLeadLag              "patternLeadLag"               1248 [16 1]      [absent]    free
-            PhasePedestrianRecycle      "phasePedestrianRecycle"       1264 [16 1]      [absent]    free
-            CoordCorrectionMode         "coordCorrectionMode"          1280 [1 3]       [absent]    free
-            CoordCorrectionLimit        "coordCorrectionLimit"         1281 [1 50]      [absent]    free
+            PhaseDynamicMaxLimit        "phaseDynamicMaxLimit"         1190 [16 255]    [since 2]   free
+            PhaseDynamicMaxStep         "phaseDynamicMaxStep"          1206 [16 255]    [since 2]   free
+            OverlapType                 "overlapType"                  1222 [4 1]       [since 2]   structural
+            OverlapModifierPhases       "overlapModifierPhases"        1226 [4 65535]   [since 2]   structural
+            CoordForceMode              "coordForceMode"               1230 [1 2]       [since 2]   free
+            CoordMaximumMode            "coordMaximumMode"             1231 [1 2]       [since 2]   free
+            PatternPermissiveTime       "patternPermissiveTime"        1232 [16 255]    [since 2]   free
+            PatternLeadLag              "patternLeadLag"               1248 [16 1]      [since 2]   free
+            PhasePedestrianRecycle      "phasePedestrianRecycle"       1264 [16 1]      [since 2]   free
+            CoordCorrectionMode         "coordCorrectionMode"          1280 [1 3]       [since 2]   free
+            CoordCorrectionLimit        "coordCorrectionLimit"         1281 [1 50]      [since 2]   free
         }
     };
 }
@@ -252,10 +254,10 @@ macro_rules! ranges {
     };
 }
 
-/// Which rows of the table version 1 has.
-macro_rules! are_in_version_1 {
+/// The first versions that have the rows of the table.
+macro_rules! first_versions {
     ($($object:ident $name:literal $cell:literal [$($range:tt)+] [$($narrow:tt)+] $change:ident)*) => {
-        [$(is_in_version_1!($($narrow)+)),*]
+        [$(first_version!($($narrow)+)),*]
     };
 }
 
@@ -311,19 +313,22 @@ macro_rules! range {
     };
 }
 
-/// Whether version 1 has an object: it does not where the range there is `absent`.
-macro_rules! is_in_version_1 {
-    (absent) => {
-        false
+/// The first version that has an object: version 1, where it has a range there.
+macro_rules! first_version {
+    (since 2) => {
+        Version::Two
+    };
+    (since 3) => {
+        Version::Three
     };
     ($($narrow:tt)+) => {
-        true
+        Version::One
     };
 }
 
-/// The range in version 1, and the second, that in a plan, where the first is `absent`.
+/// The range in version 1, and the second, that in a plan, where version 1 has none.
 macro_rules! narrow_range {
-    ([absent] [$($range:tt)+]) => {
+    ([since $version:literal] [$($range:tt)+]) => {
         range!($($range)+)
     };
     ([$($narrow:tt)+] [$($range:tt)+]) => {
@@ -349,11 +354,11 @@ pub(crate) const NAMES: [&'static str; Object::COUNT] = table!(names);
 /// The plan's cell that holds its value at index 1; those at 2, 3, .. follow it.
 const FIRST_CELLS: [usize; Object::COUNT] = table!(first_cells);
 
-/// Its indices and values in a plan and in plan texts of version 2: with 16 phases and 4 sides.
+/// Its indices and values in a plan, with 16 phases and 4 sides, and in plan texts after version 1.
 const RANGES: [Range; Object::COUNT] = table!(ranges);
 
-/// Whether plan texts of version 1 have it.
-pub(crate) const ARE_IN_VERSION_1: [bool; Object::COUNT] = table!(are_in_version_1);
+/// The first version of plan texts that has it.
+const FIRST_VERSIONS: [Version; Object::COUNT] = table!(first_versions);
 
 /// Its indices and values in plan texts of version 1, with 8 phases and 2 sides; where these do not have it, those in a
 /// plan.
@@ -384,6 +389,13 @@ impl Object {
         ensures { result ≡ greatest self }
     {
         RANGES[self as usize].greatest
+    }
+
+    /// The first version of plan texts that has the object; later ones have it too.
+    pub fn since(self) -> Version
+        ensures { result ≡ since self }
+    {
+        FIRST_VERSIONS[self as usize]
     }
 
     /// The plan's cell that holds the object's value at index 1; those at 2, 3, .. follow it.

@@ -1,8 +1,8 @@
 //! The versions of plan texts: which objects each has, and how an index in one is found in a plan.
 ghost use Rattle.std.specs.Prelude.{◌≡◌, true};
-ghost use Rattle.tsb_plan.specs.Versions.{has_object, indices_in, greatest_in, range_in, has_index_in, is_in_rows, translated};
+ghost use Rattle.tsb_plan.specs.Versions.{number_of, includes, has_object, indices_in, greatest_in, range_in, has_index_in, is_in_rows, translated};
 
-use crate::object::{ARE_IN_VERSION_1, NARROW_RANGES, Object, Range};
+use crate::object::{NARROW_RANGES, Object, Range};
 
 /// A version of plan texts.
 #[derive(Clone, Copy, PartialEq, Eq)]
@@ -10,18 +10,43 @@ pub enum Version {
     /// Version 1: it knows phases 1 to 8 and sides 1 and 2, so some objects have fewer indices or values
     /// than in a plan, and those after `unitMax2` in the table are absent.
     One,
-    /// Version 2: it knows 16 phases and 4 sides, and all objects as a plan has them.
+    /// Version 2: it knows 16 phases and 4 sides, and has the objects up to `coordCorrectionLimit` in the table, as a
+    /// plan has them.
     Two,
+    /// Version 3: it has all objects as a plan has them, those of version 2 and the ones that came later.
+    Three,
 }
 
 impl Version {
+    /// The last version, which has all objects as a plan has them.
+    pub const NEWEST: Version = Version::Three;
+
+    /// The number that texts of this version tell.
+    pub fn number(self) -> u32
+        ensures { result ≡ number_of self }
+    {
+        match self {
+            Version::One => 1,
+            Version::Two => 2,
+            Version::Three => 3,
+        }
+    }
+
     /// Whether texts of this version may name the object.
     pub fn has(self, object: Object) -> bool
         ensures { result ≡ has_object self object }
     {
+        self.includes(object.since())
+    }
+
+    /// Whether this version has what there is since the other.
+    fn includes(self, since: Version) -> bool
+        ensures { result ≡ includes self since }
+    {
         match self {
-            Version::One => ARE_IN_VERSION_1[object as usize],
-            Version::Two => true,
+            Version::One => since == Version::One,
+            Version::Two => since != Version::Three,
+            Version::Three => true,
         }
     }
 
@@ -45,7 +70,7 @@ impl Version {
     {
         match self {
             Version::One => NARROW_RANGES[object as usize].indices,
-            Version::Two => object.indices(),
+            Version::Two | Version::Three => object.indices(),
         }
     }
 
@@ -55,7 +80,7 @@ impl Version {
     {
         match self {
             Version::One => NARROW_RANGES[object as usize].greatest,
-            Version::Two => object.greatest(),
+            Version::Two | Version::Three => object.greatest(),
         }
     }
 }

@@ -19,10 +19,11 @@ use Rattle.tsb_plan.specs.declared.object.Object.TheVariants.{PhaseEnabled}
 use Rattle.tsb_plan.specs.Names.{name_of}
 use Rattle.tsb_plan.specs.Objects.{objects, order, indices, has_index}
 use Rattle.tsb_plan.specs.Plan.{Plan}
+use Rattle.tsb_plan.specs.Versions.{number_of}
 use Rattle.tsb_plan_text.specs.PlanText.{whole_number}
 use Rattle.tsb_plan_text.specs.PlanTextSays.{number_at, number_for}
-use Rattle.tsb_plan_line.specs.PlanLine.{entries, is_all_zeros, members_of, plan_json, table, with_object}
-use Rattle.tsb_plan_line.proofs.JsonLemmas.{AreSmall, few_indices}
+use Rattle.tsb_plan_line.specs.PlanLine.{entries, is_all_zeros, members_of, plan_json, table, version_for, with_object}
+use Rattle.tsb_plan_line.proofs.JsonLemmas.{AreSmall, few_indices, few_versions}
 
 -- ## The value
 
@@ -49,12 +50,12 @@ put_objects plan [] found = found
 put_objects plan (o ∷ os) found = put_objects plan os (put_object plan o found)
 
 -- the version alone
-abbrev pub version_alone : Members
-version_alone = put (codes "version") (number (unsigned 2)) no_members
+abbrev pub version_alone : Plan → Members
+version_alone plan = put (codes "version") (number (unsigned (number_of (version_for plan)))) no_members
 
 -- all members
 unfoldable pub plan_members : Plan → Members
-plan_members plan = put_objects plan objects version_alone
+plan_members plan = put_objects plan objects (version_alone plan)
 
 entry_data : (b : Bool) (i v : ℕ) (rest : json.Members) (found : Members) (then_is : Members → Members) → v < 65536 →
     ((f : Members) → of_members rest f ≡ Some (then_is f)) →
@@ -89,8 +90,8 @@ members_data plan small (o ∷ os) found =
 pub plan_data : (plan : Plan) → AreSmall plan → of_json (plan_json plan) ≡ Some (object (plan_members plan))
 unfolding plan_json plan_members
 plan_data plan small =
-    let two = number_of-decimal 2 (omega arith) in
-    rw two (ap (option_map object) (members_data plan small objects version_alone))
+    let read = number_of-decimal (number_of (version_for plan)) (omega (arith, few_versions (version_for plan))) in
+    rw read (ap (option_map object) (members_data plan small objects (version_alone plan)))
 
 -- ## At an index of a table
 
@@ -158,7 +159,7 @@ zeros_from value a (suc n) i from below all =
       | inr other ↦ zeros_from value (a + 1) n i (omega (arith, from, other)) (omega (arith, below)) (grind (arith, all))
     ]
 
-zero_there : (plan : Plan) (o : Object) (i : ℕ) → 1 ≤ i → i ≤ indices o → is_all_zeros plan o ≡ true → plan.value o i ≡ 0
+pub zero_there : (plan : Plan) (o : Object) (i : ℕ) → 1 ≤ i → i ≤ indices o → is_all_zeros plan o ≡ true → plan.value o i ≡ 0
 unfolding is_all_zeros
 zero_there plan o i from to all = zeros_from (plan.value o) 1 (indices o) i from (omega (arith, to)) all
 
@@ -230,9 +231,9 @@ unfolding plan_members
 value_there plan small o i has =
     let from : 1 ≤ i = grind (arith, nat_tests, has) in
     let to : i ≤ indices o = grind (arith, nat_tests, has) in
-    objects_there plan small o i from to objects version_alone (inr (no_object o i, all_has o))
+    objects_there plan small o i from to objects (version_alone plan) (inr (no_object o i, all_has o))
   where
-    no_object : (o : Object) (i : ℕ) → at_object o i version_alone ≡ 0
+    no_object : (o : Object) (i : ℕ) → at_object o i (version_alone plan) ≡ 0
     no_object o i = search rules
 
 -- ## The version
@@ -250,6 +251,6 @@ objects_leave plan (o ∷ os) found =
     let ne : codes "version" ≢ name_of o = λ e. grind (arith, not_version o, (bytes_eq-Decides (name_of o) (codes "version")).1 (sym e)) in
     objects_leave plan os (put_object plan o found) ∙ version_left (is_all_zeros plan o) (name_of o) (object (data_table plan o)) found ne
 
-pub version_there : (plan : Plan) → get_member (codes "version") (plan_members plan) ≡ Some (number (unsigned 2))
+pub version_there : (plan : Plan) → get_member (codes "version") (plan_members plan) ≡ Some (number (unsigned (number_of (version_for plan))))
 unfolding plan_members
-version_there plan = objects_leave plan objects version_alone
+version_there plan = objects_leave plan objects (version_alone plan)

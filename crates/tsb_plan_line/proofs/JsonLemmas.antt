@@ -18,10 +18,13 @@ use Rattle.serde_json.specs.Read.{read, max_depth, of_json}
 use Rattle.tsb_objects.specs.tsb_types.Lists.{run_from}
 use Rattle.tsb_plan.proofs.TableLemmas.{length-objects}
 use Rattle.tsb_plan.specs.declared.object.Object.{Object}
+use Rattle.tsb_plan.specs.declared.version.Version.{Version}
+use Rattle.tsb_plan.specs.declared.version.Version.TheVariants.{One, Two, Three}
 use Rattle.tsb_plan.specs.Names.{name_of}
 use Rattle.tsb_plan.specs.Objects.{objects, indices}
 use Rattle.tsb_plan.specs.Plan.{Plan}
-use Rattle.tsb_plan_line.specs.PlanLine.{entries, is_all_zeros, members_of, plan_json, plan_text, table, with_object}
+use Rattle.tsb_plan.specs.Versions.{number_of}
+use Rattle.tsb_plan_line.specs.PlanLine.{entries, is_all_zeros, members_of, plan_json, plan_text, table, version_for, with_object}
 
 -- each value has at most 16 bits
 abbrev pub AreSmall : Plan → Type 0
@@ -29,6 +32,11 @@ AreSmall plan = (o : Object) (i : ℕ) → plan.value o i < 65536
 
 pub few_indices : (o : Object) → indices o ≤ 128
 few_indices o = search rules
+
+pub few_versions : (v : Version) → number_of v ≤ 3
+few_versions One = omega arith
+few_versions Two = omega arith
+few_versions Three = omega arith
 
 short_name : (o : Object) → length (name_of o) ≤ 28
 short_name o = search rules
@@ -61,7 +69,7 @@ members_numbers plan small (o ∷ os) = object_or (is_all_zeros plan o) (name_of
 
 plan_numbers : (plan : Plan) → AreSmall plan → HasNumbers (plan_json plan)
 unfolding plan_json
-plan_numbers plan small = (IsNumber-decimal 2 (omega arith), members_numbers plan small objects)
+plan_numbers plan small = (IsNumber-decimal (number_of (version_for plan)) (omega (arith, few_versions (version_for plan))), members_numbers plan small objects)
 
 -- ## How deep it nests
 
@@ -155,7 +163,7 @@ pub text_utf8 : (plan : Plan) → AreSmall plan → IsUtf8 (plan_text plan)
 unfolding plan_text plan_json
 text_utf8 plan small =
     print_utf8 false (json_tokens (plan_json plan))
-    (opening_utf8, (IsUtf8-key (codes "version") (IsUtf8-are_ascii (codes "version") refl), (decimal_utf8 2 (omega arith), members_utf8 plan small objects)))
+    (opening_utf8, (IsUtf8-key (codes "version") (IsUtf8-are_ascii (codes "version") refl), (decimal_utf8 (number_of (version_for plan)) (omega (arith, few_versions (version_for plan))), members_utf8 plan small objects)))
 
 -- ## Its length
 
@@ -219,13 +227,14 @@ members_room plan small (o ∷ os) =
     let here = object_room (is_all_zeros plan o) (name_of o) (table plan o) (members_of plan os) (short_name o) (table_room plan small o) in
     omega (arith, here, members_room plan small os)
 
-version_room : room (Token.begin_object ∷ Token.key (codes "version") ∷ Token.number (decimal 2) ∷ []) ≤ 100
-version_room =
-    let digits : length (decimal 2) ≤ 1 = length-decimal-le 1 2 (omega arith) (omega arith) (omega arith) in
+version_room : (n : ℕ) → n ≤ 3 → room (Token.begin_object ∷ Token.key (codes "version") ∷ Token.number (decimal n) ∷ []) ≤ 100
+version_room n few =
+    let digits : length (decimal n) ≤ 1 = length-decimal-le 1 n (omega arith) (omega (arith, few)) (omega (arith, few)) in
     omega (arith, digits, key_room (codes "version"))
 
 pub text_short : (plan : Plan) → AreSmall plan → length (plan_text plan) ≤ 1048576
 unfolding plan_text plan_json
 text_short plan small =
     let whole = print_room false (json_tokens (plan_json plan)) in
-    omega (arith, whole, version_room, members_room plan small objects, length-objects)
+    let version = version_room (number_of (version_for plan)) (few_versions (version_for plan)) in
+    omega (arith, whole, version, members_room plan small objects, length-objects)

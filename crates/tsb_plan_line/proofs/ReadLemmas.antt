@@ -2,24 +2,27 @@
 use Rattle.std.proofs.Common.{◌≡◌, ◌∙◌, ℕ, ◌≤◌, false, List, length, nat_lt, Some, None, option_map, Result, Ok, refl, sym, ap, arith, rules, inl, inr}
 use Rattle.std.proofs.Math.Path.{fun_ext}
 use Rattle.std.proofs.lemmas.Bool.{cases_Bool, false≢true, le-ltb}
+use Rattle.std.proofs.lemmas.Bool.Decides.{nat_tests}
 use Rattle.std.proofs.lemmas.Option.{same_Some}
 use Rattle.serde_json.specs.Data.{object}
 use Rattle.serde_json.specs.Read.{read}
 use Rattle.tsb_objects.specs.tsb_rules.Rules.{first_broken}
 use Rattle.tsb_plan.specs.declared.object.Object.{Object}
-use Rattle.tsb_plan.specs.declared.version.Version.TheVariants.{Two}
+use Rattle.tsb_plan.specs.declared.version.Version.{Version}
+use Rattle.tsb_plan.specs.declared.version.Version.TheVariants.{One, Two, Three}
 use Rattle.tsb_plan.specs.Objects.{has_index, greatest}
 use Rattle.tsb_plan.specs.Plan.{Plan, empty}
+use Rattle.tsb_plan.specs.Versions.{has_object, has_index_in, indices_in, number_of, translated}
 use Rattle.tsb_plan.specs.VersionLaws.{TranslateApart}
 use Rattle.tsb_plan_text.proofs.RiseLemmas.{read_all_rise}
 use Rattle.tsb_plan_text.proofs.SaysLemmas.{says_these}
 use Rattle.tsb_plan_text.proofs.TextLemmas.{some_data}
 use Rattle.tsb_plan_text.specs.PlanErrors.{Error}
-use Rattle.tsb_plan_text.specs.PlanText.{limit, data_of, data_plan, checked, reading, version_in}
+use Rattle.tsb_plan_text.specs.PlanText.{limit, data_of, data_plan, checked, reading, version_in, version_numbered}
 use Rattle.tsb_plan_line.specs.Laws.{IsWhole, TellPlansApart}
-use Rattle.tsb_plan_line.specs.PlanLine.{plan_text}
-use Rattle.tsb_plan_line.proofs.AcceptLemmas.{members_accepted, plan_good}
-use Rattle.tsb_plan_line.proofs.FoundLemmas.{plan_data, plan_members, value_there, version_there}
+use Rattle.tsb_plan_line.specs.PlanLine.{is_all_zeros, plan_text, version_for}
+use Rattle.tsb_plan_line.proofs.AcceptLemmas.{IsAsInPlan, members_accepted, plan_good, version-as-in-plan, version-has-all}
+use Rattle.tsb_plan_line.proofs.FoundLemmas.{plan_data, plan_members, value_there, version_there, zero_there}
 use Rattle.tsb_plan_line.proofs.JsonLemmas.{AreSmall, read_text, text_short, text_utf8}
 
 greatest_small : (o : Object) → greatest o ≤ 65535
@@ -39,21 +42,51 @@ same_plan a b phases sides values =
 text_data : (plan : Plan) → IsWhole plan → read (plan_text plan) ≡ Some (object (plan_members plan))
 text_data plan whole = read_text plan (small plan whole) ∙ plan_data plan (small plan whole)
 
+-- a version is found by its number
+numbered : (v : Version) → version_numbered (number_of v) ≡ Some v
+numbered One = refl
+numbered Two = refl
+numbered Three = refl
+
+-- a version that has the object has it at the plan's indices
+at_index : (v : Version) → IsAsInPlan v → (o : Object) (i : ℕ) → has_object v o ≡ true → has_index_in v o i ≡ has_index o i
+at_index v whole o i has = rw (has, whole.indices o) refl
+
+at_none : (v : Version) (o : Object) (i : ℕ) → has_object v o ≡ false → has_index_in v o i ≡ false
+at_none v o i hasnt = rw hasnt refl
+
+-- an object that the version has not is 0 in the plan
+zero_elsewhere : (plan : Plan) → IsWhole plan → (o : Object) (i : ℕ) → has_object (version_for plan) o ≡ false → plan.value o i ≡ 0
+zero_elsewhere plan whole o i hasnt = elim (cases_Bool (is_all_zeros plan o)) [
+  | inr given ↦ absurd (false≢true (sym hasnt ∙ version-has-all plan o given))
+  | inl zeros ↦ elim (cases_Bool (has_index o i)) [
+    | inl has ↦ zero_there plan o i (grind (arith, nat_tests, has)) (grind (arith, nat_tests, has)) zeros
+    | inr out ↦ whole.elsewhere o i out
+  ]
+]
+
 -- the plan that its members give
 pub data_back : TranslateApart → (plan : Plan) → IsWhole plan → data_plan (object (plan_members plan)) ≡ Ok plan
 unfolding data_plan
 data_back apart plan whole =
     let ms = plan_members plan in
     let fits = small plan whole in
-    let made = members_accepted ms empty (plan_good plan fits whole.ranged) in
+    let v = version_for plan in
+    let its = version-as-in-plan plan in
+    let made = members_accepted v its ms empty (plan_good plan fits whole.ranged) in
     let rises = read_all_rise (plan_text plan) (object ms) (text_data plan whole) ms refl in
-    let says = says_these apart Two ms made.plan rises made.is in
-    let values : (o : Object) (i : ℕ) → made.plan.value o i ≡ plan.value o i = λ o i. elim (cases_Bool (has_index o i)) [
-      | inl has ↦ says.there o i has ∙ value_there plan fits o i has
-      | inr hasnt ↦ says.elsewhere o i (λ k has same. false≢true (sym hasnt ∙ ap (has_index o) (sym same) ∙ has)) ∙ sym (whole.elsewhere o i hasnt)
+    let says = says_these apart v ms made.plan rises made.is in
+    let values : (o : Object) (i : ℕ) → made.plan.value o i ≡ plan.value o i = λ o i. elim (cases_Bool (has_object v o)) [
+      | inr none ↦ says.elsewhere o i (λ k at same. false≢true (sym (at_none v o k none) ∙ at)) ∙ sym (zero_elsewhere plan whole o i none)
+      | inl here ↦ elim (cases_Bool (has_index o i)) [
+        | inl has ↦ ap (made.plan.value o) (sym (its.at o i)) ∙ says.there o i (at_index v its o i here ∙ has) ∙ value_there plan fits o i has
+        | inr out ↦
+            says.elsewhere o i (λ k at same. false≢true (sym out ∙ ap (has_index o) (sym same ∙ its.at o k) ∙ sym (at_index v its o k here) ∙ at))
+            ∙ sym (whole.elsewhere o i out)
+      ]
     ] in
     let same : made.plan ≡ plan = same_plan made.plan plan (made.phases ∙ sym whole.phases) (made.sides ∙ sym whole.sides) values in
-    let version : version_in ms ≡ Some Two = rw (version_there plan) refl in
+    let version : version_in ms ≡ Some v = rw (version_there plan) (numbered v) in
     rw version (made.is ∙ ap Ok same)
 
 pub read_back : TranslateApart → (plan : Plan) → IsWhole plan → first_broken plan ≡ None → reading (plan_text plan) ≡ Ok plan

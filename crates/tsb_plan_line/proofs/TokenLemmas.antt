@@ -7,8 +7,9 @@ use Rattle.json.specs.Tree.{json_tokens, members_tokens}
 use Rattle.tsb_plan.specs.declared.object.Object.{Object}
 use Rattle.tsb_plan.specs.Objects.{objects, indices}
 use Rattle.tsb_plan.specs.Plan.{Plan}
+use Rattle.tsb_plan.specs.Versions.{number_of}
 use Rattle.tsb_objects.specs.tsb_types.Lists.{run_from}
-use Rattle.tsb_plan_line.specs.PlanLine.{entries, members_of, plan_json, table, with_entry}
+use Rattle.tsb_plan_line.specs.PlanLine.{entries, members_of, plan_json, table, version_for, with_entry}
 
 -- the values from an index on are that at it, and those after it
 pub entries-more : (plan : Plan) (o : Object) (a b : ℕ) → a < b →
@@ -44,11 +45,11 @@ pub entries-done : (plan : Plan) (o : Object) (a b : ℕ) (old new all : List To
 entries-done plan o a b old new all above closes so = closes ∙ ap (λ (ms : Members). old ++ members_tokens ms) (sym (entries-end plan o a b above)) ∙ so
 
 -- the whole plan, token after token
-pub plan-on : (plan : Plan) (os : List Object) (old opened named numbered new : List Token) → os ≡ objects → old ≡ [] →
-    opened ≡ old ++ Token.begin_object ∷ [] → named ≡ opened ++ Token.key (codes "version") ∷ [] → numbered ≡ named ++ Token.number (decimal 2) ∷ [] →
+pub plan-on : (plan : Plan) (os : List Object) (n : ℕ) (old opened named numbered new : List Token) → os ≡ objects → n ≡ number_of (version_for plan) → old ≡ [] →
+    opened ≡ old ++ Token.begin_object ∷ [] → named ≡ opened ++ Token.key (codes "version") ∷ [] → numbered ≡ named ++ Token.number (decimal n) ∷ [] →
     new ≡ numbered ++ members_tokens (members_of plan os) → new ≡ json_tokens (plan_json plan)
 unfolding plan_json
-plan-on plan os old opened named numbered new all none opens names numbers rest = rw (rest, numbers, names, opens, none, all) refl
+plan-on plan os n old opened named numbered new all version none opens names numbers rest = rw (rest, numbers, names, opens, none, all, version) refl
 
 -- a result that is right where another is
 pub on-ok : {T E : Type 0} {P Q : Type 0} (r : Result T E) → OnOk r P → (P → Q) → OnOk r Q

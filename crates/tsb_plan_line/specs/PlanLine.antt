@@ -1,15 +1,19 @@
--- The line of a plan: one plan text of version 2, without spaces and without a line feed. `version` comes first, then
--- each object that is not all zeros, in the order of the table of objects, and of each object the indices at which it is
--- not 0, in ascending order. So what differs between two plans is all that differs between their lines.
+-- The line of a plan: one plan text, without spaces and without a line feed, of version 2 or, where that has not all its
+-- objects, of version 3. `version` comes first, then each object that is not all zeros, in the order of the table of
+-- objects, and of each object the indices at which it is not 0, in ascending order. So what differs between two plans is
+-- all that differs between their lines.
 use Rattle.std.specs.List.{list_all}
-use Rattle.std.specs.Prelude.{ℕ, ◌==◌, Bool, if◌then◌else◌, List, [], ◌∷◌, codes, decimal}
+use Rattle.std.specs.Prelude.{ℕ, ◌==◌, Bool, ◌||◌, if◌then◌else◌, List, [], ◌∷◌, codes, decimal}
 use Rattle.json.specs.Json.{Json, number, object, Members, no_members, member}
 use Rattle.json.specs.Print.{print}
 use Rattle.json.specs.Tree.{json_tokens}
 use Rattle.tsb_plan.specs.declared.object.Object.{Object}
+use Rattle.tsb_plan.specs.declared.version.Version.{Version}
+use Rattle.tsb_plan.specs.declared.version.Version.TheVariants.{Two, Three}
 use Rattle.tsb_plan.specs.Names.{name_of}
 use Rattle.tsb_plan.specs.Objects.{objects, indices}
 use Rattle.tsb_plan.specs.Plan.{Plan}
+use Rattle.tsb_plan.specs.Versions.{has_object, number_of}
 use Rattle.tsb_objects.specs.tsb_types.Lists.{run_from}
 
 -- the value at an index before other members, unless it is 0
@@ -38,9 +42,13 @@ abbrev pub members_of : Plan → List Object → Members
 members_of plan [] = no_members
 members_of plan (o ∷ os) = with_object plan o (members_of plan os)
 
+-- the version that tells all of the plan: version 2, unless an object that this has not is not all zeros
+unfoldable pub version_for : Plan → Version
+version_for plan = if list_all (λ o. has_object Two o || is_all_zeros plan o) objects then Two else Three
+
 -- the plan as JSON
 unfoldable pub plan_json : Plan → Json
-plan_json plan = object (member (codes "version") (number (decimal 2)) (members_of plan objects))
+plan_json plan = object (member (codes "version") (number (decimal (number_of (version_for plan)))) (members_of plan objects))
 
 -- the line of a plan, without its end
 unfoldable pub plan_text : Plan → List ℕ

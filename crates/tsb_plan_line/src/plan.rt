@@ -5,21 +5,19 @@ ghost use Rattle.json.specs.Tree.{json_tokens, members_tokens};
 ghost use Rattle.tsb_objects.specs.tsb_rules.Rules.{first_broken};
 ghost use Rattle.tsb_plan.specs.PlanOf.{plan_of};
 ghost use Rattle.tsb_plan_text.specs.PlanText.{reading};
-ghost use Rattle.tsb_plan_line.specs.PlanLine.{is_all_zeros, members_of, plan_text, table, with_entry, with_object};
+ghost use Rattle.tsb_plan_line.specs.PlanLine.{is_all_zeros, members_of, plan_text, table, version_for, with_entry, with_object};
 
 use crate::laws::lines_are_read_back;
 use itoa::Buffer;
 use json::Writer;
 use std::alloc::{AllocError, Global};
-use tsb_objects::{Object, Plan};
+use tsb_objects::{Object, Plan, Version};
 
 /// The name of the member that gives the version.
 const VERSION: &str = "version";
 
-/// The version of plan texts that is written.
-const VERSION_NUMBER: u64 = 2;
-
-/// The plan as one plan text of version 2, without spaces and without a line feed.
+/// The plan as one plan text, without spaces and without a line feed. The text is of version 2, or of version 3 where an
+/// object that version 2 has not is not all zeros.
 ///
 /// `version` comes first, then each object that is not all zeros, in the order of `Object::ALL`, and of each object the
 /// indices at which it is not 0, in ascending order. So two plans are the same exactly where their lines are. An `Err`
@@ -36,9 +34,22 @@ pub fn plan_line(alloc: Global, plan: &Plan) -> Result<Vec<u8>, AllocError>
     let mut writer = Writer::new(Vec::new(alloc));
     writer.begin_object()?;
     writer.key(VERSION)?;
-    writer.u64(VERSION_NUMBER)?;
+    writer.u64(u64::from(version_for(plan).number()))?;
     write_objects(&mut writer, plan, &Object::ALL)?;
     Ok(writer.into_inner())
+}
+
+/// The version that tells all of the plan.
+#[tactic(auto, unfolding(crate::specs::PlanLine::version_for, tsb_plan::specs::Objects::objects))]
+fn version_for(plan: &Plan) -> Version
+    ensures { result ≡ version_for (plan_of plan.now) }
+{
+    let is_told = |object: &Object| Version::Two.has(*object) || is_all_zeros(plan, *object);
+    if Object::ALL.iter().all(is_told) {
+        Version::Two
+    } else {
+        Version::Three
+    }
 }
 
 /// Writes those of these objects that are not all zeros, each with its table, and closes what they are of.

@@ -7,7 +7,7 @@ use Rattle.json.specs.Json.{Json, object, Members, no_members, member, document}
 use Rattle.json.specs.Print.{print}
 use Rattle.json.specs.Tree.{json_tokens}
 use Rattle.tsb_plan.specs.declared.object.Object.{Object}
-use Rattle.tsb_plan.specs.declared.version.Version.TheVariants.{Two}
+use Rattle.tsb_plan.specs.declared.version.TheConstants.Version.{NEWEST}
 use Rattle.tsb_plan.specs.Names.{name_of, object_named}
 use Rattle.tsb_plan_notes.specs.Parts.{is_index, is_whole, meant}
 use Rattle.tsb_plan_notes.specs.Units.{unit_of, unit_text}
@@ -81,7 +81,7 @@ member_note (Some o) name d later = twice_note name d (next_of name later) ++ ta
 -- of the members of a text
 abbrev pub members_notes : Members → List ℕ
 members_notes no_members = []
-members_notes (member name d later) = member_note (object_named Two name) name d later ++ members_notes later
+members_notes (member name d later) = member_note (object_named NEWEST name) name d later ++ members_notes later
 
 -- of a value
 abbrev pub value_notes : Json → List ℕ

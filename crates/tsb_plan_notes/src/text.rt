@@ -2,7 +2,7 @@
 ghost use Rattle.std.specs.Prelude.{◌≡◌, ◌++◌, IfOk, OnOk};
 ghost use Rattle.json.specs.Tree.{HasNumbers, MembersHaveNumbers};
 ghost use Rattle.json.specs.Value.{members_view, value_view};
-ghost use Rattle.tsb_plan.specs.declared.version.Version.TheVariants.{Two};
+ghost use Rattle.tsb_plan.specs.declared.version.TheConstants.Version.{NEWEST};
 ghost use Rattle.tsb_plan.specs.Names.{object_named};
 ghost use Rattle.tsb_plan_notes.specs.Notes.{member_note, members_notes, next_of, notes_of, twice_note, value_notes};
 
@@ -70,10 +70,10 @@ fn add_member<'a>(
     requires value { HasNumbers (value_view member.now.1) }
     requires later { MembersHaveNumbers (members_view later.now) }
     ensures { OnOk result (notes.new.items ≡ notes.old.items
-        ++ member_note (object_named Two member.now.0.now) member.now.0.now (value_view member.now.1) (members_view later.now)) }
+        ++ member_note (object_named NEWEST member.now.0.now) member.now.0.now (value_view member.now.1) (members_view later.now)) }
 {
     let name = member.0;
-    match Object::named(Version::Two, name) {
+    match Object::named(Version::NEWEST, name) {
         Some(object) => {
             add_again(alloc, name, &member.1, later, notes)?;
             add_table(alloc, object, &member.1, notes)

@@ -4,7 +4,7 @@ use Rattle.std.proofs.lemmas.Bool.{cases_Bool}
 use Rattle.tsb_plan.specs.declared.object.Object.{Object}
 use Rattle.tsb_plan.specs.declared.object.Range.{Range}
 use Rattle.tsb_plan.specs.declared.version.Version.{Version}
-use Rattle.tsb_plan.specs.declared.version.Version.TheVariants.{One, Two}
+use Rattle.tsb_plan.specs.declared.version.Version.TheVariants.{One, Two, Three}
 use Rattle.tsb_plan.specs.Objects.{indices}
 use Rattle.tsb_plan.specs.Versions.{has_object, range_in, indices_in, greatest_in}
 
@@ -27,3 +27,4 @@ few_of o = search rules
 pub few_indices : (v : Version) (o : Object) → indices_in v o ≤ 128
 few_indices One o = search rules
 few_indices Two o = few_of o
+few_indices Three o = few_of o

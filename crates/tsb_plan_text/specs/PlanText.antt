@@ -11,7 +11,7 @@ use Rattle.tsb_objects.specs.tsb_rules.Rules.{first_broken}
 use Rattle.tsb_objects.specs.tsb_rules.declared.rules.Rule.{Rule}
 use Rattle.tsb_plan.specs.declared.object.Object.{Object}
 use Rattle.tsb_plan.specs.declared.version.Version.{Version}
-use Rattle.tsb_plan.specs.declared.version.Version.TheVariants.{One, Two}
+use Rattle.tsb_plan.specs.declared.version.Version.TheVariants.{One, Two, Three}
 use Rattle.tsb_plan.specs.Names.{object_named}
 use Rattle.tsb_plan.specs.Plan.{Plan, empty, with_value}
 use Rattle.tsb_plan.specs.Versions.{indices_in, greatest_in, translated}
@@ -36,9 +36,9 @@ then_on (Err f) next = Err f
 unfoldable pub data_of : List ℕ → Option Data
 data_of text = if is_utf8 text then read text else None
 
--- 1 or 2
+-- 1, 2 or 3
 abbrev pub version_numbered : ℕ → Option Version
-version_numbered n = if n == 1 then Some One else (if n == 2 then Some Two else None)
+version_numbered n = if n == 1 then Some One else (if n == 2 then Some Two else (if n == 3 then Some Three else None))
 
 -- the number that `as_u64` gives of a value
 abbrev pub number_in : Data → Option ℕ

@@ -25,7 +25,7 @@ pub enum PlanError {
     NotJson,
     /// The text is JSON, and not a JSON object.
     NotATable,
-    /// The member `version` is absent or is not the whole number 1 or 2.
+    /// The member `version` is absent or is not the whole number 1, 2 or 3.
     Version,
     /// A member's name is not `version`, and not that of an object of the version.
     NoSuchObject {

@@ -42,6 +42,7 @@ pub(crate) fn version_of(number: u64) -> Option<Version>
     match number {
         1 => Some(Version::One),
         2 => Some(Version::Two),
+        3 => Some(Version::Three),
         _ => None,
     }
 }

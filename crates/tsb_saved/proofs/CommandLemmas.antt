@@ -16,7 +16,7 @@ use Rattle.tsb_kept.specs.tsb_step.tsb_plan.Names.{name_of, object_named}
 use Rattle.tsb_kept.specs.tsb_step.tsb_plan.Versions.{has_object}
 use Rattle.tsb_kept.specs.tsb_step.tsb_plan.declared.object.Object.{Object}
 use Rattle.tsb_kept.specs.tsb_step.tsb_plan.declared.object.ObjectId.{ObjectId}
-use Rattle.tsb_kept.specs.tsb_step.tsb_plan.declared.version.Version.TheVariants.{Two}
+use Rattle.tsb_kept.specs.tsb_step.tsb_plan.declared.version.TheConstants.Version.{NEWEST}
 use Rattle.tsb_step.proofs.tsb_plan.NameLemmas.{named_exact}
 use Rattle.tsb_kept.specs.tsb_types.declared.lamp.Lamp.{Lamp}
 use Rattle.tsb_kept.specs.tsb_types.declared.lamp.Lamp.TheVariants as lamps
@@ -73,11 +73,11 @@ name-some o = search rules
 name-word : (o : Object) → IsWord (name_of o)
 name-word o = word-of (name_of o) (name-free o) (name-some o)
 
-named-two : (o : Object) → has_object Two o ≡ true
-named-two o = search rules
+named-newest : (o : Object) → has_object NEWEST o ≡ true
+named-newest o = search rules
 
-name-found : (o : Object) → object_named Two (name_of o) ≡ Some o
-name-found o = (named_exact Two (name_of o) o).1 (record { has = named-two o; name = refl })
+name-found : (o : Object) → object_named NEWEST (name_of o) ≡ Some o
+name-found o = (named_exact NEWEST (name_of o) o).1 (record { has = named-newest o; name = refl })
 
 -- ## Numbers
 

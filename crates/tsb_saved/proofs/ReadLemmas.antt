@@ -7,7 +7,7 @@ use Rattle.tsb_lines.specs.Words.{at_most, number_from, number_of, words_of}
 use Rattle.tsb_kept.specs.tsb_types.declared.lamp.Lamp.TheVariants as lamps
 use Rattle.tsb_kept.specs.tsb_step.tsb_plan.Names.{object_named}
 use Rattle.tsb_kept.specs.tsb_step.tsb_plan.declared.object.Object.{Object}
-use Rattle.tsb_kept.specs.tsb_step.tsb_plan.declared.version.Version.TheVariants.{Two}
+use Rattle.tsb_kept.specs.tsb_step.tsb_plan.declared.version.TheConstants.Version.{NEWEST}
 use Rattle.tsb_step.specs.declared.inputs.Input.{Input}
 use Rattle.tsb_step.specs.declared.inputs.Input.TheVariants.{Tick}
 use Rattle.tsb_step.specs.Runs.{replay}
@@ -136,7 +136,7 @@ set-fits (Some s) (Some o) (Some i) (Some v) hs hi hv = (hs, hi, hv)
 five-sound : (w s o i v : List ℕ) → OfAny IsSound (command_of_five w s o i v)
 unfolding command_of_five
 five-sound w s o i v =
-    of-if IsSound (bytes_eq w (codes "set")) _ _ (set-fits (station_of s) (object_named Two o) (number_of i) (number_of v) (up-to-fits 4 (number_of s)) (number-fits i) (number-fits v)) tt
+    of-if IsSound (bytes_eq w (codes "set")) _ _ (set-fits (station_of s) (object_named NEWEST o) (number_of i) (number_of v) (up-to-fits 4 (number_of s)) (number-fits i) (number-fits v)) tt
 
 words-sound : (ws : List (List ℕ)) → OfAny IsSound (command_in ws)
 words-sound [] = tt

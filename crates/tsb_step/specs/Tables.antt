@@ -8,7 +8,8 @@ use Rattle.tsb_objects.specs.tsb_plan.declared.object.Object.{Object}
 use Rattle.tsb_objects.specs.tsb_plan.declared.object.Object.TheVariants.{PhaseSide, PhaseConcurrency, VehicleDetectorCallPhase, PedestrianDetectorCallPhase, OverlapIncludedPhases, SequenceData, PreemptTrackPhase, PreemptDwellPhase, PreemptExitPhase, PhaseDynamicMaxLimit, PhaseDynamicMaxStep, OverlapModifierPhases}
 use Rattle.tsb_objects.specs.tsb_plan.declared.object.ObjectId.{ObjectId}
 use Rattle.tsb_objects.specs.tsb_plan.declared.version.Version.{Version}
-use Rattle.tsb_objects.specs.tsb_plan.declared.version.Version.TheVariants.{One, Two}
+use Rattle.tsb_objects.specs.tsb_plan.declared.version.TheConstants.Version.{NEWEST}
+use Rattle.tsb_objects.specs.tsb_plan.declared.version.Version.TheVariants.{One}
 use Rattle.tsb_objects.specs.tsb_plan.Objects.{objects, indices, greatest}
 use Rattle.tsb_objects.specs.tsb_plan.Plan.{Plan}
 use Rattle.tsb_objects.specs.tsb_plan.Versions.{is_by_phase, is_in_rows, has_object, indices_in, greatest_in}
@@ -37,9 +38,9 @@ greatest_for n d PedestrianDetectorCallPhase = n
 greatest_for n d SequenceData = n
 greatest_for n d o = greatest o
 
--- the version of plan texts whose objects a plan has: version 1 with 8 phases
+-- the version of plan texts whose objects a plan has: version 1 with 8 phases, else the newest
 abbrev pub version_of : Plan → Version
-version_of plan = if plan.phase_count == 8 then One else Two
+version_of plan = if plan.phase_count == 8 then One else NEWEST
 
 -- the object has the index where there are so many phases
 abbrev pub has_place : Plan → Object → ℕ → Bool

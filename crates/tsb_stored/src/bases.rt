@@ -61,6 +61,7 @@ fn version(text: &str) -> Option<Version> {
     match text {
         "1" => Some(Version::One),
         "2" => Some(Version::Two),
+        "3" => Some(Version::Three),
         _ => None,
     }
 }

@@ -1,7 +1,7 @@
 //! Plan texts, and the lines of their faults.
 
 use std::alloc::{AllocError, Global};
-use tsb_objects::{Object, Plan, Rule};
+use tsb_objects::{Object, PLAN_CELLS, Plan, Rule};
 use tsb_plan_text::{LIMIT, PlanError, read_plan};
 
 /// The built-in plan of two phases.
@@ -122,15 +122,16 @@ fn all_padded_are_answered(alloc: Global, wanted: &[(&str, &str)]) -> bool {
 }
 
 /// Texts, each with what reading answers for it.
-const TEXTS: [(&str, &str); 10] = [
+const TEXTS: [(&str, &str); 11] = [
     (r#""#, "plan: not JSON"),
     (r#"{"version":1"#, "plan: not JSON"),
     (r#"[]"#, "plan: not a table"),
     (r#"{}"#, "plan: version"),
     (r#"{"version":1.0}"#, "plan: version"),
     (r#"{"version":"1"}"#, "plan: version"),
-    (r#"{"version":1,"version":3}"#, "plan: version"),
-    (r#"{"version":3,"version":1}"#, "plan: rule K1"),
+    (r#"{"version":1,"version":4}"#, "plan: version"),
+    (r#"{"version":4,"version":1}"#, "plan: rule K1"),
+    (r#"{"version":3}"#, "plan: rule K1"),
     (r#"{"version":1}"#, "plan: rule K1"),
     (SHORT_YELLOW, "plan: rule K8"),
 ];
@@ -138,6 +139,30 @@ const TEXTS: [(&str, &str); 10] = [
 #[test]
 fn faults_are_printed(rt: HostRuntime) {
     assert!(rt; are_answered(rt.alloc(), &TEXTS) && is_answered(rt.alloc(), QUAD, "read"));
+}
+
+/// One phase, which is in ring 2, in a text of each version.
+const ONE_PHASE: [&str; 3] = [
+    r#"{"version":1,"phaseEnabled":{"2":1},"phaseRing":{"2":2},"phaseSide":{"2":1},"phaseYellowChange":{"2":30},"sequenceData":{"9":2}}"#,
+    r#"{"version":2,"phaseEnabled":{"2":1},"phaseRing":{"2":2},"phaseSide":{"2":1},"phaseYellowChange":{"2":30},"sequenceData":{"17":2}}"#,
+    r#"{"version":3,"phaseEnabled":{"2":1},"phaseRing":{"2":2},"phaseSide":{"2":1},"phaseYellowChange":{"2":30},"sequenceData":{"17":2}}"#,
+];
+
+/// Whether both texts are read, as one plan.
+fn are_one_plan(alloc: Global, text: &str, other: &str) -> bool {
+    match (
+        read_plan(alloc, text.as_bytes()),
+        read_plan(alloc, other.as_bytes()),
+    ) {
+        (Ok(one), Ok(two)) => one.plan().has_same_cells(two.plan(), 0, PLAN_CELLS),
+        _ => false,
+    }
+}
+
+#[test]
+fn versions_give_one_plan(rt: HostRuntime) {
+    let [one, two, three] = ONE_PHASE;
+    assert!(rt; are_one_plan(rt.alloc(), one, two) && are_one_plan(rt.alloc(), two, three));
 }
 
 /// Members of a text, each with what reading answers for it.

@@ -13,12 +13,13 @@ fn has_range(object: Object, indices: u32, greatest: u32) -> bool {
     Version::One.has(object) && range(Version::One, object) == Some((indices, greatest))
 }
 
-/// Whether version 2 has the object, with its whole range, and version 1 has not.
+/// Whether versions 2 and 3 have the object, with its whole range, and version 1 has not.
 fn is_new(object: Object) -> bool {
-    !Version::One.has(object)
-        && Version::Two.has(object)
+    object.since() == Version::Two
+        && !Version::One.has(object)
         && object.range_in(Version::One) == None
         && object.range_in(Version::Two) == Some(range_of(object))
+        && object.range_in(Version::Three) == Some(range_of(object))
 }
 
 /// What version 1 has less of.
@@ -69,7 +70,7 @@ fn have_ranges(wanted: &[(Object, u32, u32)]) -> bool {
     true
 }
 
-/// Whether only version 2 has the objects.
+/// Whether the objects came with version 2.
 fn are_new(objects: &[Object]) -> bool {
     for object in objects {
         if !is_new(*object) {
@@ -105,16 +106,33 @@ fn indices_of_1_are_translated() -> bool {
         && one.translated(Object::VehicleDetectorDelay, 16) == 16
 }
 
-/// Whether those of version 2 are kept.
-fn indices_of_2_are_kept() -> bool {
-    Version::Two.translated(Object::SplitTime, 17) == 17
-        && Version::Two.translated(Object::SequenceData, 128) == 128
+/// Whether those of a later version are kept.
+fn indices_are_kept(version: Version) -> bool {
+    version.translated(Object::SplitTime, 17) == 17
+        && version.translated(Object::SequenceData, 128) == 128
 }
 
 #[test]
 fn indices_are_translated(rt: HostRuntime) {
-    assert!(rt; indices_of_1_are_translated() && indices_of_2_are_kept());
+    assert!(rt; indices_of_1_are_translated());
+    assert!(rt; indices_are_kept(Version::Two) && indices_are_kept(Version::Three));
     version_laws::versions_say_the_same();
+}
+
+/// Whether version 3 has each object as a plan has it, and each that version 2 has.
+fn is_whole_in_3(object: Object) -> bool {
+    let whole = Some(range_of(object));
+    object.range_in(Version::NEWEST) == whole
+        && (!Version::Two.has(object) || object.range_in(Version::Two) == whole)
+}
+
+#[test]
+fn version_3_has_all(rt: HostRuntime) {
+    assert!(rt; Version::NEWEST == Version::Three);
+    assert!(rt; Object::ALL.iter().all(|object| is_whole_in_3(*object)));
+    assert!(rt;
+        Version::One.number() == 1 && Version::Two.number() == 2 && Version::Three.number() == 3
+    );
 }
 
 fn is_named(object: Object, name: &str) -> bool {

@@ -1,4 +1,4 @@
--- A plan text of version 1 that is read gives the wide plan of the plan that it names.
+-- What is known of a text that is read, and that one of version 1 gives the wide plan of the plan that it names.
 use Rattle.std.proofs.Common.{◌≡◌, ℕ, ◌≤◌, nat_le, nat_lt, Bool, true, false, List, length, Option, Some, None, Ok, Err, codes, bytes_eq, if◌then◌else◌, refl, arith, sym, ◌∙◌, ap, subst, inl, inr}
 use Rattle.std.proofs.lemmas.Bool.{cases_Bool, leb-true}
 use Rattle.serde_json.specs.Data.{Data, Members, no_members, member}
@@ -6,7 +6,7 @@ use Rattle.serde_json.specs.Find.{as_object}
 use Rattle.tsb_step.specs.tsb_types.Lists.{or_number}
 use Rattle.tsb_step.specs.tsb_plan.declared.object.Object.{Object}
 use Rattle.tsb_step.specs.tsb_plan.declared.version.Version.{Version}
-use Rattle.tsb_step.specs.tsb_plan.declared.version.Version.TheVariants.{One, Two}
+use Rattle.tsb_step.specs.tsb_plan.declared.version.Version.TheVariants.{One, Two, Three}
 use Rattle.tsb_step.specs.tsb_plan.Names.{object_named}
 use Rattle.tsb_step.specs.tsb_plan.Plan.{Plan, empty, is_same, with_value}
 use Rattle.tsb_step.specs.tsb_plan.Versions.{is_in_rows, has_index_in, indices_in, greatest_in, translated}
@@ -22,7 +22,7 @@ use Rattle.tsb_step.specs.tsb_rules.Rules.{first_broken}
 use Rattle.tsb_step.specs.declared.inputs.Input.{Input}
 use Rattle.tsb_laws.specs.Widened.{IsNarrow, narrowed, AreWithin}
 use Rattle.tsb_laws.specs.Versions.{SaysTheSame}
-use Rattle.tsb_laws.specs.Texts.{IsOfVersion1, named_plan, GoesAlike}
+use Rattle.tsb_laws.specs.Texts.{IsOfVersion, named_plan, GoesAlike}
 use Rattle.tsb_plan_text.proofs.SaysLemmas.{or_ok, then_ok, if_ok, short}
 use Rattle.tsb_laws.proofs.versions.DeskLemmas.{from-one, row_index-back, translated-row, translated-flat}
 use Rattle.tsb_laws.proofs.versions.RunLemmas.{break_the_same_rule, heads_agree, states_agree, take_the_same}
@@ -30,10 +30,10 @@ use Rattle.tsb_laws.proofs.versions.RunLemmas.{break_the_same_rule, heads_agree,
 -- ## What is read so far
 
 -- a plan of 16 phases and 4 sides, with no value over what the version lets its object take
-record IsRead (v : Version) (plan : Plan) : Type 0 where
-  phases : plan.phase_count ≡ 16
-  sides : plan.side_count ≡ 4
-  bounded : (o : Object) (i : ℕ) → plan.value o i ≤ greatest_in v o
+pub record IsRead (v : Version) (plan : Plan) : Type 0 where
+  pub phases : plan.phase_count ≡ 16
+  pub sides : plan.side_count ≡ 4
+  pub bounded : (o : Object) (i : ℕ) → plan.value o i ≤ greatest_in v o
 
 empty-read : (v : Version) → IsRead v empty
 empty-read v = record { phases = refl; sides = refl; bounded = λ o i. omega arith }
@@ -140,7 +140,7 @@ members-same text value other members others json table json_too table_too =
     let same : value ≡ other = some-same (data_of text) value other json json_too in
     some-same (as_object value) members others table (ap as_object same ∙ table_too)
 
--- ## Of version 1
+-- ## Of a version
 
 -- no two indices are translated to one
 apart : TranslateApart
@@ -151,26 +151,31 @@ apart One o i k has too e =
       | inr flat ↦ sym (translated-flat o i flat) ∙ e ∙ translated-flat o k flat
     ]
 apart Two o i k has too e = e
+apart Three o i k has too e = e
 
--- what is read in version 1 is bounded as that version has it, and says what its members say
-record IsRead1 (members : Members) (plan : Plan) : Type 0 where
-  read : IsRead One plan
-  these : SaysThese One members plan
-  right : first_broken plan ≡ None
+-- what is read in a version is bounded as that version has it, and says what its members say
+pub record IsReadIn (v : Version) (members : Members) (plan : Plan) : Type 0 where
+  pub read : IsRead v plan
+  pub made : with_members v members empty ≡ Ok plan
+  pub these : SaysThese v members plan
+  pub right : first_broken plan ≡ None
 
-read-1 : (text : List ℕ) (members : Members) (plan : Plan) → IsOfVersion1 text members → reading text ≡ Ok plan → IsRead1 members plan
-read-1 text members plan is e =
+pub read-in : (v : Version) (text : List ℕ) (members : Members) (plan : Plan) → IsOfVersion v text members → reading text ≡ Ok plan → IsReadIn v members plan
+read-in v text members plan is e =
     let was = was-read text plan e in
     let said : Says text plan = says apart text plan e in
     let ms : was.members ≡ members = members-same text was.value is.value was.members members was.is_json was.is_table is.is_json is.is_table in
-    let v : was.version ≡ One = some-same (version_in was.members) was.version One was.tells (ap version_in ms ∙ is.tells) in
+    let x : was.version ≡ v = some-same (version_in was.members) was.version v was.tells (ap version_in ms ∙ is.tells) in
     let told : said.members ≡ members = members-same text said.value is.value said.members members said.is_json said.is_table is.is_json is.is_table in
-    let w : said.version ≡ One = some-same (version_in said.members) said.version One said.tells (ap version_in told ∙ is.tells) in
+    let y : said.version ≡ v = some-same (version_in said.members) said.version v said.tells (ap version_in told ∙ is.tells) in
     record {
-      read = subst (λ (x : Version). IsRead x plan) v (members-read was.version was.members empty plan (empty-read was.version) was.made);
-      these = subst (λ (ms : Members). SaysThese One ms plan) told (subst (λ (x : Version). SaysThese x said.members plan) w said.these);
+      read = subst (λ (w : Version). IsRead w plan) x (members-read was.version was.members empty plan (empty-read was.version) was.made);
+      made = subst (λ (ms : Members). with_members v ms empty ≡ Ok plan) ms (subst (λ (w : Version). with_members w was.members empty ≡ Ok plan) x was.made);
+      these = subst (λ (ms : Members). SaysThese v ms plan) told (subst (λ (w : Version). SaysThese w said.members plan) y said.these);
       right = was.right;
     }
+
+-- ## Of version 1
 
 named-there : (members : Members) (o : Object) (i : ℕ) → has_index_in One o i ≡ true → (named_plan members).value o i ≡ or_number (number_for members o i) 0
 named-there ms o i has = rw has refl
@@ -178,7 +183,7 @@ named-there ms o i has = rw has refl
 named-nowhere : (members : Members) (o : Object) (i : ℕ) → has_index_in One o i ≡ false → (named_plan members).value o i ≡ 0
 named-nowhere ms o i has = rw has refl
 
-named-bounded : (members : Members) (plan : Plan) → IsRead1 members plan → (o : Object) (i : ℕ) → (named_plan members).value o i ≤ greatest_in One o
+named-bounded : (members : Members) (plan : Plan) → IsReadIn One members plan → (o : Object) (i : ℕ) → (named_plan members).value o i ≤ greatest_in One o
 named-bounded members plan is o i =
     elim (cases_Bool (has_index_in One o i)) [
       | inl has ↦
@@ -188,17 +193,17 @@ named-bounded members plan is o i =
       | inr out ↦ let none : (named_plan members).value o i ≡ 0 = named-nowhere members o i out in omega (arith, none)
     ]
 
-pub named-narrow : (text : List ℕ) (members : Members) (plan : Plan) → IsOfVersion1 text members → reading text ≡ Ok plan → IsNarrow (named_plan members)
+pub named-narrow : (text : List ℕ) (members : Members) (plan : Plan) → IsOfVersion One text members → reading text ≡ Ok plan → IsNarrow (named_plan members)
 named-narrow text members plan is e = record {
   phase_count = refl;
   side_count = refl;
   placed = λ o i out. named-nowhere members o i out;
-  bounded = named-bounded members plan (read-1 text members plan is e);
+  bounded = named-bounded members plan (read-in One text members plan is e);
 }
 
-pub named-said : (text : List ℕ) (members : Members) (plan : Plan) → IsOfVersion1 text members → reading text ≡ Ok plan → SaysTheSame (named_plan members) plan
+pub named-said : (text : List ℕ) (members : Members) (plan : Plan) → IsOfVersion One text members → reading text ≡ Ok plan → SaysTheSame (named_plan members) plan
 named-said text members plan is e =
-    let was : IsRead1 members plan = read-1 text members plan is e in
+    let was : IsReadIn One members plan = read-in One text members plan is e in
     record {
       phase_count = was.read.phases;
       side_count = was.read.sides;
@@ -206,12 +211,12 @@ named-said text members plan is e =
       elsewhere = was.these.elsewhere;
     }
 
-pub named-right : (text : List ℕ) (members : Members) (plan : Plan) → IsOfVersion1 text members → reading text ≡ Ok plan → first_broken (named_plan members) ≡ None
+pub named-right : (text : List ℕ) (members : Members) (plan : Plan) → IsOfVersion One text members → reading text ≡ Ok plan → first_broken (named_plan members) ≡ None
 named-right text members plan is e =
     sym (break_the_same_rule (named_plan members) plan (named-narrow text members plan is e) (named-said text members plan is e))
-    ∙ (read-1 text members plan is e).right
+    ∙ (read-in One text members plan is e).right
 
-pub goes-alike : (text : List ℕ) (members : Members) (plan : Plan) → IsOfVersion1 text members → reading text ≡ Ok plan →
+pub goes-alike : (text : List ℕ) (members : Members) (plan : Plan) → IsOfVersion One text members → reading text ≡ Ok plan →
     (is : List Input) → AreWithin is → GoesAlike (named_plan members) plan is
 goes-alike text members plan of e is within =
     let narrow : IsNarrow (named_plan members) = named-narrow text members plan of e in

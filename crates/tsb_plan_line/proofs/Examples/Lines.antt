@@ -11,18 +11,18 @@ use Rattle.tsb_plan.specs.Two.{two}
 use Rattle.tsb_transact.specs.declared.desk_state.DeskState.TheVariants.{Done, Verify}
 use Rattle.tsb_transact.specs.Desk.{Desk, closed}
 use Rattle.tsb_plan_line.specs.EditsLine.{edits_json, edits_text}
-use Rattle.tsb_plan_line.specs.PlanLine.{is_all_zeros, plan_json, plan_text, table, with_object}
+use Rattle.tsb_plan_line.specs.PlanLine.{is_all_zeros, plan_json, plan_text, table, version_for, with_object}
 
 -- ## Plans
 
 -- the built-in plan of two phases
 line_of_two : plan_text two ≡ codes "{\"version\":2,\"phaseEnabled\":{\"2\":1,\"4\":1},\"phaseMaxRecall\":{\"2\":1,\"4\":1},\"phaseRing\":{\"2\":1,\"4\":1},\"phaseSide\":{\"2\":1,\"4\":2},\"phaseMinimumGreen\":{\"2\":5,\"4\":5},\"phaseMaximum1\":{\"2\":10,\"4\":8},\"phaseMaximum2\":{\"2\":10,\"4\":8},\"phaseYellowChange\":{\"2\":30,\"4\":30},\"phaseRedClear\":{\"2\":10,\"4\":10},\"sequenceData\":{\"1\":2,\"2\":4}}"
-unfolding plan_text plan_json with_object is_all_zeros table objects run_from print_from escape_byte digits two
+unfolding plan_text plan_json version_for with_object is_all_zeros table objects run_from print_from escape_byte digits two
 line_of_two = refl
 
 -- a plan of zeros
 line_of_zeros : plan_text empty ≡ codes "{\"version\":2}"
-unfolding plan_text plan_json with_object is_all_zeros table objects run_from print_from escape_byte digits
+unfolding plan_text plan_json version_for with_object is_all_zeros table objects run_from print_from escape_byte digits
 line_of_zeros = refl
 
 -- ## Desks

@@ -2,6 +2,7 @@ use Rattle.std.proofs.Common.{◌≡◌, ◌∙◌, ◌++◌, List, ℕ, [], ap,
 use Rattle.json.specs.Print.{print}
 use Rattle.tsb_plan.specs.Objects.{objects}
 use Rattle.tsb_plan.specs.PlanOf.{plan_of}
+use Rattle.tsb_plan.specs.Versions.{number_of}
 use Rattle.tsb_plan_text.specs.PlanText.{reading}
 use Rattle.tsb_plan_line.specs.PlanLine.{plan_text}
 use Rattle.tsb_plan_line.proofs.TokenLemmas.{plan-on}
@@ -15,8 +16,8 @@ returns-clause-line c =
     c.into_inner.ensures.items
     ∙ ap (λ (bytes : List ℕ). bytes ++ print c.write_objects.new.writer.tokens) before
     ∙ ap print
-    (plan-on (plan_of c.args.plan.now) _ c.new-writer.result.tokens c.begin_object.new.self.tokens c.key.new.self.tokens c.u64.new.self.tokens c.write_objects.new.writer.tokens
-    refl c.new-writer.ensures.tokens c.in_ok-begin_object.ensures.ok c.in_ok-key.ensures.ok c.in_ok-u64.ensures.ok c.in_ok-write_objects.ensures.tokens)
+    (plan-on (plan_of c.args.plan.now) _ _ c.new-writer.result.tokens c.begin_object.new.self.tokens c.key.new.self.tokens c.u64.new.self.tokens c.write_objects.new.writer.tokens
+    refl (c.number.ensures ∙ ap number_of c.version_for.ensures) c.new-writer.ensures.tokens c.in_ok-begin_object.ensures.ok c.in_ok-key.ensures.ok c.in_ok-u64.ensures.ok c.in_ok-write_objects.ensures.tokens)
 
 pub returns-clause-reads_back : goal.returns-clause-reads_back
 unfolding plan_of

@@ -1,0 +1,102 @@
+-- A plan text of version 2 is one of version 3 as well, but for its number; and no version gives what came after it.
+use Rattle.std.proofs.Common.{◌≡◌, ℕ, ◌≤◌, nat_lt, Bool, true, false, List, length, Some, Result, Ok, Err, codes, bytes_eq, if◌then◌else◌, Ordering, Less, Equal, Greater, is_eq, nat_cmp, refl, sym, ◌∙◌, true≢false, ap, subst, arith}
+use Rattle.std.proofs.lemmas.Bool.{and_parts, le-ltb}
+use Rattle.std.proofs.lemmas.Map.Text.{is_eq-slice_cmp}
+use Rattle.std.proofs.lemmas.Slice.Eq.{bytes_eq-Decides}
+use Rattle.std.specs.Cmp.Lexicographic.{slice_cmp}
+use Rattle.std.specs.Ordering.{match_ordering}
+use Rattle.serde_json.specs.Data.{Data, Members, no_members, member, number, put, unsigned}
+use Rattle.serde_json.specs.Find.{as_object}
+use Rattle.tsb_step.specs.tsb_plan.declared.object.Object.{Object}
+use Rattle.tsb_step.specs.tsb_plan.declared.version.Version.{Version}
+use Rattle.tsb_step.specs.tsb_plan.declared.version.Version.TheVariants.{Two, Three}
+use Rattle.tsb_step.specs.tsb_plan.Names.{object_named}
+use Rattle.tsb_step.specs.tsb_plan.Plan.{Plan, empty}
+use Rattle.tsb_step.specs.tsb_plan.Versions.{has_object, has_index_in}
+use Rattle.tsb_step.proofs.tsb_plan.NameLemmas.{named_exact}
+use Rattle.tsb_plan_text.specs.PlanErrors.{Error, no_such_object, object_not_a_table, too_large}
+use Rattle.tsb_plan_text.specs.PlanText.{limit, data_plan, checked, reading, or_fault, then_on, with_entry, with_table, with_member, with_members}
+use Rattle.tsb_plan_text.proofs.SaysLemmas.{or_ok, then_ok, if_ok}
+use Rattle.tsb_laws.specs.Texts.{IsOfVersion, renumbered}
+use Rattle.tsb_laws.proofs.versions.TextLemmas.{read-in}
+
+-- ## The same members
+
+entry-same : (o : Object) (text : List ℕ) (d : Data) (p : Plan) → with_entry Two o text d p ≡ with_entry Three o text d p
+unfolding with_entry
+entry-same o text d p = refl
+
+table-same : (o : Object) (table : Members) (p : Plan) → with_table Two o table p ≡ with_table Three o table p
+table-same o no_members p = refl
+table-same o (member text d rest) p = after (with_entry Two o text d p)
+    ∙ ap (λ (r : Result Plan Error). then_on r (with_table Three o rest)) (entry-same o text d p)
+  where
+    after : (r : Result Plan Error) → then_on r (with_table Two o rest) ≡ then_on r (with_table Three o rest)
+    after (Ok q) = table-same o rest q
+    after (Err f) = refl
+
+-- what a member of version 2 gives, one of version 3 gives too
+member-later : (name : List ℕ) (d : Data) (p q : Plan) → with_member Two name d p ≡ Ok q → with_member Three name d p ≡ Ok q
+unfolding with_member
+member-later name d p q e = judged (bytes_eq name (codes "version")) e
+  where
+    judged : (b : Bool) →
+        (if b then Ok p else
+        or_fault (object_named Two name) (no_such_object name) (λ o. or_fault (as_object d) (object_not_a_table o) (λ table. with_table Two o table p))) ≡ Ok q →
+        (if b then Ok p else
+        or_fault (object_named Three name) (no_such_object name) (λ o. or_fault (as_object d) (object_not_a_table o) (λ table. with_table Three o table p))) ≡ Ok q
+    judged true e = e
+    judged false e =
+        let o = or_ok (object_named Two name) (no_such_object name) _ q e in
+        let t = or_ok (as_object d) (object_not_a_table o.0) _ q o.2 in
+        let found : object_named Three name ≡ Some o.0 = (named_exact Three name o.0).1 (record { has = refl; name = ((named_exact Two name o.0).0 o.1).name }) in
+        rw (found, t.1) (sym (table-same o.0 t.0 p) ∙ t.2)
+
+members-later : (ms : Members) (p q : Plan) → with_members Two ms p ≡ Ok q → with_members Three ms p ≡ Ok q
+members-later no_members p q e = e
+members-later (member name d rest) p q e =
+    let first = then_ok (with_member Two name d p) (with_members Two rest) q e in
+    rw (member-later name d p first.0 first.1) (members-later rest first.0 q first.2)
+
+-- ## With another number
+
+-- the member `version` is passed over
+passed-over : (v : Version) (name : List ℕ) (d : Data) (p : Plan) → name ≡ codes "version" → with_member v name d p ≡ Ok p
+unfolding with_member
+passed-over v name d p same = rw ((bytes_eq-Decides name (codes "version")).1 same) refl
+
+equal-is : (k l : List ℕ) → slice_cmp nat_cmp k l ≡ Equal → k ≡ l
+equal-is k l e = (bytes_eq-Decides k l).0 (sym (is_eq-slice_cmp k l) ∙ ap is_eq e)
+
+members-renumbered : (d : Data) (ms : Members) (p q : Plan) → with_members Two ms p ≡ Ok q → with_members Three (put (codes "version") d ms) p ≡ Ok q
+members-renumbered d no_members p q e = rw (passed-over Three (codes "version") d p refl) e
+members-renumbered d (member name old rest) p q e = go (slice_cmp nat_cmp (codes "version") name) refl
+  where
+    go : (r : Ordering) → slice_cmp nat_cmp (codes "version") name ≡ r →
+        with_members Three (match_ordering r (member (codes "version") d (member name old rest)) (member name d rest) (member name old (put (codes "version") d rest))) p ≡ Ok q
+    go Less is = rw (passed-over Three (codes "version") d p refl) (members-later (member name old rest) p q e)
+    go Equal is =
+        let same : name ≡ codes "version" = sym (equal-is (codes "version") name is) in
+        let first = then_ok (with_member Two name old p) (with_members Two rest) q e in
+        let kept : p ≡ first.0 = if_ok true p first.0 too_large (sym (passed-over Two name old p same) ∙ first.1) in
+        rw (passed-over Three name d p same) (members-later rest p q (subst (λ (r : Plan). with_members Two rest r ≡ Ok q) (sym kept) first.2))
+    go Greater is =
+        let first = then_ok (with_member Two name old p) (with_members Two rest) q e in
+        rw (member-later name old p first.0 first.1) (members-renumbered d rest first.0 q first.2)
+
+-- ## A text
+
+pub renumbered-same : (text other : List ℕ) (members : Members) (plan : Plan) → IsOfVersion Two text members → reading text ≡ Ok plan →
+    IsOfVersion Three other (renumbered members) → length other ≤ limit → reading other ≡ Ok plan
+unfolding reading data_plan checked
+renumbered-same text other members plan is e it le =
+    let was = read-in Two text members plan is e in
+    let short : nat_lt limit (length other) ≡ false = le-ltb limit (length other) le in
+    let made : with_members Three (renumbered members) empty ≡ Ok plan = members-renumbered (number (unsigned 3)) members empty plan was.made in
+    rw (short, it.is_json, it.is_table, it.tells, made, was.right) refl
+
+pub none-later : (v : Version) (text : List ℕ) (members : Members) (plan : Plan) → IsOfVersion v text members → reading text ≡ Ok plan →
+    (o : Object) (i : ℕ) → has_object v o ≡ false → plan.value o i ≡ 0
+none-later v text members plan is e o i hasnt =
+    (read-in v text members plan is e).these.elsewhere o i
+    (λ k has at. true≢false (sym (and_parts (has_object v o) _ has).0 ∙ hasnt))
