@@ -19,7 +19,7 @@ EXAMPLES = pathlib.Path("examples")
 BEGIN, END = "<!-- objects: written by tools/manual_table.py -->", "<!-- end of objects -->"
 
 COMMENT = re.compile(r"`(\w+)`: (.+?), (.+); 0 to ([\d,]+)\.")
-ROW = re.compile(r'\s+(\w+) +"(\w+)" +\d+ \[(\d+) (\d+)\] +\[(?:(absent)|(\d+) (\d+))\] +(structural|free)')
+ROW = re.compile(r'\s+(\w+) +"(\w+)" +\d+ \[(\d+) (\d+)\] +\[(?:since (\d)|(\d+) (\d+))\] +(structural|free)')
 
 # What stands in some example: commands, words of `when`, kinds of input that `undo` names.
 COMMANDS = """step back seek undo show when begin set verify commit abort pattern preempt fault reset quit""".split()
@@ -60,17 +60,17 @@ def objects():
     table = source[source.index("macro_rules! table {"):source.index("macro_rules! names {")]
     found = {}
     for row in filter(None, map(ROW.match, table.splitlines())):
-        variant, name, indices, most, absent, narrow_indices, narrow_most, change = row.groups()
+        variant, name, indices, most, since, narrow_indices, narrow_most, change = row.groups()
         comment = COMMENT.fullmatch(said.pop(variant))
         if not comment or comment[1] != name or comment[4].replace(",", "") != most:
             sys.exit(f"{SOURCE}: the comment of {variant} is not of the form, or not as the table says")
         counted = "" if comment[2] == "1 alone" else comment[2] + ("," if "+" in comment[2] else "")
         index = "1" if indices == "1" else f"{counted} 1 to {indices}".strip()
-        if absent:
-            index += " (none)"
+        if since:
+            index += " (none)" if since == "2" else f" (version {since})"
         elif narrow_indices != indices:
             index += f" ({narrow_indices})"
-        values = f"0 to {most}" + (f" ({narrow_most})" if not absent and narrow_most != most else "")
+        values = f"0 to {most}" + (f" ({narrow_most})" if not since and narrow_most != most else "")
         found[name] = [f"`{name}`", index, values, unit_of(comment[3]), "S" if change == "structural" else ""]
     if said:
         sys.exit(f"{SOURCE}: no row of the table for {', '.join(said)}")

@@ -13,7 +13,7 @@ from typing import Any
 
 MANUAL, FIELD = pathlib.Path("docs/MANUAL.md"), pathlib.Path("docs/FIELD.md")
 WRITTEN = pathlib.Path("python/tsb/manual.json")
-INDEX = re.compile(r"(?:(.+?),? )?1(?: to (\d+))?(?: \((?:(none)|(\d+))\))?")
+INDEX = re.compile(r"(?:(.+?),? )?1(?: to (\d+))?(?: \((?:(none|version \d)|(\d+))\))?")
 RANGE = re.compile(r"0 to (\d+)(?: \((\d+)\))?")
 
 
@@ -29,12 +29,13 @@ def an_object(index: str, values: str, unit: str, structural: str, meaning: str)
     counted, most = INDEX.fullmatch(index), RANGE.fullmatch(values)
     if counted is None or most is None:
         sys.exit(f"{MANUAL}: the object of {meaning!r} has an index or a range of another form")
-    what, count, absent, narrow = counted.groups()
+    what, count, later, narrow = counted.groups()
+    since = 1 if later is None else 2 if later == "none" else int(later.split()[1])
     wide = int(count or 1)
     return {
-        "index": what or "", "count": wide, "count_1": None if absent else int(narrow or wide),
-        "greatest": int(most[1]), "greatest_1": None if absent else int(most[2] or most[1]),
-        "unit": unit, "structural": structural == "S", "meaning": meaning,
+        "index": what or "", "count": wide, "count_1": None if later else int(narrow or wide),
+        "greatest": int(most[1]), "greatest_1": None if later else int(most[2] or most[1]),
+        "since": since, "unit": unit, "structural": structural == "S", "meaning": meaning,
     }
 
 

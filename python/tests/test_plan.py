@@ -30,6 +30,16 @@ def test_the_bench_has_the_same_plan(examples: Path, name: str) -> None:
         assert bench.plan == plan.wide()
 
 
+def test_version_3_is_version_2_with_another_number(examples: Path) -> None:
+    """The bench has the same plan, which it tells in version 2."""
+    plan = Plan.read(examples / "main_and_oak.json").wide()
+    text = plan.text.replace('"version": 2', '"version": 3')
+    newest = Plan.of_text(text)
+    assert newest.version == 3 and newest.text == text
+    with tsb.Bench(newest) as bench:
+        assert bench.plan == plan == newest.wide()
+
+
 def test_written_and_read(examples: Path, tmp_path: Path) -> None:
     """A file of a plan."""
     plan = Plan.read(examples / "tee.json")

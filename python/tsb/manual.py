@@ -23,10 +23,10 @@ TIMES = {
 class Object:
     """An object of a plan: what its index counts, and the range of its values.
 
-    `count` is the greatest index and `greatest` the greatest value of versions 2 and 3 of
-    plan texts; `count_1` and `greatest_1` are those of version 1, None where it has
-    no such object. `structural` objects can be changed by a commit only while
-    nothing is in service.
+    `since` is the first version of plan texts that has it. `count` is the greatest
+    index and `greatest` the greatest value of versions 2 and 3; `count_1` and
+    `greatest_1` are those of version 1, None where it has no such object. `structural`
+    objects can be changed by a commit only while nothing is in service.
     """
 
     name: str
@@ -35,12 +35,15 @@ class Object:
     count_1: int | None
     greatest: int
     greatest_1: int | None
+    since: int
     unit: str
     structural: bool
     meaning: str
 
     def counts(self, version: int) -> int:
         """The greatest index in plan texts of a version; 0 where it has no object."""
+        if version < self.since:
+            return 0
         return (self.count_1 if version == 1 else self.count) or 0
 
     def most(self, version: int) -> int:
