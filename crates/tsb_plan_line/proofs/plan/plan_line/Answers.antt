@@ -17,7 +17,7 @@ returns-clause-line c =
     ∙ ap (λ (bytes : List ℕ). bytes ++ print c.write_objects.new.writer.tokens) before
     ∙ ap print
     (plan-on (plan_of c.args.plan.now) _ _ c.new-writer.result.tokens c.begin_object.new.self.tokens c.key.new.self.tokens c.u64.new.self.tokens c.write_objects.new.writer.tokens
-    refl (c.number.ensures ∙ ap number_of c.version_for.ensures) c.new-writer.ensures.tokens c.in_ok-begin_object.ensures.ok c.in_ok-key.ensures.ok c.in_ok-u64.ensures.ok c.in_ok-write_objects.ensures.tokens)
+    refl (c.from.ensures ∙ c.number.ensures ∙ ap number_of c.version_for.ensures) c.new-writer.ensures.tokens c.in_ok-begin_object.ensures.ok c.in_ok-key.ensures.ok c.in_ok-u64.ensures.ok c.in_ok-write_objects.ensures.tokens)
 
 pub returns-clause-reads_back : goal.returns-clause-reads_back
 unfolding plan_of
