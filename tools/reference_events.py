@@ -33,7 +33,7 @@ PEDESTRIAN_ENDS = {23: "WC"}
 # Heads of overlaps: green and yellow.
 OVERLAP_BEGINS = {61: "G", 63: "Y"}
 OVERLAP_ENDS = {64: "GY"}
-# Stages of preempts, with the lists of the phases that are served in them.
+# Stages of preempts, told once all of their phases are green, with the lists of these phases.
 STAGE_BEGINS = {106: "Track", 107: "Dwell", 111: "Exit"}
 STAGE_LISTS = {"Track": "preemptTrackPhase", "Dwell": "preemptDwellPhase", "Exit": "preemptExitPhase"}
 # The codes of inputs that go on and off, for each field of a row.
@@ -95,6 +95,17 @@ def failed_detectors(state: State) -> set[int]:
 def in_stage(state: State, *stages: str) -> set[int]:
     """The preempt in service, if its stage is one of these."""
     return {state.service} if state.service and state.stage in stages else set()
+
+
+def is_stage_green(bench: Any, state: State) -> bool:
+    """Whether every phase of the list of the stage in service is shown green."""
+    wanted = set(bench.members(state.plan[STAGE_LISTS[state.stage]][state.service])) if state.service else set()
+    return bool(state.service) and wanted <= showing(shown_intervals(state), "G")
+
+
+def in_green_stage(bench: Any, state: State, stage: str) -> set[int]:
+    """The preempt in service, if this is its stage and every phase of it is shown green."""
+    return in_stage(state, stage) if is_stage_green(bench, state) else set()
 
 
 # --- patterns and calls ---
@@ -415,11 +426,11 @@ def call_events(bench: Any, before: State, after: State) -> list[Told]:
     return told + begun(83, have_failed, failed) + begun(84, failed, have_failed)
 
 
-def preempt_events(before: State, after: State) -> list[Told]:
-    """The events of a preempt that enters service, or another of its stages."""
+def preempt_events(bench: Any, before: State, after: State) -> list[Told]:
+    """The events of a preempt that enters service, and of a stage once its last phase is green."""
     told = begun(105, in_stage(before, *STAGE_LISTS), in_stage(after, *STAGE_LISTS))
     for code, stage in STAGE_BEGINS.items():
-        told += begun(code, in_stage(before, stage), in_stage(after, stage))
+        told += begun(code, in_green_stage(bench, before, stage), in_green_stage(bench, after, stage))
     return told
 
 
@@ -485,7 +496,7 @@ def events_of(reference: Reference, before: State, given: Given, after: State, r
     """
     bench = reference.bench
     told = phase_events(before, after) + overlap_events(bench, before, after) + call_events(bench, before, after)
-    told += preempt_events(before, after) + pattern_events(before, after) + flash_events(before, after)
+    told += preempt_events(bench, before, after) + pattern_events(before, after) + flash_events(before, after)
     if given[0] == "tick":
         told += input_events(row_before, given[1]) + tick_events(Tick(bench, before, after, given[1]))
     return [(after.now, code, parameter) for code, parameter in sorted(told)]

@@ -232,9 +232,10 @@ def counted(came: pd.DataFrame, phases: Mapping[int, int]) -> pd.DataFrame:
 
 def preempts(events: pd.DataFrame, plan: Plan) -> pd.DataFrame:
     """Each service of a preempt: `preempt`, and the ticks of its request (NA where a
-    switch asked), of its service, of its stages track, dwell and exit, and of the
-    green of all phases that it is for (`green`): its track phases, or its dwell
-    phases where it has none. `wait_s` is from the request to that green."""
+    switch asked), of its service, of the greens of its stages track, dwell and exit,
+    as 106, 107 and 111 tell them, and of the green of all phases that it is for
+    (`green`): its track phases, or its dwell phases where it has none. `wait_s` is
+    from the request to that green."""
     rows: list[Row] = []
     requests: dict[int, int] = {}
     shown: set[int] = set()

@@ -1,5 +1,5 @@
 -- What a log sees of the layers, set by set.
-use Rattle.std.proofs.Common.{◌≡◌, ℕ, ◌<◌, ◌≤◌, Bool, true, false, not, ◌&&◌, ◌||◌, if◌then◌else◌, nat_le, Option, is_some, refl, sym, ap, ap₂, ◌∙◌, inl, inr, arith}
+use Rattle.std.proofs.Common.{◌≡◌, ℕ, ◌+◌, ◌<◌, ◌≤◌, Bool, true, false, not, ◌&&◌, ◌||◌, if◌then◌else◌, nat_le, Option, Some, None, is_some, refl, sym, ap, ap₂, ◌∙◌, inl, inr, arith}
 use Rattle.std.proofs.lemmas.Bool.{cases_Bool}
 use Rattle.std.proofs.lemmas.Bool.Decides.{nat_tests}
 use Rattle.std.specs.List.{list_any}
@@ -15,10 +15,12 @@ use Rattle.tsb_step.specs.tsb_types.declared.number_set.NumberSet.{NumberSet}
 use Rattle.tsb_step.specs.tsb_types.declared.phase_set.PhaseSet.{PhaseSet}
 use Rattle.tsb_step.specs.tsb_types.Clip.{Agree}
 use Rattle.tsb_step.specs.tsb_types.Flow.{interval_of, pedestrian_of}
-use Rattle.tsb_step.specs.tsb_types.Intervals.{in_service, is_yellow, is_red_clear, is_walk, is_clearance}
-use Rattle.tsb_step.specs.tsb_types.Lists.{run_from}
+use Rattle.tsb_step.specs.tsb_types.declared.stage.Stage.{Stage}
+use Rattle.tsb_step.specs.tsb_types.Intervals.{in_service, is_green as is_green_interval, is_yellow, is_red_clear, is_walk, is_clearance}
+use Rattle.tsb_step.specs.tsb_types.Lists.{first, run_from}
 use Rattle.tsb_step.specs.tsb_types.Sets.{has, has_number}
-use Rattle.tsb_step.proofs.tsb_types.ClipLemmas.{any-agree}
+use Rattle.tsb_step.proofs.tsb_types.ClipLemmas.{all-agree, any-agree}
+use Rattle.tsb_step.proofs.tsb_types.FirstLemmas.{first-passes, first-within}
 use Rattle.tsb_step.specs.tsb_plan.Parts.{is_included}
 use Rattle.tsb_step.specs.tsb_plan.Plan.{Plan, phases}
 use Rattle.tsb_step.specs.tsb_plan.PlanOf.{plan_of}
@@ -37,8 +39,10 @@ use Rattle.tsb_heads.specs.Promises.{IsSame, NamesNot, NamesOverlaps}
 use Rattle.tsb_heads.specs.Reading.{flashed_if, heads_of}
 use Rattle.tsb_objects.specs.declared.checked.Checked.{Checked}
 use Rattle.tsb_objects.specs.Checked.{checked_plan}
+use Rattle.tsb_preempt.specs.Service.{all_green, stage_phases}
+use Rattle.tsb_preempt.proofs.GreenLemmas.{all_green-told}
 use Rattle.tsb_step.specs.Cells.{clock_at}
-use Rattle.tsb_step.specs.Events.{calls_now, includes_service, is_off, is_overlap, shown_interval, shown_part}
+use Rattle.tsb_step.specs.Events.{calls_now, includes_service, is_off, is_overlap, shown_interval, shown_part, stage_is_green}
 use Rattle.tsb_step.specs.State.{State}
 use Rattle.tsb_controller.specs.Rows.{Rows, Beside, state_of}
 use Rattle.tsb_controller.specs.Seen.{IsStanding, is_off_beside}
@@ -100,6 +104,33 @@ module _ (tripped : Bool) (rows : Rows) (now : ℕ) (b : Beside) (trips : is_som
       Agree (pedestrian_of j) (shown_part (state_of now b rows))
   shown-parts i j told is p from to =
       is p ∙ ap₂ (λ (t : Bool) (x : PedestrianInterval). if t then DontWalk else x) (sym trips) (told (clock_at now b.trip) p from to)
+
+-- ## The stage of a preempt
+
+pub at-least-16 : (checked : Checked) → 16 ≤ (checked_plan checked).phase_count
+unfolding checked_plan plan_of
+at-least-16 checked = omega arith
+
+-- all of a list are Green where no other is left of it
+pub greens-told : (plan : Plan) (i : Intervals) (list : ℕ → Bool) (set rest : PhaseSet) (o : Option ℕ) (r : Bool) → 16 ≤ plan.phase_count →
+    ((p : ℕ) → has set p ≡ list p) → ((p : ℕ) → has rest p ≡ (has set p && not (has i.green p))) → o ≡ first (has rest) (run_from 1 16) →
+    (o ≡ None → (p : ℕ) → has rest p ≡ false) → is_some o ≡ not r → r ≡ all_green plan (interval_of i) list
+greens-told plan i list set rest None r many is left found none told =
+    all_green-told plan i list set r many is (λ e p. sym (left p) ∙ none refl p) (λ e. let no : false ≡ true = told ∙ ap not e in absurd cc)
+greens-told plan i list set rest (Some p) r many is left found none told =
+    all_green-told plan i list set r many is (λ e. let no : true ≡ false = told ∙ ap not e in absurd cc)
+    (λ e.
+    let bounds : (1 ≤ p) × (p < 1 + 16) = first-within (has rest) 1 16 p (sym found) in
+    let had : has rest p ≡ true = first-passes (has rest) (run_from 1 16) p (sym found) in
+    (p, bounds.0, omega (arith, bounds.1), sym (left p) ∙ had))
+
+pub stage-green-same : (plan : Plan) (f g : ℕ → Interval) (o : Option (ℕ × Stage)) → plan.phase_count ≤ 16 → Agree f g →
+    stage_is_green plan f o ≡ stage_is_green plan g o
+unfolding all_green
+stage-green-same plan f g None few same = refl
+stage-green-same plan f g (Some x) few same =
+    all-agree plan.phase_count (λ p. not (stage_phases plan x.0 x.1 p) || is_green_interval (f p)) (λ p. not (stage_phases plan x.0 x.1 p) || is_green_interval (g p)) few
+    (λ p from to i. not (stage_phases plan x.0 x.1 p) || is_green_interval (same p from to i))
 
 -- ## Calls
 

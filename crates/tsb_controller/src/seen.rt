@@ -1,5 +1,5 @@
 //! What the log of a controller sees of the layers.
-ghost use Rattle.std.specs.Prelude.{◌≡◌, ◌==◌, ◌&&◌, ◌≤◌, ◌<◌, ℕ, true, false, not, if◌then◌else◌};
+ghost use Rattle.std.specs.Prelude.{◌≡◌, ◌==◌, ◌&&◌, ◌≤◌, ◌<◌, ℕ, Bool, true, false, not, if◌then◌else◌};
 ghost use Rattle.std.specs.List.{list_any};
 ghost use Rattle.tsb_step.specs.tsb_types.declared.interval.Interval.TheVariants.{Red};
 ghost use Rattle.tsb_step.specs.tsb_types.declared.interval.PedestrianInterval.TheVariants.{DontWalk};
@@ -7,8 +7,10 @@ ghost use Rattle.tsb_step.specs.tsb_types.Flow.{interval_of, pedestrian_of};
 ghost use Rattle.tsb_step.specs.tsb_types.Lists.{run_from};
 ghost use Rattle.tsb_step.specs.tsb_types.Sets.{has, has_number};
 ghost use Rattle.tsb_step.specs.tsb_plan.Parts.{is_included};
-ghost use Rattle.tsb_step.specs.Events.{is_track, serves};
+ghost use Rattle.tsb_step.specs.tsb_plan.Plan.{Plan};
+ghost use Rattle.tsb_step.specs.Events.{is_track, serves, stage_is_green};
 ghost use Rattle.tsb_preempt.specs.Preempts.{is_dwell, is_exit};
+ghost use Rattle.tsb_preempt.specs.Service.{all_green};
 ghost use Rattle.tsb_objects.specs.Checked.{checked_plan};
 ghost use Rattle.tsb_ring.specs.Cells as rings;
 ghost use Rattle.tsb_coord.specs.Cells as coord;
@@ -18,6 +20,7 @@ use crate::controller::Controller;
 use tsb_calls::{Observed, Standing};
 use tsb_events::Seen;
 use tsb_objects::{Checked, Intervals, NumberSet, Overlap, Pedestrians, PhaseSet, Preempt, Stage};
+use tsb_preempt::stage_phases;
 
 /// The numbers of the phases of a set.
 pub(crate) fn numbers(phases: PhaseSet) -> NumberSet
@@ -112,6 +115,24 @@ fn stages_of(stage: &Option<(Preempt, Stage)>) -> Stages
     }
 }
 
+/// Whether each of these phases is Green.
+fn are_green(phases: PhaseSet, intervals: &Intervals) -> bool
+    ensures { (plan : Plan) (list : ℕ → Bool) → 16 ≤ plan.phase_count → ((p : ℕ) → has phases p ≡ list p) →
+        result ≡ all_green plan (interval_of intervals.now) list }
+{
+    phases.difference(intervals.green).first().is_none()
+}
+
+/// Whether each phase of the stage in service is Green.
+fn stage_is_green(stage: &Option<(Preempt, Stage)>, intervals: &Intervals, plan: &Checked) -> bool
+    ensures { result ≡ stage_is_green (checked_plan plan.now) (interval_of intervals.now) stage.now }
+{
+    match stage {
+        None => false,
+        Some(served) => are_green(stage_phases(plan.plan(), served.0, served.1), intervals),
+    }
+}
+
 /// Whether one of these phases is included in an overlap.
 fn includes_one(overlap: Overlap, phases: PhaseSet, plan: &Checked) -> bool
     ensures { result ≡ list_any (λ p. is_included (checked_plan plan.now) overlap p && has phases p) (run_from 1 16) }
@@ -195,6 +216,7 @@ impl Controller {
             dwells: stages.dwell,
             exits: stages.exit,
             is_preempted: stage.is_some(),
+            stage_is_green: stage_is_green(&stage, &shown, plan),
             crosses: self.rings.crossing().is_some(),
             side: self.rings.side(),
             flashes: tripped,

@@ -100,11 +100,14 @@ other-input-same tick f g same =
     ++ told tick codes.PREEMPT_ON (begins (has_number (same.last i).preempts) (has_number (same.row i).preempts))
     ++ told tick codes.PREEMPT_OFF (begins (has_number (same.row i).preempts) (has_number (same.last i).preempts))
 
+green-agree : (v w : View) (f g : ℕ → Bool) → AgreeInAll v w → Agree f g → Agree (events.once_green v f) (events.once_green w g)
+green-agree v w f g same stage n from to = λ i. same.stage_is_green i && stage n from to i
+
 preempt-same : (tick : ℕ) (v w x y : View) → AgreeInAll v w → AgreeInAll x y → events.preempt_events tick v x ≡ events.preempt_events tick w y
 preempt-same tick v w x y was now =
     λ i. begun-same tick codes.PREEMPT_ENTERS _ _ _ _ was.preempts now.preempts i
-    ++ begun-same tick codes.TRACK_BEGINS _ _ _ _ was.tracks now.tracks i
-    ++ begun-same tick codes.DWELL_BEGINS _ _ _ _ was.dwells now.dwells i
+    ++ begun-same tick codes.TRACK_BEGINS _ _ _ _ (green-agree _ _ _ _ was was.tracks) (green-agree _ _ _ _ now now.tracks) i
+    ++ begun-same tick codes.DWELL_BEGINS _ _ _ _ (green-agree _ _ _ _ was was.dwells) (green-agree _ _ _ _ now now.dwells) i
 
 presence-same : (tick : ℕ) (f g : Found) (v w x y : View) → AgreeInFound f g → AgreeInAll v w → AgreeInAll x y →
     events.presence_events tick f v x ≡ events.presence_events tick g w y
@@ -113,7 +116,8 @@ presence-same tick f g v w x y same was now =
     (λ n from to i. (was.dwells n from to i && (now.exits n from to i || not (now.is_preempted i))) && not (same.served i))
 
 exit-same : (tick : ℕ) (v w x y : View) → AgreeInAll v w → AgreeInAll x y → events.exit_events tick v x ≡ events.exit_events tick w y
-exit-same tick v w x y was now = begun-same tick codes.EXIT_BEGINS _ _ _ _ was.exits now.exits
+exit-same tick v w x y was now =
+    begun-same tick codes.EXIT_BEGINS _ _ _ _ (green-agree _ _ _ _ was was.exits) (green-agree _ _ _ _ now now.exits)
 
 flash-same : (tick : ℕ) (v w x y : View) → AgreeInAll v w → AgreeInAll x y → events.flash_events tick v x ≡ events.flash_events tick w y
 flash-same tick v w x y was now =

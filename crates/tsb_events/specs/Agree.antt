@@ -23,6 +23,7 @@ pub record AgreeInAll (v w : View) : Type 0 where
   pub dwells : Agree v.dwells w.dwells
   pub exits : Agree v.exits w.exits
   pub is_preempted : v.is_preempted ≡ w.is_preempted
+  pub stage_is_green : v.stage_is_green ≡ w.stage_is_green
   pub crosses : v.crosses ≡ w.crosses
   pub side : v.side ≡ w.side
   pub flashes : v.flashes ≡ w.flashes

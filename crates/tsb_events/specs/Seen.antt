@@ -26,6 +26,7 @@ view_of seen = record {
   dwells = has_number seen.dwells;
   exits = has_number seen.exits;
   is_preempted = seen.is_preempted;
+  stage_is_green = seen.stage_is_green;
   crosses = seen.crosses;
   side = seen.side;
   flashes = seen.flashes;

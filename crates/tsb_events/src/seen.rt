@@ -40,6 +40,8 @@ pub struct Seen {
     pub exits: NumberSet,
     /// Whether a preempt is in service.
     pub is_preempted: bool,
+    /// Whether each phase of its stage is Green; `false` where none is in service.
+    pub stage_is_green: bool,
     /// Whether a crossing of the barrier is under way.
     pub crosses: bool,
     /// The side that is served.

@@ -3,7 +3,7 @@ ghost use Rattle.std.specs.Prelude.{◌≡◌, ◌+◌, ◌++◌, ◌≤◌, ◌
 ghost use Rattle.arrayvec.specs.ArrayVec.{array_vec_len};
 ghost use Rattle.tsb_step.specs.tsb_types.Sets.{has_number};
 ghost use Rattle.tsb_step.specs.tsb_types.Events.{begins, told};
-ghost use Rattle.tsb_step.specs.Events.{alarm_events, call_events, clearing_events, crossing_events, ending_events, exit_events, flash_events, green_events, leaves_dwell, other_events, other_input_events, overlap_events, pedestrian_events, preempt_events, presence_events, serving, tick_events, vehicle_input_events};
+ghost use Rattle.tsb_step.specs.Events.{alarm_events, call_events, clearing_events, crossing_events, ending_events, exit_events, flash_events, green_events, leaves_dwell, once_green, other_events, other_input_events, overlap_events, pedestrian_events, preempt_events, presence_events, serving, tick_events, vehicle_input_events};
 ghost use Rattle.tsb_events.specs.declared.tell.TheConstants.{EVENTS};
 ghost use Rattle.tsb_events.specs.Seen.{found_of, selected_of, view_of};
 
@@ -282,15 +282,30 @@ fn tell_other_inputs(events: &mut Events, tick: u32, found: &Found)
     tell_begun(events, tick, PREEMPT_OFF, now.preempts, was.preempts);
 }
 
-/// Adds a preempt that enters service, and its track stage and its dwell as they begin.
+/// Preempts in a stage, once each phase of the stage is Green.
+fn once_green(seen: &Seen, stage: NumberSet) -> NumberSet
+    ensures { has_number result ≡ once_green (view_of seen.now) (has_number stage) }
+{
+    if seen.stage_is_green {
+        stage
+    } else {
+        NumberSet::empty()
+    }
+}
+
+/// Adds a preempt that enters service, and its track greens and its dwell greens as they are all there.
 fn tell_preempts(events: &mut Events, tick: u32, was: &Seen, now: &Seen)
     requires { array_vec_len events.old + 48 ≤ EVENTS }
     ensures told { events.new.items ≡ events.old.items ++ preempt_events tick (view_of was.now) (view_of now.now) }
     ensures few { array_vec_len events.new ≤ array_vec_len events.old + 48 }
 {
     tell_begun(events, tick, PREEMPT_ENTERS, was.preempts, now.preempts);
-    tell_begun(events, tick, TRACK_BEGINS, was.tracks, now.tracks);
-    tell_begun(events, tick, DWELL_BEGINS, was.dwells, now.dwells);
+    let tracks_was = once_green(was, was.tracks);
+    let tracks = once_green(now, now.tracks);
+    let dwells_was = once_green(was, was.dwells);
+    let dwells = once_green(now, now.dwells);
+    tell_begun(events, tick, TRACK_BEGINS, tracks_was, tracks);
+    tell_begun(events, tick, DWELL_BEGINS, dwells_was, dwells);
 }
 
 /// The preempt whose dwell a tick ended by its maximum presence.
@@ -315,13 +330,15 @@ fn tell_presence(events: &mut Events, tick: u32, found: &Found, was: &Seen, now:
     tell(events, tick, PRESENCE_EXCEEDED, exceeded(found, was, now));
 }
 
-/// Adds the exit of a preempt as it begins.
+/// Adds the exit greens of a preempt as they are all there.
 fn tell_exits(events: &mut Events, tick: u32, was: &Seen, now: &Seen)
     requires { array_vec_len events.old + 16 ≤ EVENTS }
     ensures told { events.new.items ≡ events.old.items ++ exit_events tick (view_of was.now) (view_of now.now) }
     ensures few { array_vec_len events.new ≤ array_vec_len events.old + 16 }
 {
-    tell_begun(events, tick, EXIT_BEGINS, was.exits, now.exits);
+    let exits_was = once_green(was, was.exits);
+    let exits = once_green(now, now.exits);
+    tell_begun(events, tick, EXIT_BEGINS, exits_was, exits);
 }
 
 /// Adds a flash by the monitor that begins or ends.

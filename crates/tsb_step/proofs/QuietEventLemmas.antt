@@ -68,9 +68,10 @@ none-between tick gap maximum force_off row served v no_gap no_maximum no_force_
     ++ (none-told tick codes.ALARM_GOES v.alarms i ++ none-told tick codes.ALARM_COMES v.alarms i)
     ++ (none-told tick codes.PEDESTRIAN_OFF (has_number row.pedestrians) i ++ none-told tick codes.PEDESTRIAN_ON (has_number row.pedestrians) i
     ++ none-told tick codes.PREEMPT_ON (has_number row.preempts) i ++ none-told tick codes.PREEMPT_OFF (has_number row.preempts) i)
-    ++ (none-told tick codes.PREEMPT_ENTERS v.preempts i ++ none-told tick codes.TRACK_BEGINS v.tracks i ++ none-told tick codes.DWELL_BEGINS v.dwells i)
+    ++ (none-told tick codes.PREEMPT_ENTERS v.preempts i ++ none-told tick codes.TRACK_BEGINS (events.once_green v v.tracks) i
+    ++ none-told tick codes.DWELL_BEGINS (events.once_green v v.dwells) i)
     ++ told-none tick codes.PRESENCE_EXCEEDED (λ n. leaves_dwell v v n && not served) (λ n j. stays n j && not served) i
-    ++ none-told tick codes.EXIT_BEGINS v.exits i
+    ++ none-told tick codes.EXIT_BEGINS (events.once_green v v.exits) i
     ++ (if and-not_self v.flashes i then event tick codes.FLASH_CHANGES codes.FLASH ∷ []
     else (if and-not_self v.flashes i then event tick codes.FLASH_CHANGES codes.NO_FLASH ∷ [] else []))
 
@@ -127,6 +128,7 @@ view-ran s =
       dwells = serves is_dwell (same-stage s.preempts.service i);
       exits = serves is_exit (same-stage s.preempts.service i);
       is_preempted = is_some (same-stage s.preempts.service i);
+      stage_is_green = events.stage_is_green s.plan (shown_interval s) (same-stage s.preempts.service i);
     }
   where
     given : calls_now (ran s) ≡ calls_now s

@@ -3,7 +3,8 @@
 -- says what happened, its parameter to which phase, overlap, detector or preempt.
 --
 -- Where the enumerations are silent the choice is the profile's own: a controller in flash serves no phase and shows no
--- walk, so that a trip ends all of them; a vehicle call is that of a phase that is not Green.
+-- walk, so that a trip ends all of them; a vehicle call is that of a phase that is not Green. A stage of a preempt is
+-- told once all of its phases are Green, which stay so as long as the stage does.
 use Rattle.std.specs.Prelude.{ℕ, ◌+◌, ◌-◌, ◌==◌, Bool, true, false, not, ◌&&◌, ◌||◌, if◌then◌else◌, List, [], ◌∷◌, ◌++◌, flat_map, nat_eq, nat_le, Option, Some, None, is_some, is_none}
 use Rattle.std.specs.List.{list_any}
 use Rattle.std.specs.Option.{option_eq}
@@ -24,7 +25,7 @@ use Rattle.tsb_types.specs.declared.stage.Stage.{Stage}
 use Rattle.tsb_types.specs.declared.stage.Stage.TheVariants.{Track, Dwell, Exit}
 use Rattle.tsb_objects.specs.tsb_plan.declared.object.Object.TheVariants.{PatternCycleTime, PatternOffsetTime, SplitTime}
 use Rattle.tsb_objects.specs.tsb_plan.Parts.{is_included, split_index}
-use Rattle.tsb_objects.specs.tsb_plan.Plan.{phases}
+use Rattle.tsb_objects.specs.tsb_plan.Plan.{Plan, phases}
 use Rattle.tsb_objects.specs.tsb_plan.Running.{split_in_effect}
 use Rattle.tsb_calls.specs.Memories as calls
 use Rattle.tsb_calls.specs.Standing as standing
@@ -34,6 +35,7 @@ use Rattle.tsb_phase.specs.Causes as causes
 use Rattle.tsb_phase.specs.Pedestrian.{ended_by}
 use Rattle.tsb_preempt.specs.Preempts as preempts
 use Rattle.tsb_preempt.specs.Preempts.{is_dwell, is_exit}
+use Rattle.tsb_preempt.specs.Service.{all_green, stage_phases}
 use Rattle.tsb_heads.specs.Monitoring as heads
 use Rattle.tsb_heads.specs.Colours as colours
 use Rattle.tsb_step.specs.declared.inputs.Input.{Input}
@@ -63,12 +65,14 @@ pub record View : Type 0 where
   pub overlaps_off : ℕ → Bool
   -- vehicle detectors with an alarm
   pub alarms : ℕ → Bool
-  -- preempts in service; in their track stage, in their dwell, in their exit; whether there is one in service
+  -- preempts in service; in their track stage, in their dwell, in their exit; whether there is one in service, and
+  -- whether each phase of its stage is Green
   pub preempts : ℕ → Bool
   pub tracks : ℕ → Bool
   pub dwells : ℕ → Bool
   pub exits : ℕ → Bool
   pub is_preempted : Bool
+  pub stage_is_green : Bool
   -- a crossing is under way; the side that is served
   pub crosses : Bool
   pub side : ℕ
@@ -131,6 +135,11 @@ abbrev pub serves : (Stage → Bool) → Option (ℕ × Stage) → ℕ → Bool
 serves test None n = false
 serves test (Some (m, k)) n = m == n && test k
 
+-- each phase of the stage in service is Green, by the interval of each phase; never where no preempt is in service
+abbrev pub stage_is_green : Plan → (ℕ → Interval) → Option (ℕ × Stage) → Bool
+stage_is_green plan interval None = false
+stage_is_green plan interval (Some (n, k)) = all_green plan interval (stage_phases plan n k)
+
 -- what a log sees
 unfoldable pub view : State → View
 view s = record {
@@ -151,6 +160,7 @@ view s = record {
   dwells = serves is_dwell (stage s);
   exits = serves is_exit (stage s);
   is_preempted = is_some (stage s);
+  stage_is_green = stage_is_green s.plan (shown_interval s) (stage s);
   crosses = is_some s.rings.crossing;
   side = s.rings.side;
   flashes = is_some s.trip;
@@ -281,11 +291,16 @@ other_input_events tick f =
     ++ told tick PREEMPT_ON (begins (has_number f.last.preempts) (has_number f.row.preempts))
     ++ told tick PREEMPT_OFF (ends (has_number f.last.preempts) (has_number f.row.preempts))
 
--- a preempt enters service, its track stage begins, its dwell
+-- preempts in a stage, once each phase of the stage is Green
+abbrev pub once_green : View → (ℕ → Bool) → ℕ → Bool
+once_green v stage n = v.stage_is_green && stage n
+
+-- a preempt enters service, its track greens are all there, its dwell greens
 abbrev pub preempt_events : ℕ → View → View → List Event
 preempt_events tick was now =
-    told tick PREEMPT_ENTERS (begins was.preempts now.preempts) ++ told tick TRACK_BEGINS (begins was.tracks now.tracks)
-    ++ told tick DWELL_BEGINS (begins was.dwells now.dwells)
+    told tick PREEMPT_ENTERS (begins was.preempts now.preempts)
+    ++ told tick TRACK_BEGINS (begins (once_green was was.tracks) (once_green now now.tracks))
+    ++ told tick DWELL_BEGINS (begins (once_green was was.dwells) (once_green now now.dwells))
 
 -- its dwell is over: it is in its exit, or no preempt is in service
 abbrev pub leaves_dwell : View → View → ℕ → Bool
@@ -295,9 +310,9 @@ leaves_dwell was now n = was.dwells n && (now.exits n || not now.is_preempted)
 abbrev pub presence_events : ℕ → Found → View → View → List Event
 presence_events tick f was now = told tick PRESENCE_EXCEEDED (λ n. leaves_dwell was now n && not f.served)
 
--- its exit begins
+-- its exit greens are all there
 abbrev pub exit_events : ℕ → View → View → List Event
-exit_events tick was now = told tick EXIT_BEGINS (begins was.exits now.exits)
+exit_events tick was now = told tick EXIT_BEGINS (begins (once_green was was.exits) (once_green now now.exits))
 
 -- an event with a value that differs from the one before
 abbrev pub if_differs : ℕ → ℕ → ℕ → ℕ → List Event

@@ -82,13 +82,13 @@ pub const PREEMPT_ON: u8 = 102;
 pub const PREEMPT_OFF: u8 = 104;
 /// Preempt entry started: a preempt enters service.
 pub const PREEMPT_ENTERS: u8 = 105;
-/// Preemption begin track clearance.
+/// Preemption begin track clearance: all phases of its track stage are Green.
 pub const TRACK_BEGINS: u8 = 106;
-/// Preemption begin dwell service.
+/// Preemption begin dwell service: all phases of its dwell are Green.
 pub const DWELL_BEGINS: u8 = 107;
 /// Preemption max presence exceeded: dwell ends by it, and would not end without it.
 pub const PRESENCE_EXCEEDED: u8 = 110;
-/// Preemption begin exit interval.
+/// Preemption begin exit interval: all phases of its exit are Green.
 pub const EXIT_BEGINS: u8 = 111;
 /// Coord pattern change: the number of the selected pattern, or `FREE`.
 pub const PATTERN_CHANGES: u8 = 131;

@@ -42,6 +42,7 @@ dark = record {
   dwells = none;
   exits = none;
   is_preempted = false;
+  stage_is_green = false;
   crosses = false;
   side = 1;
   flashes = false;
@@ -159,30 +160,66 @@ alarms : events.tick_events 9 quiet (record dark { alarms = only 5 }) (record da
 unfolding opened
 alarms = refl
 
--- preempt 1: track, dwell, exit
-track : events.tick_events 9 quiet dark (record dark { preempts = only 1; is_preempted = true; tracks = only 1 }) ≡ event 9 105 1 ∷ event 9 106 1 ∷ []
+-- preempt 1 enters service, in its track stage; its track greens are all there; its dwell comes, its dwell greens
+abbrev track_stage : events.View
+track_stage = record dark { preempts = only 1; is_preempted = true; tracks = only 1 }
+
+abbrev dwell_stage : events.View
+dwell_stage = record dark { preempts = only 1; is_preempted = true; dwells = only 1 }
+
+abbrev exit_stage : events.View
+exit_stage = record dark { preempts = only 1; is_preempted = true; exits = only 1 }
+
+enters : events.tick_events 9 quiet dark track_stage ≡ event 9 105 1 ∷ []
+unfolding opened
+enters = refl
+
+track : events.tick_events 9 quiet track_stage (record track_stage { stage_is_green = true }) ≡ event 9 106 1 ∷ []
 unfolding opened
 track = refl
 
-dwell : events.tick_events 9 quiet (record dark { preempts = only 1; is_preempted = true; tracks = only 1 }) (record dark { preempts = only 1; is_preempted = true; dwells = only 1 }) ≡ event 9 107 1 ∷ []
+track_at_once : events.tick_events 9 quiet dark (record track_stage { stage_is_green = true }) ≡ event 9 105 1 ∷ event 9 106 1 ∷ []
+unfolding opened
+track_at_once = refl
+
+dwell_comes : events.tick_events 9 quiet (record track_stage { stage_is_green = true }) dwell_stage ≡ []
+unfolding opened
+dwell_comes = refl
+
+dwell : events.tick_events 9 quiet dwell_stage (record dwell_stage { stage_is_green = true }) ≡ event 9 107 1 ∷ []
 unfolding opened
 dwell = refl
 
--- a dwell that ends unserved ends by the maximum presence, with an exit or without
-presence : events.tick_events 9 quiet (record dark { preempts = only 1; is_preempted = true; dwells = only 1 }) (record dark { preempts = only 1; is_preempted = true; exits = only 1 }) ≡ event 9 110 1 ∷ event 9 111 1 ∷ []
+-- from all track greens to all dwell greens, where they are the same
+dwell_at_once : events.tick_events 9 quiet (record track_stage { stage_is_green = true }) (record dwell_stage { stage_is_green = true }) ≡ event 9 107 1 ∷ []
+unfolding opened
+dwell_at_once = refl
+
+exit : events.tick_events 9 quiet exit_stage (record exit_stage { stage_is_green = true }) ≡ event 9 111 1 ∷ []
+unfolding opened
+exit = refl
+
+-- a dwell that ends unserved ends by the maximum presence, with an exit or without, and whether its greens were all there
+-- or not
+presence : events.tick_events 9 quiet dwell_stage exit_stage ≡ event 9 110 1 ∷ []
 unfolding opened
 presence = refl
 
-presence_alone : events.tick_events 9 quiet (record dark { preempts = only 1; is_preempted = true; dwells = only 1 }) dark ≡ event 9 110 1 ∷ []
+presence_and_exit : events.tick_events 9 quiet (record dwell_stage { stage_is_green = true }) (record exit_stage { stage_is_green = true })
+    ≡ event 9 110 1 ∷ event 9 111 1 ∷ []
+unfolding opened
+presence_and_exit = refl
+
+presence_alone : events.tick_events 9 quiet dwell_stage dark ≡ event 9 110 1 ∷ []
 unfolding opened
 presence_alone = refl
 
-served : events.tick_events 9 (record quiet { served = true }) (record dark { preempts = only 1; is_preempted = true; dwells = only 1 }) (record dark { preempts = only 1; is_preempted = true; exits = only 1 }) ≡ event 9 111 1 ∷ []
+served : events.tick_events 9 (record quiet { served = true }) dwell_stage exit_stage ≡ []
 unfolding opened
 served = refl
 
 -- another preempt takes its place: it was not the presence
-interrupted : events.tick_events 9 quiet (record dark { preempts = only 1; is_preempted = true; dwells = only 1 }) (record dark { preempts = only 2; is_preempted = true; tracks = only 2 }) ≡ event 9 105 2 ∷ event 9 106 2 ∷ []
+interrupted : events.tick_events 9 quiet dwell_stage (record dark { preempts = only 2; is_preempted = true; tracks = only 2 }) ≡ event 9 105 2 ∷ []
 unfolding opened
 interrupted = refl
 

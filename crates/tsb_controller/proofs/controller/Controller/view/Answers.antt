@@ -9,14 +9,16 @@ use Rattle.tsb_heads.specs.Promises.{IsSame}
 use Rattle.tsb_heads.specs.Reading.{heads_of}
 use Rattle.tsb_ring.proofs.BoolLemmas.{served}
 use Rattle.tsb_step.specs.Cells.{clock_at}
-use Rattle.tsb_step.specs.Events.{is_track, serves, view}
+use Rattle.tsb_step.specs.tsb_types.Flow.{interval_of}
+use Rattle.tsb_step.specs.tsb_plan.Plan.{Plan}
+use Rattle.tsb_step.specs.Events.{is_track, serves, shown_interval, stage_is_green, view}
 use Rattle.tsb_preempt.specs.Preempts.{is_dwell, is_exit}
 use Rattle.tsb_step.specs.Signs.{display}
 use Rattle.tsb_step.specs.State.{State}
 use Rattle.tsb_controller.specs.Layer.{rows_of}
 use Rattle.tsb_controller.specs.Rows.{state_of}
 use Rattle.tsb_controller.proofs.PlacedLemmas.{placed}
-use Rattle.tsb_controller.proofs.SeenLemmas.{clear-set, clearance-set, dark-green, dark-yellow, off-told, overlaps-told, pedestrian-calls, served-told, shown-intervals, shown-parts, vehicle-calls, walk-set, yellow-set}
+use Rattle.tsb_controller.proofs.SeenLemmas.{clear-set, clearance-set, dark-green, dark-yellow, off-told, overlaps-told, pedestrian-calls, served-told, shown-intervals, shown-parts, stage-green-same, vehicle-calls, walk-set, yellow-set}
 use Rattle.tsb_controller.proofs.TickLemmas.{green-set}
 use Rattle.tsb_controller.proofs.WatchLemmas.{displayed}
 use Rattle.tsb_controller.proofs.controller.Controller.view.Goals as goal
@@ -63,6 +65,9 @@ returns c now b same trips =
       dwells = λ n from to. c.stages_of-stages.ensures.dwell n ∙ ap (λ (o : Option (ℕ × Stage)). serves is_dwell o n) at_stage;
       exits = λ n from to. c.stages_of-stages.ensures.exit n ∙ ap (λ (o : Option (ℕ × Stage)). serves is_exit o n) at_stage;
       is_preempted = c.is_some.ensures ∙ ap is_some at_stage;
+      stage_is_green = c.stage_is_green.ensures
+          ∙ stage-green-same plan (interval_of i) (shown_interval s) c.stage-stage.result few shown
+          ∙ ap₂ (λ (x : Plan) (o : Option (ℕ × Stage)). stage_is_green x (shown_interval s) o) (sym same) at_stage;
       crosses = c.is_some-2.ensures ∙ ap is_some c.crossing.ensures;
       side = c.side.ensures;
       flashes = sym trips;
