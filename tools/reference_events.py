@@ -26,7 +26,7 @@ DETECTORS, BUTTONS, PREEMPTS, OVERLAPS = range(1, 17), range(1, 9), range(1, 5),
 
 # Intervals of phases: green, yellow, red clearance. A code comes where one of these begins, or ends.
 INTERVAL_BEGINS = {0: "G", 1: "G", 8: "Y", 10: "C"}
-INTERVAL_ENDS = {7: "G", 9: "Y", 11: "C", 12: "GYC"}
+INTERVAL_ENDS = {7: "G", 9: "Y", 12: "GYC"}
 # Pedestrian parts: walk and clearance.
 PEDESTRIAN_BEGINS = {21: "W", 22: "C"}
 PEDESTRIAN_ENDS = {23: "WC"}
@@ -78,6 +78,12 @@ def showing(shown: list[str], letters: str) -> set[int]:
 def in_conflict(state: State) -> set[int]:
     """The phases that are shown green and whose conflict timer is on."""
     return {phase for phase in showing(shown_intervals(state), "G") if state.conf[phase] is not None}
+
+
+def timing_red_clearance(state: State) -> set[int]:
+    """The phases that are shown in red clearance and whose timer has not reached their time."""
+    shown, times = showing(shown_intervals(state), "C"), state.plan["phaseRedClear"]
+    return {phase for phase in shown if state.itime[phase] < times[phase]}
 
 
 def off_overlaps(bench: Any, state: State, heads: list[str]) -> set[int]:
@@ -403,10 +409,18 @@ def shown_events(begins: dict[int, str], ends: dict[int, str], before: list[str]
     return told
 
 
+def red_clearance_ends(before: State, after: State) -> list[Told]:
+    """The ends of the times of red clearances: where a time is 0 it ends as it begins."""
+    begins = showing(shown_intervals(after), "C") - showing(shown_intervals(before), "C")
+    timed = timing_red_clearance(before) | begins
+    return [(11, phase) for phase in timed - timing_red_clearance(after)]
+
+
 def phase_events(before: State, after: State) -> list[Told]:
     """The events of what phases and their pedestrians show, and of conflicts with greens."""
     told = shown_events(INTERVAL_BEGINS, INTERVAL_ENDS, shown_intervals(before), shown_intervals(after))
     told += shown_events(PEDESTRIAN_BEGINS, PEDESTRIAN_ENDS, shown_parts(before), shown_parts(after))
+    told += red_clearance_ends(before, after)
     return told + begun(2, in_conflict(before), in_conflict(after))
 
 
@@ -469,6 +483,13 @@ def ending_events(tick: Tick) -> list[Told]:
     return [(code, phase) for phase in ended for code in ending_codes(tick, phase)]
 
 
+def minimum_events(tick: Tick) -> list[Told]:
+    """The events of greens whose minimum green is over in this tick, also where they end in it."""
+    times, timers = tick.before.plan["phaseMinimumGreen"], tick.before.itime
+    shown = showing(shown_intervals(tick.before), "G")
+    return [(3, phase) for phase in shown if timers[phase] < 10 * times[phase] <= timers[phase] + 1]
+
+
 def presence_events(tick: Tick) -> list[Told]:
     """The event of a dwell that ends by its maximum presence, and would not end otherwise."""
     before, preempt = tick.before, tick.before.service
@@ -485,7 +506,7 @@ def tick_events(tick: Tick) -> list[Told]:
     """The events of what a tick alone does: none while the controller has tripped, as nothing moves then."""
     if tick.before.trip is not None:
         return []
-    return crossing_events(tick) + ending_events(tick) + presence_events(tick)
+    return crossing_events(tick) + minimum_events(tick) + ending_events(tick) + presence_events(tick)
 
 
 def events_of(reference: Reference, before: State, given: Given, after: State, row_before: Row) -> list[Event]:

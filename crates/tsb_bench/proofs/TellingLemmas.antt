@@ -13,6 +13,7 @@ use Rattle.tsb_phase.specs.declared.cause.Cause.{Cause}
 use Rattle.tsb_phase.specs.declared.cause.Cause.TheVariants.{ForceOff, Gap, Maximum}
 use Rattle.tsb_phase.specs.Causes.{cause}
 use Rattle.tsb_phase.specs.Pedestrian.{ended_by}
+use Rattle.tsb_step.specs.EventLaws.{EndsNoTime}
 use Rattle.tsb_step.specs.Events.{ends_freely, events_between, events_of, is_cause, other_events, selected, view}
 use Rattle.tsb_step.specs.MonitorCells.{lamp_in, trip_in}
 use Rattle.tsb_step.specs.State.{State, Tripped, interval}
@@ -92,10 +93,10 @@ other-told last s after i none = refl
 
 -- a tick that is passed over, with the inputs of the tick before, tells nothing
 pub passed-tells-none : (i : Input) (tick : ℕ) (a : All) (last : Row) → AreAllBy tick a → Passes i tick a → i ≡ inputs.Tick last →
-    events_of last (all_in tick a) i ≡ []
-passed-tells-none i tick a last by passes is =
+    EndsNoTime (all_in tick a) → events_of last (all_in tick a) i ≡ []
+passed-tells-none i tick a last by passes is ends =
     ap (events_of last (all_in tick a)) is
-    ∙ quiet-tells-none last (all_in tick a) (sym stepped ∙ rows-wait tick a by)
+    ∙ quiet-tells-none last (all_in tick a) (sym stepped ∙ rows-wait tick a by) ends
   where
     stepped : all_in (tick + 1) a ≡ step (all_in tick a) (inputs.Tick last)
     stepped = subst (λ (j : Input). all_in (next_tick tick j) a ≡ step (all_in tick a) j) is passes.done.state

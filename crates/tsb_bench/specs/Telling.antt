@@ -1,11 +1,13 @@
 -- What is kept of the cabinet as it was before an input, by which the events of the input are told.
 use Rattle.std.specs.Prelude.{◌≡◌, ℕ, None, is_some}
 use Rattle.tsb_types.specs.declared.row.Row.{Row}
+use Rattle.tsb_types.specs.Clip.{Agree}
+use Rattle.tsb_types.specs.Sets.{has}
 use Rattle.tsb_phase.specs.Causes.{cause}
 use Rattle.tsb_step.specs.declared.inputs.Input.{Input}
 use Rattle.tsb_step.specs.declared.inputs.Input.TheVariants.{Tick}
 use Rattle.tsb_step.specs.Cells.{clock_at}
-use Rattle.tsb_step.specs.Events.{ends_freely, found, selected, view}
+use Rattle.tsb_step.specs.Events.{completes_minimum, ends_freely, found, selected, view}
 use Rattle.tsb_step.specs.MonitorCells.{trip_in}
 use Rattle.tsb_step.specs.State.{State}
 use Rattle.tsb_step.specs.Step.{step, verdict}
@@ -22,9 +24,9 @@ use Rattle.tsb_controller.specs.Layer.{IsClosed}
 use Rattle.tsb_controller.specs.Whole.{All, all_in}
 use Rattle.tsb_bench.specs.declared.telling.Before.{Before}
 
--- what a log sees in these rows, at whatever tick number
-abbrev pub Sees : All → Seen → Type 0
-Sees a seen = (now : ℕ) → AgreeInAll (view_of seen) (view (all_in now a))
+-- what a log sees in these rows at tick number `now`
+abbrev pub Sees : ℕ → All → Seen → Type 0
+Sees now a seen = AgreeInAll (view_of seen) (view (all_in now a))
 
 -- what it sees of the selected pattern
 abbrev pub SeesSelected : All → Selected → Type 0
@@ -32,11 +34,12 @@ SeesSelected a s = (now : ℕ) → AgreeInSelected (selected_of s) (selected (al
 
 -- what is kept of these rows at tick number `tick`
 pub record IsBefore (tick : ℕ) (a : All) (b : Before) : Type 0 where
-  pub seen : Sees a b.seen
+  pub seen : Sees tick a b.seen
   pub selected : SeesSelected a b.selected
   pub layers : layers.rows_of b.controller ≡ a.layers
   pub closed : IsClosed b.controller
   pub clock : b.clock ≡ clock_at tick (trip_in a.monitor)
+  pub completed : Agree (has b.completed) (completes_minimum (all_in tick a))
   pub tripped : b.seen.flashes ≡ is_some (trip_in a.monitor)
 
 -- at tick number `tick` the input is not refused

@@ -4,11 +4,14 @@
 ghost use Rattle.std.specs.Prelude.{◌≡◌, ℕ, ◌+◌, ◌<◌, ◌≤◌, [], ◌∷◌, length, Err, None, true, is_some, OnOk, OnErr, IfErr};
 ghost use Rattle.tsb_history.specs.History.{record_size};
 ghost use Rattle.tsb_types.specs.declared.refusal.Refusal.TheVariants.{Memory};
+ghost use Rattle.tsb_types.specs.Clip.{Agree};
+ghost use Rattle.tsb_types.specs.Sets.{has};
 ghost use Rattle.tsb_plan.specs.PlanOf.{plan_in};
 ghost use Rattle.tsb_machine.specs.Play.{IsRefusal};
 ghost use Rattle.tsb_step.specs.declared.inputs.Input.TheVariants as inputs;
 ghost use Rattle.tsb_step.specs.Cells.{clock_at};
-ghost use Rattle.tsb_step.specs.Events.{events_of};
+ghost use Rattle.tsb_step.specs.EventLaws.{EndsNoTime};
+ghost use Rattle.tsb_step.specs.Events.{completes_minimum, completes_red, events_of, times_minimum, times_red};
 ghost use Rattle.tsb_step.specs.MonitorCells.{trip_in};
 ghost use Rattle.tsb_step.specs.Past.{earlier, record_of};
 ghost use Rattle.tsb_step.specs.Step.{kind_of, last_tick, step, verdict};
@@ -21,7 +24,7 @@ use crate::bench::Bench;
 use crate::cabinet::Cabinet;
 use tsb_controller::{Causes, Controller};
 use tsb_events::{Events, Found, Seen, Selected, other_events, tick_events};
-use tsb_objects::{Refusal, Row};
+use tsb_objects::{NumberSet, PhaseSet, Refusal, Row};
 use tsb_step::Input;
 
 /// What is kept of the cabinet as it was before an input.
@@ -35,6 +38,8 @@ pub(crate) struct Before {
     controller: Controller,
     /// The tick number, or that of the trip, at which timers stand.
     clock: u32,
+    /// The Green phases whose minimum green the next tick completes.
+    completed: PhaseSet,
 }
 
 /// Whether an input is a tick with the inputs of this row.
@@ -48,13 +53,14 @@ fn has_row(input: &Input, row: &Row) -> bool
 }
 
 impl Cabinet {
-    /// What the log of a controller sees.
-    fn view(&self) -> Seen
+    /// What the log of a controller sees at tick number `tick`.
+    fn view(&self, tick: u32) -> Seen
         requires by { (now : ℕ) × AreAllBy now (rows_of self.now) }
-        ensures sees { Sees (rows_of self.now) result }
+        ensures sees { Sees tick (rows_of self.now) result }
         ensures flashes { result.flashes ≡ is_some (trip_in (rows_of self.now).monitor) }
     {
-        self.controller.view(self.monitor.is_tripped(), &self.plan)
+        let tripped = self.monitor.is_tripped();
+        self.controller.view(tripped, self.clock(tick), &self.plan)
     }
 
     /// What it sees of the selected pattern.
@@ -76,17 +82,68 @@ impl Cabinet {
         }
     }
 
+    /// The phases in red clearance whose time has not passed at tick number `tick`.
+    fn red_timings(&self, tick: u32) -> PhaseSet
+        requires by { (now : ℕ) × AreAllBy now (rows_of self.now) }
+        ensures { Agree (has result) (times_red (all_in tick (rows_of self.now))) }
+    {
+        let tripped = self.monitor.is_tripped();
+        self.controller
+            .red_timings(tripped, self.clock(tick), &self.plan)
+    }
+
+    /// The Green phases whose minimum green has not passed at tick number `tick`.
+    fn minimums(&self, tick: u32) -> PhaseSet
+        requires by { (now : ℕ) × AreAllBy now (rows_of self.now) }
+        ensures { Agree (has result) (times_minimum (all_in tick (rows_of self.now))) }
+    {
+        let tripped = self.monitor.is_tripped();
+        self.controller
+            .minimums(tripped, self.clock(tick), &self.plan)
+    }
+
+    /// The Green phases whose minimum green the tick after tick number `tick` completes.
+    fn completed(&self, tick: u32) -> PhaseSet
+        requires limit { tick ≤ last_tick }
+        requires by { AreAllBy tick (rows_of self.now) }
+        ensures { Agree (has result) (completes_minimum (all_in tick (rows_of self.now))) }
+    {
+        self.minimums(tick).difference(self.minimums(tick + 1))
+    }
+
+    /// The phases in red clearance whose time the tick after tick number `tick` ends.
+    fn cleared(&self, tick: u32) -> PhaseSet
+        requires limit { tick ≤ last_tick }
+        requires by { AreAllBy tick (rows_of self.now) }
+        ensures { Agree (has result) (completes_red (all_in tick (rows_of self.now))) }
+    {
+        self.red_timings(tick)
+            .difference(self.red_timings(tick + 1))
+    }
+
+    /// Whether the tick after tick number `tick` ends no minimum green and no time of a red clearance.
+    fn ends_no_time(&self, tick: u32) -> bool
+        requires limit { tick ≤ last_tick }
+        requires by { AreAllBy tick (rows_of self.now) }
+        ensures { result ≡ true → EndsNoTime (all_in tick (rows_of self.now)) }
+    {
+        let ends = self.completed(tick).union(self.cleared(tick));
+        ends.is_empty()
+    }
+
     /// What is kept of the cabinet at tick number `tick`, before an input.
     fn before(&self, tick: u32) -> Before
         requires shut { IsShut self.now }
+        requires limit { tick ≤ last_tick }
         requires by { AreAllBy tick (rows_of self.now) }
         ensures { IsBefore tick (rows_of self.now) result }
     {
         Before {
-            seen: self.view(),
+            seen: self.view(tick),
             selected: self.selected(),
             controller: self.controller,
             clock: self.clock(tick),
+            completed: self.completed(tick),
         }
     }
 
@@ -113,6 +170,7 @@ impl Cabinet {
     {
         let causes = self.causes(before, tick, row);
         Found {
+            minimum: NumberSet::from_list(before.completed.list()),
             gap: causes.gap,
             maximum: causes.maximum,
             force_off: causes.force_off,
@@ -138,7 +196,7 @@ impl Cabinet {
         ensures { (a : All) → IsBefore tick a before.now → AreAllBy tick a → all_in now (rows_of self.now) ≡ step (all_in tick a) input.now
             → events.new.items ≡ events_of last.now (all_in tick a) input.now }
     {
-        let seen = self.view();
+        let seen = self.view(now);
         match input {
             Input::Tick(row) => {
                 let found = self.found(before, tick, row, last);
@@ -161,7 +219,7 @@ impl Bench {
     /// that were on in the newest tick before it, and all off before the first. A refused input has no events.
     ///
     /// It takes no memory beside that of `apply`. A tick that changes nothing, with the inputs of the tick before, costs
-    /// what it costs there.
+    /// little more than there.
     pub fn apply_telling(
         &mut self,
         input: Input,
@@ -182,10 +240,13 @@ impl Bench {
         ensures untold { OnErr result (events.new.items ≡ []) }
     {
         events.clear();
-        if self.cabinet.passes(self.tick, &input) && has_row(&input, last) {
+        let tick = self.tick;
+        if self.cabinet.passes(tick, &input)
+            && has_row(&input, last)
+            && self.cabinet.ends_no_time(tick)
+        {
             return self.apply(input);
         }
-        let tick = self.tick;
         let before = self.cabinet.before(tick);
         match self.apply(input) {
             Ok(()) => {}

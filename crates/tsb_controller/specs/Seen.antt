@@ -5,6 +5,7 @@ use Rattle.tsb_step.specs.tsb_types.declared.flow.Intervals.{Intervals}
 use Rattle.tsb_step.specs.tsb_types.declared.flow.Pedestrians.{Pedestrians}
 use Rattle.tsb_step.specs.tsb_types.declared.number_set.NumberSet.{NumberSet}
 use Rattle.tsb_step.specs.tsb_types.declared.phase_set.PhaseSet.{PhaseSet}
+use Rattle.tsb_step.specs.tsb_types.Clip.{Agree}
 use Rattle.tsb_step.specs.tsb_types.Lists.{run_from}
 use Rattle.tsb_step.specs.tsb_types.Sets.{has, has_number}
 use Rattle.tsb_step.specs.tsb_plan.Parts.{is_included}
@@ -15,7 +16,8 @@ use Rattle.tsb_calls.specs.declared.observed.Observed.{Observed}
 use Rattle.tsb_calls.specs.declared.standing.Standing.{Standing}
 use Rattle.tsb_calls.specs.Promises.{TellsStanding}
 use Rattle.tsb_coord.specs.Cells.{pattern_in}
-use Rattle.tsb_step.specs.Events.{selected, view}
+use Rattle.tsb_step.specs.Cells.{clock_at}
+use Rattle.tsb_step.specs.Events.{selected, times_minimum, times_red, view}
 use Rattle.tsb_events.specs.declared.seen.Seen.{Seen}
 use Rattle.tsb_events.specs.declared.seen.Selected.{Selected}
 use Rattle.tsb_events.specs.Agree.{AgreeInAll, AgreeInSelected}
@@ -40,10 +42,21 @@ pub record IsStanding (intervals : Intervals) (pedestrians : Pedestrians) (plan 
   pub none_ended : observed.service_ended ≡ false
   pub stands : TellsStanding observed plan rows.calls result
 
--- `view(tripped, plan)`: what a log sees of the state, at whatever tick, whatever stands beside the rows
-abbrev pub TellsSeen : Plan → Bool → Rows → Seen → Type 0
-TellsSeen plan tripped rows result = (now : ℕ) (b : Beside) → b.plan ≡ plan → is_some b.trip ≡ tripped →
+-- `view(tripped, clock, plan)`: what a log sees of the state, where timers are read at `clock`, whatever stands beside
+-- the rows
+abbrev pub TellsSeen : ℕ → Plan → Bool → Rows → Seen → Type 0
+TellsSeen clock plan tripped rows result = (now : ℕ) (b : Beside) → b.plan ≡ plan → is_some b.trip ≡ tripped → clock_at now b.trip ≡ clock →
     AgreeInAll (view_of result) (view (state_of now b rows))
+
+-- `red_timings(tripped, clock, plan)`: likewise the phases in red clearance whose time has not passed
+abbrev pub TellsRedTimings : ℕ → Plan → Bool → Rows → PhaseSet → Type 0
+TellsRedTimings clock plan tripped rows result = (now : ℕ) (b : Beside) → b.plan ≡ plan → is_some b.trip ≡ tripped → clock_at now b.trip ≡ clock →
+    Agree (has result) (times_red (state_of now b rows))
+
+-- `minimums(tripped, clock, plan)`: and the Green phases whose minimum green has not passed
+abbrev pub TellsMinimums : ℕ → Plan → Bool → Rows → PhaseSet → Type 0
+TellsMinimums clock plan tripped rows result = (now : ℕ) (b : Beside) → b.plan ≡ plan → is_some b.trip ≡ tripped → clock_at now b.trip ≡ clock →
+    Agree (has result) (times_minimum (state_of now b rows))
 
 -- `selected(plan)`: what a log sees of the selected pattern
 abbrev pub TellsSelected : Plan → Rows → Selected → Type 0

@@ -18,6 +18,7 @@ mod record;
 mod seen;
 mod selected;
 pub mod status;
+mod times;
 mod values;
 mod waits;
 mod watch;

@@ -30,7 +30,7 @@ pub(crate) fn numbers(phases: PhaseSet) -> NumberSet
 }
 
 /// The intervals as a log sees them: in flash no phase is in service (profile).
-fn shown_intervals(tripped: bool, intervals: &Intervals) -> Intervals
+pub(crate) fn shown_intervals(tripped: bool, intervals: &Intervals) -> Intervals
     ensures { (p : ℕ) → interval_of result p ≡ (if tripped then Red else interval_of intervals.now p) }
 {
     if !tripped {
@@ -176,11 +176,12 @@ impl Controller {
         self.calls.standing(&observed, plan)
     }
 
-    /// What the log of a controller sees, of one that has tripped or has not.
-    pub fn view(&self, tripped: bool, plan: &Checked) -> Seen
+    /// What the log of a controller sees, of one that has tripped or has not. Timers are read at tick `clock`: the tick
+    /// number, or that of the trip.
+    pub fn view(&self, tripped: bool, clock: u32, plan: &Checked) -> Seen
         requires rings_by { rings.IsBy (rows_of self.now).rings }
         requires pattern_by { coord.IsBy (rows_of self.now).pattern }
-        ensures { TellsSeen (checked_plan plan.now) tripped (rows_of self.now) result }
+        ensures { TellsSeen clock (checked_plan plan.now) tripped (rows_of self.now) result }
     {
         let intervals = self.phases.intervals();
         let pedestrians = self.phases.pedestrians();
@@ -202,6 +203,7 @@ impl Controller {
                     .difference(shown.green)
                     .difference(shown.yellow),
             ),
+            red_timings: numbers(self.red_timings(tripped, clock, plan)),
             conflicts: numbers(shown.green.intersection(self.phases.conflicts())),
             walks: numbers(walking.walk),
             clearances: numbers(walking.clearance.difference(walking.walk)),

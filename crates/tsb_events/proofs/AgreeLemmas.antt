@@ -43,7 +43,7 @@ green-same tick v w x y was now =
 
 ending-same : (tick : ℕ) (f g : Found) → AgreeInFound f g → events.ending_events tick f ≡ events.ending_events tick g
 ending-same tick f g same =
-    λ i. told-same tick codes.GAP_OUT _ _ same.gap i ++ told-same tick codes.MAX_OUT _ _ same.maximum i
+    λ i. told-same tick codes.MINIMUM_COMPLETE _ _ same.minimum i ++ told-same tick codes.GAP_OUT _ _ same.gap i ++ told-same tick codes.MAX_OUT _ _ same.maximum i
     ++ told-same tick codes.FORCE_OFF _ _ same.force_off i
 
 serving-agree : (v w : View) → AgreeInAll v w → Agree (events.serving v) (events.serving w)
@@ -55,7 +55,8 @@ clearing-same tick v w x y was now =
     ++ begun-same tick codes.YELLOW_BEGINS _ _ _ _ was.yellows now.yellows i
     ++ begun-same tick codes.YELLOW_ENDS _ _ _ _ now.yellows was.yellows i
     ++ begun-same tick codes.RED_CLEARANCE_BEGINS _ _ _ _ was.red_clearances now.red_clearances i
-    ++ begun-same tick codes.RED_CLEARANCE_ENDS _ _ _ _ now.red_clearances was.red_clearances i
+    ++ begun-same tick codes.RED_CLEARANCE_ENDS _ _ _ _ now.red_timings
+    (agree-either _ _ _ _ was.red_timings (agree-begins _ _ _ _ was.red_clearances now.red_clearances)) i
     ++ begun-same tick codes.PHASE_OFF _ _ _ _ (serving-agree _ _ now) (serving-agree _ _ was) i
 
 pedestrian-same : (tick : ℕ) (v w x y : View) → AgreeInAll v w → AgreeInAll x y →

@@ -120,9 +120,10 @@ pub green-span : (tick : ℕ) (v w : View) → Span tick 0 3 (events.green_event
 green-span tick v w =
     joined (joined (one-code tick codes.PHASE_ON _) (one-code tick codes.GREEN_BEGINS _) refl) (one-code tick codes.CONFLICT_BEGINS _) refl
 
-pub ending-span : (tick : ℕ) (f : Found) → Span tick 4 7 (events.ending_events tick f)
+pub ending-span : (tick : ℕ) (f : Found) → Span tick 3 7 (events.ending_events tick f)
 ending-span tick f =
-    joined (joined (one-code tick codes.GAP_OUT _) (one-code tick codes.MAX_OUT _) refl) (one-code tick codes.FORCE_OFF _) refl
+    joined (joined (joined (one-code tick codes.MINIMUM_COMPLETE _) (one-code tick codes.GAP_OUT _) refl) (one-code tick codes.MAX_OUT _) refl)
+    (one-code tick codes.FORCE_OFF _) refl
 
 pub clearing-span : (tick : ℕ) (v w : View) → Span tick 7 13 (events.clearing_events tick v w)
 clearing-span tick v w =

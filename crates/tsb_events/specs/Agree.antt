@@ -9,6 +9,7 @@ pub record AgreeInAll (v w : View) : Type 0 where
   pub greens : Agree v.greens w.greens
   pub yellows : Agree v.yellows w.yellows
   pub red_clearances : Agree v.red_clearances w.red_clearances
+  pub red_timings : Agree v.red_timings w.red_timings
   pub conflicts : Agree v.conflicts w.conflicts
   pub walks : Agree v.walks w.walks
   pub clearances : Agree v.clearances w.clearances
@@ -30,6 +31,7 @@ pub record AgreeInAll (v w : View) : Type 0 where
 
 -- what ticks find agrees
 pub record AgreeInFound (f g : Found) : Type 0 where
+  pub minimum : Agree f.minimum g.minimum
   pub gap : Agree f.gap g.gap
   pub maximum : Agree f.maximum g.maximum
   pub force_off : Agree f.force_off g.force_off

@@ -12,6 +12,7 @@ view_of seen = record {
   greens = has_number seen.greens;
   yellows = has_number seen.yellows;
   red_clearances = has_number seen.red_clearances;
+  red_timings = has_number seen.red_timings;
   conflicts = has_number seen.conflicts;
   walks = has_number seen.walks;
   clearances = has_number seen.clearances;
@@ -44,6 +45,7 @@ selected_of s = record {
 -- what a tick alone finds
 abbrev pub found_of : Found → events.Found
 found_of f = record {
+  minimum = has_number f.minimum;
   gap = has_number f.gap;
   maximum = has_number f.maximum;
   force_off = has_number f.force_off;

@@ -5,13 +5,15 @@ use tsb_types::{NumberSet, Pattern, Row, Side};
 /// What the log of a controller sees: sets of phases, overlaps, vehicle detectors and preempts by their numbers.
 #[derive(Clone, Copy)]
 pub struct Seen {
-    /// Green phases. In flash there is none, nor any in the four sets of intervals after this one and in the two of
+    /// Green phases. In flash there is none, nor any in the five sets of phases after this one and in the two of
     /// pedestrians (profile).
     pub greens: NumberSet,
     /// Phases in yellow change.
     pub yellows: NumberSet,
     /// Phases in red clearance.
     pub red_clearances: NumberSet,
+    /// Those of them whose time has not passed.
+    pub red_timings: NumberSet,
     /// Green phases whose maximum times, as another phase waits.
     pub conflicts: NumberSet,
     /// Phases in walk.
@@ -67,6 +69,8 @@ pub struct Selected {
 /// What a tick alone finds.
 #[derive(Clone, Copy)]
 pub struct Found {
+    /// Green phases whose minimum green it completed.
+    pub minimum: NumberSet,
     /// Phases whose green it ended by the gap.
     pub gap: NumberSet,
     /// Phases whose green it ended by the maximum.

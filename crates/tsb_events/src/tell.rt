@@ -2,7 +2,7 @@
 ghost use Rattle.std.specs.Prelude.{◌≡◌, ◌+◌, ◌++◌, ◌≤◌, ◌&&◌, not};
 ghost use Rattle.arrayvec.specs.ArrayVec.{array_vec_len};
 ghost use Rattle.tsb_step.specs.tsb_types.Sets.{has_number};
-ghost use Rattle.tsb_step.specs.tsb_types.Events.{begins, told};
+ghost use Rattle.tsb_step.specs.tsb_types.Events.{begins, either, told};
 ghost use Rattle.tsb_step.specs.Events.{alarm_events, call_events, clearing_events, crossing_events, ending_events, exit_events, flash_events, green_events, leaves_dwell, once_green, other_events, other_input_events, overlap_events, pedestrian_events, preempt_events, presence_events, serving, tick_events, vehicle_input_events};
 ghost use Rattle.tsb_events.specs.declared.tell.TheConstants.{EVENTS};
 ghost use Rattle.tsb_events.specs.Seen.{found_of, selected_of, view_of};
@@ -13,16 +13,16 @@ use arrayvec::ArrayVec;
 use tsb_types::event::{
     ALARM_COMES, ALARM_GOES, BARRIER_CROSSED, CALL_COMES, CALL_GOES, CLEARANCE_BEGINS,
     CONFLICT_BEGINS, DONT_WALK_BEGINS, DWELL_BEGINS, EXIT_BEGINS, FLASH, FLASH_CHANGES, FORCE_OFF,
-    GAP_OUT, GREEN_BEGINS, GREEN_ENDS, MAX_OUT, NO_FLASH, OVERLAP_GREEN_BEGINS, OVERLAP_OFF,
-    OVERLAP_RED_BEGINS, OVERLAP_YELLOW_BEGINS, PEDESTRIAN_CALL_COMES, PEDESTRIAN_OFF,
+    GAP_OUT, GREEN_BEGINS, GREEN_ENDS, MAX_OUT, MINIMUM_COMPLETE, NO_FLASH, OVERLAP_GREEN_BEGINS,
+    OVERLAP_OFF, OVERLAP_RED_BEGINS, OVERLAP_YELLOW_BEGINS, PEDESTRIAN_CALL_COMES, PEDESTRIAN_OFF,
     PEDESTRIAN_ON, PHASE_OFF, PHASE_ON, PREEMPT_ENTERS, PREEMPT_OFF, PREEMPT_ON, PRESENCE_EXCEEDED,
     RED_CLEARANCE_BEGINS, RED_CLEARANCE_ENDS, TRACK_BEGINS, VEHICLE_OFF, VEHICLE_ON, WALK_BEGINS,
     YELLOW_BEGINS, YELLOW_ENDS, begun, joined, tell,
 };
 use tsb_types::{Event, NumberSet};
 
-/// The most events of one input: 16 of each of 35 codes, and two more.
-pub const EVENTS: usize = 562;
+/// The most events of one input: 16 of each of 36 codes, and two more.
+pub const EVENTS: usize = 578;
 
 /// The events of one input.
 pub type Events = ArrayVec<Event, EVENTS>;
@@ -94,12 +94,13 @@ fn tell_greens(events: &mut Events, tick: u32, was: &Seen, now: &Seen)
     tell_begun(events, tick, CONFLICT_BEGINS, was.conflicts, now.conflicts);
 }
 
-/// Adds the greens that a tick ended without a preempt, by what ended them.
+/// Adds the greens whose minimum a tick completed, and those that it ended without a preempt, by what ended them.
 fn tell_endings(events: &mut Events, tick: u32, found: &Found)
-    requires { array_vec_len events.old + 48 ≤ EVENTS }
+    requires { array_vec_len events.old + 64 ≤ EVENTS }
     ensures told { events.new.items ≡ events.old.items ++ ending_events tick (found_of found.now) }
-    ensures few { array_vec_len events.new ≤ array_vec_len events.old + 48 }
+    ensures few { array_vec_len events.new ≤ array_vec_len events.old + 64 }
 {
+    tell(events, tick, MINIMUM_COMPLETE, found.minimum);
     tell(events, tick, GAP_OUT, found.gap);
     tell(events, tick, MAX_OUT, found.maximum);
     tell(events, tick, FORCE_OFF, found.force_off);
@@ -110,6 +111,16 @@ fn serving(seen: &Seen) -> NumberSet
     ensures { has_number result ≡ serving (view_of seen.now) }
 {
     joined(joined(seen.greens, seen.yellows), seen.red_clearances)
+}
+
+/// The phases whose red clearance timed, or begins now.
+fn timed(was: &Seen, now: &Seen) -> NumberSet
+    ensures { has_number result ≡ either (view_of was.now).red_timings (begins (view_of was.now).red_clearances (view_of now.now).red_clearances) }
+{
+    joined(
+        was.red_timings,
+        begun(was.red_clearances, now.red_clearances),
+    )
 }
 
 /// Adds the greens that end, the yellow changes and red clearances that begin and end, and the phases that are no
@@ -133,8 +144,8 @@ fn tell_clearings(events: &mut Events, tick: u32, was: &Seen, now: &Seen)
         events,
         tick,
         RED_CLEARANCE_ENDS,
-        now.red_clearances,
-        was.red_clearances,
+        now.red_timings,
+        timed(was, now),
     );
     tell_begun(events, tick, PHASE_OFF, serving(now), serving(was));
 }

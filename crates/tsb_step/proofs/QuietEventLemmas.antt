@@ -1,5 +1,5 @@
 -- A quiet tick with the inputs of the tick before tells nothing.
-use Rattle.std.proofs.Common.{◌≡◌, ◌∙◌, ℕ, ◌+◌, ◌==◌, Bool, true, false, not, ◌&&◌, ◌||◌, List, [], ◌∷◌, ◌++◌, map, Option, Some, None, is_some, is_none, if◌then◌else◌, refl, ap}
+use Rattle.std.proofs.Common.{◌≡◌, ◌∙◌, ℕ, ◌+◌, ◌≤◌, ◌==◌, Bool, true, false, not, ◌&&◌, ◌||◌, List, [], ◌∷◌, ◌++◌, map, Option, Some, None, is_some, is_none, if◌then◌else◌, refl, ap, arith}
 use Rattle.std.proofs.Math.Bool.{and-not_self}
 use Rattle.tsb_cells.specs.declared.timer.Timer.{Timer}
 use Rattle.tsb_cells.specs.declared.timer.Timer.TheVariants.{Off, On}
@@ -28,8 +28,9 @@ use Rattle.tsb_preempt.specs.Preempts.{is_dwell, is_exit}
 use Rattle.tsb_preempt.specs.Promises.{stage_of}
 use Rattle.tsb_preempt.specs.Service.{Service, service_as_read}
 use Rattle.tsb_step.specs.declared.inputs.Input.TheVariants.{Tick}
+use Rattle.tsb_step.specs.EventLaws.{EndsNoTime}
 use Rattle.tsb_step.specs.Events as events
-use Rattle.tsb_step.specs.Events.{View, Found, calls_now, events_between, events_of, found, is_cause, is_track, leaves_dwell, serves, shown_interval, tick_events, view}
+use Rattle.tsb_step.specs.Events.{View, Found, calls_now, events_between, events_of, found, is_cause, is_track, leaves_dwell, serves, shown_interval, completes_minimum, tick_events, times_red, view}
 use Rattle.tsb_step.specs.Quiet.{IsQuiet, detectors_waited, waited}
 use Rattle.tsb_step.specs.Signs.{display, stage}
 use Rattle.tsb_step.specs.State.{State, Tripped, interval}
@@ -41,20 +42,35 @@ use Rattle.tsb_step.specs.Tick.{phases_given, phase_read}
 told-none : (tick code : ℕ) (f : ℕ → Bool) → ((n : ℕ) → f n ≡ false) → told tick code f ≡ []
 told-none tick code f none = ap (λ (ns : List ℕ). map (λ n. event tick code n) ns) (filter-none f 1 16 (λ n from below. none n))
 
--- a tick that found this: no cause, and the inputs of the tick before
-abbrev same_inputs : (ℕ → Bool) → (ℕ → Bool) → (ℕ → Bool) → Row → Bool → Found
-same_inputs gap maximum force_off row served =
-    record { gap = gap; maximum = maximum; force_off = force_off; last = row; row = row; served = served }
+told-within : (tick code : ℕ) (f : ℕ → Bool) → ((n : ℕ) → 1 ≤ n → n ≤ 16 → f n ≡ false) → told tick code f ≡ []
+told-within tick code f none =
+    ap (λ (ns : List ℕ). map (λ n. event tick code n) ns) (filter-none f 1 16 (λ n from below. none n from (omega (arith, below))))
 
-none-between : (tick : ℕ) (gap maximum force_off : ℕ → Bool) (row : Row) (served : Bool) (v : View) → ((n : ℕ) → gap n ≡ false) →
+-- what timed times on, and what was in red clearance was so before
+times-on : (t r u : Bool) → (t && not u) ≡ false → ((t || (r && not r)) && not u) ≡ false
+times-on true r u none = none
+times-on false true u none = refl
+times-on false false u none = refl
+
+-- a tick that found this: no cause, and the inputs of the tick before
+abbrev same_inputs : (ℕ → Bool) → (ℕ → Bool) → (ℕ → Bool) → (ℕ → Bool) → Row → Bool → Found
+same_inputs minimum gap maximum force_off row served =
+    record { minimum = minimum; gap = gap; maximum = maximum; force_off = force_off; last = row; row = row; served = served }
+
+-- of views that differ in what times of red clearances alone, none of which ends its time of phases 1 to 16
+none-between : (tick : ℕ) (minimum gap maximum force_off timing : ℕ → Bool) (row : Row) (served : Bool) (v : View) →
+    ((n : ℕ) → 1 ≤ n → n ≤ 16 → minimum n ≡ false) → ((n : ℕ) → gap n ≡ false) →
     ((n : ℕ) → maximum n ≡ false) → ((n : ℕ) → force_off n ≡ false) → ((n : ℕ) → leaves_dwell v v n ≡ false) →
-    tick_events tick (same_inputs gap maximum force_off row served) v v ≡ []
-none-between tick gap maximum force_off row served v no_gap no_maximum no_force_off stays =
+    ((n : ℕ) → 1 ≤ n → n ≤ 16 → (v.red_timings n && not (timing n)) ≡ false) →
+    tick_events tick (same_inputs minimum gap maximum force_off row served) v (record v { red_timings = timing }) ≡ []
+none-between tick minimum gap maximum force_off timing row served v no_minimum no_gap no_maximum no_force_off stays none =
     λ i. (none-told tick codes.PHASE_ON v.greens i ++ none-told tick codes.GREEN_BEGINS v.greens i ++ none-told tick codes.CONFLICT_BEGINS v.conflicts i)
-    ++ (told-none tick codes.GAP_OUT gap no_gap i ++ told-none tick codes.MAX_OUT maximum no_maximum i
+    ++ (told-within tick codes.MINIMUM_COMPLETE minimum no_minimum i ++ told-none tick codes.GAP_OUT gap no_gap i ++ told-none tick codes.MAX_OUT maximum no_maximum i
     ++ told-none tick codes.FORCE_OFF force_off no_force_off i)
     ++ (none-told tick codes.GREEN_ENDS v.greens i ++ none-told tick codes.YELLOW_BEGINS v.yellows i ++ none-told tick codes.YELLOW_ENDS v.yellows i
-    ++ none-told tick codes.RED_CLEARANCE_BEGINS v.red_clearances i ++ none-told tick codes.RED_CLEARANCE_ENDS v.red_clearances i
+    ++ none-told tick codes.RED_CLEARANCE_BEGINS v.red_clearances i
+    ++ told-within tick codes.RED_CLEARANCE_ENDS (events.ends_red_timing v (record v { red_timings = timing }))
+    (λ n from to. times-on (v.red_timings n) (v.red_clearances n) (timing n) (none n from to)) i
     ++ none-told tick codes.PHASE_OFF (events.serving v) i)
     ++ (none-told tick codes.WALK_BEGINS v.walks i ++ none-told tick codes.CLEARANCE_BEGINS v.clearances i
     ++ none-told tick codes.DONT_WALK_BEGINS (λ n. v.walks n || v.clearances n) i)
@@ -115,10 +131,11 @@ ran s = record s {
   preempts = preempts.as_read s.preempts;
 }
 
-view-ran : (s : State) → view (ran s) ≡ view s
+view-ran : (s : State) → view (ran s) ≡ record (view s) { red_timings = times_red (ran s) }
 unfolding view display
 view-ran s =
     λ i. record (view s) {
+      red_timings = times_red (ran s);
       conflicts = λ p. is_green (shown_interval s p) && same-on (s.phases p).conflict i;
       vehicle_calls = standing.vehicle_call s.plan (given i) s.memories;
       pedestrian_calls = standing.pedestrian_call s.plan (given i) s.memories;
@@ -135,7 +152,7 @@ view-ran s =
     given = λ i. record (calls_now s) { output = λ d. same-output s.detectors d i; actuated = λ d. same-actuated s.detectors d i }
 
 -- the tick number is not seen
-view-later : (s : State) → view (record s { now = s.now + 1 }) ≡ view s
+view-later : (s : State) → view (record s { now = s.now + 1 }) ≡ record (view s) { red_timings = times_red (record s { now = s.now + 1 }) }
 unfolding view display
 view-later s = refl
 
@@ -163,8 +180,12 @@ dwells-on : (s : State) (n : ℕ) → leaves_dwell (view s) (view s) n ≡ false
 unfolding view
 dwells-on s n = in-dwell (stage s) n
 
-waited-none : (row : Row) (s : State) → events_between row s (Tick row) (waited s) ≡ []
-waited-none row s = go s.trip
+timed : (s : State) (p : ℕ) → (view s).red_timings p ≡ times_red s p
+unfolding view
+timed s p = refl
+
+waited-none : (row : Row) (s : State) → EndsNoTime s → events_between row s (Tick row) (waited s) ≡ []
+waited-none row s none = go s.trip none
   where
     no_cause : (s t : State) (c : Cause) → ((o : Option Cause) → o ≡ None → is_cause c o ≡ false) → (p : ℕ) → interval t p ≡ interval s p →
         is_cause c (events.cause_of s row t p) ≡ false
@@ -184,16 +205,20 @@ waited-none row s = go s.trip
     of_force_off : (o : Option Cause) → o ≡ None → is_cause ForceOff o ≡ false
     of_force_off o e = ap (is_cause ForceOff) e
 
-    none_of : (s t : State) → interval t ≡ interval s → view t ≡ view s → events_between row s (Tick row) t ≡ []
-    none_of s t same seen =
+    none_of : (s t : State) → interval t ≡ interval s → view t ≡ record (view s) { red_timings = times_red t } →
+        ((p : ℕ) → 1 ≤ p → p ≤ 16 → completes_minimum s p ≡ false) → ((p : ℕ) → 1 ≤ p → p ≤ 16 → (times_red s p && not (times_red t p)) ≡ false) →
+        events_between row s (Tick row) t ≡ []
+    none_of s t same seen completes ends =
         ap (λ (v : View). tick_events t.now (found row s row t) (view s) v) seen
-        ∙ none-between t.now _ _ _ row _ (view s) (λ p. no_cause s t Gap of_gap p (λ i. same i p))
+        ∙ none-between t.now _ _ _ _ (times_red t) row _ (view s) completes (λ p. no_cause s t Gap of_gap p (λ i. same i p))
         (λ p. no_cause s t Maximum of_maximum p (λ i. same i p)) (λ p. no_cause s t ForceOff of_force_off p (λ i. same i p)) (dwells-on s)
+        (λ p from to. ap (λ (b : Bool). b && not (times_red t p)) (timed s p) ∙ ends p from to)
 
-    go : (trip : Option Tripped) → events_between row (record s { trip = trip }) (Tick row) (waited (record s { trip = trip })) ≡ []
-    go (Some trip) = none_of (record s { trip = Some trip }) (record s { trip = Some trip; now = s.now + 1 }) refl (view-later (record s { trip = Some trip }))
-    go None = none_of (record s { trip = None }) (ran (record s { trip = None })) refl (view-ran (record s { trip = None }))
+    go : (trip : Option Tripped) → EndsNoTime (record s { trip = trip }) →
+        events_between row (record s { trip = trip }) (Tick row) (waited (record s { trip = trip })) ≡ []
+    go (Some trip) ends = none_of (record s { trip = Some trip }) (record s { trip = Some trip; now = s.now + 1 }) refl (view-later (record s { trip = Some trip })) ends.minimum ends.red
+    go None ends = none_of (record s { trip = None }) (ran (record s { trip = None })) refl (view-ran (record s { trip = None })) ends.minimum ends.red
 
-pub quiet-tells-none : (row : Row) (s : State) → IsQuiet s (step s (Tick row)) → events_of row s (Tick row) ≡ []
+pub quiet-tells-none : (row : Row) (s : State) → IsQuiet s (step s (Tick row)) → EndsNoTime s → events_of row s (Tick row) ≡ []
 unfolding events_of
-quiet-tells-none row s quiet = ap (λ (after : State). events_between row s (Tick row) after) quiet ∙ waited-none row s
+quiet-tells-none row s quiet ends = ap (λ (after : State). events_between row s (Tick row) after) quiet ∙ waited-none row s ends

@@ -1,8 +1,8 @@
 -- What holds of the events of ticks. Each law here is the contract of a function in src/event_laws.rt, and proved there.
-use Rattle.std.specs.Prelude.{◌≡◌, ℕ, ◌+◌, Bool, true, false, if◌then◌else◌, [], None}
+use Rattle.std.specs.Prelude.{◌≡◌, ℕ, ◌+◌, ◌≤◌, Bool, true, false, if◌then◌else◌, [], None}
 use Rattle.tsb_types.specs.declared.row.Row.{Row}
 use Rattle.tsb_step.specs.declared.inputs.Input.TheVariants.{Tick}
-use Rattle.tsb_step.specs.Events.{Found, ends_freely, events_of, found}
+use Rattle.tsb_step.specs.Events.{Found, completes_minimum, completes_red, ends_freely, events_of, found}
 use Rattle.tsb_step.specs.Quiet.{IsQuiet}
 use Rattle.tsb_step.specs.State.{State}
 use Rattle.tsb_step.specs.Step.{step}
@@ -29,6 +29,11 @@ abbrev pub OthersHaveNoCause : Type 0
 OthersHaveNoCause = (last : Row) (s : State) (row : Row) (p : ℕ) →
     ends_freely s row (step s (Tick row)) p ≡ false → causes_told (found_next last s row) p ≡ 0
 
--- a quiet tick with the inputs of the tick before it tells nothing
+-- the next tick ends no minimum green and no time of a red clearance
+pub record EndsNoTime (s : State) : Type 0 where
+  pub minimum : (p : ℕ) → 1 ≤ p → p ≤ 16 → completes_minimum s p ≡ false
+  pub red : (p : ℕ) → 1 ≤ p → p ≤ 16 → completes_red s p ≡ false
+
+-- a quiet tick with the inputs of the tick before it tells nothing, where it ends no such time
 abbrev pub QuietTicksTellNothing : Type 0
-QuietTicksTellNothing = (row : Row) (s : State) → IsQuiet s (step s (Tick row)) → events_of row s (Tick row) ≡ []
+QuietTicksTellNothing = (row : Row) (s : State) → IsQuiet s (step s (Tick row)) → EndsNoTime s → events_of row s (Tick row) ≡ []

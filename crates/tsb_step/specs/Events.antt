@@ -8,13 +8,13 @@
 use Rattle.std.specs.Prelude.{ℕ, ◌+◌, ◌-◌, ◌==◌, Bool, true, false, not, ◌&&◌, ◌||◌, if◌then◌else◌, List, [], ◌∷◌, ◌++◌, flat_map, nat_eq, nat_le, Option, Some, None, is_some, is_none}
 use Rattle.std.specs.List.{list_any}
 use Rattle.std.specs.Option.{option_eq}
-use Rattle.tsb_cells.specs.Timer.{is_on}
+use Rattle.tsb_cells.specs.Timer.{is_below, is_on}
 use Rattle.tsb_types.specs.Events.{event, told, begins, ends, either}
 use Rattle.tsb_types.specs.Intervals.{in_service, is_green, is_yellow, is_red_clear, is_walk, is_clearance}
 use Rattle.tsb_types.specs.Lists.{or_number, run_from}
 use Rattle.tsb_types.specs.Sets.{has_number}
 use Rattle.tsb_types.specs.declared.event.Event.{Event}
-use Rattle.tsb_types.specs.declared.event.TheConstants.{PHASE_ON, GREEN_BEGINS, CONFLICT_BEGINS, GAP_OUT, MAX_OUT, FORCE_OFF, GREEN_ENDS, YELLOW_BEGINS, YELLOW_ENDS, RED_CLEARANCE_BEGINS, RED_CLEARANCE_ENDS, PHASE_OFF, WALK_BEGINS, CLEARANCE_BEGINS, DONT_WALK_BEGINS, BARRIER_CROSSED, CALL_COMES, CALL_GOES, PEDESTRIAN_CALL_COMES, OVERLAP_GREEN_BEGINS, OVERLAP_YELLOW_BEGINS, OVERLAP_RED_BEGINS, OVERLAP_OFF, VEHICLE_OFF, VEHICLE_ON, ALARM_GOES, ALARM_COMES, PEDESTRIAN_OFF, PEDESTRIAN_ON, PREEMPT_ON, PREEMPT_OFF, PREEMPT_ENTERS, TRACK_BEGINS, DWELL_BEGINS, PRESENCE_EXCEEDED, EXIT_BEGINS, PATTERN_CHANGES, CYCLE_CHANGES, OFFSET_CHANGES, SPLIT_CHANGES, FLASH_CHANGES, FREE, FLASH, NO_FLASH}
+use Rattle.tsb_types.specs.declared.event.TheConstants.{PHASE_ON, GREEN_BEGINS, CONFLICT_BEGINS, MINIMUM_COMPLETE, GAP_OUT, MAX_OUT, FORCE_OFF, GREEN_ENDS, YELLOW_BEGINS, YELLOW_ENDS, RED_CLEARANCE_BEGINS, RED_CLEARANCE_ENDS, PHASE_OFF, WALK_BEGINS, CLEARANCE_BEGINS, DONT_WALK_BEGINS, BARRIER_CROSSED, CALL_COMES, CALL_GOES, PEDESTRIAN_CALL_COMES, OVERLAP_GREEN_BEGINS, OVERLAP_YELLOW_BEGINS, OVERLAP_RED_BEGINS, OVERLAP_OFF, VEHICLE_OFF, VEHICLE_ON, ALARM_GOES, ALARM_COMES, PEDESTRIAN_OFF, PEDESTRIAN_ON, PREEMPT_ON, PREEMPT_OFF, PREEMPT_ENTERS, TRACK_BEGINS, DWELL_BEGINS, PRESENCE_EXCEEDED, EXIT_BEGINS, PATTERN_CHANGES, CYCLE_CHANGES, OFFSET_CHANGES, SPLIT_CHANGES, FLASH_CHANGES, FREE, FLASH, NO_FLASH}
 use Rattle.tsb_types.specs.declared.interval.Interval.{Interval}
 use Rattle.tsb_types.specs.declared.interval.Interval.TheVariants.{Red}
 use Rattle.tsb_types.specs.declared.interval.PedestrianInterval.{PedestrianInterval}
@@ -25,7 +25,7 @@ use Rattle.tsb_types.specs.declared.stage.Stage.{Stage}
 use Rattle.tsb_types.specs.declared.stage.Stage.TheVariants.{Track, Dwell, Exit}
 use Rattle.tsb_objects.specs.tsb_plan.declared.object.Object.TheVariants.{PatternCycleTime, PatternOffsetTime, SplitTime}
 use Rattle.tsb_objects.specs.tsb_plan.Parts.{is_included, split_index}
-use Rattle.tsb_objects.specs.tsb_plan.Plan.{Plan, phases}
+use Rattle.tsb_objects.specs.tsb_plan.Plan.{Plan, minimum_green, phases, red_clear}
 use Rattle.tsb_objects.specs.tsb_plan.Running.{split_in_effect}
 use Rattle.tsb_calls.specs.Memories as calls
 use Rattle.tsb_calls.specs.Standing as standing
@@ -40,6 +40,7 @@ use Rattle.tsb_heads.specs.Monitoring as heads
 use Rattle.tsb_heads.specs.Colours as colours
 use Rattle.tsb_step.specs.declared.inputs.Input.{Input}
 use Rattle.tsb_step.specs.declared.inputs.Input.TheVariants.{Tick}
+use Rattle.tsb_step.specs.Quiet.{waited}
 use Rattle.tsb_step.specs.State.{State, interval, pedestrian_part}
 use Rattle.tsb_step.specs.Signs.{display, stage}
 use Rattle.tsb_step.specs.Step.{step}
@@ -49,10 +50,12 @@ use Rattle.tsb_step.specs.Tick.{runs, phases_given, phase_read, preempts_given, 
 
 -- of phases, overlaps, vehicle detectors and preempts by their numbers
 pub record View : Type 0 where
-  -- phases: Green, in yellow change, in red clearance; Green with a maximum that times; in walk, in clearance
+  -- phases: Green, in yellow change, in red clearance, in red clearance that times; Green with a maximum that times; in
+  -- walk, in clearance
   pub greens : ℕ → Bool
   pub yellows : ℕ → Bool
   pub red_clearances : ℕ → Bool
+  pub red_timings : ℕ → Bool
   pub conflicts : ℕ → Bool
   pub walks : ℕ → Bool
   pub clearances : ℕ → Bool
@@ -93,6 +96,10 @@ shown_interval s p = if is_some s.trip then Red else interval s p
 -- its pedestrian part; in flash none walks
 abbrev pub shown_part : State → ℕ → PedestrianInterval
 shown_part s p = if is_some s.trip then DontWalk else pedestrian_part s p
+
+-- it is in red clearance, whose time has not passed; a phase that waits for the other ring stays in it beyond that
+abbrev pub times_red : State → ℕ → Bool
+times_red s p = is_red_clear (shown_interval s p) && is_below (s.phases p).timer (red_clear s.plan p)
 
 -- what calls are found from, in a state
 abbrev pub calls_now : State → calls.Given
@@ -146,6 +153,7 @@ view s = record {
   greens = λ p. is_green (shown_interval s p);
   yellows = λ p. is_yellow (shown_interval s p);
   red_clearances = λ p. is_red_clear (shown_interval s p);
+  red_timings = times_red s;
   conflicts = λ p. is_green (shown_interval s p) && is_on (s.phases p).conflict;
   walks = λ p. is_walk (shown_part s p);
   clearances = λ p. is_clearance (shown_part s p);
@@ -177,15 +185,28 @@ selected s = record {
 
 -- ## What a tick alone tells
 
--- which greens a tick ended by gap, by maximum, by force-off; the inputs that were on in the tick before and in this one;
--- and whether the preempt in service has been served
+-- the greens whose minimum green a tick completed; those that it ended by gap, by maximum, by force-off; the inputs that
+-- were on in the tick before and in this one; and whether the preempt in service has been served
 pub record Found : Type 0 where
+  pub minimum : ℕ → Bool
   pub gap : ℕ → Bool
   pub maximum : ℕ → Bool
   pub force_off : ℕ → Bool
   pub last : Row
   pub row : Row
   pub served : Bool
+
+-- it is Green, and its minimum green has not passed
+abbrev pub times_minimum : State → ℕ → Bool
+times_minimum s p = is_green (shown_interval s p) && is_below (s.phases p).timer (minimum_green s.plan p)
+
+-- the next tick completes it: it has passed once each timer has run on. A minimum green of 0 has passed from the start
+abbrev pub completes_minimum : State → ℕ → Bool
+completes_minimum s p = times_minimum s p && not (times_minimum (waited s) p)
+
+-- likewise the next tick ends the time of a red clearance
+abbrev pub completes_red : State → ℕ → Bool
+completes_red s p = times_red s p && not (times_red (waited s) p)
 
 -- a tick with these inputs ended its green, and no preempt asked for it
 abbrev pub ends_freely : State → Row → State → ℕ → Bool
@@ -208,6 +229,7 @@ is_cause c (Some d) = false
 -- what a tick finds that leads from a state to this one; `last` is the row of the tick before
 abbrev pub found : Row → State → Row → State → Found
 found last s row after = record {
+  minimum = completes_minimum s;
   gap = λ p. is_cause Gap (cause_of s row after p);
   maximum = λ p. is_cause Maximum (cause_of s row after p);
   force_off = λ p. is_cause ForceOff (cause_of s row after p);
@@ -226,14 +248,18 @@ green_events tick was now =
     told tick PHASE_ON (begins was.greens now.greens) ++ told tick GREEN_BEGINS (begins was.greens now.greens)
     ++ told tick CONFLICT_BEGINS (begins was.conflicts now.conflicts)
 
--- how greens ended: by gap, by maximum, by force-off
+-- greens complete their minimum; how greens ended: by gap, by maximum, by force-off
 abbrev pub ending_events : ℕ → Found → List Event
 ending_events tick f =
-    told tick GAP_OUT f.gap ++ told tick MAX_OUT f.maximum ++ told tick FORCE_OFF f.force_off
+    told tick MINIMUM_COMPLETE f.minimum ++ told tick GAP_OUT f.gap ++ told tick MAX_OUT f.maximum ++ told tick FORCE_OFF f.force_off
 
 -- in service: green, in yellow change or in red clearance
 abbrev pub serving : View → ℕ → Bool
 serving v = either (either v.greens v.yellows) v.red_clearances
+
+-- red clearance does not time now, and it did, or began by this input: with a time of 0 it ends as it begins
+abbrev pub ends_red_timing : View → View → ℕ → Bool
+ends_red_timing was now = ends (either was.red_timings (begins was.red_clearances now.red_clearances)) now.red_timings
 
 -- green ends, yellow and red clearance begin and end, the phase is no longer in service
 abbrev pub clearing_events : ℕ → View → View → List Event
@@ -241,7 +267,7 @@ clearing_events tick was now =
     told tick GREEN_ENDS (ends was.greens now.greens)
     ++ told tick YELLOW_BEGINS (begins was.yellows now.yellows) ++ told tick YELLOW_ENDS (ends was.yellows now.yellows)
     ++ told tick RED_CLEARANCE_BEGINS (begins was.red_clearances now.red_clearances)
-    ++ told tick RED_CLEARANCE_ENDS (ends was.red_clearances now.red_clearances)
+    ++ told tick RED_CLEARANCE_ENDS (ends_red_timing was now)
     ++ told tick PHASE_OFF (ends (serving was) (serving now))
 
 -- walk begins, clearance begins, neither is any more

@@ -16,13 +16,15 @@ pub fn greens_end_with_one_cause()
     ensures none { OthersHaveNoCause }
 {}
 
-/// A tick in which nothing happens but time tells nothing, where its inputs are those of the tick before. So a bench that
-/// passes over such ticks leaves no event out.
+/// A tick in which nothing happens but time tells nothing, where its inputs are those of the tick before, and no minimum
+/// green and no red clearance ends its time in it. So a bench that passes over such ticks leaves no event out.
 ///
-/// Needs: that the row of the tick before is the same; of another one the inputs that change are told.
+/// Needs: that the row of the tick before is the same; of another one the inputs that change are told. And that no such
+/// time ends: of a phase that rests, or that waits for the other ring, nothing else changes then (`completed`, `waits_on`,
+/// `told_as_it_waits`).
 /// Not said: which ticks are quiet.
 /// Mistake: all calls that stand are told again in each tick, `stands` of EventExamples.
-/// Witness: `quiet` of EventExamples.
+/// Witness: `quiet_as_it_flashes` of EventExamples, with `is_quiet` and `no_time_ends`.
 pub fn quiet_ticks_tell_nothing()
     ensures { QuietTicksTellNothing }
 {}

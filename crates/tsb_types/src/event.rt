@@ -24,6 +24,8 @@ pub const PHASE_ON: u8 = 0;
 pub const GREEN_BEGINS: u8 = 1;
 /// Phase check: a conflict begins in a green, and its maximum begins to time.
 pub const CONFLICT_BEGINS: u8 = 2;
+/// Phase minimum complete: the minimum green of a green phase is over.
+pub const MINIMUM_COMPLETE: u8 = 3;
 /// Phase gap out: a green ends by its gap.
 pub const GAP_OUT: u8 = 4;
 /// Phase max out: a green ends by its maximum.
@@ -36,9 +38,9 @@ pub const GREEN_ENDS: u8 = 7;
 pub const YELLOW_BEGINS: u8 = 8;
 /// Phase end yellow clearance.
 pub const YELLOW_ENDS: u8 = 9;
-/// Phase begin red clearance, where the plan gives one.
+/// Phase begin red clearance, where the plan gives one, or the phase waits for the other ring.
 pub const RED_CLEARANCE_BEGINS: u8 = 10;
-/// Phase end red clearance.
+/// Phase end red clearance: its time is over.
 pub const RED_CLEARANCE_ENDS: u8 = 11;
 /// Phase inactive: it is no longer in service.
 pub const PHASE_OFF: u8 = 12;

@@ -28,6 +28,7 @@ dark = record {
   greens = none;
   yellows = none;
   red_clearances = none;
+  red_timings = none;
   conflicts = none;
   walks = none;
   clearances = none;
@@ -50,7 +51,7 @@ dark = record {
 
 -- a tick that finds nothing
 abbrev pub quiet : events.Found
-quiet = record { gap = none; maximum = none; force_off = none; last = all_off; row = all_off; served = false }
+quiet = record { minimum = none; gap = none; maximum = none; force_off = none; last = all_off; row = all_off; served = false }
 
 -- free operation, and a pattern of 90 seconds with splits for phases 1 and 16
 abbrev pub free : events.Selected
@@ -74,6 +75,16 @@ conflict_begins : events.tick_events 9 quiet (record dark { greens = only 2 }) (
 unfolding opened
 conflict_begins = refl
 
+-- its minimum green is complete, and it may end at once
+minimum : events.tick_events 9 (record quiet { minimum = only 2 }) (record dark { greens = only 2 }) (record dark { greens = only 2 }) ≡ event 9 3 2 ∷ []
+unfolding opened
+minimum = refl
+
+minimum_and_gap : events.tick_events 9 (record quiet { minimum = only 2; gap = only 2 }) (record dark { greens = only 2 }) (record dark { yellows = only 2 })
+    ≡ event 9 3 2 ∷ event 9 4 2 ∷ event 9 7 2 ∷ event 9 8 2 ∷ []
+unfolding opened
+minimum_and_gap = refl
+
 -- it ends by gap, by maximum, by force-off; the cause stands before the end
 gap_out : events.tick_events 9 (record quiet { gap = only 2 }) (record dark { greens = only 2 }) (record dark { yellows = only 2 }) ≡ event 9 4 2 ∷ event 9 7 2 ∷ event 9 8 2 ∷ []
 unfolding opened
@@ -93,13 +104,30 @@ unfolding opened
 preempted = refl
 
 -- yellow, red clearance, and out of service
-red_clearance : events.tick_events 9 quiet (record dark { yellows = only 2 }) (record dark { red_clearances = only 2 }) ≡ event 9 9 2 ∷ event 9 10 2 ∷ []
+abbrev red_timing : events.View
+red_timing = record dark { red_clearances = only 2; red_timings = only 2 }
+
+red_clearance : events.tick_events 9 quiet (record dark { yellows = only 2 }) red_timing ≡ event 9 9 2 ∷ event 9 10 2 ∷ []
 unfolding opened
 red_clearance = refl
 
-over : events.tick_events 9 quiet (record dark { red_clearances = only 2 }) dark ≡ event 9 11 2 ∷ event 9 12 2 ∷ []
+over : events.tick_events 9 quiet red_timing dark ≡ event 9 11 2 ∷ event 9 12 2 ∷ []
 unfolding opened
 over = refl
+
+-- where it waits for the other ring, its time ends first
+time_ends : events.tick_events 9 quiet red_timing (record dark { red_clearances = only 2 }) ≡ event 9 11 2 ∷ []
+unfolding opened
+time_ends = refl
+
+waits_no_more : events.tick_events 9 quiet (record dark { red_clearances = only 2 }) dark ≡ event 9 12 2 ∷ []
+unfolding opened
+waits_no_more = refl
+
+-- where it waits, and the plan gives it no time
+no_time : events.tick_events 9 quiet (record dark { yellows = only 2 }) (record dark { red_clearances = only 2 }) ≡ event 9 9 2 ∷ event 9 10 2 ∷ event 9 11 2 ∷ []
+unfolding opened
+no_time = refl
 
 -- where the plan gives no red clearance
 no_red_clearance : events.tick_events 9 quiet (record dark { yellows = only 2 }) dark ≡ event 9 9 2 ∷ event 9 12 2 ∷ []

@@ -59,7 +59,7 @@ ticks-kept tick f v w =
     before =
         first-alone (first-alone (first-alone (first-alone (first-alone (first-alone
         (none-of (green-span tick v w) (not-among 0 3 input_codes refl))
-        (none-of (ending-span tick f) (not-among 4 7 input_codes refl)))
+        (none-of (ending-span tick f) (not-among 3 7 input_codes refl)))
         (none-of (clearing-span tick v w) (not-among 7 13 input_codes refl)))
         (none-of (pedestrian-span tick v w) (not-among 21 24 input_codes refl)))
         (none-of (crossing-span tick v w) (not-among 31 32 input_codes refl)))

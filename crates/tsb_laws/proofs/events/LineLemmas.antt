@@ -116,7 +116,7 @@ ticks-kept tick f v w = all.kept ∙ whole tick v w
         ++ events.crossing_events tick v w ++ events.call_events tick v w ++ events.overlap_events tick v w)
         (of_greens tick v w ++ of_clearings tick v w ++ pedestrians_of tick v w ++ overlaps_of tick v w)
     to_overlaps =
-        both (first-alone (first-alone (both (both (first-alone (kept-green tick v w) (none-of (ending-span tick f) (not-among 4 7 line_codes refl))) (kept-clearing tick v w))
+        both (first-alone (first-alone (both (both (first-alone (kept-green tick v w) (none-of (ending-span tick f) (not-among 3 7 line_codes refl))) (kept-clearing tick v w))
         (kept-pedestrian tick v w)) (none-of (crossing-span tick v w) (not-among 31 32 line_codes refl)))
         (none-of (call-span tick v w) (not-among 43 46 line_codes refl))) (kept-overlap tick v w)
 

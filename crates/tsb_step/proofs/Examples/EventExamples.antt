@@ -2,17 +2,20 @@
 use Rattle.std.specs.Prelude.{◌≡◌, ℕ, ◌==◌, true, false, [], ◌∷◌, Some, is_some, refl}
 use Rattle.tsb_cells.specs.declared.timer.Timer.TheVariants.{On}
 use Rattle.tsb_types.specs.Events.{event}
+use Rattle.tsb_types.specs.declared.interval.Interval.TheVariants.{RedClear, Yellow}
 use Rattle.tsb_types.specs.Sets.{all_off}
 use Rattle.tsb_objects.specs.tsb_plan.Quad.{quad}
 use Rattle.tsb_heads.specs.declared.monitor.Trip.TheVariants.{GreenToRed}
 use Rattle.tsb_phase.specs.Causes.{cause}
 use Rattle.tsb_step.specs.declared.inputs.Input.TheVariants.{Tick, Pattern}
+use Rattle.tsb_step.specs.EventLaws.{EndsNoTime}
 use Rattle.tsb_step.specs.Events.{ends_freely, events_of, selected, view}
 use Rattle.tsb_step.specs.Quiet.{IsQuiet}
-use Rattle.tsb_step.specs.State.{State, start}
+use Rattle.tsb_step.specs.State.{State, interval, start}
 use Rattle.tsb_step.specs.Tick.{phases_given, phase_read}
+use Rattle.tsb_ring.proofs.Examples.Scenes.{both}
 use Rattle.tsb_step.proofs.Examples.Scenes as scenes
-use Rattle.tsb_step.proofs.Examples.Scenes.{after, all_red, button, called, green, preempt, resting, short, these, vehicle}
+use Rattle.tsb_step.proofs.Examples.Scenes.{after, all_red, button, called, clearing, green, preempt, red, resting, short, these, vehicle}
 
 -- what a computed line opens
 unfoldable pub opened : Unit {0}
@@ -65,6 +68,45 @@ is_quiet = refl
 quiet_as_it_flashes : events_of all_off tripped (Tick all_off) ≡ []
 unfolding opened
 quiet_as_it_flashes = refl
+
+no_time_ends : EndsNoTime tripped
+no_time_ends = record { minimum = λ p from to. refl; red = λ p from to. refl }
+
+-- a green of 50 ticks completes its minimum, and rests
+abbrev completing : State
+completing = record red { phases = these (2 ∷ 6 ∷ []) (green 49) all_red }
+
+completed : events_of all_off completing (Tick all_off) ≡ event 61 3 2 ∷ event 61 3 6 ∷ []
+unfolding opened
+completed = refl
+
+-- it may also end in that tick, by its gap
+completed_and_ended : events_of all_off (record completing { memories = called (3 ∷ []) }) (Tick all_off) ≡
+    event 61 3 2 ∷ event 61 3 6 ∷ event 61 4 2 ∷ event 61 4 6 ∷ event 61 7 2 ∷ event 61 7 6 ∷ event 61 8 2 ∷ event 61 8 6
+    ∷ event 61 43 2 ∷ event 61 43 6 ∷ event 61 63 1 ∷ []
+unfolding opened
+completed_and_ended = refl
+
+-- 2 has been in red clearance for 9 ticks, which lasts 10, and waits for 6, which is Yellow: its time ends, and nothing
+-- else changes
+abbrev waiting : State
+waiting = record red {
+  phases = these (2 ∷ []) (clearing 9) (these (6 ∷ []) (record (clearing 3) { interval = Yellow }) all_red);
+  rings = record { last = both (Some 2) (Some 6); commitment = both (Some 3) (Some 8); side = 1; crossing = Some 2 };
+}
+
+told_as_it_waits : events_of all_off waiting (Tick all_off) ≡ event 61 11 2 ∷ []
+unfolding opened
+told_as_it_waits = refl
+
+waits_on : interval (after waiting all_off) 2 ≡ RedClear
+unfolding opened
+waits_on = refl
+
+-- and no more in the tick after it
+told_once : events_of all_off (after waiting all_off) (Tick all_off) ≡ []
+unfolding opened
+told_once = refl
 
 -- pattern 1 is selected: a cycle of 80 seconds, no offset, and eight splits
 pattern : events_of all_off resting (Pattern 1) ≡

@@ -7,12 +7,21 @@ use Rattle.tsb_bench.proofs.HeldLemmas.{sound-held}
 use Rattle.tsb_bench.proofs.TellingLemmas.{always, passed-tells-none}
 use Rattle.tsb_bench.proofs.bench.Bench.apply_telling.Goals as goal
 
-pub returns-then-has_row-clause-told : goal.returns-then-has_row-clause-told
-returns-then-has_row-clause-told c =
+pub ends_no_time-requires-clause-limit : goal.ends_no_time-requires-clause-limit
+ends_no_time-requires-clause-limit c = (sound-held _ _ _ c.self.invariant.1).limit
+
+pub ends_no_time-requires-clause-by : goal.ends_no_time-requires-clause-by
+ends_no_time-requires-clause-by c = (sound-held _ _ _ c.self.invariant.1).by
+
+pub returns-then-ends_no_time-clause-told : goal.returns-then-ends_no_time-clause-told
+returns-then-ends_no_time-clause-told c =
     always c.apply.result
     (c.clear.ensures
-    ∙ sym (passed-tells-none c.args.input c.self.inside.tick (rows_of c.self.inside.cabinet) c.args.last.now (sound-held _ _ _ c.self.invariant.1).by (c.passes.ensures.passes c.if-passes.true) (c.has_row.ensures c.if-has_row.true))
+    ∙ sym (passed-tells-none c.args.input c.self.inside.tick (rows_of c.self.inside.cabinet) c.args.last.now (sound-held _ _ _ c.self.invariant.1).by (c.passes.ensures.passes c.if-passes.true) (c.has_row.ensures c.if-has_row.true) (c.ends_no_time.ensures c.if-ends_no_time.true))
     ∙ ap (λ (h : Held). events_of c.args.last.now (state_of h) c.args.input) c.self.view_is)
+
+pub before-before-requires-clause-limit : goal.before-before-requires-clause-limit
+before-before-requires-clause-limit c = (sound-held _ _ _ c.self.invariant.1).limit
 
 pub before-before-requires-clause-by : goal.before-before-requires-clause-by
 before-before-requires-clause-by c = (sound-held _ _ _ c.self.invariant.1).by

@@ -37,6 +37,7 @@ returns c a now before by stepped =
     let plan : checked_plan c.args.self.now.plan ≡ s.plan = plan-stays c.args.tick now a (rows_of c.args.self.now) c.args.row.now stepped in
     let served = subst (λ (r : Rows). TellsServed c.args.before.now.clock c.args.row.now (checked_plan c.args.self.now.plan) r c.is_served.result) before.layers c.is_served.ensures in
     record {
+      minimum = λ p from to. c.from_list.ensures.named p ∙ c.list.ensures p ∙ before.completed p from to;
       gap = λ p from to. causes.gap p from to ∙ caused Gap (ends p) (cause s.plan (phases_given s c.args.row.now) p (phase_read s p));
       maximum = λ p from to. causes.maximum p from to ∙ caused Maximum (ends p) (cause s.plan (phases_given s c.args.row.now) p (phase_read s p));
       force_off = λ p from to. causes.force_off p from to ∙ caused ForceOff (ends p) (cause s.plan (phases_given s c.args.row.now) p (phase_read s p));

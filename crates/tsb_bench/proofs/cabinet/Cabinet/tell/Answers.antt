@@ -34,7 +34,7 @@ unfolding events_of
 returns-in-Tick c a before by stepped =
     c.tick_events.ensures
     ∙ ticks-same c.args.now (found_of c.found-found.result) f (view_of c.args.before.now.seen) (view s) (view_of c.view-seen.result) (view (all_in c.args.now (rows_of c.args.self.now)))
-    (c.found-found.ensures a c.args.now before by ticked) (before.seen c.args.tick) (c.view-seen.ensures.sees c.args.now)
+    (c.found-found.ensures a c.args.now before by ticked) before.seen c.view-seen.ensures.sees
     ∙ ap (λ (after : State). tick_events after.now f (view s) (view after)) ticked
     ∙ ap (λ (i : Input). events_of c.args.last.now s i) (sym c.in-Tick.is)
   where
@@ -53,7 +53,7 @@ returns-in_default c a before by stepped =
     c.other_events.ensures
     ∙ others-same c.args.now (view_of c.args.before.now.seen) (view s) (view_of c.view-seen.result) (view after)
     (selected_of c.args.before.now.selected) (selected s) (selected_of c.selected.result) (selected after)
-    (before.seen c.args.tick) (c.view-seen.ensures.sees c.args.now) (before.selected c.args.tick) (c.selected.ensures c.args.now)
+    before.seen c.view-seen.ensures.sees (before.selected c.args.tick) (c.selected.ensures c.args.now)
     ∙ sym (other-told c.args.last.now s after c.args.input.now c.in_default.not-Tick)
     ∙ ap (events_between c.args.last.now s c.args.input.now) stepped
   where

@@ -8,8 +8,8 @@ use Rattle.tsb_bench.proofs.cabinet.Cabinet.view.Goals as goal
 
 pub returns-clause-sees : goal.returns-clause-sees
 unfolding checked_plan plan_of
-returns-clause-sees c now = c.view.ensures now (beside (rows_of c.args.self.now)) refl (sym c.is_tripped.ensures)
+returns-clause-sees c = c.view.ensures c.args.tick (beside (rows_of c.args.self.now)) refl (sym c.is_tripped-tripped.ensures) (sym c.clock.ensures)
 
 pub returns-clause-flashes : goal.returns-clause-flashes
 unfolding view
-returns-clause-flashes c = (returns-clause-sees c 0).flashes
+returns-clause-flashes c = (returns-clause-sees c).flashes

@@ -25,7 +25,7 @@ use Rattle.tsb_controller.proofs.controller.Controller.view.Goals as goal
 
 pub returns : goal.returns
 unfolding view
-returns c now b same trips =
+returns c now b same trips clock =
     let rows = rows_of c.args.self.now in
     let plan = checked_plan c.args.plan.now in
     let few = (placed c.args.plan.now).count in
@@ -45,13 +45,14 @@ returns c now b same trips =
       greens = λ p from to. c.numbers.ensures p ∙ green-set i p ∙ ap is_green (shown p from to);
       yellows = λ p from to. c.numbers-2.ensures p ∙ c.difference.ensures p ∙ yellow-set i p ∙ ap is_yellow (shown p from to);
       red_clearances = λ p from to. c.numbers-3.ensures p ∙ c.difference-3.ensures p ∙ rw (c.difference-2.ensures p) (clear-set i p) ∙ ap is_red_clear (shown p from to);
-      conflicts = λ p from to. c.numbers-4.ensures p ∙ c.intersection.ensures p
+      red_timings = λ p from to. c.numbers-4.ensures p ∙ c.red_timings.ensures now b same trips clock p from to;
+      conflicts = λ p from to. c.numbers-5.ensures p ∙ c.intersection.ensures p
           ∙ ap₂ (λ (x y : Bool). x && y) (green-set i p ∙ ap is_green (shown p from to)) (c.conflicts.ensures (clock_at now b.trip) p from to);
-      walks = λ p from to. c.numbers-5.ensures p ∙ walk-set w p ∙ ap is_walk (parts p from to);
-      clearances = λ p from to. c.numbers-6.ensures p ∙ c.difference-4.ensures p ∙ clearance-set w p ∙ ap is_clearance (parts p from to);
-      vehicle_calls = λ p from to. c.numbers-7.ensures p
+      walks = λ p from to. c.numbers-6.ensures p ∙ walk-set w p ∙ ap is_walk (parts p from to);
+      clearances = λ p from to. c.numbers-7.ensures p ∙ c.difference-4.ensures p ∙ clearance-set w p ∙ ap is_clearance (parts p from to);
+      vehicle_calls = λ p from to. c.numbers-8.ensures p
           ∙ vehicle-calls plan few rows c.intervals-intervals.result c.pedestrians-pedestrians.result c.standing-standing.result c.intervals-intervals.ensures c.pedestrians-pedestrians.ensures c.standing-standing.ensures now b same p from to;
-      pedestrian_calls = λ p from to. c.numbers-8.ensures p
+      pedestrian_calls = λ p from to. c.numbers-9.ensures p
           ∙ pedestrian-calls plan few rows c.intervals-intervals.result c.pedestrians-pedestrians.result c.standing-standing.result c.intervals-intervals.ensures c.pedestrians-pedestrians.ensures c.standing-standing.ensures now b same p from to;
       overlap_greens = λ o from to. greens o from;
       overlap_yellows = λ o from to. yellows o from;

@@ -1,0 +1,16 @@
+use Rattle.std.proofs.Common.{◌≡◌, ◌∙◌, ◌&&◌, ℕ, ◌≤◌, Bool, not, ap}
+use Rattle.tsb_types.specs.Sets.{has}
+use Rattle.tsb_step.specs.Events.{times_minimum}
+use Rattle.tsb_step.specs.Quiet.{waited}
+use Rattle.tsb_step.specs.State.{State}
+use Rattle.tsb_controller.specs.Whole.{all_in}
+use Rattle.tsb_controller.proofs.WaitLemmas.{rows-wait}
+use Rattle.tsb_bench.specs.Cabinet.{rows_of}
+use Rattle.tsb_bench.proofs.cabinet.Cabinet.completed.Goals as goal
+
+-- with timers run on by a tick, the rows are those of the next tick number
+pub returns : goal.returns
+returns c p from to = c.difference.ensures p ∙ (λ i. c.minimums.ensures p from to i && not (later i))
+  where
+    later : has c.minimums-2.result p ≡ times_minimum (waited (all_in c.args.tick (rows_of c.args.self.now))) p
+    later = c.minimums-2.ensures p from to ∙ ap (λ (s : State). times_minimum s p) (rows-wait c.args.tick (rows_of c.args.self.now) c.requires.by)
