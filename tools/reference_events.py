@@ -449,11 +449,10 @@ def preempt_events(bench: Any, before: State, after: State) -> list[Told]:
 
 
 def pattern_events(before: State, after: State) -> list[Told]:
-    """The events of another selected pattern: its number, and those of its values that are others."""
-    if after.pattern == before.pattern:
-        return []
+    """The events of another selected pattern, by its number, and of values of the one that runs that are others."""
+    selected = [] if after.pattern == before.pattern else [(131, after.pattern or FREE)]
     values, new = pattern_values(before), pattern_values(after)
-    return [(131, after.pattern or FREE)] + [(code, new[code]) for code in new if new[code] != values[code]]
+    return selected + [(code, new[code]) for code in new if new[code] != values[code]]
 
 
 def flash_events(before: State, after: State) -> list[Told]:

@@ -143,8 +143,7 @@ split-same tick s s_too t t_too was now =
 pattern-same : (tick : ℕ) (s s_too t t_too : Selected) → AgreeInSelected s s_too → AgreeInSelected t t_too →
     events.pattern_events tick s t ≡ events.pattern_events tick s_too t_too
 pattern-same tick s s_too t t_too was now =
-    λ i. if option_eq nat_eq (was.pattern i) (now.pattern i) then [] else
-    (event tick codes.PATTERN_CHANGES (or_number (now.pattern i) codes.FREE) ∷ [])
+    λ i. (if option_eq nat_eq (was.pattern i) (now.pattern i) then [] else event tick codes.PATTERN_CHANGES (or_number (now.pattern i) codes.FREE) ∷ [])
     ++ events.if_differs tick codes.CYCLE_CHANGES (was.cycle i) (now.cycle i)
     ++ events.if_differs tick codes.OFFSET_CHANGES (was.offset i) (now.offset i)
     ++ split-same tick s s_too t t_too was now i

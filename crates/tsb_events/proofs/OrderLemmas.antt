@@ -207,13 +207,16 @@ split-span tick s t =
     (differs-span tick (codes.SPLIT_CHANGES + k - 1) (s.split k) (t.split k)))
     (omega arith)
 
-pub pattern-span : (tick : ℕ) (s t : Selected) → Span tick 131 150 (events.pattern_events tick s t)
-pattern-span tick s t = elim (cases_Bool (option_eq nat_eq s.pattern t.pattern)) [
-  | inl h ↦ rw h (record { rises = omega arith; order = tt; within = All-nil (IsWithin tick 131 150) })
-  | inr h ↦ rw h (joined (joined (joined (one-event tick codes.PATTERN_CHANGES (or_number t.pattern codes.FREE))
-      (differs-span tick codes.CYCLE_CHANGES s.cycle t.cycle) refl) (differs-span tick codes.OFFSET_CHANGES s.offset t.offset) refl)
-      (split-span tick s t) refl)
+selection-span : (tick : ℕ) (s t : Selected) → Span tick 131 132 (events.selection_events tick s t)
+selection-span tick s t = elim (cases_Bool (option_eq nat_eq s.pattern t.pattern)) [
+  | inl h ↦ rw h (no-event tick codes.PATTERN_CHANGES)
+  | inr h ↦ rw h (one-event tick codes.PATTERN_CHANGES (or_number t.pattern codes.FREE))
 ]
+
+pub pattern-span : (tick : ℕ) (s t : Selected) → Span tick 131 150 (events.pattern_events tick s t)
+pattern-span tick s t =
+    joined (joined (joined (selection-span tick s t) (differs-span tick codes.CYCLE_CHANGES s.cycle t.cycle) refl)
+    (differs-span tick codes.OFFSET_CHANGES s.offset t.offset) refl) (split-span tick s t) refl
 
 -- ## All groups
 

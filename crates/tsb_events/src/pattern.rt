@@ -1,7 +1,7 @@
 //! Telling what an input changed of the selected pattern.
 ghost use Rattle.std.specs.Prelude.{◌≡◌, ◌+◌, ◌-◌, ◌++◌, ◌≤◌, ◌<◌, slice_index};
 ghost use Rattle.arrayvec.specs.ArrayVec.{array_vec_len};
-ghost use Rattle.tsb_step.specs.Events.{if_differs, pattern_events, split_events};
+ghost use Rattle.tsb_step.specs.Events.{if_differs, pattern_events, selection_events, split_events};
 ghost use Rattle.tsb_events.specs.declared.tell.TheConstants.{EVENTS};
 ghost use Rattle.tsb_events.specs.Seen.{selected_of};
 
@@ -10,11 +10,23 @@ use crate::tell::Events;
 use tsb_types::Event;
 use tsb_types::event::{CYCLE_CHANGES, FREE, OFFSET_CHANGES, PATTERN_CHANGES, SPLIT_CHANGES};
 
-/// Adds the selected pattern, where another is selected, with its cycle, offset and splits as far as these then differ.
+/// Adds the selected pattern, where another is selected, and cycle, offset and splits as far as these differ.
 pub(crate) fn tell_pattern(events: &mut Events, tick: u32, was: &Selected, now: &Selected)
     requires { array_vec_len events.old + 19 ≤ EVENTS }
     ensures told { events.new.items ≡ events.old.items ++ pattern_events tick (selected_of was.now) (selected_of now.now) }
     ensures few { array_vec_len events.new ≤ array_vec_len events.old + 19 }
+{
+    tell_selection(events, tick, was, now);
+    tell_value(events, tick, CYCLE_CHANGES, was.cycle, now.cycle);
+    tell_value(events, tick, OFFSET_CHANGES, was.offset, now.offset);
+    tell_splits(events, tick, was, now);
+}
+
+/// Adds the selected pattern, where another is selected.
+fn tell_selection(events: &mut Events, tick: u32, was: &Selected, now: &Selected)
+    requires { array_vec_len events.old + 1 ≤ EVENTS }
+    ensures told { events.new.items ≡ events.old.items ++ selection_events tick (selected_of was.now) (selected_of now.now) }
+    ensures few { array_vec_len events.new ≤ array_vec_len events.old + 1 }
 {
     if was.pattern == now.pattern {
         return;
@@ -28,9 +40,6 @@ pub(crate) fn tell_pattern(events: &mut Events, tick: u32, was: &Selected, now: 
         code: PATTERN_CHANGES,
         parameter: number,
     });
-    tell_value(events, tick, CYCLE_CHANGES, was.cycle, now.cycle);
-    tell_value(events, tick, OFFSET_CHANGES, was.offset, now.offset);
-    tell_splits(events, tick, was, now);
 }
 
 /// Adds the splits that differ, of phases 1 to 16.

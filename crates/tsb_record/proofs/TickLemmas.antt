@@ -9,7 +9,7 @@ use Rattle.tsb_types.specs.declared.event.TheConstants as codes
 use Rattle.tsb_types.specs.declared.row.Row.{Row}
 use Rattle.tsb_step.specs.declared.inputs.Input.{Input}
 use Rattle.tsb_step.specs.declared.inputs.Input.TheVariants.{Tick}
-use Rattle.tsb_step.specs.Events.{Found, Selected, View, events_between, events_of, found, if_differs, other_events, pattern_events, selected, split_events, tick_events, view}
+use Rattle.tsb_step.specs.Events.{Found, Selected, View, events_between, events_of, found, if_differs, other_events, pattern_events, selection_events, selected, split_events, tick_events, view}
 use Rattle.tsb_step.specs.State.{State}
 use Rattle.tsb_step.specs.Step.{step}
 use Rattle.tsb_types.specs.Lists.{run_from, or_number}
@@ -49,10 +49,14 @@ at-splits n was is = at-flat n _ (λ p. at-differs n (codes.SPLIT_CHANGES + p - 
 
 at-pattern : (n : ℕ) (was is : Selected) → AreAt n (pattern_events n was is)
 at-pattern n was is =
-    at-if n (option_eq nat_eq was.pattern is.pattern) [] _ at-none
-    (at-append n _ (split_events n was is)
-    (at-append n _ _ (at-append n _ _ (at-one n codes.PATTERN_CHANGES (or_number is.pattern codes.FREE)) (at-differs n codes.CYCLE_CHANGES was.cycle is.cycle)) (at-differs n codes.OFFSET_CHANGES was.offset is.offset))
-    (at-splits n was is))
+    at-append n _ (split_events n was is)
+    (at-append n _ _ (at-append n _ _ selection (at-differs n codes.CYCLE_CHANGES was.cycle is.cycle)) (at-differs n codes.OFFSET_CHANGES was.offset is.offset))
+    (at-splits n was is)
+  where
+    selection : AreAt n (selection_events n was is)
+    selection =
+        at-if n (option_eq nat_eq was.pattern is.pattern) [] (event n codes.PATTERN_CHANGES (or_number is.pattern codes.FREE) ∷ [])
+        at-none (at-one n codes.PATTERN_CHANGES (or_number is.pattern codes.FREE))
 
 at-tick : (n : ℕ) (f : Found) (was now : View) → AreAt n (tick_events n f was now)
 at-tick n f was now = search (at-append, at-told, at-if, at-one, at-none) depth 40

@@ -349,13 +349,16 @@ abbrev pub split_events : ℕ → Selected → Selected → List Event
 split_events tick was now =
     flat_map (λ p. if_differs tick (SPLIT_CHANGES + p - 1) (was.split p) (now.split p)) (run_from 1 16)
 
--- the selected pattern, where another is selected, with its cycle, offset and splits as far as these then differ
+-- the selected pattern, where another is selected
+abbrev pub selection_events : ℕ → Selected → Selected → List Event
+selection_events tick was now =
+    if option_eq nat_eq was.pattern now.pattern then [] else event tick PATTERN_CHANGES (or_number now.pattern FREE) ∷ []
+
+-- and cycle, offset and splits as far as these differ: of another pattern, or by a commit of the one that runs
 abbrev pub pattern_events : ℕ → Selected → Selected → List Event
 pattern_events tick was now =
-    if option_eq nat_eq was.pattern now.pattern then [] else
-    (event tick PATTERN_CHANGES (or_number now.pattern FREE) ∷ [])
-    ++ if_differs tick CYCLE_CHANGES was.cycle now.cycle ++ if_differs tick OFFSET_CHANGES was.offset now.offset
-    ++ split_events tick was now
+    selection_events tick was now ++ if_differs tick CYCLE_CHANGES was.cycle now.cycle
+    ++ if_differs tick OFFSET_CHANGES was.offset now.offset ++ split_events tick was now
 
 -- a flash by the monitor begins, or ends
 abbrev pub flash_events : ℕ → View → View → List Event

@@ -270,8 +270,8 @@ free_again : events.other_events 9 dark dark pattern_2 free ≡ event 9 131 254 
 unfolding opened
 free_again = refl
 
--- the same pattern with other values tells nothing
-same_pattern : events.other_events 9 dark dark (record free { pattern = Some 2 }) pattern_2 ≡ []
+-- the same pattern with other values tells these alone
+same_pattern : events.other_events 9 dark dark (record pattern_2 { cycle = 80; offset = 10 }) pattern_2 ≡ event 9 132 90 ∷ []
 unfolding opened
 same_pattern = refl
 
