@@ -19,9 +19,11 @@ RINGS, PREEMPTS = (1, 2), range(1, 5)
 OMITTED = 5
 # The coded part of ringStatus.
 MINIMUM, EXTENSION, MAXIMUM, GREEN_REST, YELLOW_CHANGE, RED_CLEARANCE, RED_REST = range(7)
-# preemptState, by stage, and of a preempt that is not in service, with its input off and on.
+# preemptState: by stage, once it was entered; before; and of a preempt that is not in service, with its input off, on,
+# and on while it is spent.
 STAGE_STATES = {"Track": 5, "Dwell": 6, "Exit": 8}
-NOT_ACTIVE, WITH_CALL = 2, 3
+ENTRY_STARTED = 4
+NOT_ACTIVE, WITH_CALL, MAX_PRESENCE = 2, 3, 9
 # localFreeStatus and unitFlashStatus.
 NOT_FREE, COMMAND_FREE, BAD_PLAN = 2, 3, 7
 NOT_FLASH, MMU = 2, 6
@@ -278,10 +280,28 @@ def ring_status(bench: Any, state: State, ring: int) -> dict[str, int | None]:
 
 # --- everything ---
 
-def preempt_state(state: State, preempt: int) -> int:
+def shows_green(bench: Any, state: State, name: str) -> bool:
+    """Whether all phases of a list of the preempt in service are green."""
+    return all(state.interval[phase] == "G" for phase in bench.members(state.plan[name][state.service]))
+
+
+def has_entered(bench: Any, state: State) -> bool:
+    """Whether all phases of the stage with which service begins were green, that of the track where there is one.
+
+    The timer of the track stage runs once they were; in a dwell that is the first stage they stay green.
+    """
+    if state.stage == "Track":
+        return state.sttime is not None or shows_green(bench, state, "preemptTrackPhase")
+    follows = state.stage == "Exit" or state.plan["preemptTrackPhase"][state.service] != 0
+    return follows or shows_green(bench, state, "preemptDwellPhase")
+
+
+def preempt_state(bench: Any, state: State, preempt: int) -> int:
     """The state of a preempt."""
     if state.service == preempt:
-        return STAGE_STATES[state.stage]
+        return STAGE_STATES[state.stage] if has_entered(bench, state) else ENTRY_STARTED
+    if state.spent[preempt]:
+        return MAX_PRESENCE
     return WITH_CALL if state.delay[preempt] is not None or state.switches[preempt] else NOT_ACTIVE
 
 
@@ -325,7 +345,7 @@ def status_of(reference: Reference, state: State) -> dict[str, Any]:
     told |= {f"overlapStatusGroup{name}": sorted(them) for name, them in overlap_groups(bench, state).items()}
     told["vehicleDetectorStatusGroupActive"] = [detector for detector in DETECTORS if state.out[detector]]
     told["vehicleDetectorStatusGroupAlarms"] = sorted(failed_detectors(state))
-    told["preemptState"] = [preempt_state(state, preempt) for preempt in PREEMPTS]
+    told["preemptState"] = [preempt_state(bench, state, preempt) for preempt in PREEMPTS]
     told |= coordination(bench, state)
     told["unitFlashStatus"] = NOT_FLASH if state.trip is None else MMU
     told |= {"deskOwner": state.owner, "deskState": state.desk}

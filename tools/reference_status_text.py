@@ -14,7 +14,8 @@ GROUPS = {
     "vehicleDetectorStatusGroup": ("Active", "Alarms"),
 }
 PARTS = ("minimumGreen", "extension", "maximum", "greenRest", "yellowChange", "redClearance", "redRest")
-PREEMPT_STATES = {2: "notActive", 3: "notActiveWithCall", 5: "trackService", 6: "dwell", 8: "exitStarted"}
+PREEMPT_STATES = {2: "notActive", 3: "notActiveWithCall", 4: "entryStarted", 5: "trackService", 6: "dwell",
+                  8: "exitStarted", 9: "maxPresence"}
 FREE_STATES = {2: "notFree", 3: "commandFree", 7: "badPlan"}
 FLASH_STATES = {2: "notFlash", 6: "mmu"}
 COORDINATION = ("coordPatternStatus", "localFreeStatus", "localCounter", "coordSyncStatus")

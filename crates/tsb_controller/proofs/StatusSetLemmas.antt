@@ -1,5 +1,5 @@
 -- The sets of a status, and the states of preempts, are those of the state.
-use Rattle.std.proofs.Common.{◌≡◌, ℕ, ◌-◌, [], ◌∷◌, get_or, arith, inl, inr, ◌≤◌, Bool, true, false, not, ◌&&◌, ◌||◌, Option, Some, None, refl, ap₂, ◌∙◌}
+use Rattle.std.proofs.Common.{◌≡◌, ℕ, ◌==◌, ◌-◌, [], ◌∷◌, get_or, arith, inl, inr, ◌≤◌, Bool, true, false, not, ◌&&◌, ◌||◌, if◌then◌else◌, Option, Some, None, refl, sym, ap, ap₂, ◌∙◌}
 use Rattle.std.proofs.lemmas.Bool.Decides.{eqb_tells}
 use Rattle.tsb_step.specs.tsb_types.declared.interval.Interval.{Interval}
 use Rattle.tsb_step.specs.tsb_types.declared.interval.Interval.TheVariants.{Red, Green, Yellow, RedClear}
@@ -8,17 +8,25 @@ use Rattle.tsb_step.specs.tsb_types.declared.interval.PedestrianInterval.TheVari
 use Rattle.tsb_step.specs.tsb_types.declared.lamp.Aspect.{Aspect}
 use Rattle.tsb_step.specs.tsb_types.declared.lamp.Aspect.TheVariants as aspects
 use Rattle.tsb_step.specs.tsb_types.declared.stage.Stage.{Stage}
+use Rattle.tsb_step.specs.tsb_types.Flow.{interval_of}
+use Rattle.tsb_step.specs.tsb_plan.Plan.{Plan}
 use Rattle.tsb_step.specs.tsb_types.Intervals.{in_service, is_green, is_yellow, is_red_clear, is_walk, is_clearance, is_dont_walk}
-use Rattle.tsb_preempt.specs.Promises.{TellsCalled, TellsStage}
+use Rattle.tsb_phase.specs.Promises.{TellsIntervals}
+use Rattle.tsb_preempt.specs.Promises.{TellsCalled, TellsEntered, TellsSpent, TellsStage, entered_of, stage_of}
+use Rattle.tsb_preempt.specs.Service.{Service, has_entered}
+use Rattle.tsb_preempt.proofs.OwnLemmas.{entered-same}
+use Rattle.tsb_objects.specs.declared.checked.Checked.{Checked}
+use Rattle.tsb_objects.specs.Checked.{checked_plan}
 use Rattle.tsb_heads.specs.Colours.{is_flashing}
 use Rattle.tsb_heads.specs.Monitoring.{is_red as is_red_aspect}
 use Rattle.tsb_heads.specs.Reading.{flashed_if}
 use Rattle.tsb_step.specs.declared.status.PreemptState.{PreemptState}
 use Rattle.tsb_step.specs.Cells.{clock_at}
-use Rattle.tsb_step.specs.Signs.{stage}
-use Rattle.tsb_step.specs.Status.{is_called as step_called, is_red_head, preempt_state}
-use Rattle.tsb_controller.specs.Rows.{Rows, state_of}
-use Rattle.tsb_controller.specs.StatusPromises.{TellsPreempt, preempt_by}
+use Rattle.tsb_step.specs.State.{State, interval}
+use Rattle.tsb_step.specs.Status.{idle_state, is_called as step_called, is_red_head, preempt_state, state_in}
+use Rattle.tsb_controller.specs.Rows.{Rows, Beside, state_of}
+use Rattle.tsb_controller.specs.StatusPromises.{TellsPreempt, stage_by}
+use Rattle.tsb_controller.proofs.PlacedLemmas.{placed}
 
 pub on-set : (i : Interval) → ((is_green i || is_yellow i) || is_red_clear i) ≡ in_service i
 on-set Red = refl
@@ -55,16 +63,40 @@ waiting-set w called green c false is calls greens = is ∙ rw greens (swapped c
     swapped true = refl
     swapped false = refl
 
--- the state of a preempt
-pub preempt-told : (rows : Rows) (n : ℕ) (called : Bool) (served : Option (ℕ × Stage)) (result : PreemptState) → TellsCalled rows.preempts n called → TellsStage rows.preempts served →
-    result ≡ preempt_by called served n → TellsPreempt rows n result
-preempt-told rows n called served result is_called is_stage is now b =
-    is ∙ ap₂ (λ (c : Bool) (o : Option (ℕ × Stage)). preempt_by c o n) (is_called (clock_at now b.trip)) (is_stage (clock_at now b.trip))
-    ∙ go (stage (state_of now b rows))
+-- the state of a preempt, by its stage, if it is the one in service
+abbrev pub state_by : Bool → Bool → Bool → Option Stage → PreemptState
+state_by entered spent called None = idle_state spent called
+state_by entered spent called (Some k) = state_in entered k
+
+pub preempt-told : (rows : Rows) (n : ℕ) (entered spent called : Bool) (served : Option (ℕ × Stage)) →
+    TellsSpent rows.preempts n spent → TellsCalled rows.preempts n called → TellsStage rows.preempts served →
+    TellsPreempt entered rows n (state_by entered spent called (stage_by served n))
+preempt-told rows n entered spent called served is_spent is_called is_stage now b is_entered =
+    let clock : ℕ = clock_at now b.trip in
+    rw (is_entered, is_spent clock, is_called clock, is_stage clock) (go (state_of now b rows).preempts.service)
   where
-    go : (o : Option (ℕ × Stage)) → preempt_by (step_called (state_of now b rows) n) o n ≡ preempt_state (state_of now b rows) o n
+    s : State
+    s = state_of now b rows
+
+    branch : (same : Bool) (x : Service) →
+        state_by (has_entered s.plan (interval s) x) (s.preempts.spent n) (step_called s n) (if same then Some x.stage else None)
+        ≡ (if same then state_in (has_entered s.plan (interval s) x) x.stage else idle_state (s.preempts.spent n) (step_called s n))
+    branch true x = refl
+    branch false x = refl
+
+    go : (o : Option Service) →
+        state_by (entered_of s.plan (interval s) o) (s.preempts.spent n) (step_called s n) (stage_by (stage_of o) n) ≡ preempt_state s o n
     go None = refl
-    go (Some x) = refl
+    go (Some x) = branch (x.preempt == n) x
+
+-- the preempt in service has entered, by the intervals that phase timing tells
+pub entered-told : (rows : Rows) (i : Intervals) (checked : Checked) (entered : Bool) → TellsIntervals rows.phases i →
+    TellsEntered i (checked_plan checked) rows.preempts entered → (now : ℕ) (b : Beside) → b.plan ≡ checked_plan checked →
+    entered ≡ entered_of b.plan (interval (state_of now b rows)) (state_of now b rows).preempts.service
+entered-told rows i checked entered told is now b same =
+    is (clock_at now b.trip)
+    ∙ entered-same (checked_plan checked) (interval_of i) (interval (state_of now b rows)) (placed checked).count (told (clock_at now b.trip)) (state_of now b rows).preempts.service
+    ∙ ap (λ (plan : Plan). entered_of plan (interval (state_of now b rows)) (state_of now b rows).preempts.service) (sym same)
 
 -- each of four
 pub each-of-four : {A : Type 0} (f : ℕ → A) (w x y z d : A) → w ≡ f 1 → x ≡ f 2 → y ≡ f 3 → z ≡ f 4 → (n : ℕ) → 1 ≤ n → n ≤ 4 → get_or (w ∷ x ∷ y ∷ z ∷ []) (n - 1) d ≡ f n

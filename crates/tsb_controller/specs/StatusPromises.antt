@@ -12,15 +12,16 @@ use Rattle.tsb_coord.specs.Cells.{pattern_in, correction_in}
 use Rattle.tsb_coord.specs.Coordinated.{force_off}
 use Rattle.tsb_coord.specs.Correction.{local_now}
 use Rattle.tsb_phase.specs.Cells.{phase_in}
+use Rattle.tsb_preempt.specs.Promises.{entered_of}
 use Rattle.tsb_ring.specs.Rings.{Ring, Ring1, Ring2, ring_numbered}
 use Rattle.tsb_step.specs.declared.status.PreemptState.{PreemptState}
 use Rattle.tsb_step.specs.declared.status.PreemptState.TheVariants.{NotActive}
 use Rattle.tsb_step.specs.declared.waits.Wait.{Wait}
 use Rattle.tsb_step.specs.Cells.{clock_at}
 use Rattle.tsb_step.specs.Events.{is_overlap, shown_interval, view}
-use Rattle.tsb_step.specs.Signs.{display, stage}
-use Rattle.tsb_step.specs.State.{State}
-use Rattle.tsb_step.specs.Status.{force_off_from, idle_state, is_held, is_red, is_red_head, preempt_state, state_in, status}
+use Rattle.tsb_step.specs.Signs.{display}
+use Rattle.tsb_step.specs.State.{State, interval}
+use Rattle.tsb_step.specs.Status.{force_off_from, is_held, is_red, is_red_head, preempt_state, status}
 use Rattle.tsb_step.specs.Waits.{is_unwanted, is_waiting, served, wait}
 use Rattle.tsb_events.specs.declared.seen.Seen.{Seen}
 use Rattle.tsb_events.specs.Agree.{AgreeInAll}
@@ -179,18 +180,21 @@ abbrev pub TellsSets : Seen → Plan → Rows → Sets → Type 0
 TellsSets seen plan rows result = (now : ℕ) (b : Beside) → b.plan ≡ plan → AgreeInAll (view_of seen) (view (state_of now b rows)) →
     AreSets (state_of now b rows) result
 
--- `preemptState` of preempt n, which is called or not, by the one in service
-abbrev pub preempt_by : Bool → Option (ℕ × Stage) → ℕ → PreemptState
-preempt_by called None n = idle_state called
-preempt_by called (Some (m, k)) n = if m == n then state_in k else idle_state called
+-- the stage of preempt n, if it is the one in service
+abbrev pub stage_by : Option (ℕ × Stage) → ℕ → Option Stage
+stage_by None n = None
+stage_by (Some (m, k)) n = if m == n then Some k else None
 
--- at whatever tick
-abbrev pub TellsPreempt : Rows → ℕ → PreemptState → Type 0
-TellsPreempt rows n result = (now : ℕ) (b : Beside) → result ≡ preempt_state (state_of now b rows) (stage (state_of now b rows)) n
+-- `preemptState` of preempt n, where the one in service has entered or not, at whatever tick
+abbrev pub TellsPreempt : Bool → Rows → ℕ → PreemptState → Type 0
+TellsPreempt entered rows n result = (now : ℕ) (b : Beside) →
+    entered ≡ entered_of b.plan (interval (state_of now b rows)) (state_of now b rows).preempts.service →
+    result ≡ preempt_state (state_of now b rows) (state_of now b rows).preempts.service n
 
 -- of each preempt in turn
-abbrev pub TellsPreempts : Rows → List PreemptState → Type 0
-TellsPreempts rows result = (n : ℕ) → 1 ≤ n → n ≤ 4 → TellsPreempt rows n (get_or result (n - 1) NotActive)
+abbrev pub TellsPreempts : Plan → Rows → List PreemptState → Type 0
+TellsPreempts plan rows result = (n : ℕ) → 1 ≤ n → n ≤ 4 → (now : ℕ) (b : Beside) → b.plan ≡ plan →
+    get_or result (n - 1) NotActive ≡ preempt_state (state_of now b rows) (state_of now b rows).preempts.service n
 
 -- ## The pattern that runs
 

@@ -11,7 +11,7 @@ ghost use Rattle.tsb_step.specs.declared.status.FlashStatus.TheVariants.{Mmu, No
 ghost use Rattle.tsb_step.specs.Status.{free_status, idle_state, state_in};
 ghost use Rattle.tsb_step.specs.Step.{last_tick};
 ghost use Rattle.tsb_controller.specs.Rows.{AreBy};
-ghost use Rattle.tsb_controller.specs.StatusPromises.{TellsPattern, TellsPreempt, TellsPreempts, TellsSets, TellsStatus, force_off_by, preempt_by, ring_status_by};
+ghost use Rattle.tsb_controller.specs.StatusPromises.{TellsPattern, TellsPreempt, TellsPreempts, TellsSets, TellsStatus, force_off_by, ring_status_by, stage_by};
 
 use crate::controller::Controller;
 use crate::found::{RingTold, RingsTold};
@@ -115,21 +115,25 @@ fn sync(runs: &Option<Pattern>, now: u32, plan: &Checked) -> Option<u32>
     }
 }
 
-/// `preemptState` of a stage.
-fn state_in(stage: Stage) -> PreemptState
-    ensures { result ≡ state_in stage }
+/// `preemptState` of a stage, of a preempt that has entered or not.
+fn state_in(entered: bool, stage: Stage) -> PreemptState
+    ensures { result ≡ state_in entered stage }
 {
     match stage {
-        Stage::Track => PreemptState::TrackService,
-        Stage::Dwell => PreemptState::Dwell,
         Stage::Exit => PreemptState::ExitStarted,
+        Stage::Track if entered => PreemptState::TrackService,
+        Stage::Dwell if entered => PreemptState::Dwell,
+        _ => PreemptState::EntryStarted,
     }
 }
 
-/// `preemptState` of a preempt that is not in service.
-fn idle_state(called: bool) -> PreemptState
-    ensures { result ≡ idle_state called }
+/// `preemptState` of a preempt that is not in service: whether it is spent, and whether it is called.
+fn idle_state(spent: bool, called: bool) -> PreemptState
+    ensures { result ≡ idle_state spent called }
 {
+    if spent {
+        return PreemptState::MaxPresence;
+    }
     if called {
         PreemptState::NotActiveWithCall
     } else {
@@ -137,17 +141,13 @@ fn idle_state(called: bool) -> PreemptState
     }
 }
 
-/// `preemptState` of a preempt that is called or not, by the one in service, if one is.
-fn preempt_by(called: bool, stage: &Option<(Preempt, Stage)>, n: Preempt) -> PreemptState
-    ensures { result ≡ preempt_by called stage.now n }
+/// The stage of a preempt, if it is the one in service.
+fn stage_of(stage: &Option<(Preempt, Stage)>, n: Preempt) -> Option<Stage>
+    ensures { result ≡ stage_by stage.now n }
 {
     match stage {
-        None => idle_state(called),
-        Some(served) => if served.0 == n {
-            state_in(served.1)
-        } else {
-            idle_state(called)
-        },
+        None => None,
+        Some(served) => if served.0 == n { Some(served.1) } else { None },
     }
 }
 
@@ -183,22 +183,26 @@ impl Controller {
         }
     }
 
-    /// `preemptState` of a preempt.
-    fn preempt_state(&self, n: Preempt) -> PreemptState
-        ensures { TellsPreempt (rows_of self.now) n result }
+    /// `preemptState` of a preempt, where the one in service has entered or not.
+    fn preempt_state(&self, entered: bool, n: Preempt) -> PreemptState
+        ensures { TellsPreempt entered (rows_of self.now) n result }
     {
-        preempt_by(self.preempts.is_called(n), &self.preempts.stage(), n)
+        match stage_of(&self.preempts.stage(), n) {
+            Some(stage) => state_in(entered, stage),
+            None => idle_state(self.preempts.is_spent(n), self.preempts.is_called(n)),
+        }
     }
 
     /// `preemptState` of each preempt in turn.
-    fn preempt_states(&self) -> [PreemptState; 4]
-        ensures { TellsPreempts (rows_of self.now) result }
+    fn preempt_states(&self, plan: &Checked) -> [PreemptState; 4]
+        ensures { TellsPreempts (checked_plan plan.now) (rows_of self.now) result }
     {
+        let entered = self.preempts.has_entered(&self.phases.intervals(), plan);
         [
-            self.preempt_state(Preempt::of(1)),
-            self.preempt_state(Preempt::of(2)),
-            self.preempt_state(Preempt::of(3)),
-            self.preempt_state(Preempt::of(4)),
+            self.preempt_state(entered, Preempt::of(1)),
+            self.preempt_state(entered, Preempt::of(2)),
+            self.preempt_state(entered, Preempt::of(3)),
+            self.preempt_state(entered, Preempt::of(4)),
         ]
     }
 
@@ -287,7 +291,7 @@ impl Controller {
             overlap_greens: seen.overlap_greens,
             active: self.detectors.outputs(),
             alarms: seen.alarms,
-            preempts: self.preempt_states(),
+            preempts: self.preempt_states(plan),
             pattern: pattern.number,
             free: pattern.free,
             local: pattern.local,

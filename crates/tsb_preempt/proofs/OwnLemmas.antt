@@ -7,11 +7,11 @@ use Rattle.tsb_types.specs.declared.stage.Stage.TheVariants.{Track, Dwell, Exit}
 use Rattle.tsb_types.specs.Intervals.{is_green}
 use Rattle.tsb_types.proofs.ClipLemmas.{all-agree}
 use Rattle.tsb_objects.specs.tsb_plan.Plan.{Plan}
-use Rattle.tsb_objects.specs.tsb_plan.Parts.{is_track_phase, is_exit_phase}
-use Rattle.tsb_preempt.specs.Service.{Service, service_as_read, all_green, track_timer, stage_after, with_stage, moved}
+use Rattle.tsb_objects.specs.tsb_plan.Parts.{is_track_phase, is_dwell_phase, is_exit_phase}
+use Rattle.tsb_preempt.specs.Service.{Service, has_entered_in, service_as_read, all_green, track_timer, stage_after, with_stage, moved}
 use Rattle.tsb_preempt.specs.Preempts.{Preempts, Given, is_preempt, as_read, has_input, delay_timer, still_spent, requests, requesting, beginning, if_may_begin, going_on, service_by, new_service, dwell_ends_of, dwell_ends, new_spent, wanted_by, is_outside, next}
 use Rattle.tsb_preempt.specs.Cells.{preempts_in}
-use Rattle.tsb_preempt.specs.Promises.{given_by, IsSame}
+use Rattle.tsb_preempt.specs.Promises.{entered_of, given_by, IsSame}
 use Rattle.tsb_preempt.specs.Laws.{AreAlike, IsOfFour, IsOff, LooksOnlyAtItsOwn, TicksAsNext, OrdersAsNext, OrdersStand}
 use Rattle.tsb_preempt.proofs.ResetLemmas.{is_preempt-from}
 use Rattle.tsb_preempt.proofs.ServiceLemmas.{first-four}
@@ -41,6 +41,15 @@ module _ (plan : Plan) (f g : ℕ → Interval) (count : plan.phase_count ≤ 16
 
   moved-same : (b : Bool) (s : Service) → moved plan f b s ≡ moved plan g b s
   moved-same b s = stage-same s (stage_after plan f b s s.stage) ∙ ap (with_stage plan g s) (after-same b s s.stage)
+
+  entered-in-same : (s : Service) (stage : Stage) → has_entered_in plan f s stage ≡ has_entered_in plan g s stage
+  entered-in-same s Track = rw (green-same (is_track_phase plan s.preempt)) refl
+  entered-in-same s Dwell = rw (green-same (is_dwell_phase plan s.preempt)) refl
+  entered-in-same s Exit = refl
+
+  pub entered-same : (o : Option Service) → entered_of plan f o ≡ entered_of plan g o
+  entered-same None = refl
+  entered-same (Some s) = entered-in-same s s.stage
 
 -- ## Givens
 

@@ -26,9 +26,11 @@ part_name parts.RedRest = codes "redRest"
 abbrev pub preempt_name : PreemptState → List ℕ
 preempt_name preempt_states.NotActive = codes "notActive"
 preempt_name preempt_states.NotActiveWithCall = codes "notActiveWithCall"
+preempt_name preempt_states.EntryStarted = codes "entryStarted"
 preempt_name preempt_states.TrackService = codes "trackService"
 preempt_name preempt_states.Dwell = codes "dwell"
 preempt_name preempt_states.ExitStarted = codes "exitStarted"
+preempt_name preempt_states.MaxPresence = codes "maxPresence"
 
 -- localFreeStatus
 abbrev pub free_name : FreeStatus → List ℕ

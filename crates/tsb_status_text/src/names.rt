@@ -29,9 +29,11 @@ pub(crate) fn preempt_name(state: PreemptState) -> &'static [u8]
     match state {
         PreemptState::NotActive => b"notActive",
         PreemptState::NotActiveWithCall => b"notActiveWithCall",
+        PreemptState::EntryStarted => b"entryStarted",
         PreemptState::TrackService => b"trackService",
         PreemptState::Dwell => b"dwell",
         PreemptState::ExitStarted => b"exitStarted",
+        PreemptState::MaxPresence => b"maxPresence",
     }
 }
 

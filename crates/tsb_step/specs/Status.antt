@@ -21,6 +21,7 @@ use Rattle.tsb_coord.specs.Coordinated.{force_off}
 use Rattle.tsb_phase.specs.Green.{gap, is_gapped, acting_maximum}
 use Rattle.tsb_phase.specs.Pedestrian.{ended_by, walk_time, clearance_time}
 use Rattle.tsb_phase.specs.Phase.{held_of}
+use Rattle.tsb_preempt.specs.Service.{Service, has_entered}
 use Rattle.tsb_ring.specs.Rings.{Ring, Ring1, Ring2}
 use Rattle.tsb_transact.specs.declared.desk_state.DeskState.{DeskState}
 use Rattle.tsb_step.specs.declared.status.RingPart.{RingPart}
@@ -33,7 +34,7 @@ use Rattle.tsb_step.specs.declared.status.FlashStatus.{FlashStatus}
 use Rattle.tsb_step.specs.declared.status.FlashStatus.TheVariants.{NotFlash, Mmu}
 use Rattle.tsb_step.specs.declared.waits.Wait.{Wait}
 use Rattle.tsb_step.specs.Events.{view, shown_interval, shown_part, is_overlap}
-use Rattle.tsb_step.specs.Signs.{display, local, stage}
+use Rattle.tsb_step.specs.Signs.{display, local}
 use Rattle.tsb_step.specs.State.{State, interval, pedestrian_part}
 use Rattle.tsb_step.specs.Tick.{runs}
 use Rattle.tsb_step.specs.Waits.{left, gap_left, phases_again, served, time_to_last, waits_for}
@@ -216,24 +217,28 @@ is_red_head aspects.FlashingRed = true
 abbrev pub is_next : State → ℕ → Bool
 is_next s p = is p (s.rings.commitment Ring1) || is p (s.rings.commitment Ring2)
 
--- a stage in service
-abbrev pub state_in : Stage → PreemptState
-state_in stages.Track = preempt_states.TrackService
-state_in stages.Dwell = preempt_states.Dwell
-state_in stages.Exit = preempt_states.ExitStarted
+-- a stage in service; of the one in which service began, whether its phases were all Green
+abbrev pub state_in : Bool → Stage → PreemptState
+state_in entered stages.Track = if entered then preempt_states.TrackService else preempt_states.EntryStarted
+state_in entered stages.Dwell = if entered then preempt_states.Dwell else preempt_states.EntryStarted
+state_in entered stages.Exit = preempt_states.ExitStarted
 
--- a preempt that is not in service, with its input or its switch on or off
-abbrev pub idle_state : Bool → PreemptState
-idle_state called = if called then preempt_states.NotActiveWithCall else preempt_states.NotActive
+-- a preempt that is not in service: spent by its maximum presence, or else with its input or its switch on or off
+abbrev pub idle_state : Bool → Bool → PreemptState
+idle_state spent called =
+    if spent then preempt_states.MaxPresence
+    else (if called then preempt_states.NotActiveWithCall else preempt_states.NotActive)
 
 -- its input was on in the last tick, or its switch is on
 abbrev pub is_called : State → ℕ → Bool
 is_called s n = is_on (s.preempts.delay n) || s.preempts.switch n
 
--- preempt n, where this one is in service, if one is
-abbrev pub preempt_state : State → Option (ℕ × Stage) → ℕ → PreemptState
-preempt_state s None n = idle_state (is_called s n)
-preempt_state s (Some (m, k)) n = if m == n then state_in k else idle_state (is_called s n)
+-- preempt n, where this service goes on, if one does
+abbrev pub preempt_state : State → Option Service → ℕ → PreemptState
+preempt_state s None n = idle_state (s.preempts.spent n) (is_called s n)
+preempt_state s (Some x) n =
+    if x.preempt == n then state_in (has_entered s.plan (interval s) x) x.stage
+    else idle_state (s.preempts.spent n) (is_called s n)
 
 -- by the pattern that runs and the one that is selected
 abbrev pub free_status : Option ℕ → Option ℕ → FreeStatus
@@ -260,7 +265,7 @@ status s = record {
   overlap_greens = (view s).overlap_greens;
   active = λ d. (s.detectors d).output;
   alarms = (view s).alarms;
-  preempt = preempt_state s (stage s);
+  preempt = preempt_state s s.preempts.service;
   pattern = or_number (runs s) FREE;
   free = free_status (runs s) s.pattern;
   local = local s;

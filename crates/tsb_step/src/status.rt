@@ -20,20 +20,24 @@ pub enum RingPart {
     RedRest,
 }
 
-/// `preemptState` (NTCIP 1202) of a preempt. Of its values entryStarted does not occur, as a preempt enters in its track
-/// or its dwell stage, and none of those that come after exitStarted.
+/// `preemptState` (NTCIP 1202) of a preempt. Its other values do not occur: no preempt is linked to another.
 #[derive(Clone, Copy, PartialEq, Eq)]
 pub enum PreemptState {
     /// notActive(2): it is not in service, and its input is off.
     NotActive,
     /// notActiveWithCall(3): it is not in service, and its input or its switch is on.
     NotActiveWithCall,
-    /// trackService(5): its track phases are served, or awaited.
+    /// entryStarted(4): it is in service, and waits for all of its track phases to be Green, or of its dwell phases where
+    /// it has no track phase.
+    EntryStarted,
+    /// trackService(5): its track phases were all Green, and are served.
     TrackService,
-    /// dwell(6): its dwell phases are.
+    /// dwell(6): its dwell phases are, or are awaited behind the track phases.
     Dwell,
-    /// exitStarted(8): its exit phases are.
+    /// exitStarted(8): its exit phases are served, or awaited.
     ExitStarted,
+    /// maxPresence(9): it is not in service, as its dwell ended by its maximum presence, and its input has been on since.
+    MaxPresence,
 }
 
 /// `localFreeStatus` (NTCIP 1202). Its other values do not occur.

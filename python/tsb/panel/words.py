@@ -14,9 +14,11 @@ PARTS = {
 PREEMPTS = {
     "notActive": "off",
     "notActiveWithCall": "called",
+    "entryStarted": "entering",
     "trackService": "track stage",
     "dwell": "dwell stage",
     "exitStarted": "exit stage",
+    "maxPresence": "over its maximum presence",
 }
 FREE = {
     "commandFree": "free operation",
