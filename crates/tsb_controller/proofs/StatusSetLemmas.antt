@@ -8,6 +8,7 @@ use Rattle.tsb_step.specs.tsb_types.declared.interval.PedestrianInterval.TheVari
 use Rattle.tsb_step.specs.tsb_types.declared.lamp.Aspect.{Aspect}
 use Rattle.tsb_step.specs.tsb_types.declared.lamp.Aspect.TheVariants as aspects
 use Rattle.tsb_step.specs.tsb_types.declared.stage.Stage.{Stage}
+use Rattle.tsb_step.specs.tsb_types.declared.flow.Intervals.{Intervals}
 use Rattle.tsb_step.specs.tsb_types.Flow.{interval_of}
 use Rattle.tsb_step.specs.tsb_plan.Plan.{Plan}
 use Rattle.tsb_step.specs.tsb_types.Intervals.{in_service, is_green, is_yellow, is_red_clear, is_walk, is_clearance, is_dont_walk}
@@ -25,7 +26,7 @@ use Rattle.tsb_step.specs.Cells.{clock_at}
 use Rattle.tsb_step.specs.State.{State, interval}
 use Rattle.tsb_step.specs.Status.{idle_state, is_called as step_called, is_red_head, preempt_state, state_in}
 use Rattle.tsb_controller.specs.Rows.{Rows, Beside, state_of}
-use Rattle.tsb_controller.specs.StatusPromises.{TellsPreempt, stage_by}
+use Rattle.tsb_controller.specs.StatusPromises.{TellsPreempt, stage_by, state_by}
 use Rattle.tsb_controller.proofs.PlacedLemmas.{placed}
 
 pub on-set : (i : Interval) → ((is_green i || is_yellow i) || is_red_clear i) ≡ in_service i
@@ -63,11 +64,7 @@ waiting-set w called green c false is calls greens = is ∙ rw greens (swapped c
     swapped true = refl
     swapped false = refl
 
--- the state of a preempt, by its stage, if it is the one in service
-abbrev pub state_by : Bool → Bool → Bool → Option Stage → PreemptState
-state_by entered spent called None = idle_state spent called
-state_by entered spent called (Some k) = state_in entered k
-
+-- the state of a preempt
 pub preempt-told : (rows : Rows) (n : ℕ) (entered spent called : Bool) (served : Option (ℕ × Stage)) →
     TellsSpent rows.preempts n spent → TellsCalled rows.preempts n called → TellsStage rows.preempts served →
     TellsPreempt entered rows n (state_by entered spent called (stage_by served n))

@@ -21,7 +21,7 @@ use Rattle.tsb_step.specs.Cells.{clock_at}
 use Rattle.tsb_step.specs.Events.{is_overlap, shown_interval, view}
 use Rattle.tsb_step.specs.Signs.{display}
 use Rattle.tsb_step.specs.State.{State, interval}
-use Rattle.tsb_step.specs.Status.{force_off_from, is_held, is_red, is_red_head, preempt_state, status}
+use Rattle.tsb_step.specs.Status.{force_off_from, idle_state, is_held, is_red, is_red_head, preempt_state, state_in, status}
 use Rattle.tsb_step.specs.Waits.{is_unwanted, is_waiting, served, wait}
 use Rattle.tsb_events.specs.declared.seen.Seen.{Seen}
 use Rattle.tsb_events.specs.Agree.{AgreeInAll}
@@ -184,6 +184,11 @@ TellsSets seen plan rows result = (now : ℕ) (b : Beside) → b.plan ≡ plan �
 abbrev pub stage_by : Option (ℕ × Stage) → ℕ → Option Stage
 stage_by None n = None
 stage_by (Some (m, k)) n = if m == n then Some k else None
+
+-- `preemptState` of a preempt by its stage, if it is the one in service
+abbrev pub state_by : Bool → Bool → Bool → Option Stage → PreemptState
+state_by entered spent called None = idle_state spent called
+state_by entered spent called (Some k) = state_in entered k
 
 -- `preemptState` of preempt n, where the one in service has entered or not, at whatever tick
 abbrev pub TellsPreempt : Bool → Rows → ℕ → PreemptState → Type 0

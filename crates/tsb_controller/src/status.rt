@@ -11,7 +11,7 @@ ghost use Rattle.tsb_step.specs.declared.status.FlashStatus.TheVariants.{Mmu, No
 ghost use Rattle.tsb_step.specs.Status.{free_status, idle_state, state_in};
 ghost use Rattle.tsb_step.specs.Step.{last_tick};
 ghost use Rattle.tsb_controller.specs.Rows.{AreBy};
-ghost use Rattle.tsb_controller.specs.StatusPromises.{TellsPattern, TellsPreempt, TellsPreempts, TellsSets, TellsStatus, force_off_by, ring_status_by, stage_by};
+ghost use Rattle.tsb_controller.specs.StatusPromises.{TellsPattern, TellsPreempt, TellsPreempts, TellsSets, TellsStatus, force_off_by, ring_status_by, stage_by, state_by};
 
 use crate::controller::Controller;
 use crate::found::{RingTold, RingsTold};
@@ -151,6 +151,16 @@ fn stage_of(stage: &Option<(Preempt, Stage)>, n: Preempt) -> Option<Stage>
     }
 }
 
+/// `preemptState` of a preempt by its stage, if it is the one in service.
+fn state_by(entered: bool, spent: bool, called: bool, stage: Option<Stage>) -> PreemptState
+    ensures { result ≡ state_by entered spent called stage }
+{
+    match stage {
+        Some(stage) => state_in(entered, stage),
+        None => idle_state(spent, called),
+    }
+}
+
 /// `unitFlashStatus`.
 fn flash(tripped: bool) -> FlashStatus
     ensures { result ≡ (if tripped then Mmu else NotFlash) }
@@ -187,10 +197,10 @@ impl Controller {
     fn preempt_state(&self, entered: bool, n: Preempt) -> PreemptState
         ensures { TellsPreempt entered (rows_of self.now) n result }
     {
-        match stage_of(&self.preempts.stage(), n) {
-            Some(stage) => state_in(entered, stage),
-            None => idle_state(self.preempts.is_spent(n), self.preempts.is_called(n)),
-        }
+        let spent = self.preempts.is_spent(n);
+        let called = self.preempts.is_called(n);
+        let stage = stage_of(&self.preempts.stage(), n);
+        state_by(entered, spent, called, stage)
     }
 
     /// `preemptState` of each preempt in turn.

@@ -1,14 +1,17 @@
 -- The status of states, by computing, worked by hand from the plan of eight phases: greens last 50 ticks, yellow change
 -- 30, red clearance 10, a gap 20, a maximum 200; pattern 1 has a cycle of 800, in which phases 2 and 6 are coordinated.
-use Rattle.std.specs.Prelude.{◌≡◌, [], ◌∷◌, map, Some, None, refl}
-use Rattle.tsb_cells.specs.declared.timer.Timer.TheVariants.{On}
+use Rattle.std.specs.Prelude.{◌≡◌, ℕ, [], ◌∷◌, map, Some, None, refl}
+use Rattle.tsb_cells.specs.declared.timer.Timer.{Timer}
+use Rattle.tsb_cells.specs.declared.timer.Timer.TheVariants.{Off, On}
 use Rattle.tsb_types.specs.declared.interval.Interval.TheVariants.{Yellow}
+use Rattle.tsb_types.specs.declared.stage.Stage.TheVariants.{Track}
 use Rattle.tsb_types.specs.Events.{numbers_with}
 use Rattle.tsb_types.specs.Lists.{among}
-use Rattle.tsb_objects.specs.tsb_plan.declared.object.Object.TheVariants.{CoordMaximumMode}
+use Rattle.tsb_objects.specs.tsb_plan.declared.object.Object.TheVariants.{CoordMaximumMode, PreemptTrackPhase}
 use Rattle.tsb_objects.specs.tsb_plan.Plan.{Plan, with_value}
 use Rattle.tsb_objects.specs.tsb_plan.Quad.{quad}
 use Rattle.tsb_phase.specs.Phase as phase
+use Rattle.tsb_preempt.specs.Service.{all_green}
 use Rattle.tsb_ring.specs.Rings.{Ring1}
 use Rattle.tsb_step.specs.declared.status.FreeStatus.TheVariants.{NotFree, CommandFree}
 use Rattle.tsb_step.specs.declared.status.FlashStatus.TheVariants.{Mmu}
@@ -216,3 +219,29 @@ preempt : map (status called_2).preempt (1 ∷ 2 ∷ 3 ∷ []) ≡
     preempt_states.Dwell ∷ preempt_states.NotActiveWithCall ∷ preempt_states.NotActive ∷ []
 unfolding opened
 preempt = refl
+
+-- its dwell has begun, while 2 and 6 are Green: it enters
+enters : (status (record resting { preempts = (dwelling 1).preempts })).preempt 1 ≡ preempt_states.EntryStarted
+unfolding opened all_green
+enters = refl
+
+-- it has a track stage with these phases, whose timer is this
+abbrev tracking : ℕ → Timer → State
+tracking list timer = record resting {
+  plan = with_value quad PreemptTrackPhase 1 list;
+  preempts = record (dwelling 1).preempts {
+    service = Some (record { preempt = 1; stage = Track; timer = On 9; stage_timer = timer });
+  };
+}
+
+-- of 3 and 8 it enters; of 2 and 6, which are Green, its track is served, also before the timer runs; and so it is once it
+-- has run
+tracks : map (λ s. (status s).preempt 1) (tracking 132 Off ∷ tracking 34 Off ∷ tracking 132 (On 3) ∷ []) ≡
+    preempt_states.EntryStarted ∷ preempt_states.TrackService ∷ preempt_states.TrackService ∷ []
+unfolding opened all_green
+tracks = refl
+
+-- 2 is spent: its input is still on
+is_spent : (status (record called_2 { preempts = record called_2.preempts { spent = λ n. among n (2 ∷ []) } })).preempt 2 ≡ preempt_states.MaxPresence
+unfolding opened
+is_spent = refl
