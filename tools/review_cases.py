@@ -155,8 +155,6 @@ CASES = [
          ["pattern 4: it is the same as pattern 1"], {"patternPermissiveTime.4": 6}),
     Case(30, {"patternCycleTime.4": 90, "patternOffsetTime.4": 45, "patternSplitNumber.4": 1, "patternSequenceNumber.4": 1},
          ["pattern 4: it is the same as pattern 1"], {"patternLeadLag.4": 1}),
-    Case(31, {"patternOffsetTime.1": 46}, ["pattern 1: its offset of 46 s is beyond half of its cycle of 90 s"],
-         {"patternOffsetTime.1": 45}),
     Case(32, {"splitMode.7": 0},
          ["pattern 1: its coordinated phases yield in one tick of each cycle of 90 s, so a later call waits for the next one"],
          {"splitMode.7": 5}),

@@ -327,13 +327,11 @@ def patterns(plan: Plan) -> Iterator[tuple[int, str]]:
     """Advices A30 to A32, and A44."""
     kinds = ["CycleTime", "OffsetTime", "SplitNumber", "SequenceNumber", "PermissiveTime", "LeadLag"]
     for n in plan.patterns:
-        cycle, offset = plan.value("patternCycleTime", n), plan.value("patternOffsetTime", n)
+        cycle = plan.value("patternCycleTime", n)
         same = [m for m in plan.patterns if m < n and all(plan.value(f"pattern{it}", m) == plan.value(f"pattern{it}", n)
                                                           for it in kinds)]
         if same:
             yield 30, f"pattern {n}: it is the same as pattern {same[0]}"
-        if 2 * offset > cycle:
-            yield 31, f"pattern {n}: its offset of {offset} s is beyond half of its cycle of {cycle} s"
         if not plan.permissive(n) and any(plan.mode(n, p) != OMITTED and not plan.recall(n, p) for p in plan.enabled):
             yield 32, (f"pattern {n}: its coordinated phases yield in one tick of each cycle of {cycle} s, "
                        "so a later call waits for the next one")

@@ -1,11 +1,11 @@
 -- Advices on coordination: A27 to A32, and A42 to A47. Times are in tenths of a second.
-use Rattle.std.specs.Prelude.{ℕ, ◌-◌, ◌*◌, ◌==◌, nat_lt, Bool, true, false, not, ◌&&◌, ◌||◌, Option, Some, None, is_some}
+use Rattle.std.specs.Prelude.{ℕ, ◌-◌, ◌==◌, nat_lt, Bool, true, false, not, ◌&&◌, ◌||◌, Option, Some, None, is_some}
 use Rattle.std.specs.List.{list_any}
 use Rattle.tsb_types.specs.Lists.{first, run_from}
 use Rattle.tsb_plan.specs.declared.object.Object.TheVariants.{PatternCycleTime, PatternOffsetTime, PatternSplitNumber, PatternSequenceNumber, PatternPermissiveTime, PatternLeadLag, CoordCorrectionMode}
 use Rattle.tsb_plan.specs.declared.plan.patterns.CorrectionMode.{CorrectionMode}
 use Rattle.tsb_plan.specs.declared.plan.patterns.CorrectionMode.TheVariants.{AtOnce}
-use Rattle.tsb_plan.specs.Parts.{is_used, cycle, offset, permissive_time, leads_and_lags, correction_mode, correction_limit}
+use Rattle.tsb_plan.specs.Parts.{is_used, permissive_time, leads_and_lags, correction_mode, correction_limit}
 use Rattle.tsb_plan.specs.Plan.{Plan, phases, is_enabled, minimum_green, has_soft_recall, recycles_walk}
 use Rattle.tsb_plan.specs.Running.{is_coordinated_now, is_omitted_now, is_on_pedestrian_recall, pattern_maximum}
 use Rattle.tsb_rules.specs.Rules.{has_walk, serves_pedestrians}
@@ -57,10 +57,6 @@ first_same plan n = first (is_same_before plan n) (run_from 1 16)
 -- A30: the used pattern n is the same as one before it
 abbrev pub is_repeated : Plan → ℕ → Bool
 is_repeated plan n = is_used plan n && is_some (first_same plan n)
-
--- A31: the offset of the used pattern n is beyond half of its cycle
-abbrev pub has_long_offset : Plan → ℕ → Bool
-has_long_offset plan n = is_used plan n && nat_lt (cycle plan n) (2 * offset plan n)
 
 -- p waits for a call in pattern n: it is neither coordinated, nor omitted, nor recalled
 abbrev pub is_actuated : Plan → ℕ → ℕ → Bool

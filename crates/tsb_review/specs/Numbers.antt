@@ -1,12 +1,12 @@
 -- The numbers that the line of a finding shows, up to four, named `a` to `d`. Times are in tenths of a second.
 use Rattle.std.specs.Prelude.{ℕ, Option, Some, None}
 use Rattle.tsb_types.specs.Lists.{or_number}
-use Rattle.tsb_plan.specs.Parts.{call_phase, detector_delay, detector_extend, cycle, offset, permissive_time, minimum_duration, preempt_maximum_presence, correction_limit}
+use Rattle.tsb_plan.specs.Parts.{call_phase, detector_delay, detector_extend, cycle, permissive_time, minimum_duration, preempt_maximum_presence, correction_limit}
 use Rattle.tsb_plan.specs.declared.object.Object.TheVariants.{CoordCorrectionMode}
 use Rattle.tsb_plan.specs.Plan.{Plan, walk, pedestrian_clear, minimum_green, maximum, passage, minimum_gap, time_before_reduction, red_revert}
 use Rattle.tsb_plan.specs.Running.{pattern_maximum}
 use Rattle.tsb_review.specs.declared.advice.Advice.{Advice}
-use Rattle.tsb_review.specs.declared.advice.Advice.TheVariants.{A4, A7, A8, A9, A10, A11, A12, A13, A14, A16, A18, A19, A20, A21, A25, A26, A27, A28, A30, A31, A32, A35, A39, A42, A43, A47}
+use Rattle.tsb_review.specs.declared.advice.Advice.TheVariants.{A4, A7, A8, A9, A10, A11, A12, A13, A14, A16, A18, A19, A20, A21, A25, A26, A27, A28, A30, A32, A35, A39, A42, A43, A47}
 use Rattle.tsb_review.specs.declared.finding.Finding.{Finding}
 use Rattle.tsb_review.specs.declared.numbers.Numbers.{Numbers}
 use Rattle.tsb_review.specs.declared.place.Place.{Place}
@@ -72,7 +72,6 @@ of_split plan x n p = four p 0 0 n
 -- of a pattern: its number, and another pattern or times
 abbrev pub of_pattern : Plan → Advice → ℕ → Numbers
 of_pattern plan A30 n = four n (number_of (first_same plan n)) 0 0
-of_pattern plan A31 n = four n (offset plan n) (cycle plan n) 0
 of_pattern plan A32 n = four n (cycle plan n) 0 0
 of_pattern plan x n = four n 0 0 0
 

@@ -8,7 +8,7 @@ use crate::place::Shape;
 ///
 /// They stand in the order in which a review gives them: on service (A1 to A7), pedestrians (A8 to A14), clearance (A15
 /// and A16), actuation (A17 to A26), coordination (A27 to A32), preempts (A33 to A38), overlaps (A39 to A41), and
-/// options of coordination (A42 to A47).
+/// options of coordination (A42 to A47). A31 is not used any more.
 #[derive(Clone, Copy)]
 pub enum Advice {
     /// An enabled phase is called by no detector, button, recall or split mode.
@@ -72,8 +72,6 @@ pub enum Advice {
     A29,
     /// A pattern is the same as one before it.
     A30,
-    /// An offset is beyond half of its cycle.
-    A31,
     /// Coordinated phases without a permissive time yield in one tick of a cycle, and a phase of the pattern waits for
     /// a call.
     A32,
@@ -111,7 +109,7 @@ pub enum Advice {
 
 impl Advice {
     /// All advices, in order.
-    pub const ALL: [Advice; 47] = [
+    pub const ALL: [Advice; 46] = [
         Advice::A1,
         Advice::A2,
         Advice::A3,
@@ -142,7 +140,6 @@ impl Advice {
         Advice::A28,
         Advice::A29,
         Advice::A30,
-        Advice::A31,
         Advice::A32,
         Advice::A33,
         Advice::A34,
@@ -197,7 +194,7 @@ impl Advice {
             | Advice::A46 => Shape::Split,
             Advice::A5 => Shape::Ring,
             Advice::A16 | Advice::A47 => Shape::Unit,
-            Advice::A30 | Advice::A31 | Advice::A32 | Advice::A44 => Shape::Pattern,
+            Advice::A30 | Advice::A32 | Advice::A44 => Shape::Pattern,
             Advice::A33 | Advice::A36 | Advice::A37 => Shape::PreemptPhase,
             Advice::A34 | Advice::A35 | Advice::A38 => Shape::Preempt,
             Advice::A39 | Advice::A41 => Shape::Overlap,

@@ -8,7 +8,7 @@ ghost use Rattle.tsb_plan.specs.declared.object.Object.TheVariants.{CoordCorrect
 ghost use Rattle.tsb_plan.specs.Plan.{phases};
 ghost use Rattle.tsb_plan.specs.PlanOf.{plan_of};
 ghost use Rattle.tsb_review.specs.Splits.{passed_by};
-ghost use Rattle.tsb_review.specs.Coordination.{spare_time, has_tight_split, overrun, makes_late, recalls_omitted, yields_alike, is_same_before, first_same, is_repeated, has_long_offset, is_actuated, yields_once, is_under, has_short_maximum, is_permissive, yields_too_long, ends_apart_from, ends_apart, leads_for_nothing, is_coordinated_by_pattern, recycles_nothing, walks_over_and_over, gives_correction, corrects_nothing};
+ghost use Rattle.tsb_review.specs.Coordination.{spare_time, has_tight_split, overrun, makes_late, recalls_omitted, yields_alike, is_same_before, first_same, is_repeated, is_actuated, yields_once, is_under, has_short_maximum, is_permissive, yields_too_long, ends_apart_from, ends_apart, leads_for_nothing, is_coordinated_by_pattern, recycles_nothing, walks_over_and_over, gives_correction, corrects_nothing};
 
 use crate::calls::{has_walk, is_recalled, is_recalled_in, serves_pedestrians};
 use crate::pedestrians::{overruns_split, pedestrian_time};
@@ -115,13 +115,6 @@ pub(crate) fn is_repeated(plan: &Plan, pattern: Pattern) -> bool
     ensures { result ≡ is_repeated (plan_of plan.now) pattern }
 {
     plan.is_used(pattern) && first_same(plan, pattern).is_some()
-}
-
-/// A31: whether the offset of the used pattern is beyond half of its cycle.
-pub(crate) fn has_long_offset(plan: &Plan, pattern: Pattern) -> bool
-    ensures { result ≡ has_long_offset (plan_of plan.now) pattern }
-{
-    plan.is_used(pattern) && plan.cycle(pattern) < 2 * plan.offset(pattern)
 }
 
 /// Whether the phase waits for a call in the pattern: it is neither coordinated, nor omitted, nor recalled.

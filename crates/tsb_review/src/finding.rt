@@ -140,7 +140,6 @@ fn of_pattern(plan: &Plan, advice: Advice, pattern: Pattern) -> bool
 {
     match advice {
         Advice::A30 => coordination::is_repeated(plan, pattern),
-        Advice::A31 => coordination::has_long_offset(plan, pattern),
         Advice::A32 => coordination::yields_once(plan, pattern),
         Advice::A44 => coordination::leads_for_nothing(plan, pattern),
         _ => false,

@@ -204,7 +204,6 @@ fn of_pattern(plan: &Plan, advice: Advice, pattern: Pattern) -> Numbers
     let n = u32::from(pattern.number());
     match advice {
         Advice::A30 => four(n, pattern_or_zero(first_same(plan, pattern)), 0, 0),
-        Advice::A31 => four(n, plan.offset(pattern), plan.cycle(pattern), 0),
         Advice::A32 => four(n, plan.cycle(pattern), 0, 0),
         _ => four(n, 0, 0, 0),
     }

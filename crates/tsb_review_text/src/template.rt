@@ -78,7 +78,6 @@ pub(crate) fn template(advice: Advice) -> &'static [u8]
         }
         Advice::A29 => b"A29 phase P: its recall has no effect in pattern S, which omits it",
         Advice::A30 => b"A30 pattern P: it is the same as pattern Q",
-        Advice::A31 => b"A31 pattern P: its offset of X s is beyond half of its cycle of Y s",
         Advice::A32 => {
             b"A32 pattern P: its coordinated phases yield in one tick of each cycle of X s, so a later call waits for the next one"
         }
