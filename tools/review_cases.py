@@ -168,6 +168,11 @@ CASES = [
     Case(33, {"preemptTrackPhase.1": 34}, [f"preempt 1: phase {p} is a track phase and a dwell phase, so cars go on to come over the track"
                                            for p in (2, 6)], {"preemptDwellPhase.1": 17}),
     Case(34, {"preemptTrackPhase.1": 0}, ["preempt 1: it has no delay and no track phases, so it clears no track"], {"preemptDelay.1": 1}),
+    # A track green is a sign of a railroad, and so are the track phases of another preempt.
+    Case(34, {"preemptTrackPhase.1": 0}, ["preempt 1: it has no delay and no track phases, so it clears no track"],
+         {"preemptTrackGreen.1": 0}),
+    Case(34, {"preemptDwellPhase.2": 34}, ["preempt 2: it has no delay and no track phases, so it clears no track"],
+         {"preemptTrackPhase.1": 0, "preemptTrackGreen.1": 0}),
     Case(35, {"preemptMinimumDuration.1": 41, "preemptMaximumPresence.1": 40},
          ["preempt 1: its minimum duration of 41 s is longer than its maximum presence of 40 s"], {"preemptMaximumPresence.1": 41}),
     Case(36, {"preemptMinimumWalk.1": 0}, [f"preempt 1: its minimum walk is 0 s, so it can end a walk of phase {p} at once"

@@ -365,7 +365,8 @@ def preempts(plan: Plan) -> Iterator[tuple[int, str]]:
                 yield 36, f"preempt {m}: its minimum walk is 0 s, so it can end a walk of phase {p} at once"
             if plan.walks(p) and ends and plan.phase("PedestrianClear", p) and not times["EnterPedClear"]:
                 yield 37, f"preempt {m}: its pedestrian clearance is 0 s, so phase {p} can end with people on its crossing"
-        if not track and not times["Delay"]:
+        railroad = times["TrackGreen"] or any(plan.value("preemptTrackPhase", it) for it in PREEMPTS)
+        if not track and not times["Delay"] and railroad:
             yield 34, f"preempt {m}: it has no delay and no track phases, so it clears no track"
         if 0 < times["MaximumPresence"] < times["MinimumDuration"]:
             yield 35, (f"preempt {m}: its minimum duration of {times['MinimumDuration']} s is longer than "

@@ -1,5 +1,7 @@
 -- Advices on preempts: A33 to A38. Times are in tenths of a second.
 use Rattle.std.specs.Prelude.{ℕ, ◌==◌, nat_lt, Bool, not, ◌&&◌, ◌||◌}
+use Rattle.std.specs.List.{list_any}
+use Rattle.tsb_types.specs.Lists.{run_from}
 use Rattle.tsb_plan.specs.declared.object.Object.TheVariants.{PreemptTrackPhase, PreemptDwellPhase}
 use Rattle.tsb_plan.specs.Parts.{preempt_delay, minimum_duration, preempt_maximum_presence, preempt_minimum_green, preempt_minimum_walk, enter_pedestrian_clear, track_green, is_track_phase, is_dwell_phase}
 use Rattle.tsb_plan.specs.Plan.{Plan, pedestrian_clear}
@@ -17,9 +19,14 @@ has_track plan m = not (plan.value PreemptTrackPhase m == 0)
 abbrev pub fills_track : Plan → ℕ → ℕ → Bool
 fills_track plan m p = is_track_phase plan m p && is_dwell_phase plan m p
 
--- A34: preempt m has no delay and no track phase
+-- there is a sign of a railroad: preempt m has a track green, or some preempt has a track phase
+abbrev pub is_by_railroad : Plan → ℕ → Bool
+is_by_railroad plan m = nat_lt 0 (track_green plan m) || list_any (has_track plan) (run_from 1 4)
+
+-- A34: preempt m has no delay and no track phase, by a railroad
 abbrev pub clears_no_track : Plan → ℕ → Bool
-clears_no_track plan m = has_dwell plan m && (not (has_track plan m) && preempt_delay plan m == 0)
+clears_no_track plan m =
+    has_dwell plan m && (not (has_track plan m) && (preempt_delay plan m == 0 && is_by_railroad plan m))
 
 -- A35: the minimum duration of preempt m is longer than its maximum presence, which has a limit
 abbrev pub lasts_too_long : Plan → ℕ → Bool

@@ -77,7 +77,7 @@ pub enum Advice {
     A32,
     /// A phase is both a track and a dwell phase of a preempt.
     A33,
-    /// A preempt has no delay and no track phase.
+    /// A preempt has no delay and no track phase, and there is a sign of a railroad.
     A34,
     /// The minimum duration of a preempt is longer than its maximum presence.
     A35,

@@ -2,8 +2,10 @@
 #![tactic(auto, unfolding(tsb_plan::specs::PlanOf::plan_of))]
 
 ghost use Rattle.std.specs.Prelude.{◌≡◌};
+ghost use Rattle.std.specs.List.{list_any};
+ghost use Rattle.tsb_types.specs.Lists.{run_from};
 ghost use Rattle.tsb_plan.specs.PlanOf.{plan_of};
-ghost use Rattle.tsb_review.specs.Preempts.{has_dwell, has_track, fills_track, clears_no_track, lasts_too_long, ends_pedestrians, cuts_walk, cuts_clearance, has_preempt_times, is_never_served};
+ghost use Rattle.tsb_review.specs.Preempts.{has_dwell, has_track, fills_track, is_by_railroad, clears_no_track, lasts_too_long, ends_pedestrians, cuts_walk, cuts_clearance, has_preempt_times, is_never_served};
 
 use crate::calls::serves_pedestrians;
 use tsb_plan::{Object, Plan};
@@ -30,11 +32,30 @@ pub(crate) fn fills_track(plan: &Plan, preempt: Preempt, phase: Phase) -> bool
     plan.track_phases(preempt).contains(phase) && plan.dwell_phases(preempt).contains(phase)
 }
 
-/// A34: whether the preempt has no delay and no track phase.
+/// Whether some preempt has a track phase.
+fn has_some_track(plan: &Plan) -> bool
+    ensures { result ≡ list_any (has_track (plan_of plan.now)) (run_from 1 4) }
+{
+    Preempt::all()
+        .iter()
+        .any(|preempt| has_track(plan, *preempt))
+}
+
+/// Whether there is a sign of a railroad: the preempt has a track green, or some preempt has a track phase.
+fn is_by_railroad(plan: &Plan, preempt: Preempt) -> bool
+    ensures { result ≡ is_by_railroad (plan_of plan.now) preempt }
+{
+    plan.track_green(preempt) > 0 || has_some_track(plan)
+}
+
+/// A34: whether the preempt has no delay and no track phase, by a railroad.
 pub(crate) fn clears_no_track(plan: &Plan, preempt: Preempt) -> bool
     ensures { result ≡ clears_no_track (plan_of plan.now) preempt }
 {
-    has_dwell(plan, preempt) && !has_track(plan, preempt) && plan.preempt_delay(preempt) == 0
+    has_dwell(plan, preempt)
+        && !has_track(plan, preempt)
+        && plan.preempt_delay(preempt) == 0
+        && is_by_railroad(plan, preempt)
 }
 
 /// A35: whether the minimum duration of the preempt is longer than its maximum presence, which has a limit.
