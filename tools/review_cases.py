@@ -175,8 +175,10 @@ CASES = [
          {"preemptTrackPhase.1": 0, "preemptTrackGreen.1": 0}),
     Case(35, {"preemptMinimumDuration.1": 41, "preemptMaximumPresence.1": 40},
          ["preempt 1: its minimum duration of 41 s is longer than its maximum presence of 40 s"], {"preemptMaximumPresence.1": 41}),
-    Case(36, {"preemptMinimumWalk.1": 0}, [f"preempt 1: its minimum walk is 0 s, so it can end a walk of phase {p} at once"
+    Case(36, {"preemptMinimumWalk.1": 0}, [f"preempt 1: it can end a walk of phase {p} at once, as is allowed where a track has to be cleared"
                                            for p in (2, 4, 8)], {"preemptMinimumWalk.1": 1}),
+    Case(36, {"preemptMinimumWalk.1": 0, "preemptTrackPhase.1": 0},
+         [f"preempt 1: its minimum walk is 0 s, so it can end a walk of phase {p} at once" for p in (4, 8)], {"preemptMinimumWalk.1": 1}),
     Case(37, {"preemptEnterPedClear.1": 0, "preemptTrackPhase.1": 0},
          [f"preempt 1: its pedestrian clearance is 0 s, so phase {p} can end with people on its crossing" for p in (4, 8)],
          {"preemptEnterPedClear.1": 1}),

@@ -362,7 +362,8 @@ def preempts(plan: Plan) -> Iterator[tuple[int, str]]:
                 yield 33, f"preempt {m}: phase {p} is a track phase and a dwell phase, so cars go on to come over the track"
             ends = (track and not plan.listed("preemptTrackPhase", m, p)) or not plan.listed("preemptDwellPhase", m, p)
             if plan.walks(p) and ends and not times["MinimumWalk"]:
-                yield 36, f"preempt {m}: its minimum walk is 0 s, so it can end a walk of phase {p} at once"
+                yield 36, (f"preempt {m}: it can end a walk of phase {p} at once, as is allowed where a track has to be cleared"
+                           if track else f"preempt {m}: its minimum walk is 0 s, so it can end a walk of phase {p} at once")
             if plan.walks(p) and ends and plan.phase("PedestrianClear", p) and not times["EnterPedClear"]:
                 yield 37, f"preempt {m}: its pedestrian clearance is 0 s, so phase {p} can end with people on its crossing"
         railroad = times["TrackGreen"] or any(plan.value("preemptTrackPhase", it) for it in PREEMPTS)

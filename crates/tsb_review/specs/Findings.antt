@@ -1,11 +1,14 @@
 -- Findings one by one, as the code looks for them.
-use Rattle.std.specs.Prelude.{ℕ, if◌then◌else◌, Option, Some, None}
+use Rattle.std.specs.Prelude.{ℕ, Bool, true, false, ◌&&◌, if◌then◌else◌, Option, Some, None}
 use Rattle.tsb_plan.specs.Plan.{Plan}
 use Rattle.tsb_review.specs.declared.advice.Advice.{Advice}
+use Rattle.tsb_review.specs.declared.advice.Advice.TheVariants.{A36}
 use Rattle.tsb_review.specs.declared.finding.Finding.{Finding}
 use Rattle.tsb_review.specs.declared.place.Place.{Place}
+use Rattle.tsb_review.specs.declared.place.Place.TheVariants as at
 use Rattle.tsb_review.specs.Advices.{holds, shape}
 use Rattle.tsb_review.specs.Places.{place_of}
+use Rattle.tsb_review.specs.Preempts.{has_track}
 
 -- the advice for a place, where it holds
 abbrev pub finding_of : Plan → Advice → Place → Option Finding
@@ -14,3 +17,17 @@ finding_of plan a place = if holds plan a place then Some (record { advice = a; 
 -- the advice for the place of two numbers, where it holds
 abbrev pub finding_at : Plan → Advice → ℕ → ℕ → Option Finding
 finding_at plan a i k = finding_of plan a (place_of (shape a) i k)
+
+-- an advice is that of a walk that a preempt ends at once
+abbrev pub is_of_walk : Advice → Bool
+is_of_walk A36 = true
+is_of_walk a = false
+
+-- a place is a phase in a preempt with track phases
+abbrev pub has_track_at : Plan → Place → Bool
+has_track_at plan (at.PreemptPhase m p) = has_track plan m
+has_track_at plan place = false
+
+-- a preempt with track phases ends the walk that a finding is about, as MUTCD lets it
+abbrev pub ends_walk_for_track : Plan → Finding → Bool
+ends_walk_for_track plan f = is_of_walk f.advice && has_track_at plan f.place

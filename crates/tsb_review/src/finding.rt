@@ -5,7 +5,7 @@ ghost use Rattle.std.specs.Prelude.{◌≡◌, ◌≤◌};
 ghost use Rattle.tsb_plan.specs.PlanOf.{plan_of};
 ghost use Rattle.tsb_review.specs.Places.{firsts, seconds};
 ghost use Rattle.tsb_review.specs.Advices.{holds, shape, of_unit, of_phase, of_phases, of_detector, of_ring, of_pattern, of_split, of_preempt, of_preempt_phase, of_overlap, of_overlap_phase};
-ghost use Rattle.tsb_review.specs.Findings.{finding_at, finding_of};
+ghost use Rattle.tsb_review.specs.Findings.{finding_at, finding_of, has_track_at, ends_walk_for_track};
 
 use crate::advice::Advice;
 use crate::place::{Place, place_of};
@@ -42,6 +42,24 @@ fn finding_of(plan: &Plan, advice: Advice, place: Place) -> Option<Finding>
         Some(Finding { advice, place })
     } else {
         None
+    }
+}
+
+/// Whether a preempt with track phases ends the walk that the finding is about (A36): MUTCD lets it be shortened or left
+/// out there.
+pub fn ends_walk_for_track(plan: &Plan, finding: &Finding) -> bool
+    ensures { result ≡ ends_walk_for_track (plan_of plan.now) finding.now }
+{
+    matches!(finding.advice, Advice::A36) && has_track_at(plan, &finding.place)
+}
+
+/// Whether the place is a phase in a preempt with track phases.
+fn has_track_at(plan: &Plan, place: &Place) -> bool
+    ensures { result ≡ has_track_at (plan_of plan.now) place.now }
+{
+    match place {
+        Place::PreemptPhase(preempt, _) => preempts::has_track(plan, *preempt),
+        _ => false,
     }
 }
 

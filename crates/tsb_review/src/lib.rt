@@ -20,6 +20,6 @@ mod sought;
 mod splits;
 
 pub use advice::Advice;
-pub use finding::{Finding, finding_at, holds};
+pub use finding::{Finding, ends_walk_for_track, finding_at, holds};
 pub use numbers::{Numbers, numbers_of};
 pub use place::{Place, Shape};

@@ -19,7 +19,7 @@ fn has_dwell(plan: &Plan, preempt: Preempt) -> bool
 }
 
 /// Whether the preempt has a track phase.
-fn has_track(plan: &Plan, preempt: Preempt) -> bool
+pub(crate) fn has_track(plan: &Plan, preempt: Preempt) -> bool
     ensures { result ≡ has_track (plan_of plan.now) preempt }
 {
     plan.at(Object::PreemptTrackPhase, u32::from(preempt.number())) != 0

@@ -1,17 +1,20 @@
 -- The line of a finding or of a breach, and how long it is.
-use Rattle.std.proofs.Common.{◌≡◌, ◌∙◌, ℕ, suc, ◌+◌, ◌/◌, ◌%◌, ◌<◌, ◌≤◌, ◌==◌, nat_le, Bool, false, true, ◌&&◌, if◌then◌else◌, List, [], ◌∷◌, ◌++◌, append_assoc, length, length-append, drop, drop-cons, get_or, sum_by, flat_map, decimal, refl, sym, subst, ap, arith, rules}
+use Rattle.std.proofs.Common.{◌≡◌, ◌∙◌, ℕ, suc, ◌+◌, ◌/◌, ◌%◌, ◌<◌, ◌≤◌, ◌==◌, nat_le, Bool, false, true, ◌&&◌, if◌then◌else◌, List, [], ◌∷◌, ◌++◌, append_assoc, length, length-append, drop, drop-cons, get_or, sum_by, flat_map, decimal, codes, refl, sym, subst, ap, arith, rules}
 use Rattle.std.proofs.lemmas.Bool.Decides.{nat_tests}
 use Rattle.std.proofs.lemmas.Fmt.{length-decimal-le}
 use Rattle.std.proofs.lemmas.List.Sums.{sum_by-cons}
 use Rattle.tsb_review.specs.declared.advice.Advice.{Advice}
+use Rattle.tsb_plan.specs.Plan.{Plan}
+use Rattle.tsb_review.specs.declared.finding.Finding.{Finding}
 use Rattle.tsb_review.specs.declared.numbers.Numbers.{Numbers}
+use Rattle.tsb_review.specs.Findings.{ends_walk_for_track}
 use Rattle.tsb_breaches.specs.declared.fault.Fault.{Fault}
 use Rattle.tsb_review_text.specs.declared.line.TheConstants.{LONGEST}
 use Rattle.tsb_lines.specs.ShortLines.{Adds, fitting}
 use Rattle.tsb_review_text.specs.Bytes.{ended}
 use Rattle.tsb_review_text.specs.Lines.{filled, fraction, part, seconds}
 use Rattle.tsb_review_text.specs.BreachTemplates.{breach_template}
-use Rattle.tsb_review_text.specs.Templates.{template}
+use Rattle.tsb_review_text.specs.Templates.{template, wording}
 use Rattle.tsb_lines.proofs.ShortLemmas.{all-of, onto-fitting}
 
 -- a byte is added, of those that are left
@@ -108,6 +111,14 @@ template-room : (x : Advice) → sum_by cost (template x) + 1 ≤ LONGEST
 unfolding cost
 template-room x = search rules
 
+wording-room : (plan : Plan) (f : Finding) → sum_by cost (wording plan f) + 1 ≤ LONGEST
+unfolding cost
+wording-room plan f = go (ends_walk_for_track plan f)
+  where
+    go : (b : Bool) → sum_by cost (if b then codes "A36 preempt P: it can end a walk of phase Q at once, as is allowed where a track has to be cleared" else template f.advice) + 1 ≤ LONGEST
+    go true = search rules
+    go false = template-room f.advice
+
 breach-room : (f : Fault) → sum_by cost (breach_template f) + 1 ≤ LONGEST
 unfolding cost
 breach-room f = search rules
@@ -122,9 +133,9 @@ text-done n wanted items text empty small room none is added =
     ∙ ended-filled n wanted
 
 -- the line of a finding
-pub line-done : (n : Numbers) (x : Advice) (items text empty : List ℕ) → AreSmall n → empty ≡ [] → text ≡ template x →
-    Adds LONGEST empty (ended n text) items → items ≡ filled n (template x) ++ 10 ∷ []
-line-done n x items text empty small none is added = text-done n (template x) items text empty small (template-room x) none is added
+pub line-done : (n : Numbers) (plan : Plan) (f : Finding) (items text empty : List ℕ) → AreSmall n → empty ≡ [] → text ≡ wording plan f →
+    Adds LONGEST empty (ended n text) items → items ≡ filled n (wording plan f) ++ 10 ∷ []
+line-done n plan f items text empty small none is added = text-done n (wording plan f) items text empty small (wording-room plan f) none is added
 
 -- the line of a breach
 pub breach-line-done : (n : Numbers) (f : Fault) (items text empty : List ℕ) → AreSmall n → empty ≡ [] → text ≡ breach_template f →

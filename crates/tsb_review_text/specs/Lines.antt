@@ -9,7 +9,7 @@ use Rattle.tsb_breaches.specs.declared.breach.Breach.{Breach}
 use Rattle.tsb_breaches.specs.Breaches.{breaches}
 use Rattle.tsb_breaches.specs.Numbers as breach_numbers
 use Rattle.tsb_review_text.specs.BreachTemplates.{breach_template}
-use Rattle.tsb_review_text.specs.Templates.{template}
+use Rattle.tsb_review_text.specs.Templates.{wording}
 
 -- tenths of a second behind whole seconds: a point and a digit, and nothing for 0
 abbrev pub fraction : ℕ → List ℕ
@@ -32,7 +32,7 @@ filled n text = flat_map (part n) text
 
 -- the line of a finding, with its line feed
 unfoldable pub line_of : Plan → Finding → List ℕ
-line_of plan f = filled (numbers_of plan f) (template f.advice) ++ 10 ∷ []
+line_of plan f = filled (numbers_of plan f) (wording plan f) ++ 10 ∷ []
 
 -- the text of a review: a line for each finding, in order
 unfoldable pub review_text : Plan → List ℕ

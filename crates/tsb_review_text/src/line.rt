@@ -6,7 +6,7 @@ ghost use Rattle.tsb_review_text.specs.Bytes.{ended};
 ghost use Rattle.tsb_review_text.specs.Lines.{seconds, fraction, part, line_of, breach_line};
 
 use crate::breach_template::breach_template;
-use crate::template::template;
+use crate::template::wording;
 use tsb_breaches::Breach;
 use tsb_lines::ShortLine;
 use tsb_plan::Plan;
@@ -24,7 +24,7 @@ pub fn line_of(plan: &Plan, finding: &Finding) -> Line
 {
     let numbers = numbers_of(plan, finding);
     let mut line = Line::new();
-    push_parts(&mut line, template(finding.advice), &numbers);
+    push_parts(&mut line, wording(plan, finding), &numbers);
     line
 }
 

@@ -1,12 +1,25 @@
 //! The lines of advices, with letters where numbers stand.
 ghost use Rattle.std.specs.Prelude.{◌≡◌};
-ghost use Rattle.tsb_review_text.specs.Templates.{template};
+ghost use Rattle.tsb_plan.specs.PlanOf.{plan_of};
+ghost use Rattle.tsb_review_text.specs.Templates.{template, wording};
 
-use tsb_review::Advice;
+use tsb_plan::Plan;
+use tsb_review::{Advice, Finding, ends_walk_for_track};
+
+/// The text of a finding: that of its advice, but for a walk that ends for a track.
+pub(crate) fn wording(plan: &Plan, finding: &Finding) -> &'static [u8]
+    ensures { result.now ≡ wording (plan_of plan.now) finding.now }
+{
+    if ends_walk_for_track(plan, finding) {
+        b"A36 preempt P: it can end a walk of phase Q at once, as is allowed where a track has to be cleared"
+    } else {
+        template(finding.advice)
+    }
+}
 
 /// The text of an advice. P, Q, R and S stand for the numbers `a`, `b`, `c` and `d` of a finding; W, X, Y and Z for the
 /// same as times, in seconds.
-pub(crate) fn template(advice: Advice) -> &'static [u8]
+fn template(advice: Advice) -> &'static [u8]
     ensures { result.now ≡ template advice }
 {
     match advice {
