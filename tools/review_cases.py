@@ -39,6 +39,11 @@ LOST = "so a call of one can wait for ever while the other rests"
 IDLE_RECYCLE = "its pedestrian recycle has no effect, since no used pattern has it as a coordinated phase with a walk"
 WALKING_ON = "its walk begins again after each clearance in pattern 1, since it has pedestrian recall and pedestrian recycle"
 AT_ONCE = "unit: local counters come into step at once, since coordCorrectionMode is %d and coordCorrectionLimit is %d"
+# A second pattern, as the first but for its offset.
+FOURTH: Change = {"patternCycleTime.4": 90, "patternOffsetTime.4": 44, "patternSplitNumber.4": 1, "patternSequenceNumber.4": 1}
+# A second split table, as the first but for a second that phases 3 and 7 give to 4 and 8.
+SECOND_TABLE: Change = {**{f"splitTime.{16 + p}": split for p, split in enumerate([20, 25, 19, 26] * 2, 1)},
+                        "splitCoordPhase.18": 1, "splitCoordPhase.22": 1}
 CASES = [
     Case(1, {"vehicleDetectorCallPhase.1": 0, "splitMode.1": 0}, ["phase 1: no detector, button, recall or split mode calls it"],
          {"phaseSoftRecall.1": 1}),
@@ -75,6 +80,13 @@ CASES = [
     Case(12, {"phaseRedClear.8": 56},
          ["phase 8: its walk and clearance of 16 s are longer than the 15.9 s of green that its split leaves in pattern 1"],
          {"phaseRedClear.8": 55}),
+    # Patterns whose splits leave the same green have one line, and others their own. Table 2 gives phase 4 a second more.
+    Case(12, {"phasePedestrianClear.4": 14, **FOURTH},
+         ["phase 4: its walk and clearance of 21 s are longer than the 20 s of green that its split leaves in pattern 1, 4"],
+         {"phasePedestrianClear.4": 13}),
+    Case(12, {"phasePedestrianClear.4": 15, **FOURTH, "patternSplitNumber.4": 2, **SECOND_TABLE},
+         [f"phase 4: its walk and clearance of 22 s are longer than the {green} s of green that its split leaves in pattern {n}"
+          for n, green in ((1, 20), (4, 21))], {"phasePedestrianClear.4": 13}),
     Case(13, {"phasePedestrianClear.2": 19}, ["phase 2: its walk and clearance of 26 s are longer than its maximum of 25 s"],
          {"unitMax2.1": 1}),
     # The instant of phases 3 and 7 is 15 s after the end of the coordinated splits.
@@ -204,6 +216,12 @@ CASES = [
     Case(43, {"patternPermissiveTime.1": 10, "phaseMinimumGreen.7": 6, "coordForceMode.1": 2},
          [f"phase {p}: its permissive time of 10 s can leave less than the minimum green of phase 7 before its force-off in pattern 1"
           for p in (2, 6)], {"splitMode.7": 5}),
+    Case(43, {"patternPermissiveTime.1": 11, **FOURTH, "patternPermissiveTime.4": 11},
+         [f"phase {p}: its permissive time of 11 s can leave less than the minimum green of phase 3 before its force-off in pattern 1, 4"
+          for p in (2, 6)], {"patternPermissiveTime.1": 10, "patternPermissiveTime.4": 10}),
+    Case(43, {"patternPermissiveTime.1": 11, **FOURTH, "patternPermissiveTime.4": 12},
+         [f"phase {p}: its permissive time of {time} s can leave less than the minimum green of phase 3 before its force-off in pattern {n}"
+          for n, time in ((1, 11), (4, 12)) for p in (2, 6)], {"patternPermissiveTime.1": 10, "patternPermissiveTime.4": 10}),
     # Phase 5 behind phase 6 takes the end of its split to another time than that of phase 2.
     Case(44, {"patternLeadLag.1": 1},
          ["pattern 1: patternLeadLag has no effect, since the splits of its coordinated phases end at one time"],

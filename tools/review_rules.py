@@ -3,6 +3,7 @@
 `review(plan)` gives the lines that a review of a plan writes. The plan is a plan text of version 2 that meets the rules
 of docs/MANUAL.md, as Python reads its JSON. Times are kept in tenths of a second.
 """
+import collections
 from collections.abc import Iterator
 
 PHASES = range(1, 17)
@@ -25,6 +26,11 @@ def seconds(tenths: int) -> str:
     """A time as the lines have it: whole seconds, or with one decimal."""
     whole, rest = divmod(tenths, 10)
     return f"{whole}.{rest}" if rest else f"{whole}"
+
+
+def listed(patterns: list[int]) -> str:
+    """Patterns in which a line is the same."""
+    return ", ".join(map(str, patterns))
 
 
 class Plan:
@@ -221,16 +227,19 @@ def pedestrians(plan: Plan) -> Iterator[tuple[int, str]]:
         clear = plan.phase("PedestrianClear", p)
         if p not in walking and clear:
             yield 10, f"phase {p}: its pedestrian clearance of {clear} s is never shown, since it has no walk"
+    greens: dict[tuple[int, int], list[int]] = collections.defaultdict(list)
     for n in plan.patterns:
         for p in walking:
             if plan.mode(n, p) != OMITTED and plan.crossing(p) > plan.green(n, p):
-                yield 12, (f"phase {p}: its walk and clearance of {seconds(plan.crossing(p))} s are longer than the "
-                           f"{seconds(plan.green(n, p))} s of green that its split leaves in pattern {n}")
+                greens[p, plan.green(n, p)].append(n)
             clear = plan.phase("PedestrianClear", p)
             passed = plan.passed(n, p, 10 * clear + plan.permissive(n))
             if plan.phase("RestInWalk", p) and plan.coordinated(n, p) and passed:
                 yield 14, (f"phase {p}: it rests in walk, and its clearance of {clear} s can end after "
                            f"the force-off of phase {passed} in pattern {n}")
+    for (p, green), alike in greens.items():
+        yield 12, (f"phase {p}: its walk and clearance of {seconds(plan.crossing(p))} s are longer than the "
+                   f"{seconds(green)} s of green that its split leaves in pattern {listed(alike)}")
 
 
 def clearance(plan: Plan) -> Iterator[tuple[int, str]]:
@@ -292,6 +301,7 @@ def actuation(plan: Plan) -> Iterator[tuple[int, str]]:
 
 def coordination(plan: Plan) -> Iterator[tuple[int, str]]:
     """Advices A27 to A29, A42, A43, A45 and A46."""
+    shorts: dict[tuple[int, int, int], list[int]] = collections.defaultdict(list)
     for n in plan.patterns:
         for p in plan.enabled:
             omitted = plan.mode(n, p) == OMITTED
@@ -311,12 +321,14 @@ def coordination(plan: Plan) -> Iterator[tuple[int, str]]:
                            f"that its split leaves in pattern {n}")
             short = plan.short(n, p) if plan.coordinated(n, p) and plan.permissive(n) else None
             if short:
-                yield 43, (f"phase {p}: its permissive time of {seconds(plan.permissive(n))} s can leave less than the minimum green "
-                           f"of phase {short} before its force-off in pattern {n}")
+                shorts[p, plan.permissive(n), short].append(n)
             called = plan.phase("PedRecall", p) or plan.mode(n, p) in (WALK, BOTH)
             if plan.walks(p) and plan.recycles(p) and plan.coordinated(n, p) and called:
                 yield 46, (f"phase {p}: its walk begins again after each clearance in pattern {n}, "
                            "since it has pedestrian recall and pedestrian recycle")
+    for (p, time, short), alike in shorts.items():
+        yield 43, (f"phase {p}: its permissive time of {seconds(time)} s can leave less than the minimum green "
+                   f"of phase {short} before its force-off in pattern {listed(alike)}")
     for p in plan.enabled:
         if plan.recycles(p) and not (plan.walks(p) and any(plan.coordinated(n, p) for n in plan.patterns)):
             yield 45, (f"phase {p}: its pedestrian recycle has no effect, "

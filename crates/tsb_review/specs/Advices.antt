@@ -11,11 +11,12 @@ use Rattle.tsb_review.specs.declared.place.Shape.{Shape}
 use Rattle.tsb_review.specs.declared.place.Shape.TheVariants as shapes
 use Rattle.tsb_review.specs.Places.{places}
 use Rattle.tsb_review.specs.Service.{is_never_called, is_set_for_nothing, can_wait_for, may_lose_coordination, has_fixed_times, has_two_recalls, never_recalls_softly}
-use Rattle.tsb_review.specs.Pedestrians.{has_no_clearance, has_short_walk, has_no_walk, has_idle_walk, overruns_split, overruns_maximum, rests_too_long}
+use Rattle.tsb_review.specs.Pedestrians.{has_no_clearance, has_short_walk, has_no_walk, has_idle_walk, overruns_maximum, rests_too_long}
 use Rattle.tsb_review.specs.Clearance.{clears_without_red, has_short_revert}
 use Rattle.tsb_review.specs.Actuation.{ends_at_any_gap, has_gap_trap, reduces_nothing, reduces_too_late, has_idle_initial, adds_without_variable, has_limit_alone, has_step_alone, delays_too_long, extends_for_nothing}
-use Rattle.tsb_review.specs.Coordination.{has_tight_split, makes_late, recalls_omitted, is_repeated, yields_once, has_short_maximum, yields_too_long, leads_for_nothing, recycles_nothing, walks_over_and_over, corrects_nothing}
+use Rattle.tsb_review.specs.Coordination.{has_tight_split, makes_late, recalls_omitted, is_repeated, yields_once, has_short_maximum, leads_for_nothing, recycles_nothing, walks_over_and_over, corrects_nothing}
 use Rattle.tsb_review.specs.Preempts.{fills_track, clears_no_track, lasts_too_long, cuts_walk, cuts_clearance, is_never_served}
+use Rattle.tsb_review.specs.Alike.{overruns_first, yields_first}
 use Rattle.tsb_review.specs.Overlaps.{is_split, modifies_itself, adds_nothing}
 
 -- all advices, in order
@@ -126,13 +127,13 @@ of_pattern plan a n = false
 -- the advice holds of phase p in pattern n
 abbrev pub of_split : Plan → Advice → ℕ → ℕ → Bool
 of_split plan A4 n p = may_lose_coordination plan n p
-of_split plan A12 n p = overruns_split plan n p
+of_split plan A12 n p = overruns_first plan n p
 of_split plan A14 n p = rests_too_long plan n p
 of_split plan A27 n p = has_tight_split plan n p
 of_split plan A28 n p = makes_late plan n p
 of_split plan A29 n p = recalls_omitted plan n p
 of_split plan A42 n p = has_short_maximum plan n p
-of_split plan A43 n p = yields_too_long plan n p
+of_split plan A43 n p = yields_first plan n p
 of_split plan A46 n p = walks_over_and_over plan n p
 of_split plan a n p = false
 

@@ -10,6 +10,8 @@ pub mod Actuation
 pub mod Coordination
 pub mod Preempts
 pub mod Overlaps
+-- patterns in which an advice says the same
+pub mod Alike
 -- what phases are sought for
 pub mod Sought
 -- the places that advices are given for

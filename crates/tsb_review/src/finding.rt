@@ -9,7 +9,7 @@ ghost use Rattle.tsb_review.specs.Findings.{finding_at, finding_of, has_track_at
 
 use crate::advice::Advice;
 use crate::place::{Place, place_of};
-use crate::{actuation, clearance, coordination, overlaps, pedestrians, preempts, service};
+use crate::{actuation, alike, clearance, coordination, overlaps, pedestrians, preempts, service};
 use tsb_plan::Plan;
 use tsb_types::{Detector, Overlap, Pattern, Phase, Preempt, Ring};
 
@@ -170,13 +170,13 @@ fn of_split(plan: &Plan, advice: Advice, pattern: Pattern, phase: Phase) -> bool
 {
     match advice {
         Advice::A4 => service::may_lose_coordination(plan, pattern, phase),
-        Advice::A12 => pedestrians::overruns_split(plan, pattern, phase),
+        Advice::A12 => alike::overruns_first(plan, pattern, phase),
         Advice::A14 => pedestrians::rests_too_long(plan, pattern, phase),
         Advice::A27 => coordination::has_tight_split(plan, pattern, phase),
         Advice::A28 => coordination::makes_late(plan, pattern, phase),
         Advice::A29 => coordination::recalls_omitted(plan, pattern, phase),
         Advice::A42 => coordination::has_short_maximum(plan, pattern, phase),
-        Advice::A43 => coordination::yields_too_long(plan, pattern, phase),
+        Advice::A43 => alike::yields_first(plan, pattern, phase),
         Advice::A46 => coordination::walks_over_and_over(plan, pattern, phase),
         _ => false,
     }

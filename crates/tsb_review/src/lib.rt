@@ -6,6 +6,7 @@
 
 mod actuation;
 pub mod advice;
+mod alike;
 mod calls;
 mod clearance;
 mod coordination;
@@ -20,6 +21,7 @@ mod sought;
 mod splits;
 
 pub use advice::Advice;
+pub use alike::is_also_in;
 pub use finding::{Finding, ends_walk_for_track, finding_at, holds};
 pub use numbers::{Numbers, numbers_of};
 pub use place::{Place, Shape};

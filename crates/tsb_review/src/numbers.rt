@@ -42,7 +42,7 @@ fn four(a: u32, b: u32, c: u32, d: u32) -> Numbers
 }
 
 /// The number of a phase, 0 for none.
-fn phase_or_zero(phase: Option<Phase>) -> u32
+pub(crate) fn phase_or_zero(phase: Option<Phase>) -> u32
     ensures { result ≡ number_of phase }
 {
     match phase {

@@ -1,41 +1,42 @@
 -- The line of a finding or of a breach, and how long it is.
-use Rattle.std.proofs.Common.{◌≡◌, ◌∙◌, ℕ, suc, ◌+◌, ◌/◌, ◌%◌, ◌<◌, ◌≤◌, ◌==◌, nat_le, Bool, false, true, ◌&&◌, if◌then◌else◌, List, [], ◌∷◌, ◌++◌, append_assoc, length, length-append, drop, drop-cons, get_or, sum_by, flat_map, decimal, codes, refl, sym, subst, ap, arith, rules}
+use Rattle.std.proofs.Common.{◌≡◌, ◌∙◌, ℕ, zero, suc, ◌+◌, ◌*◌, ◌/◌, ◌%◌, ◌<◌, ◌≤◌, ◌==◌, nat_le, Bool, false, true, ◌&&◌, if◌then◌else◌, List, [], ◌∷◌, ◌++◌, append_assoc, length, length-append, drop, drop-cons, get_or, sum_by, flat_map, decimal, codes, refl, sym, ap, arith, rules}
 use Rattle.std.proofs.lemmas.Bool.Decides.{nat_tests}
 use Rattle.std.proofs.lemmas.Fmt.{length-decimal-le}
 use Rattle.std.proofs.lemmas.List.Sums.{sum_by-cons}
 use Rattle.tsb_review.specs.declared.advice.Advice.{Advice}
+use Rattle.tsb_types.specs.Lists.{run_from}
 use Rattle.tsb_plan.specs.Plan.{Plan}
 use Rattle.tsb_review.specs.declared.finding.Finding.{Finding}
 use Rattle.tsb_review.specs.declared.numbers.Numbers.{Numbers}
+use Rattle.tsb_review.specs.Alike.{is_also_in}
 use Rattle.tsb_review.specs.Findings.{ends_walk_for_track}
 use Rattle.tsb_breaches.specs.declared.fault.Fault.{Fault}
 use Rattle.tsb_review_text.specs.declared.line.TheConstants.{LONGEST}
 use Rattle.tsb_lines.specs.ShortLines.{Adds, fitting}
 use Rattle.tsb_review_text.specs.Bytes.{ended}
-use Rattle.tsb_review_text.specs.Lines.{filled, fraction, part, seconds}
+use Rattle.tsb_review_text.specs.Lines.{also, filled, fraction, part, seconds}
 use Rattle.tsb_review_text.specs.BreachTemplates.{breach_template}
 use Rattle.tsb_review_text.specs.Templates.{template, wording}
-use Rattle.tsb_lines.proofs.ShortLemmas.{all-of, onto-fitting}
+use Rattle.tsb_lines.proofs.ShortLemmas.{all-of, onto-fitting, said, then}
 
--- a byte is added, of those that are left
-pub part-on : (n : Numbers) (text : List ℕ) (k : ℕ) (line new all : List ℕ) → k < length text → Adds LONGEST line (part n (get_or text k 0)) new →
-    fitting LONGEST (line ++ ended n (drop k text)) ≡ all → fitting LONGEST (new ++ ended n (drop (k + 1) text)) ≡ all
-part-on n text k line new all below added so =
-    let rest : List ℕ = ended n (drop (k + 1) text) in
+-- one more of a list is written, of those that are left
+pub part-on : (written : ℕ → List ℕ) (end xs : List ℕ) (k : ℕ) (line new all : List ℕ) → k < length xs → Adds LONGEST line (written (get_or xs k 0)) new →
+    fitting LONGEST (line ++ ended written end (drop k xs)) ≡ all → fitting LONGEST (new ++ ended written end (drop (k + 1) xs)) ≡ all
+part-on written end xs k line new all below added so =
+    let rest : List ℕ = ended written end (drop (k + 1) xs) in
     let next : suc k ≡ k + 1 = omega arith in
     ap (λ (ts : List ℕ). fitting LONGEST (ts ++ rest)) added.line
-    ∙ onto-fitting LONGEST (line ++ part n (get_or text k 0)) rest
-    ∙ ap (fitting LONGEST) (append_assoc line (part n (get_or text k 0)) rest)
-    ∙ ap (λ (m : ℕ). fitting LONGEST (line ++ ended n (get_or text k 0 ∷ drop m text))) (sym next)
-    ∙ ap (λ (bs : List ℕ). fitting LONGEST (line ++ ended n bs)) (sym (drop-cons text k 0 below))
+    ∙ onto-fitting LONGEST (line ++ written (get_or xs k 0)) rest
+    ∙ ap (fitting LONGEST) (append_assoc line (written (get_or xs k 0)) rest)
+    ∙ ap (λ (m : ℕ). fitting LONGEST (line ++ ended written end (get_or xs k 0 ∷ drop m xs))) (sym next)
+    ∙ ap (λ (bs : List ℕ). fitting LONGEST (line ++ ended written end bs)) (sym (drop-cons xs k 0 below))
     ∙ so
 
--- with its line feed a text is filled
-ended-filled : (n : Numbers) (text : List ℕ) → ended n text ≡ filled n text ++ 10 ∷ []
-unfolding filled
-ended-filled n [] = refl
-ended-filled n (b ∷ bs) =
-    ap (λ (ts : List ℕ). part n b ++ ts) (ended-filled n bs) ∙ sym (append_assoc (part n b) (flat_map (part n) bs) (10 ∷ []))
+-- all of a list is written, and what ends it
+ended-all : (written : ℕ → List ℕ) (end xs : List ℕ) → ended written end xs ≡ flat_map written xs ++ end
+ended-all written end [] = refl
+ended-all written end (x ∷ xs) =
+    ap (λ (ts : List ℕ). written x ++ ts) (ended-all written end xs) ∙ sym (append_assoc (written x) (flat_map written xs) end)
 
 -- ## How long it is
 
@@ -99,23 +100,37 @@ short-part n small byte =
     pick (byte == 90) _ _ _ (at-letter byte 90 _ refl (short-seconds n.d small.d)) (λ e.
     some_cost (nat_le 80 byte && nat_le byte 90)))))))))))
 
-short-ended : (n : Numbers) → AreSmall n → (text : List ℕ) → length (ended n text) ≤ sum_by cost text + 1
-short-ended n small [] = omega arith
-short-ended n small (b ∷ bs) =
+short-filled : (n : Numbers) → AreSmall n → (text : List ℕ) → length (flat_map (part n) text) ≤ sum_by cost text
+short-filled n small [] = omega arith
+short-filled n small (b ∷ bs) =
     let here : length (part n b) ≤ cost b = short-part n small b in
-    let rest : length (ended n bs) ≤ sum_by cost bs + 1 = short-ended n small bs in
-    omega (arith, here, rest, length-append (part n b) (ended n bs), sum_by-cons cost b bs)
+    let rest : length (flat_map (part n) bs) ≤ sum_by cost bs = short-filled n small bs in
+    omega (arith, here, rest, length-append (part n b) (flat_map (part n) bs), sum_by-cons cost b bs)
 
--- each text has room
-template-room : (x : Advice) → sum_by cost (template x) + 1 ≤ LONGEST
+-- a later pattern has a comma, a space and two digits
+short-also : (plan : Plan) (f : Finding) (m : ℕ) → m < 100 → length (also plan f m) ≤ 4
+short-also plan f m small =
+    let digits : length (decimal m) ≤ 2 = length-decimal-le 2 m (omega arith) (omega (arith, small)) (omega (arith, small)) in
+    pick (is_also_in plan f m) (44 ∷ 32 ∷ decimal m) [] 4 (λ e. omega (arith, digits)) (λ e. omega arith)
+
+short-patterns : (plan : Plan) (f : Finding) (a k : ℕ) → a + k < 100 → length (flat_map (also plan f) (run_from a k)) ≤ 4 * k
+unfolding run_from
+short-patterns plan f a zero small = omega arith
+short-patterns plan f a (suc k) small =
+    let here : length (also plan f a) ≤ 4 = short-also plan f a (omega (arith, small)) in
+    let rest : length (flat_map (also plan f) (run_from (a + 1) k)) ≤ 4 * k = short-patterns plan f (a + 1) k (omega (arith, small)) in
+    omega (arith, here, rest, length-append (also plan f a) (flat_map (also plan f) (run_from (a + 1) k)))
+
+-- each text has room, and that of an advice for later patterns and a line feed too
+template-room : (x : Advice) → sum_by cost (template x) + 65 ≤ LONGEST
 unfolding cost
 template-room x = search rules
 
-wording-room : (plan : Plan) (f : Finding) → sum_by cost (wording plan f) + 1 ≤ LONGEST
+wording-room : (plan : Plan) (f : Finding) → sum_by cost (wording plan f) + 65 ≤ LONGEST
 unfolding cost
 wording-room plan f = go (ends_walk_for_track plan f)
   where
-    go : (b : Bool) → sum_by cost (if b then codes "A36 preempt P: it can end a walk of phase Q at once, as is allowed where a track has to be cleared" else template f.advice) + 1 ≤ LONGEST
+    go : (b : Bool) → sum_by cost (if b then codes "A36 preempt P: it can end a walk of phase Q at once, as is allowed where a track has to be cleared" else template f.advice) + 65 ≤ LONGEST
     go true = search rules
     go false = template-room f.advice
 
@@ -123,21 +138,30 @@ breach-room : (f : Fault) → sum_by cost (breach_template f) + 1 ≤ LONGEST
 unfolding cost
 breach-room f = search rules
 
--- a text that has room, filled
-text-done : (n : Numbers) (wanted items text empty : List ℕ) → AreSmall n → sum_by cost wanted + 1 ≤ LONGEST → empty ≡ [] → text ≡ wanted →
-    Adds LONGEST empty (ended n text) items → items ≡ filled n wanted ++ 10 ∷ []
-text-done n wanted items text empty small room none is added =
-    let all : List ℕ = ended n wanted in
-    let few : length all ≤ sum_by cost wanted + 1 = short-ended n small wanted in
-    all-of none (omega (arith, few, room)) (subst (λ (ts : List ℕ). Adds LONGEST empty (ended n ts) items) is added)
-    ∙ ended-filled n wanted
-
 -- the line of a finding
-pub line-done : (n : Numbers) (plan : Plan) (f : Finding) (items text empty : List ℕ) → AreSmall n → empty ≡ [] → text ≡ wording plan f →
-    Adds LONGEST empty (ended n text) items → items ≡ filled n (wording plan f) ++ 10 ∷ []
-line-done n plan f items text empty small none is added = text-done n (wording plan f) items text empty small (wording-room plan f) none is added
+pub line-done : (n : Numbers) (plan : Plan) (f : Finding) (items mid text empty ms : List ℕ) → AreSmall n → empty ≡ [] → text ≡ wording plan f → ms ≡ run_from 1 16 →
+    Adds LONGEST empty (ended (part n) [] text) mid → Adds LONGEST mid (ended (also plan f) (10 ∷ []) ms) items →
+    items ≡ filled n (wording plan f) ++ (flat_map (also plan f) (run_from 1 16) ++ 10 ∷ [])
+unfolding filled
+line-done n plan f items mid text empty ms small none is all first second =
+    let front : List ℕ = flat_map (part n) (wording plan f) in
+    let patterns : List ℕ = flat_map (also plan f) (run_from 1 16) in
+    let starts : ended (part n) [] text ≡ front ++ [] = ap (ended (part n) []) is ∙ ended-all (part n) [] (wording plan f) in
+    let ends : ended (also plan f) (10 ∷ []) ms ≡ patterns ++ 10 ∷ [] = ap (ended (also plan f) (10 ∷ [])) all ∙ ended-all (also plan f) (10 ∷ []) (run_from 1 16) in
+    let both : Adds LONGEST empty ((front ++ []) ++ (patterns ++ 10 ∷ [])) items = (then) (said starts first) (said ends second) in
+    let same : (front ++ []) ++ (patterns ++ 10 ∷ []) ≡ front ++ (patterns ++ 10 ∷ []) = append_assoc front [] (patterns ++ 10 ∷ []) in
+    let few : length front ≤ sum_by cost (wording plan f) = short-filled n small (wording plan f) in
+    let others : length patterns ≤ 64 = short-patterns plan f 1 16 (omega arith) in
+    let room : sum_by cost (wording plan f) + 65 ≤ LONGEST = wording-room plan f in
+    all-of none (omega (arith, few, others, room, length-append front (patterns ++ 10 ∷ []), length-append patterns (10 ∷ []))) (said same both)
 
 -- the line of a breach
 pub breach-line-done : (n : Numbers) (f : Fault) (items text empty : List ℕ) → AreSmall n → empty ≡ [] → text ≡ breach_template f →
-    Adds LONGEST empty (ended n text) items → items ≡ filled n (breach_template f) ++ 10 ∷ []
-breach-line-done n f items text empty small none is added = text-done n (breach_template f) items text empty small (breach-room f) none is added
+    Adds LONGEST empty (ended (part n) (10 ∷ []) text) items → items ≡ filled n (breach_template f) ++ 10 ∷ []
+unfolding filled
+breach-line-done n f items text empty small none is added =
+    let front : List ℕ = flat_map (part n) (breach_template f) in
+    let whole : ended (part n) (10 ∷ []) text ≡ front ++ 10 ∷ [] = ap (ended (part n) (10 ∷ [])) is ∙ ended-all (part n) (10 ∷ []) (breach_template f) in
+    let few : length front ≤ sum_by cost (breach_template f) = short-filled n small (breach_template f) in
+    let room : sum_by cost (breach_template f) + 1 ≤ LONGEST = breach-room f in
+    all-of none (omega (arith, few, room, length-append front (10 ∷ []))) (said whole added)

@@ -3,7 +3,9 @@ use Rattle.std.specs.Prelude.{ℕ, ◌/◌, ◌%◌, ◌==◌, if◌then◌else�
 use Rattle.tsb_plan.specs.Plan.{Plan}
 use Rattle.tsb_review.specs.declared.finding.Finding.{Finding}
 use Rattle.tsb_review.specs.declared.numbers.Numbers.{Numbers}
+use Rattle.tsb_types.specs.Lists.{run_from}
 use Rattle.tsb_review.specs.Advices.{findings}
+use Rattle.tsb_review.specs.Alike.{is_also_in}
 use Rattle.tsb_review.specs.Numbers.{numbers_of}
 use Rattle.tsb_breaches.specs.declared.breach.Breach.{Breach}
 use Rattle.tsb_breaches.specs.Breaches.{breaches}
@@ -30,9 +32,13 @@ part n byte =
 unfoldable pub filled : Numbers → List ℕ → List ℕ
 filled n text = flat_map (part n) text
 
+-- a later pattern of which a finding is also told, behind those before it
+abbrev pub also : Plan → Finding → ℕ → List ℕ
+also plan f m = if is_also_in plan f m then 44 ∷ 32 ∷ decimal m else []
+
 -- the line of a finding, with its line feed
 unfoldable pub line_of : Plan → Finding → List ℕ
-line_of plan f = filled (numbers_of plan f) (wording plan f) ++ 10 ∷ []
+line_of plan f = filled (numbers_of plan f) (wording plan f) ++ (flat_map (also plan f) (run_from 1 16) ++ 10 ∷ [])
 
 -- the text of a review: a line for each finding, in order
 unfoldable pub review_text : Plan → List ℕ

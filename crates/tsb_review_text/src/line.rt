@@ -1,19 +1,20 @@
 //! The line of a finding, or of a breach.
-ghost use Rattle.std.specs.Prelude.{◌≡◌, ◌∷◌, decimal};
+ghost use Rattle.std.specs.Prelude.{◌≡◌, [], ◌∷◌, decimal};
 ghost use Rattle.tsb_lines.specs.ShortLines.{Adds};
 ghost use Rattle.tsb_plan.specs.PlanOf.{plan_of};
 ghost use Rattle.tsb_review_text.specs.Bytes.{ended};
-ghost use Rattle.tsb_review_text.specs.Lines.{seconds, fraction, part, line_of, breach_line};
+ghost use Rattle.tsb_review_text.specs.Lines.{seconds, fraction, part, also, line_of, breach_line};
 
 use crate::breach_template::breach_template;
 use crate::template::wording;
 use tsb_breaches::Breach;
 use tsb_lines::ShortLine;
 use tsb_plan::Plan;
-use tsb_review::{Finding, Numbers, numbers_of};
+use tsb_review::{Finding, Numbers, is_also_in, numbers_of};
+use tsb_types::Pattern;
 
 /// The most bytes that a line can have, with its line feed.
-pub const LONGEST: usize = 192;
+pub const LONGEST: usize = 256;
 
 /// The bytes of a line.
 pub type Line = ShortLine<LONGEST>;
@@ -24,7 +25,8 @@ pub fn line_of(plan: &Plan, finding: &Finding) -> Line
 {
     let numbers = numbers_of(plan, finding);
     let mut line = Line::new();
-    push_parts(&mut line, wording(plan, finding), &numbers);
+    push_parts(&mut line, wording(plan, finding), &numbers, b"");
+    push_patterns(&mut line, plan, finding, &Pattern::all());
     line
 }
 
@@ -34,18 +36,47 @@ pub fn breach_line(plan: &Plan, breach: &Breach) -> Line
 {
     let numbers = tsb_breaches::numbers_of(plan, breach);
     let mut line = Line::new();
-    push_parts(&mut line, breach_template(breach.fault), &numbers);
+    push_parts(&mut line, breach_template(breach.fault), &numbers, b"\n");
     line
 }
 
-/// Adds a text, with numbers in place of their letters, and a line feed.
-fn push_parts(line: &mut Line, text: &[u8], numbers: &Numbers)
-    ensures { Adds LONGEST line.old (ended numbers.now text.now) line.new }
+/// Adds a text, with numbers in place of their letters, and what ends it.
+fn push_parts(line: &mut Line, text: &[u8], numbers: &Numbers, end: &[u8])
+    ensures { Adds LONGEST line.old (ended (part numbers.now) end.now text.now) line.new }
 {
     for byte in text {
         push_part(line, *byte, numbers);
     }
+    line.push(end);
+}
+
+/// Adds those of the patterns of which the finding is also told, and a line feed.
+fn push_patterns(line: &mut Line, plan: &Plan, finding: &Finding, patterns: &[Pattern])
+    ensures { Adds LONGEST line.old (ended (also (plan_of plan.now) finding.now) (10 ∷ []) patterns.now) line.new }
+{
+    for pattern in patterns {
+        push_pattern(line, plan, finding, *pattern);
+    }
     line.push(b"\n");
+}
+
+/// Adds a pattern, where the finding is also told of it.
+fn push_pattern(line: &mut Line, plan: &Plan, finding: &Finding, pattern: Pattern)
+    ensures { Adds LONGEST line.old (also (plan_of plan.now) finding.now pattern) line.new }
+{
+    if is_also_in(plan, finding, pattern) {
+        push_listed(line, u32::from(pattern.number()));
+    } else {
+        line.push(b"");
+    }
+}
+
+/// Adds a number behind others.
+fn push_listed(line: &mut Line, number: u32)
+    ensures { Adds LONGEST line.old (44 ∷ 32 ∷ decimal number) line.new }
+{
+    line.push(b", ");
+    line.push_number(number);
 }
 
 /// Adds what a byte of a text stands for.

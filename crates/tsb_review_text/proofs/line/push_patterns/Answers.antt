@@ -1,0 +1,10 @@
+use Rattle.std.proofs.Common.{[], ◌∷◌}
+use Rattle.tsb_plan.specs.PlanOf.{plan_of}
+use Rattle.tsb_review_text.specs.Lines.{also}
+use Rattle.tsb_review_text.proofs.LineLemmas.{part-on}
+use Rattle.tsb_review_text.proofs.line.push_patterns.Goals as goal
+
+pub loop-pattern-preserved : goal.loop-pattern-preserved
+loop-pattern-preserved c =
+    part-on (also (plan_of c.args.plan.now) c.args.finding.now) (10 ∷ []) c.args.patterns.now c.loop-pattern.pattern-index c.loop-pattern.line c.push_pattern.new.line _
+    c.loop-pattern-test.true c.push_pattern.ensures c.loop-pattern.invariant
