@@ -44,6 +44,7 @@ FOURTH: Change = {"patternCycleTime.4": 90, "patternOffsetTime.4": 44, "patternS
 # A second split table, as the first but for a second that phases 3 and 7 give to 4 and 8.
 SECOND_TABLE: Change = {**{f"splitTime.{16 + p}": split for p, split in enumerate([20, 25, 19, 26] * 2, 1)},
                         "splitCoordPhase.18": 1, "splitCoordPhase.22": 1}
+NO_CALL = "while it has an alarm no car calls phase %d, since its fail time is 0 s"
 CASES = [
     Case(1, {"vehicleDetectorCallPhase.1": 0, "splitMode.1": 0}, ["phase 1: no detector, button, recall or split mode calls it"],
          {"phaseSoftRecall.1": 1}),
@@ -241,6 +242,10 @@ CASES = [
     Case(47, {"coordCorrectionMode.1": 3}, [AT_ONCE % (3, 0)], {"coordCorrectionMode.1": 1}),
     Case(47, {"coordCorrectionLimit.1": 50}, [AT_ONCE % (0, 50)], {"coordCorrectionMode.1": 3}),
     Case(47, {"coordCorrectionLimit.1": 1}, [AT_ONCE % (0, 1)], {"coordCorrectionLimit.1": 0}),
+    Case(48, {"vehicleDetectorMaxPresence.3": 5}, [f"vehicle detector 3: {NO_CALL % 3}"], {"vehicleDetectorFailTime.3": 1}),
+    Case(48, {"vehicleDetectorErraticCounts.4": 60, "vehicleDetectorNoActivity.5": 30},
+         [f"vehicle detector {d}: {NO_CALL % d}" for d in (4, 5)], {"vehicleDetectorCallPhase.9": 4, "phaseSoftRecall.5": 1}),
+    Case(48, {"vehicleDetectorNoActivity.7": 30}, [f"vehicle detector 7: {NO_CALL % 7}"], {"phasePedRecall.7": 1, "phaseWalk.7": 7}),
 ]
 
 

@@ -85,6 +85,10 @@ class Plan:
         """Whether a phase has a minimum, maximum or pedestrian recall of its own."""
         return any(self.phase(f"{kind}Recall", phase) for kind in ("Min", "Max", "Ped"))
 
+    def any_recall(self, phase: int) -> bool:
+        """Whether a phase has a recall or a soft recall of its own."""
+        return self.own_recall(phase) or bool(self.phase("SoftRecall", phase))
+
     # Of a pattern
 
     def split(self, name: str, pattern: int, phase: int) -> int:
@@ -257,7 +261,7 @@ def clearance(plan: Plan) -> Iterator[tuple[int, str]]:
 
 
 def actuation(plan: Plan) -> Iterator[tuple[int, str]]:
-    """Advices A17 to A26."""
+    """Advices A17 to A26, and A48."""
     for p in plan.enabled:
         at = f"phase {p}:"
         passage, gap = plan.phase("Passage", p), plan.phase("MinimumGap", p)
@@ -297,6 +301,9 @@ def actuation(plan: Plan) -> Iterator[tuple[int, str]]:
         if extend and plan.phase("MaxRecall", p):
             yield 26, (f"vehicle detector {d}: its extension of {seconds(extend)} s has no effect, "
                        f"since phase {p} has maximum recall")
+        diagnosis = any(plan.value(f"vehicleDetector{it}", d) for it in ("NoActivity", "MaxPresence", "ErraticCounts"))
+        if diagnosis and not plan.value("vehicleDetectorFailTime", d) and plan.detectors(p) == [d] and not plan.any_recall(p):
+            yield 48, f"vehicle detector {d}: while it has an alarm no car calls phase {p}, since its fail time is 0 s"
 
 
 def coordination(plan: Plan) -> Iterator[tuple[int, str]]:

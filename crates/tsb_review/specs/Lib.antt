@@ -7,6 +7,7 @@ pub mod Service
 pub mod Pedestrians
 pub mod Clearance
 pub mod Actuation
+pub mod Detection
 pub mod Coordination
 pub mod Preempts
 pub mod Overlaps

@@ -6,7 +6,7 @@ use Rattle.tsb_plan.specs.declared.object.Object.TheVariants.{CoordCorrectionMod
 use Rattle.tsb_plan.specs.Plan.{Plan, walk, pedestrian_clear, minimum_green, maximum, passage, minimum_gap, time_before_reduction, red_revert}
 use Rattle.tsb_plan.specs.Running.{pattern_maximum}
 use Rattle.tsb_review.specs.declared.advice.Advice.{Advice}
-use Rattle.tsb_review.specs.declared.advice.Advice.TheVariants.{A4, A7, A8, A9, A10, A11, A12, A13, A14, A16, A18, A19, A20, A21, A25, A26, A27, A28, A30, A32, A35, A39, A42, A43, A47}
+use Rattle.tsb_review.specs.declared.advice.Advice.TheVariants.{A4, A7, A8, A9, A10, A11, A12, A13, A14, A16, A18, A19, A20, A21, A25, A26, A27, A28, A30, A32, A35, A39, A42, A43, A47, A48}
 use Rattle.tsb_review.specs.declared.finding.Finding.{Finding}
 use Rattle.tsb_review.specs.declared.numbers.Numbers.{Numbers}
 use Rattle.tsb_review.specs.declared.place.Place.{Place}
@@ -56,6 +56,7 @@ of_phase plan x p = four p 0 0 0
 abbrev pub of_detector : Plan → Advice → ℕ → Numbers
 of_detector plan A25 d = four d (detector_delay plan d) (number_of (call_phase plan d)) 0
 of_detector plan A26 d = four d (detector_extend plan d) (number_of (call_phase plan d)) 0
+of_detector plan A48 d = four d 0 (number_of (call_phase plan d)) 0
 of_detector plan x d = four d 0 0 0
 
 -- of a phase in a pattern: the phase, times or another phase, and last the pattern

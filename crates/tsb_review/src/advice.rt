@@ -8,7 +8,7 @@ use crate::place::Shape;
 ///
 /// They stand in the order in which a review gives them: on service (A1 to A7), pedestrians (A8 to A14), clearance (A15
 /// and A16), actuation (A17 to A26), coordination (A27 to A32), preempts (A33 to A38), overlaps (A39 to A41), and
-/// options of coordination (A42 to A47). A31 is not used any more.
+/// options of coordination (A42 to A47). Those from A48 on came later, on any of these. A31 is not used any more.
 #[derive(Clone, Copy)]
 pub enum Advice {
     /// An enabled phase is called by no detector, button, recall or split mode.
@@ -105,11 +105,13 @@ pub enum Advice {
     A46,
     /// A correction mode without a limit, or a limit without a mode: local counters come into step at once.
     A47,
+    /// A vehicle detector with a diagnosis makes no call while it has failed, and nothing else calls its phase.
+    A48,
 }
 
 impl Advice {
     /// All advices, in order.
-    pub const ALL: [Advice; 46] = [
+    pub const ALL: [Advice; 47] = [
         Advice::A1,
         Advice::A2,
         Advice::A3,
@@ -156,6 +158,7 @@ impl Advice {
         Advice::A45,
         Advice::A46,
         Advice::A47,
+        Advice::A48,
     ];
 
     /// What the advice is given for.
@@ -181,7 +184,7 @@ impl Advice {
             | Advice::A23
             | Advice::A24
             | Advice::A45 => Shape::Phase,
-            Advice::A2 | Advice::A25 | Advice::A26 => Shape::Detector,
+            Advice::A2 | Advice::A25 | Advice::A26 | Advice::A48 => Shape::Detector,
             Advice::A3 => Shape::Phases,
             Advice::A4
             | Advice::A12

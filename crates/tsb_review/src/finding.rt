@@ -9,7 +9,9 @@ ghost use Rattle.tsb_review.specs.Findings.{finding_at, finding_of, has_track_at
 
 use crate::advice::Advice;
 use crate::place::{Place, place_of};
-use crate::{actuation, alike, clearance, coordination, overlaps, pedestrians, preempts, service};
+use crate::{
+    actuation, alike, clearance, coordination, detection, overlaps, pedestrians, preempts, service,
+};
 use tsb_plan::Plan;
 use tsb_types::{Detector, Overlap, Pattern, Phase, Preempt, Ring};
 
@@ -138,6 +140,7 @@ fn of_detector(plan: &Plan, advice: Advice, detector: Detector) -> bool
         Advice::A2 => service::is_set_for_nothing(plan, detector),
         Advice::A25 => actuation::delays_too_long(plan, detector),
         Advice::A26 => actuation::extends_for_nothing(plan, detector),
+        Advice::A48 => detection::forgets_its_phase(plan, detector),
         _ => false,
     }
 }

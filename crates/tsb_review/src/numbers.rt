@@ -161,6 +161,7 @@ fn of_detector(plan: &Plan, advice: Advice, detector: Detector) -> Numbers
     match advice {
         Advice::A25 => four(d, plan.detector_delay(detector), phase, 0),
         Advice::A26 => four(d, plan.detector_extend(detector), phase, 0),
+        Advice::A48 => four(d, 0, phase, 0),
         _ => four(d, 0, 0, 0),
     }
 }

@@ -135,5 +135,8 @@ fn template(advice: Advice) -> &'static [u8]
         Advice::A47 => {
             b"A47 unit: local counters come into step at once, since coordCorrectionMode is P and coordCorrectionLimit is Q"
         }
+        Advice::A48 => {
+            b"A48 vehicle detector P: while it has an alarm no car calls phase R, since its fail time is 0 s"
+        }
     }
 }

@@ -1,0 +1,61 @@
+//! Advices on vehicle detectors: A48. Times are in tenths of a second.
+#![tactic(auto, unfolding(tsb_plan::specs::PlanOf::plan_of))]
+
+ghost use Rattle.std.specs.Prelude.{◌≡◌};
+ghost use Rattle.tsb_plan.specs.Parts.{call_phase};
+ghost use Rattle.tsb_plan.specs.PlanOf.{plan_of};
+ghost use Rattle.tsb_review.specs.Actuation.{phase_and};
+ghost use Rattle.tsb_review.specs.Detection.{has_diagnosis, has_other_detector, is_unrecalled, is_only_caller, forgets_its_phase};
+
+use crate::calls::{detector_calls, is_recalled};
+use crate::service::has_soft_recall;
+use tsb_plan::Plan;
+use tsb_types::{Detector, Phase};
+
+/// Whether the vehicle detector has a diagnosis: of no activity, of maximum presence or of erratic counts.
+fn has_diagnosis(plan: &Plan, detector: Detector) -> bool
+    ensures { result ≡ has_diagnosis (plan_of plan.now) detector }
+{
+    plan.no_activity(detector) > 0
+        || plan.maximum_presence(detector) > 0
+        || plan.erratic_counts(detector) > 0
+}
+
+/// Whether another vehicle detector calls the phase.
+fn has_other_detector(plan: &Plan, detector: Detector, phase: Phase) -> bool
+    ensures { result ≡ has_other_detector (plan_of plan.now) detector phase }
+{
+    Detector::all().iter().any(|other| *other != detector && detector_calls(plan, *other, phase))
+}
+
+/// Whether the phase has no recall of its own.
+fn is_unrecalled(plan: &Plan, phase: Phase) -> bool
+    ensures { result ≡ is_unrecalled (plan_of plan.now) phase }
+{
+    !(is_recalled(plan, phase) || has_soft_recall(plan, phase))
+}
+
+/// Whether of vehicle detectors this one alone calls the phase, which has no recall of its own.
+fn is_only_caller(plan: &Plan, detector: Detector, phase: Phase) -> bool
+    ensures { result ≡ is_only_caller (plan_of plan.now) detector phase }
+{
+    !has_other_detector(plan, detector, phase) && is_unrecalled(plan, phase)
+}
+
+/// Whether the vehicle detector is the only one of its phase, which has no recall of its own.
+fn calls_alone(plan: &Plan, detector: Detector) -> bool
+    ensures { result ≡ phase_and (is_only_caller (plan_of plan.now) detector) (call_phase (plan_of plan.now) detector) }
+{
+    match plan.call_phase(detector) {
+        Some(phase) => is_only_caller(plan, detector, phase),
+        None => false,
+    }
+}
+
+/// A48: whether the vehicle detector has a diagnosis and a fail time of 0, and is the only one of its phase, which has
+/// no recall of its own.
+pub(crate) fn forgets_its_phase(plan: &Plan, detector: Detector) -> bool
+    ensures { result ≡ forgets_its_phase (plan_of plan.now) detector }
+{
+    has_diagnosis(plan, detector) && plan.fail_time(detector) == 0 && calls_alone(plan, detector)
+}
