@@ -44,6 +44,8 @@ FOURTH: Change = {"patternCycleTime.4": 90, "patternOffsetTime.4": 44, "patternS
 # A second split table, as the first but for a second that phases 3 and 7 give to 4 and 8.
 SECOND_TABLE: Change = {**{f"splitTime.{16 + p}": split for p, split in enumerate([20, 25, 19, 26] * 2, 1)},
                         "splitCoordPhase.18": 1, "splitCoordPhase.22": 1}
+# Another split table, of 30 s for each phase, for a cycle of 120 s.
+LONG_TABLE: Change = {**{f"splitTime.{16 + p}": 30 for p in range(1, 9)}, "splitCoordPhase.18": 1, "splitCoordPhase.22": 1}
 NO_CALL = "while it has an alarm no car calls phase %d, since its fail time is 0 s"
 CASES = [
     Case(1, {"vehicleDetectorCallPhase.1": 0, "splitMode.1": 0}, ["phase 1: no detector, button, recall or split mode calls it"],
@@ -246,6 +248,12 @@ CASES = [
     Case(48, {"vehicleDetectorErraticCounts.4": 60, "vehicleDetectorNoActivity.5": 30},
          [f"vehicle detector {d}: {NO_CALL % d}" for d in (4, 5)], {"vehicleDetectorCallPhase.9": 4, "phaseSoftRecall.5": 1}),
     Case(48, {"vehicleDetectorNoActivity.7": 30}, [f"vehicle detector 7: {NO_CALL % 7}"], {"phasePedRecall.7": 1, "phaseWalk.7": 7}),
+    Case(49, {"vehicleDetectorMaxPresence.2": 3},
+         ["vehicle detector 2: its maximum presence of 180 s is at most two cycles of 90 s in pattern 1, so a queue can trip it"],
+         {"vehicleDetectorMaxPresence.2": 4}),
+    Case(49, {**FOURTH, "patternCycleTime.4": 120, "patternSplitNumber.4": 2, **LONG_TABLE, "vehicleDetectorMaxPresence.2": 4},
+         ["vehicle detector 2: its maximum presence of 240 s is at most two cycles of 120 s in pattern 4, so a queue can trip it"],
+         {"vehicleDetectorCallPhase.2": 0}),
 ]
 
 

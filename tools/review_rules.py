@@ -261,7 +261,7 @@ def clearance(plan: Plan) -> Iterator[tuple[int, str]]:
 
 
 def actuation(plan: Plan) -> Iterator[tuple[int, str]]:
-    """Advices A17 to A26, and A48."""
+    """Advices A17 to A26, A48 and A49."""
     for p in plan.enabled:
         at = f"phase {p}:"
         passage, gap = plan.phase("Passage", p), plan.phase("MinimumGap", p)
@@ -304,6 +304,12 @@ def actuation(plan: Plan) -> Iterator[tuple[int, str]]:
         diagnosis = any(plan.value(f"vehicleDetector{it}", d) for it in ("NoActivity", "MaxPresence", "ErraticCounts"))
         if diagnosis and not plan.value("vehicleDetectorFailTime", d) and plan.detectors(p) == [d] and not plan.any_recall(p):
             yield 48, f"vehicle detector {d}: while it has an alarm no car calls phase {p}, since its fail time is 0 s"
+        presence = 60 * plan.value("vehicleDetectorMaxPresence", d)
+        for n in plan.patterns:
+            if 0 < presence <= 2 * plan.value("patternCycleTime", n):
+                yield 49, (f"vehicle detector {d}: its maximum presence of {presence} s is at most two cycles of "
+                           f"{plan.value('patternCycleTime', n)} s in pattern {n}, so a queue can trip it")
+                break
 
 
 def coordination(plan: Plan) -> Iterator[tuple[int, str]]:

@@ -42,7 +42,7 @@ KINDS = ["it stands twice", "is no whole number: seconds", "is no whole number: 
 REVIEWED, REFUSED = 0, 1
 # What `tsb check` says of a plan that breaks a rule begins so.
 RULE = "plan: rule "
-ADVICES = [n for n in range(1, 49) if n != 31]
+ADVICES = [n for n in range(1, 50) if n != 31]
 # Display lines have so many characters.
 DISPLAY = 53
 # Objects of phases, detectors and so on, with the number of their indices and values that bring advices about.
@@ -61,7 +61,7 @@ VALUES = {
     "coordForceMode": (1, [0, 0, 1, 2]), "coordMaximumMode": (1, [0, 0, 1, 2]), "patternPermissiveTime": (2, [0, 1, 5, 9, 10, 11, 15, 25]),
     "patternLeadLag": (2, [0, 1]), "coordCorrectionMode": (1, [0, 1, 2, 3]), "coordCorrectionLimit": (1, [0, 0, 1, 25, 50]),
     "vehicleDetectorCallPhase": (16, list(range(9))), "vehicleDetectorDelay": (16, [0, 5, 150, 200, 250, 251, 400]),
-    "vehicleDetectorExtend": (16, [0, 5]), "vehicleDetectorMaxPresence": (16, [0, 5]), "pedestrianDetectorCallPhase": (8, list(range(9))),
+    "vehicleDetectorExtend": (16, [0, 5]), "vehicleDetectorMaxPresence": (16, [0, 2, 3, 4, 5]), "vehicleDetectorFailTime": (16, [0, 0, 1, 255]), "pedestrianDetectorCallPhase": (8, list(range(9))),
     "patternOffsetTime": (2, [0, 10, 40, 45, 46, 79]), "splitMode": (8, [0, 1, 2, 3, 4, 5]),
     "splitTime": (8, [10, 15, 20, 25, 30, 35, 40]), "splitCoordPhase": (8, [0, 1]),
     "preemptDelay": (4, [0, 1, 5]), "preemptMinimumDuration": (4, [0, 10, 30]), "preemptMaximumPresence": (4, [0, 20, 60]),

@@ -1,8 +1,8 @@
--- Advices on vehicle detectors: A48. Times are in tenths of a second.
-use Rattle.std.specs.Prelude.{ℕ, ◌==◌, nat_lt, Bool, not, ◌&&◌, ◌||◌, None}
+-- Advices on vehicle detectors: A48 and A49. Times are in tenths of a second.
+use Rattle.std.specs.Prelude.{ℕ, ◌*◌, ◌==◌, nat_le, nat_lt, Bool, not, ◌&&◌, ◌||◌, Option, Some, None, is_some}
 use Rattle.std.specs.List.{list_any}
-use Rattle.tsb_types.specs.Lists.{is, run_from}
-use Rattle.tsb_plan.specs.Parts.{call_phase, no_activity, maximum_presence, erratic_counts, fail_time}
+use Rattle.tsb_types.specs.Lists.{first, is, run_from}
+use Rattle.tsb_plan.specs.Parts.{call_phase, cycle, no_activity, maximum_presence, erratic_counts, fail_time}
 use Rattle.tsb_plan.specs.Plan.{Plan, has_soft_recall}
 use Rattle.tsb_review.specs.Actuation.{phase_and}
 use Rattle.tsb_review.specs.Calls.{is_recalled}
@@ -27,3 +27,20 @@ is_only_caller plan d p = not (has_other_detector plan d p) && is_unrecalled pla
 abbrev pub forgets_its_phase : Plan → ℕ → Bool
 forgets_its_phase plan d =
     has_diagnosis plan d && (fail_time plan d == 0 && phase_and (is_only_caller plan d) (call_phase plan d))
+
+-- vehicle detector d has a maximum presence, of at most two cycles of pattern n
+abbrev pub trips_within : Plan → ℕ → ℕ → Bool
+trips_within plan d n = nat_lt 0 (maximum_presence plan d) && nat_le (maximum_presence plan d) (2 * cycle plan n)
+
+-- the first such pattern
+abbrev pub tripping : Plan → ℕ → Option ℕ
+tripping plan d = first (trips_within plan d) (run_from 1 16)
+
+-- the cycle of a pattern, 0 where there is none
+abbrev pub cycle_of : Plan → Option ℕ → ℕ
+cycle_of plan None = 0
+cycle_of plan (Some n) = cycle plan n
+
+-- A49: vehicle detector d calls a phase, and its maximum presence is at most two cycles of a pattern: a queue trips it
+abbrev pub trips_in_queue : Plan → ℕ → Bool
+trips_in_queue plan d = is_some (call_phase plan d) && is_some (tripping plan d)

@@ -1,12 +1,12 @@
 -- The numbers that the line of a finding shows, up to four, named `a` to `d`. Times are in tenths of a second.
 use Rattle.std.specs.Prelude.{ℕ, Option, Some, None}
 use Rattle.tsb_types.specs.Lists.{or_number}
-use Rattle.tsb_plan.specs.Parts.{call_phase, detector_delay, detector_extend, cycle, permissive_time, minimum_duration, preempt_maximum_presence, correction_limit}
+use Rattle.tsb_plan.specs.Parts.{call_phase, detector_delay, detector_extend, maximum_presence, cycle, permissive_time, minimum_duration, preempt_maximum_presence, correction_limit}
 use Rattle.tsb_plan.specs.declared.object.Object.TheVariants.{CoordCorrectionMode}
 use Rattle.tsb_plan.specs.Plan.{Plan, walk, pedestrian_clear, minimum_green, maximum, passage, minimum_gap, time_before_reduction, red_revert}
 use Rattle.tsb_plan.specs.Running.{pattern_maximum}
 use Rattle.tsb_review.specs.declared.advice.Advice.{Advice}
-use Rattle.tsb_review.specs.declared.advice.Advice.TheVariants.{A4, A7, A8, A9, A10, A11, A12, A13, A14, A16, A18, A19, A20, A21, A25, A26, A27, A28, A30, A32, A35, A39, A42, A43, A47, A48}
+use Rattle.tsb_review.specs.declared.advice.Advice.TheVariants.{A4, A7, A8, A9, A10, A11, A12, A13, A14, A16, A18, A19, A20, A21, A25, A26, A27, A28, A30, A32, A35, A39, A42, A43, A47, A48, A49}
 use Rattle.tsb_review.specs.declared.finding.Finding.{Finding}
 use Rattle.tsb_review.specs.declared.numbers.Numbers.{Numbers}
 use Rattle.tsb_review.specs.declared.place.Place.{Place}
@@ -16,6 +16,7 @@ use Rattle.tsb_review.specs.Pedestrians.{pedestrian_time, rest_end}
 use Rattle.tsb_review.specs.Splits.{green_of_split, passed_by, left_short}
 use Rattle.tsb_review.specs.Clearance.{reverting}
 use Rattle.tsb_review.specs.Coordination.{spare_time, overrun, first_same}
+use Rattle.tsb_review.specs.Detection.{cycle_of, tripping}
 use Rattle.tsb_review.specs.Overlaps.{split_at, split_from}
 
 -- four numbers, and no fifth, which breaches of rules alone have
@@ -52,11 +53,12 @@ of_phase plan A20 p = four p (time_before_reduction plan p) (maximum plan p) 0
 of_phase plan A21 p = four p (minimum_green plan p) 0 0
 of_phase plan x p = four p 0 0 0
 
--- of a vehicle detector: its number, a time, and the phase that it calls
+-- of a vehicle detector: its number, a time, and the phase that it calls; or a time, a cycle and its pattern
 abbrev pub of_detector : Plan → Advice → ℕ → Numbers
 of_detector plan A25 d = four d (detector_delay plan d) (number_of (call_phase plan d)) 0
 of_detector plan A26 d = four d (detector_extend plan d) (number_of (call_phase plan d)) 0
 of_detector plan A48 d = four d 0 (number_of (call_phase plan d)) 0
+of_detector plan A49 d = four d (maximum_presence plan d) (cycle_of plan (tripping plan d)) (number_of (tripping plan d))
 of_detector plan x d = four d 0 0 0
 
 -- of a phase in a pattern: the phase, times or another phase, and last the pattern

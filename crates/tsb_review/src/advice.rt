@@ -107,11 +107,13 @@ pub enum Advice {
     A47,
     /// A vehicle detector with a diagnosis makes no call while it has failed, and nothing else calls its phase.
     A48,
+    /// The maximum presence of a vehicle detector is at most two cycles of a pattern.
+    A49,
 }
 
 impl Advice {
     /// All advices, in order.
-    pub const ALL: [Advice; 47] = [
+    pub const ALL: [Advice; 48] = [
         Advice::A1,
         Advice::A2,
         Advice::A3,
@@ -159,6 +161,7 @@ impl Advice {
         Advice::A46,
         Advice::A47,
         Advice::A48,
+        Advice::A49,
     ];
 
     /// What the advice is given for.
@@ -184,7 +187,7 @@ impl Advice {
             | Advice::A23
             | Advice::A24
             | Advice::A45 => Shape::Phase,
-            Advice::A2 | Advice::A25 | Advice::A26 | Advice::A48 => Shape::Detector,
+            Advice::A2 | Advice::A25 | Advice::A26 | Advice::A48 | Advice::A49 => Shape::Detector,
             Advice::A3 => Shape::Phases,
             Advice::A4
             | Advice::A12

@@ -1,16 +1,16 @@
-//! Advices on vehicle detectors: A48. Times are in tenths of a second.
+//! Advices on vehicle detectors: A48 and A49. Times are in tenths of a second.
 #![tactic(auto, unfolding(tsb_plan::specs::PlanOf::plan_of))]
 
 ghost use Rattle.std.specs.Prelude.{◌≡◌};
 ghost use Rattle.tsb_plan.specs.Parts.{call_phase};
 ghost use Rattle.tsb_plan.specs.PlanOf.{plan_of};
 ghost use Rattle.tsb_review.specs.Actuation.{phase_and};
-ghost use Rattle.tsb_review.specs.Detection.{has_diagnosis, has_other_detector, is_unrecalled, is_only_caller, forgets_its_phase};
+ghost use Rattle.tsb_review.specs.Detection.{has_diagnosis, has_other_detector, is_unrecalled, is_only_caller, forgets_its_phase, trips_within, tripping, cycle_of, trips_in_queue};
 
 use crate::calls::{detector_calls, is_recalled};
 use crate::service::has_soft_recall;
 use tsb_plan::Plan;
-use tsb_types::{Detector, Phase};
+use tsb_types::{Detector, Pattern, Phase};
 
 /// Whether the vehicle detector has a diagnosis: of no activity, of maximum presence or of erratic counts.
 fn has_diagnosis(plan: &Plan, detector: Detector) -> bool
@@ -58,4 +58,39 @@ pub(crate) fn forgets_its_phase(plan: &Plan, detector: Detector) -> bool
     ensures { result ≡ forgets_its_phase (plan_of plan.now) detector }
 {
     has_diagnosis(plan, detector) && plan.fail_time(detector) == 0 && calls_alone(plan, detector)
+}
+
+/// Whether the vehicle detector has a maximum presence, of at most two cycles of the pattern.
+fn trips_within(plan: &Plan, detector: Detector, pattern: Pattern) -> bool
+    ensures { result ≡ trips_within (plan_of plan.now) detector pattern }
+{
+    plan.maximum_presence(detector) > 0
+        && plan.maximum_presence(detector) <= 2 * plan.cycle(pattern)
+}
+
+/// The first such pattern.
+pub(crate) fn tripping(plan: &Plan, detector: Detector) -> Option<Pattern>
+    ensures { result ≡ tripping (plan_of plan.now) detector }
+{
+    Pattern::all()
+        .iter()
+        .copied()
+        .find(|pattern| trips_within(plan, detector, *pattern))
+}
+
+/// The cycle of a pattern, 0 where there is none.
+pub(crate) fn cycle_of(plan: &Plan, pattern: Option<Pattern>) -> u32
+    ensures { result ≡ cycle_of (plan_of plan.now) pattern }
+{
+    match pattern {
+        Some(pattern) => plan.cycle(pattern),
+        None => 0,
+    }
+}
+
+/// A49: whether the vehicle detector calls a phase, and its maximum presence is at most two cycles of a pattern.
+pub(crate) fn trips_in_queue(plan: &Plan, detector: Detector) -> bool
+    ensures { result ≡ trips_in_queue (plan_of plan.now) detector }
+{
+    plan.call_phase(detector).is_some() && tripping(plan, detector).is_some()
 }

@@ -141,6 +141,7 @@ fn of_detector(plan: &Plan, advice: Advice, detector: Detector) -> bool
         Advice::A25 => actuation::delays_too_long(plan, detector),
         Advice::A26 => actuation::extends_for_nothing(plan, detector),
         Advice::A48 => detection::forgets_its_phase(plan, detector),
+        Advice::A49 => detection::trips_in_queue(plan, detector),
         _ => false,
     }
 }

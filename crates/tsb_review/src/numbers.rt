@@ -8,6 +8,7 @@ ghost use Rattle.tsb_review.specs.Numbers.{four, number_of, revert_of, of_unit, 
 use crate::advice::Advice;
 use crate::clearance::reverting;
 use crate::coordination::{correction_number, first_same, passed_by_overrun, spare_time};
+use crate::detection::{cycle_of, tripping};
 use crate::finding::Finding;
 use crate::overlaps::{split_at, split_from};
 use crate::pedestrians::{passed_by_rest, pedestrian_time};
@@ -152,7 +153,7 @@ fn of_phase(plan: &Plan, advice: Advice, phase: Phase) -> Numbers
     }
 }
 
-/// Of a vehicle detector: its number, a time, and the phase that it calls.
+/// Of a vehicle detector: its number, a time, and the phase that it calls; or a time, a cycle and its pattern.
 fn of_detector(plan: &Plan, advice: Advice, detector: Detector) -> Numbers
     ensures { result ≡ of_detector (plan_of plan.now) advice detector }
 {
@@ -162,6 +163,11 @@ fn of_detector(plan: &Plan, advice: Advice, detector: Detector) -> Numbers
         Advice::A25 => four(d, plan.detector_delay(detector), phase, 0),
         Advice::A26 => four(d, plan.detector_extend(detector), phase, 0),
         Advice::A48 => four(d, 0, phase, 0),
+        Advice::A49 => {
+            let number = pattern_or_zero(tripping(plan, detector));
+            let cycle = cycle_of(plan, tripping(plan, detector));
+            four(d, plan.maximum_presence(detector), cycle, number)
+        }
         _ => four(d, 0, 0, 0),
     }
 }

@@ -138,5 +138,8 @@ fn template(advice: Advice) -> &'static [u8]
         Advice::A48 => {
             b"A48 vehicle detector P: while it has an alarm no car calls phase R, since its fail time is 0 s"
         }
+        Advice::A49 => {
+            b"A49 vehicle detector P: its maximum presence of X s is at most two cycles of Y s in pattern S, so a queue can trip it"
+        }
     }
 }
