@@ -46,6 +46,7 @@ SECOND_TABLE: Change = {**{f"splitTime.{16 + p}": split for p, split in enumerat
                         "splitCoordPhase.18": 1, "splitCoordPhase.22": 1}
 # Another split table, of 30 s for each phase, for a cycle of 120 s.
 LONG_TABLE: Change = {**{f"splitTime.{16 + p}": 30 for p in range(1, 9)}, "splitCoordPhase.18": 1, "splitCoordPhase.22": 1}
+HELD = "it has no maximum presence and no track phases, so an input that stays on holds it for ever"
 NO_CALL = "while it has an alarm no car calls phase %d, since its fail time is 0 s"
 CASES = [
     Case(1, {"vehicleDetectorCallPhase.1": 0, "splitMode.1": 0}, ["phase 1: no detector, button, recall or split mode calls it"],
@@ -254,6 +255,8 @@ CASES = [
     Case(49, {**FOURTH, "patternCycleTime.4": 120, "patternSplitNumber.4": 2, **LONG_TABLE, "vehicleDetectorMaxPresence.2": 4},
          ["vehicle detector 2: its maximum presence of 240 s is at most two cycles of 120 s in pattern 4, so a queue can trip it"],
          {"vehicleDetectorCallPhase.2": 0}),
+    Case(50, {"preemptDwellPhase.2": 34}, [f"preempt 2: {HELD}"], {"preemptMaximumPresence.2": 1}),
+    Case(50, {"preemptTrackPhase.1": 0}, [f"preempt 1: {HELD}"], {"preemptTrackPhase.1": 8}),
 ]
 
 

@@ -374,7 +374,7 @@ def correction(plan: Plan) -> Iterator[tuple[int, str]]:
 
 
 def preempts(plan: Plan) -> Iterator[tuple[int, str]]:
-    """Advices A33 to A38."""
+    """Advices A33 to A38, and A50."""
     for m in PREEMPTS:
         dwell, track = (plan.value(f"preempt{it}Phase", m) for it in ("Dwell", "Track"))
         times = {it: plan.value(f"preempt{it}", m) for it in TIMES}
@@ -397,6 +397,8 @@ def preempts(plan: Plan) -> Iterator[tuple[int, str]]:
         if 0 < times["MaximumPresence"] < times["MinimumDuration"]:
             yield 35, (f"preempt {m}: its minimum duration of {times['MinimumDuration']} s is longer than "
                        f"its maximum presence of {times['MaximumPresence']} s")
+        if not track and not times["MaximumPresence"]:
+            yield 50, f"preempt {m}: it has no maximum presence and no track phases, so an input that stays on holds it for ever"
 
 
 def overlaps(plan: Plan) -> Iterator[tuple[int, str]]:

@@ -1,4 +1,4 @@
--- Advices on preempts: A33 to A38. Times are in tenths of a second.
+-- Advices on preempts: A33 to A38, and A50. Times are in tenths of a second.
 use Rattle.std.specs.Prelude.{ℕ, ◌==◌, nat_lt, Bool, not, ◌&&◌, ◌||◌}
 use Rattle.std.specs.List.{list_any}
 use Rattle.tsb_types.specs.Lists.{run_from}
@@ -57,3 +57,7 @@ has_preempt_times plan m =
 -- A38: preempt m has times and no dwell phase, so that it is never served
 abbrev pub is_never_served : Plan → ℕ → Bool
 is_never_served plan m = not (has_dwell plan m) && has_preempt_times plan m
+
+-- A50: preempt m has no track phase and no maximum presence: an input that stays on holds it without end
+abbrev pub is_held_by_input : Plan → ℕ → Bool
+is_held_by_input plan m = has_dwell plan m && (not (has_track plan m) && preempt_maximum_presence plan m == 0)

@@ -109,11 +109,13 @@ pub enum Advice {
     A48,
     /// The maximum presence of a vehicle detector is at most two cycles of a pattern.
     A49,
+    /// A preempt without track phases has no maximum presence.
+    A50,
 }
 
 impl Advice {
     /// All advices, in order.
-    pub const ALL: [Advice; 48] = [
+    pub const ALL: [Advice; 49] = [
         Advice::A1,
         Advice::A2,
         Advice::A3,
@@ -162,6 +164,7 @@ impl Advice {
         Advice::A47,
         Advice::A48,
         Advice::A49,
+        Advice::A50,
     ];
 
     /// What the advice is given for.
@@ -202,7 +205,7 @@ impl Advice {
             Advice::A16 | Advice::A47 => Shape::Unit,
             Advice::A30 | Advice::A32 | Advice::A44 => Shape::Pattern,
             Advice::A33 | Advice::A36 | Advice::A37 => Shape::PreemptPhase,
-            Advice::A34 | Advice::A35 | Advice::A38 => Shape::Preempt,
+            Advice::A34 | Advice::A35 | Advice::A38 | Advice::A50 => Shape::Preempt,
             Advice::A39 | Advice::A41 => Shape::Overlap,
             Advice::A40 => Shape::OverlapPhase,
         }

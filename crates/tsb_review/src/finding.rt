@@ -194,6 +194,7 @@ fn of_preempt(plan: &Plan, advice: Advice, preempt: Preempt) -> bool
         Advice::A34 => preempts::clears_no_track(plan, preempt),
         Advice::A35 => preempts::lasts_too_long(plan, preempt),
         Advice::A38 => preempts::is_never_served(plan, preempt),
+        Advice::A50 => preempts::is_held_by_input(plan, preempt),
         _ => false,
     }
 }

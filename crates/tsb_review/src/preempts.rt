@@ -1,11 +1,11 @@
-//! Advices on preempts: A33 to A38. Times are in tenths of a second.
+//! Advices on preempts: A33 to A38, and A50. Times are in tenths of a second.
 #![tactic(auto, unfolding(tsb_plan::specs::PlanOf::plan_of))]
 
 ghost use Rattle.std.specs.Prelude.{◌≡◌};
 ghost use Rattle.std.specs.List.{list_any};
 ghost use Rattle.tsb_types.specs.Lists.{run_from};
 ghost use Rattle.tsb_plan.specs.PlanOf.{plan_of};
-ghost use Rattle.tsb_review.specs.Preempts.{has_dwell, has_track, fills_track, is_by_railroad, clears_no_track, lasts_too_long, ends_pedestrians, cuts_walk, cuts_clearance, has_preempt_times, is_never_served};
+ghost use Rattle.tsb_review.specs.Preempts.{has_dwell, has_track, fills_track, is_by_railroad, clears_no_track, lasts_too_long, ends_pedestrians, cuts_walk, cuts_clearance, has_preempt_times, is_never_served, is_held_by_input};
 
 use crate::calls::serves_pedestrians;
 use tsb_plan::{Object, Plan};
@@ -111,4 +111,14 @@ pub(crate) fn is_never_served(plan: &Plan, preempt: Preempt) -> bool
     ensures { result ≡ is_never_served (plan_of plan.now) preempt }
 {
     !has_dwell(plan, preempt) && has_preempt_times(plan, preempt)
+}
+
+/// A50: whether the preempt has no track phase and no maximum presence, so that an input that stays on holds it without
+/// end.
+pub(crate) fn is_held_by_input(plan: &Plan, preempt: Preempt) -> bool
+    ensures { result ≡ is_held_by_input (plan_of plan.now) preempt }
+{
+    has_dwell(plan, preempt)
+        && !has_track(plan, preempt)
+        && plan.preempt_maximum_presence(preempt) == 0
 }

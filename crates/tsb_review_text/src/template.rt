@@ -141,5 +141,8 @@ fn template(advice: Advice) -> &'static [u8]
         Advice::A49 => {
             b"A49 vehicle detector P: its maximum presence of X s is at most two cycles of Y s in pattern S, so a queue can trip it"
         }
+        Advice::A50 => {
+            b"A50 preempt P: it has no maximum presence and no track phases, so an input that stays on holds it for ever"
+        }
     }
 }
