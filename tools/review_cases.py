@@ -47,6 +47,7 @@ SECOND_TABLE: Change = {**{f"splitTime.{16 + p}": split for p, split in enumerat
 # Another split table, of 30 s for each phase, for a cycle of 120 s.
 LONG_TABLE: Change = {**{f"splitTime.{16 + p}": 30 for p in range(1, 9)}, "splitCoordPhase.18": 1, "splitCoordPhase.22": 1}
 HELD = "it has no maximum presence and no track phases, so an input that stays on holds it for ever"
+ALONE = "its dwell serves phase %d alone, and leaves the other ring without a phase"
 NO_CALL = "while it has an alarm no car calls phase %d, since its fail time is 0 s"
 CASES = [
     Case(1, {"vehicleDetectorCallPhase.1": 0, "splitMode.1": 0}, ["phase 1: no detector, button, recall or split mode calls it"],
@@ -257,6 +258,10 @@ CASES = [
          {"vehicleDetectorCallPhase.2": 0}),
     Case(50, {"preemptDwellPhase.2": 34}, [f"preempt 2: {HELD}"], {"preemptMaximumPresence.2": 1}),
     Case(50, {"preemptTrackPhase.1": 0}, [f"preempt 1: {HELD}"], {"preemptTrackPhase.1": 8}),
+    Case(51, {"preemptDwellPhase.1": 2}, [f"preempt 1: {ALONE % 2}"], {"preemptDwellPhase.1": 34}),
+    # A phase that is concurrent with none has to dwell alone.
+    Case(51, {"preemptDwellPhase.3": 128}, [f"preempt 3: {ALONE % 8}"],
+         {f"phaseConcurrency.{p}": 0 for p in (3, 4, 7, 8)} | {"preemptTrackPhase.1": 8, "preemptExitPhase.1": 8}),
 ]
 
 

@@ -374,7 +374,7 @@ def correction(plan: Plan) -> Iterator[tuple[int, str]]:
 
 
 def preempts(plan: Plan) -> Iterator[tuple[int, str]]:
-    """Advices A33 to A38, and A50."""
+    """Advices A33 to A38, A50 and A51."""
     for m in PREEMPTS:
         dwell, track = (plan.value(f"preempt{it}Phase", m) for it in ("Dwell", "Track"))
         times = {it: plan.value(f"preempt{it}", m) for it in TIMES}
@@ -385,6 +385,9 @@ def preempts(plan: Plan) -> Iterator[tuple[int, str]]:
         for p in plan.enabled:
             if plan.listed("preemptTrackPhase", m, p) and plan.listed("preemptDwellPhase", m, p):
                 yield 33, f"preempt {m}: phase {p} is a track phase and a dwell phase, so cars go on to come over the track"
+            beside = [q for q in plan.enabled if plan.together(p, q)]
+            if plan.listed("preemptDwellPhase", m, p) and beside and not any(plan.listed("preemptDwellPhase", m, q) for q in beside):
+                yield 51, f"preempt {m}: its dwell serves phase {p} alone, and leaves the other ring without a phase"
             ends = (track and not plan.listed("preemptTrackPhase", m, p)) or not plan.listed("preemptDwellPhase", m, p)
             if plan.walks(p) and ends and not times["MinimumWalk"]:
                 yield 36, (f"preempt {m}: it can end a walk of phase {p} at once, as is allowed where a track has to be cleared"

@@ -1,10 +1,10 @@
--- Advices on preempts: A33 to A38, and A50. Times are in tenths of a second.
+-- Advices on preempts: A33 to A38, A50 and A51. Times are in tenths of a second.
 use Rattle.std.specs.Prelude.{ℕ, ◌==◌, nat_lt, Bool, not, ◌&&◌, ◌||◌}
 use Rattle.std.specs.List.{list_any}
 use Rattle.tsb_types.specs.Lists.{run_from}
 use Rattle.tsb_plan.specs.declared.object.Object.TheVariants.{PreemptTrackPhase, PreemptDwellPhase}
 use Rattle.tsb_plan.specs.Parts.{preempt_delay, minimum_duration, preempt_maximum_presence, preempt_minimum_green, preempt_minimum_walk, enter_pedestrian_clear, track_green, is_track_phase, is_dwell_phase}
-use Rattle.tsb_plan.specs.Plan.{Plan, pedestrian_clear}
+use Rattle.tsb_plan.specs.Plan.{Plan, phases, is_concurrent, pedestrian_clear}
 use Rattle.tsb_rules.specs.Rules.{serves_pedestrians}
 
 -- preempt m has a dwell phase: only then is it ever served
@@ -61,3 +61,12 @@ is_never_served plan m = not (has_dwell plan m) && has_preempt_times plan m
 -- A50: preempt m has no track phase and no maximum presence: an input that stays on holds it without end
 abbrev pub is_held_by_input : Plan → ℕ → Bool
 is_held_by_input plan m = has_dwell plan m && (not (has_track plan m) && preempt_maximum_presence plan m == 0)
+
+-- q is a dwell phase of preempt m, and concurrent with p
+abbrev pub dwells_beside : Plan → ℕ → ℕ → ℕ → Bool
+dwells_beside plan m p q = is_dwell_phase plan m q && is_concurrent plan p q
+
+-- A51: p is a dwell phase of preempt m, and goes with phases of the other ring, of which none is one
+abbrev pub dwells_alone : Plan → ℕ → ℕ → Bool
+dwells_alone plan m p =
+    is_dwell_phase plan m p && (list_any (is_concurrent plan p) (phases plan) && not (list_any (dwells_beside plan m p) (phases plan)))

@@ -111,11 +111,13 @@ pub enum Advice {
     A49,
     /// A preempt without track phases has no maximum presence.
     A50,
+    /// The dwell of a preempt leaves a ring without a phase.
+    A51,
 }
 
 impl Advice {
     /// All advices, in order.
-    pub const ALL: [Advice; 49] = [
+    pub const ALL: [Advice; 50] = [
         Advice::A1,
         Advice::A2,
         Advice::A3,
@@ -165,6 +167,7 @@ impl Advice {
         Advice::A48,
         Advice::A49,
         Advice::A50,
+        Advice::A51,
     ];
 
     /// What the advice is given for.
@@ -204,7 +207,7 @@ impl Advice {
             Advice::A5 => Shape::Ring,
             Advice::A16 | Advice::A47 => Shape::Unit,
             Advice::A30 | Advice::A32 | Advice::A44 => Shape::Pattern,
-            Advice::A33 | Advice::A36 | Advice::A37 => Shape::PreemptPhase,
+            Advice::A33 | Advice::A36 | Advice::A37 | Advice::A51 => Shape::PreemptPhase,
             Advice::A34 | Advice::A35 | Advice::A38 | Advice::A50 => Shape::Preempt,
             Advice::A39 | Advice::A41 => Shape::Overlap,
             Advice::A40 => Shape::OverlapPhase,

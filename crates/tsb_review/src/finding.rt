@@ -207,6 +207,7 @@ fn of_preempt_phase(plan: &Plan, advice: Advice, preempt: Preempt, phase: Phase)
         Advice::A33 => preempts::fills_track(plan, preempt, phase),
         Advice::A36 => preempts::cuts_walk(plan, preempt, phase),
         Advice::A37 => preempts::cuts_clearance(plan, preempt, phase),
+        Advice::A51 => preempts::dwells_alone(plan, preempt, phase),
         _ => false,
     }
 }

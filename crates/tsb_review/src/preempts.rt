@@ -1,13 +1,14 @@
-//! Advices on preempts: A33 to A38, and A50. Times are in tenths of a second.
+//! Advices on preempts: A33 to A38, A50 and A51. Times are in tenths of a second.
 #![tactic(auto, unfolding(tsb_plan::specs::PlanOf::plan_of))]
 
 ghost use Rattle.std.specs.Prelude.{◌≡◌};
 ghost use Rattle.std.specs.List.{list_any};
 ghost use Rattle.tsb_types.specs.Lists.{run_from};
 ghost use Rattle.tsb_plan.specs.PlanOf.{plan_of};
-ghost use Rattle.tsb_review.specs.Preempts.{has_dwell, has_track, fills_track, is_by_railroad, clears_no_track, lasts_too_long, ends_pedestrians, cuts_walk, cuts_clearance, has_preempt_times, is_never_served, is_held_by_input};
+ghost use Rattle.tsb_review.specs.Preempts.{has_dwell, has_track, fills_track, is_by_railroad, clears_no_track, lasts_too_long, ends_pedestrians, cuts_walk, cuts_clearance, has_preempt_times, is_never_served, is_held_by_input, dwells_beside, dwells_alone};
 
 use crate::calls::serves_pedestrians;
+use crate::sought::{Sought, some_phase};
 use tsb_plan::{Object, Plan};
 use tsb_types::{Phase, Preempt};
 
@@ -121,4 +122,20 @@ pub(crate) fn is_held_by_input(plan: &Plan, preempt: Preempt) -> bool
     has_dwell(plan, preempt)
         && !has_track(plan, preempt)
         && plan.preempt_maximum_presence(preempt) == 0
+}
+
+/// Whether `other` is a dwell phase of the preempt, and concurrent with the phase.
+pub(crate) fn dwells_beside(plan: &Plan, preempt: Preempt, phase: Phase, other: Phase) -> bool
+    ensures { result ≡ dwells_beside (plan_of plan.now) preempt phase other }
+{
+    plan.dwell_phases(preempt).contains(other) && plan.concurrency(phase).contains(other)
+}
+
+/// A51: whether the phase is a dwell phase of the preempt, and goes with phases of the other ring, of which none is one.
+pub(crate) fn dwells_alone(plan: &Plan, preempt: Preempt, phase: Phase) -> bool
+    ensures { result ≡ dwells_alone (plan_of plan.now) preempt phase }
+{
+    plan.dwell_phases(preempt).contains(phase)
+        && some_phase(plan, Sought::Concurrent(phase))
+        && !some_phase(plan, Sought::DwellBeside(preempt, phase))
 }

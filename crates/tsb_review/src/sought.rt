@@ -12,10 +12,11 @@ use crate::calls::conflicts;
 use crate::clearance::{is_across, reverts_soon};
 use crate::coordination::{ends_apart_from, is_actuated};
 use crate::overlaps::{is_beside, is_split_from};
+use crate::preempts::dwells_beside;
 use crate::service::{is_in_ring, is_rival, is_served_apart};
 use crate::splits::{is_left_short, is_passed};
 use tsb_plan::Plan;
-use tsb_types::{Overlap, Pattern, Phase, Ring};
+use tsb_types::{Overlap, Pattern, Phase, Preempt, Ring};
 
 /// What a phase has to be.
 #[derive(Clone, Copy)]
@@ -44,6 +45,10 @@ pub(crate) enum Sought {
     LeftShort(Pattern, Phase),
     /// It is coordinated in this pattern, and its split ends at another time than that of this phase.
     EndingApart(Pattern, Phase),
+    /// It is concurrent with this phase.
+    Concurrent(Phase),
+    /// It is a dwell phase of this preempt, and concurrent with this phase.
+    DwellBeside(Preempt, Phase),
 }
 
 /// Whether the phase is so.
@@ -63,6 +68,8 @@ fn is_sought(plan: &Plan, sought: Sought, phase: Phase) -> bool
         Sought::Passed(pattern, other, late) => is_passed(plan, pattern, other, late, phase),
         Sought::LeftShort(pattern, other) => is_left_short(plan, pattern, other, phase),
         Sought::EndingApart(pattern, other) => ends_apart_from(plan, pattern, other, phase),
+        Sought::Concurrent(other) => plan.concurrency(other).contains(phase),
+        Sought::DwellBeside(preempt, other) => dwells_beside(plan, preempt, other, phase),
     }
 }
 

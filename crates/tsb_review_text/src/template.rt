@@ -144,5 +144,8 @@ fn template(advice: Advice) -> &'static [u8]
         Advice::A50 => {
             b"A50 preempt P: it has no maximum presence and no track phases, so an input that stays on holds it for ever"
         }
+        Advice::A51 => {
+            b"A51 preempt P: its dwell serves phase Q alone, and leaves the other ring without a phase"
+        }
     }
 }
