@@ -48,6 +48,7 @@ SECOND_TABLE: Change = {**{f"splitTime.{16 + p}": split for p, split in enumerat
 LONG_TABLE: Change = {**{f"splitTime.{16 + p}": 30 for p in range(1, 9)}, "splitCoordPhase.18": 1, "splitCoordPhase.22": 1}
 HELD = "it has no maximum presence and no track phases, so an input that stays on holds it for ever"
 ALONE = "its dwell serves phase %d alone, and leaves the other ring without a phase"
+ENTRIES = "%d of its phases have dual entry, not 1, and the other ring has one there"
 NO_CALL = "while it has an alarm no car calls phase %d, since its fail time is 0 s"
 CASES = [
     Case(1, {"vehicleDetectorCallPhase.1": 0, "splitMode.1": 0}, ["phase 1: no detector, button, recall or split mode calls it"],
@@ -262,6 +263,10 @@ CASES = [
     # A phase that is concurrent with none has to dwell alone.
     Case(51, {"preemptDwellPhase.3": 128}, [f"preempt 3: {ALONE % 8}"],
          {f"phaseConcurrency.{p}": 0 for p in (3, 4, 7, 8)} | {"preemptTrackPhase.1": 8, "preemptExitPhase.1": 8}),
+    Case(52, {"phaseDualEntry.2": 1}, [f"ring 2, side 1: {ENTRIES % 0}"], {"phaseDualEntry.6": 1}),
+    Case(52, {"phaseDualEntry.3": 1, "phaseDualEntry.4": 1, "phaseDualEntry.8": 1}, [f"ring 1, side 2: {ENTRIES % 2}"], {"phaseDualEntry.3": 0}),
+    Case(52, {f"phaseDualEntry.{p}": 1 for p in (1, 2, 5, 6)}, [f"ring {r}, side 1: {ENTRIES % 2}" for r in (1, 2)],
+         {"phaseDualEntry.1": 0, "phaseDualEntry.5": 0}),
 ]
 
 

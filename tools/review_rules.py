@@ -172,7 +172,7 @@ class Plan:
 
 
 def service(plan: Plan) -> Iterator[tuple[int, str]]:
-    """Advices A1 to A7."""
+    """Advices A1 to A7, and A52."""
     for p in plan.enabled:
         called = plan.detectors(p) or plan.has_button(p) or plan.own_recall(p) or plan.phase("SoftRecall", p)
         if not called and not any(plan.recall(n, p) for n in plan.patterns):
@@ -210,6 +210,13 @@ def service(plan: Plan) -> Iterator[tuple[int, str]]:
             a, b = pairs[0]
             yield 7, (f"phase {p}: its soft recall never acts in free operation, "
                       f"since phases {a} and {b} are recalled and not concurrent")
+    for r in (1, 2):
+        for s in range(1, 5):
+            here = [p for p in plan.enabled if plan.phase("Side", p) == s]
+            entries = [p for p in here if plan.phase("DualEntry", p)]
+            own = [p for p in entries if plan.phase("Ring", p) == r]
+            if any(plan.phase("Ring", p) == r for p in here) and len(own) != 1 and own != entries:
+                yield 52, f"ring {r}, side {s}: {len(own)} of its phases have dual entry, not 1, and the other ring has one there"
 
 
 def pedestrians(plan: Plan) -> Iterator[tuple[int, str]]:

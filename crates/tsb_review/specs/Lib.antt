@@ -4,6 +4,7 @@ pub mod Calls
 pub mod Splits
 -- the advices, by what they are on
 pub mod Service
+pub mod Entry
 pub mod Pedestrians
 pub mod Clearance
 pub mod Actuation

@@ -17,6 +17,7 @@ use Rattle.tsb_review.specs.Splits.{green_of_split, passed_by, left_short}
 use Rattle.tsb_review.specs.Clearance.{reverting}
 use Rattle.tsb_review.specs.Coordination.{spare_time, overrun, first_same}
 use Rattle.tsb_review.specs.Detection.{cycle_of, tripping}
+use Rattle.tsb_review.specs.Entry.{entry_count}
 use Rattle.tsb_review.specs.Overlaps.{split_at, split_from}
 
 -- four numbers, and no fifth, which breaches of rules alone have
@@ -72,6 +73,10 @@ of_split plan A42 n p = four p (number_of (pattern_maximum plan (Some n) p)) (gr
 of_split plan A43 n p = four p (permissive_time plan n) (number_of (left_short plan n p)) n
 of_split plan x n p = four p 0 0 n
 
+-- of a ring on a side: both, and how many of its phases there have dual entry
+abbrev pub of_ring_side : Plan → ℕ → ℕ → Numbers
+of_ring_side plan r s = four r s (entry_count plan r s) 0
+
 -- of a pattern: its number, and another pattern or times
 abbrev pub of_pattern : Plan → Advice → ℕ → Numbers
 of_pattern plan A30 n = four n (number_of (first_same plan n)) 0 0
@@ -95,6 +100,7 @@ at_place plan x (at.Phase p) = of_phase plan x p
 at_place plan x (at.Phases p q) = four p q 0 0
 at_place plan x (at.Detector d) = of_detector plan x d
 at_place plan x (at.Ring r) = four r 0 0 0
+at_place plan x (at.RingSide r s) = of_ring_side plan r s
 at_place plan x (at.Pattern n) = of_pattern plan x n
 at_place plan x (at.Split n p) = of_split plan x n p
 at_place plan x (at.Preempt m) = of_preempt plan x m

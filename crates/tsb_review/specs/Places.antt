@@ -14,6 +14,7 @@ firsts shapes.Phase = 16
 firsts shapes.Phases = 16
 firsts shapes.Detector = 16
 firsts shapes.Ring = 2
+firsts shapes.RingSide = 2
 firsts shapes.Pattern = 16
 firsts shapes.Split = 16
 firsts shapes.Preempt = 4
@@ -21,13 +22,14 @@ firsts shapes.PreemptPhase = 4
 firsts shapes.Overlap = 4
 firsts shapes.OverlapPhase = 4
 
--- and by their second: 16 phases where it is a phase, and else one
+-- and by their second: 16 phases where it is a phase, 4 sides where it is a side, and else one
 abbrev pub seconds : Shape → ℕ
 seconds shapes.Unit = 1
 seconds shapes.Phase = 1
 seconds shapes.Phases = 16
 seconds shapes.Detector = 1
 seconds shapes.Ring = 1
+seconds shapes.RingSide = 4
 seconds shapes.Pattern = 1
 seconds shapes.Split = 16
 seconds shapes.Preempt = 1
@@ -35,13 +37,14 @@ seconds shapes.PreemptPhase = 16
 seconds shapes.Overlap = 1
 seconds shapes.OverlapPhase = 16
 
--- the place of a kind that has these two numbers; the second counts only where it is a phase
+-- the place of a kind that has these two numbers; the second counts only where it is a phase or a side
 abbrev pub place_of : Shape → ℕ → ℕ → Place
 place_of shapes.Unit i k = at.Unit
 place_of shapes.Phase i k = at.Phase i
 place_of shapes.Phases i k = at.Phases i k
 place_of shapes.Detector i k = at.Detector i
 place_of shapes.Ring i k = at.Ring i
+place_of shapes.RingSide i k = at.RingSide i k
 place_of shapes.Pattern i k = at.Pattern i
 place_of shapes.Split i k = at.Split i k
 place_of shapes.Preempt i k = at.Preempt i

@@ -113,11 +113,13 @@ pub enum Advice {
     A50,
     /// The dwell of a preempt leaves a ring without a phase.
     A51,
+    /// Of the phases of a ring on a side none has dual entry, or more than one, and the other ring has one there.
+    A52,
 }
 
 impl Advice {
     /// All advices, in order.
-    pub const ALL: [Advice; 50] = [
+    pub const ALL: [Advice; 51] = [
         Advice::A1,
         Advice::A2,
         Advice::A3,
@@ -168,6 +170,7 @@ impl Advice {
         Advice::A49,
         Advice::A50,
         Advice::A51,
+        Advice::A52,
     ];
 
     /// What the advice is given for.
@@ -205,6 +208,7 @@ impl Advice {
             | Advice::A43
             | Advice::A46 => Shape::Split,
             Advice::A5 => Shape::Ring,
+            Advice::A52 => Shape::RingSide,
             Advice::A16 | Advice::A47 => Shape::Unit,
             Advice::A30 | Advice::A32 | Advice::A44 => Shape::Pattern,
             Advice::A33 | Advice::A36 | Advice::A37 | Advice::A51 => Shape::PreemptPhase,

@@ -4,16 +4,17 @@
 ghost use Rattle.std.specs.Prelude.{◌≡◌, ◌≤◌};
 ghost use Rattle.tsb_plan.specs.PlanOf.{plan_of};
 ghost use Rattle.tsb_review.specs.Places.{firsts, seconds};
-ghost use Rattle.tsb_review.specs.Advices.{holds, shape, of_unit, of_phase, of_phases, of_detector, of_ring, of_pattern, of_split, of_preempt, of_preempt_phase, of_overlap, of_overlap_phase};
+ghost use Rattle.tsb_review.specs.Advices.{holds, shape, of_unit, of_phase, of_phases, of_detector, of_ring, of_ring_side, of_pattern, of_split, of_preempt, of_preempt_phase, of_overlap, of_overlap_phase};
 ghost use Rattle.tsb_review.specs.Findings.{finding_at, finding_of, has_track_at, ends_walk_for_track};
 
 use crate::advice::Advice;
 use crate::place::{Place, place_of};
 use crate::{
-    actuation, alike, clearance, coordination, detection, overlaps, pedestrians, preempts, service,
+    actuation, alike, clearance, coordination, detection, entry, overlaps, pedestrians, preempts,
+    service,
 };
 use tsb_plan::Plan;
-use tsb_types::{Detector, Overlap, Pattern, Phase, Preempt, Ring};
+use tsb_types::{Detector, Overlap, Pattern, Phase, Preempt, Ring, Side};
 
 /// An advice that holds, and what it is given for.
 #[derive(Clone, Copy)]
@@ -75,6 +76,7 @@ pub fn holds(plan: &Plan, advice: Advice, place: &Place) -> bool
         Place::Phases(phase, other) => of_phases(plan, advice, *phase, *other),
         Place::Detector(detector) => of_detector(plan, advice, *detector),
         Place::Ring(ring) => of_ring(plan, advice, *ring),
+        Place::RingSide(ring, side) => of_ring_side(plan, advice, *ring, *side),
         Place::Pattern(pattern) => of_pattern(plan, advice, *pattern),
         Place::Split(pattern, phase) => of_split(plan, advice, *pattern, *phase),
         Place::Preempt(preempt) => of_preempt(plan, advice, *preempt),
@@ -152,6 +154,16 @@ fn of_ring(plan: &Plan, advice: Advice, ring: Ring) -> bool
 {
     match advice {
         Advice::A5 => service::has_fixed_times(plan, ring),
+        _ => false,
+    }
+}
+
+/// Whether the advice holds of the ring on the side.
+fn of_ring_side(plan: &Plan, advice: Advice, ring: Ring, side: Side) -> bool
+    ensures { result ≡ of_ring_side (plan_of plan.now) advice ring side }
+{
+    match advice {
+        Advice::A52 => entry::has_unlike_entry(plan, ring, side),
         _ => false,
     }
 }

@@ -3,12 +3,13 @@
 
 ghost use Rattle.std.specs.Prelude.{◌≡◌};
 ghost use Rattle.tsb_plan.specs.PlanOf.{plan_of};
-ghost use Rattle.tsb_review.specs.Numbers.{four, number_of, revert_of, of_unit, of_phase, of_detector, of_split, of_pattern, of_preempt, of_overlap, at_place, numbers_of};
+ghost use Rattle.tsb_review.specs.Numbers.{four, number_of, revert_of, of_unit, of_phase, of_detector, of_split, of_ring_side, of_pattern, of_preempt, of_overlap, at_place, numbers_of};
 
 use crate::advice::Advice;
 use crate::clearance::reverting;
 use crate::coordination::{correction_number, first_same, passed_by_overrun, spare_time};
 use crate::detection::{cycle_of, tripping};
+use crate::entry::entry_count;
 use crate::finding::Finding;
 use crate::overlaps::{split_at, split_from};
 use crate::pedestrians::{passed_by_rest, pedestrian_time};
@@ -16,7 +17,7 @@ use crate::place::Place;
 use crate::service::{apart_from, rival_of, rivalled};
 use crate::splits::{green_of_split, left_short};
 use tsb_plan::Plan;
-use tsb_types::{Detector, Overlap, Pattern, Phase, Preempt};
+use tsb_types::{Detector, Overlap, Pattern, Phase, Preempt, Ring, Side};
 
 /// The numbers that the line of a finding shows: those of its place, and times, phases or patterns. What an advice does
 /// not have is 0.
@@ -101,6 +102,7 @@ fn at_place(plan: &Plan, advice: Advice, place: &Place) -> Numbers
         }
         Place::Detector(detector) => of_detector(plan, advice, *detector),
         Place::Ring(ring) => four(u32::from(ring.number()), 0, 0, 0),
+        Place::RingSide(ring, side) => of_ring_side(plan, *ring, *side),
         Place::Pattern(pattern) => of_pattern(plan, advice, *pattern),
         Place::Split(pattern, phase) => of_split(plan, advice, *pattern, *phase),
         Place::Preempt(preempt) => of_preempt(plan, advice, *preempt),
@@ -202,6 +204,14 @@ fn of_split(plan: &Plan, advice: Advice, pattern: Pattern, phase: Phase) -> Numb
         }
         _ => four(p, 0, 0, n),
     }
+}
+
+/// Of a ring on a side: both, and how many of its phases there have dual entry.
+fn of_ring_side(plan: &Plan, ring: Ring, side: Side) -> Numbers
+    ensures { result ≡ of_ring_side (plan_of plan.now) ring side }
+{
+    let (r, s) = (u32::from(ring.number()), u32::from(side.number()));
+    four(r, s, entry_count(plan, ring, side), 0)
 }
 
 /// Of a pattern: its number, and another pattern or times.

@@ -2,7 +2,7 @@
 ghost use Rattle.std.specs.Prelude.{◌≡◌, ◌≤◌};
 ghost use Rattle.tsb_review.specs.Places.{firsts, seconds, place_of};
 
-use tsb_types::{Detector, Overlap, Pattern, Phase, Preempt, Ring};
+use tsb_types::{Detector, Overlap, Pattern, Phase, Preempt, Ring, Side};
 
 /// What an advice is given for: a part of a plan, or two.
 #[derive(Clone, Copy)]
@@ -17,6 +17,8 @@ pub enum Place {
     Detector(Detector),
     /// A ring.
     Ring(Ring),
+    /// A ring on a side of the barriers.
+    RingSide(Ring, Side),
     /// A pattern.
     Pattern(Pattern),
     /// A phase in a pattern.
@@ -44,6 +46,8 @@ pub enum Shape {
     Detector,
     /// A ring.
     Ring,
+    /// A ring on a side of the barriers.
+    RingSide,
     /// A pattern.
     Pattern,
     /// A phase in a pattern.
@@ -67,6 +71,7 @@ impl Shape {
         match self {
             Shape::Unit => 1,
             Shape::Ring => 2,
+            Shape::RingSide => 2,
             Shape::Preempt => 4,
             Shape::PreemptPhase => 4,
             Shape::Overlap => 4,
@@ -79,7 +84,7 @@ impl Shape {
         }
     }
 
-    /// How many places of the kind there are by their second number: 1 where that is no phase.
+    /// How many places of the kind there are by their second number: 1 where there is none.
     pub fn seconds(self) -> u8
         ensures value { result ≡ seconds self }
         ensures range { result ≤ 16 }
@@ -92,6 +97,7 @@ impl Shape {
             Shape::Pattern => 1,
             Shape::Preempt => 1,
             Shape::Overlap => 1,
+            Shape::RingSide => 4,
             Shape::Phases => 16,
             Shape::Split => 16,
             Shape::PreemptPhase => 16,
@@ -114,6 +120,7 @@ pub(crate) fn place_of(shape: Shape, first: u8, second: u8) -> Place
         Shape::Phases => Place::Phases(Phase::of(first), Phase::of(second)),
         Shape::Detector => Place::Detector(Detector::of(first)),
         Shape::Ring => Place::Ring(Ring::of(first)),
+        Shape::RingSide => Place::RingSide(Ring::of(first), Side::of(second)),
         Shape::Pattern => Place::Pattern(Pattern::of(first)),
         Shape::Split => Place::Split(Pattern::of(first), Phase::of(second)),
         Shape::Preempt => Place::Preempt(Preempt::of(first)),

@@ -11,12 +11,13 @@ ghost use Rattle.tsb_review.specs.Sought.{is_sought};
 use crate::calls::conflicts;
 use crate::clearance::{is_across, reverts_soon};
 use crate::coordination::{ends_apart_from, is_actuated};
+use crate::entry::{enters_beside, is_on};
 use crate::overlaps::{is_beside, is_split_from};
 use crate::preempts::dwells_beside;
 use crate::service::{is_in_ring, is_rival, is_served_apart};
 use crate::splits::{is_left_short, is_passed};
 use tsb_plan::Plan;
-use tsb_types::{Overlap, Pattern, Phase, Preempt, Ring};
+use tsb_types::{Overlap, Pattern, Phase, Preempt, Ring, Side};
 
 /// What a phase has to be.
 #[derive(Clone, Copy)]
@@ -49,6 +50,10 @@ pub(crate) enum Sought {
     Concurrent(Phase),
     /// It is a dwell phase of this preempt, and concurrent with this phase.
     DwellBeside(Preempt, Phase),
+    /// It is an enabled phase of this ring on this side.
+    On(Ring, Side),
+    /// It is an enabled phase of the other ring on this side, and has dual entry.
+    EnteringBeside(Ring, Side),
 }
 
 /// Whether the phase is so.
@@ -70,6 +75,8 @@ fn is_sought(plan: &Plan, sought: Sought, phase: Phase) -> bool
         Sought::EndingApart(pattern, other) => ends_apart_from(plan, pattern, other, phase),
         Sought::Concurrent(other) => plan.concurrency(other).contains(phase),
         Sought::DwellBeside(preempt, other) => dwells_beside(plan, preempt, other, phase),
+        Sought::On(ring, side) => is_on(plan, ring, side, phase),
+        Sought::EnteringBeside(ring, side) => enters_beside(plan, ring, side, phase),
     }
 }
 

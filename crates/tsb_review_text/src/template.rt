@@ -147,5 +147,8 @@ fn template(advice: Advice) -> &'static [u8]
         Advice::A51 => {
             b"A51 preempt P: its dwell serves phase Q alone, and leaves the other ring without a phase"
         }
+        Advice::A52 => {
+            b"A52 ring P, side Q: R of its phases have dual entry, not 1, and the other ring has one there"
+        }
     }
 }
