@@ -49,6 +49,7 @@ LONG_TABLE: Change = {**{f"splitTime.{16 + p}": 30 for p in range(1, 9)}, "split
 HELD = "it has no maximum presence and no track phases, so an input that stays on holds it for ever"
 ALONE = "its dwell serves phase %d alone, and leaves the other ring without a phase"
 ENTRIES = "%d of its phases have dual entry, not 1, and the other ring has one there"
+FORGOTTEN = "it is non-locking, and each of its detectors has a delay, so a car that stops beyond them is forgotten"
 NO_CALL = "while it has an alarm no car calls phase %d, since its fail time is 0 s"
 CASES = [
     Case(1, {"vehicleDetectorCallPhase.1": 0, "splitMode.1": 0}, ["phase 1: no detector, button, recall or split mode calls it"],
@@ -267,6 +268,9 @@ CASES = [
     Case(52, {"phaseDualEntry.3": 1, "phaseDualEntry.4": 1, "phaseDualEntry.8": 1}, [f"ring 1, side 2: {ENTRIES % 2}"], {"phaseDualEntry.3": 0}),
     Case(52, {f"phaseDualEntry.{p}": 1 for p in (1, 2, 5, 6)}, [f"ring {r}, side 1: {ENTRIES % 2}" for r in (1, 2)],
          {"phaseDualEntry.1": 0, "phaseDualEntry.5": 0}),
+    Case(53, {"phaseNonLock.3": 1, "vehicleDetectorDelay.3": 50}, [f"phase 3: {FORGOTTEN}"], {"vehicleDetectorCallPhase.9": 3}),
+    Case(53, {"phaseNonLock.3": 1, "phaseNonLock.7": 1, "vehicleDetectorDelay.3": 1, "vehicleDetectorDelay.7": 1},
+         [f"phase {p}: {FORGOTTEN}" for p in (3, 7)], {"phaseNonLock.3": 0, "phaseMinRecall.7": 1}),
 ]
 
 

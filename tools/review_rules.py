@@ -268,7 +268,7 @@ def clearance(plan: Plan) -> Iterator[tuple[int, str]]:
 
 
 def actuation(plan: Plan) -> Iterator[tuple[int, str]]:
-    """Advices A17 to A26, A48 and A49."""
+    """Advices A17 to A26, A48, A49 and A53."""
     for p in plan.enabled:
         at = f"phase {p}:"
         passage, gap = plan.phase("Passage", p), plan.phase("MinimumGap", p)
@@ -317,6 +317,10 @@ def actuation(plan: Plan) -> Iterator[tuple[int, str]]:
                 yield 49, (f"vehicle detector {d}: its maximum presence of {presence} s is at most two cycles of "
                            f"{plan.value('patternCycleTime', n)} s in pattern {n}, so a queue can trip it")
                 break
+    for p in plan.enabled:
+        delays = [plan.value("vehicleDetectorDelay", d) for d in plan.detectors(p)]
+        if plan.phase("NonLock", p) and delays and min(delays) and not plan.any_recall(p):
+            yield 53, f"phase {p}: it is non-locking, and each of its detectors has a delay, so a car that stops beyond them is forgotten"
 
 
 def coordination(plan: Plan) -> Iterator[tuple[int, str]]:

@@ -1,11 +1,11 @@
--- Advices on vehicle detectors: A48 and A49. Times are in tenths of a second.
+-- Advices on vehicle detectors: A48, A49 and A53. Times are in tenths of a second.
 use Rattle.std.specs.Prelude.{ℕ, ◌*◌, ◌==◌, nat_le, nat_lt, Bool, not, ◌&&◌, ◌||◌, Option, Some, None, is_some}
 use Rattle.std.specs.List.{list_any}
 use Rattle.tsb_types.specs.Lists.{first, is, run_from}
-use Rattle.tsb_plan.specs.Parts.{call_phase, cycle, no_activity, maximum_presence, erratic_counts, fail_time}
-use Rattle.tsb_plan.specs.Plan.{Plan, has_soft_recall}
+use Rattle.tsb_plan.specs.Parts.{call_phase, cycle, detector_delay, no_activity, maximum_presence, erratic_counts, fail_time}
+use Rattle.tsb_plan.specs.Plan.{Plan, is_enabled, is_non_locking, has_soft_recall}
 use Rattle.tsb_review.specs.Actuation.{phase_and}
-use Rattle.tsb_review.specs.Calls.{is_recalled}
+use Rattle.tsb_review.specs.Calls.{has_detector, is_recalled}
 
 -- vehicle detector d has a diagnosis: of no activity, of maximum presence or of erratic counts
 abbrev pub has_diagnosis : Plan → ℕ → Bool
@@ -44,3 +44,16 @@ cycle_of plan (Some n) = cycle plan n
 -- A49: vehicle detector d calls a phase, and its maximum presence is at most two cycles of a pattern: a queue trips it
 abbrev pub trips_in_queue : Plan → ℕ → Bool
 trips_in_queue plan d = is_some (call_phase plan d) && is_some (tripping plan d)
+
+-- a vehicle detector without a delay calls p
+abbrev pub has_prompt_detector : Plan → ℕ → Bool
+has_prompt_detector plan p = list_any (λ d. is p (call_phase plan d) && detector_delay plan d == 0) (run_from 1 16)
+
+-- p has vehicle detectors, each of them with a delay
+abbrev pub is_called_late : Plan → ℕ → Bool
+is_called_late plan p = has_detector plan p && not (has_prompt_detector plan p)
+
+-- A53: p is non-locking, each of its vehicle detectors has a delay, and it has no recall of its own: a car that stops
+-- beyond the detectors is forgotten
+abbrev pub forgets_cars : Plan → ℕ → Bool
+forgets_cars plan p = is_enabled plan p && (is_non_locking plan p && (is_called_late plan p && is_unrecalled plan p))

@@ -115,11 +115,13 @@ pub enum Advice {
     A51,
     /// Of the phases of a ring on a side none has dual entry, or more than one, and the other ring has one there.
     A52,
+    /// A non-locking phase has detectors with a delay alone, so a car that stops beyond them is forgotten.
+    A53,
 }
 
 impl Advice {
     /// All advices, in order.
-    pub const ALL: [Advice; 51] = [
+    pub const ALL: [Advice; 52] = [
         Advice::A1,
         Advice::A2,
         Advice::A3,
@@ -171,6 +173,7 @@ impl Advice {
         Advice::A50,
         Advice::A51,
         Advice::A52,
+        Advice::A53,
     ];
 
     /// What the advice is given for.
@@ -195,7 +198,8 @@ impl Advice {
             | Advice::A22
             | Advice::A23
             | Advice::A24
-            | Advice::A45 => Shape::Phase,
+            | Advice::A45
+            | Advice::A53 => Shape::Phase,
             Advice::A2 | Advice::A25 | Advice::A26 | Advice::A48 | Advice::A49 => Shape::Detector,
             Advice::A3 => Shape::Phases,
             Advice::A4

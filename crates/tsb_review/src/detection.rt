@@ -1,15 +1,16 @@
-//! Advices on vehicle detectors: A48 and A49. Times are in tenths of a second.
+//! Advices on vehicle detectors: A48, A49 and A53. Times are in tenths of a second.
 #![tactic(auto, unfolding(tsb_plan::specs::PlanOf::plan_of))]
 
 ghost use Rattle.std.specs.Prelude.{◌≡◌};
 ghost use Rattle.tsb_plan.specs.Parts.{call_phase};
+ghost use Rattle.tsb_plan.specs.Plan.{is_non_locking};
 ghost use Rattle.tsb_plan.specs.PlanOf.{plan_of};
 ghost use Rattle.tsb_review.specs.Actuation.{phase_and};
-ghost use Rattle.tsb_review.specs.Detection.{has_diagnosis, has_other_detector, is_unrecalled, is_only_caller, forgets_its_phase, trips_within, tripping, cycle_of, trips_in_queue};
+ghost use Rattle.tsb_review.specs.Detection.{has_diagnosis, has_other_detector, is_unrecalled, is_only_caller, forgets_its_phase, trips_within, tripping, cycle_of, trips_in_queue, has_prompt_detector, is_called_late, forgets_cars};
 
-use crate::calls::{detector_calls, is_recalled};
+use crate::calls::{detector_calls, has_detector, is_recalled};
 use crate::service::has_soft_recall;
-use tsb_plan::Plan;
+use tsb_plan::{Object, Plan};
 use tsb_types::{Detector, Pattern, Phase};
 
 /// Whether the vehicle detector has a diagnosis: of no activity, of maximum presence or of erratic counts.
@@ -93,4 +94,38 @@ pub(crate) fn trips_in_queue(plan: &Plan, detector: Detector) -> bool
     ensures { result ≡ trips_in_queue (plan_of plan.now) detector }
 {
     plan.call_phase(detector).is_some() && tripping(plan, detector).is_some()
+}
+
+/// Whether calls of the phase are not remembered (`phaseNonLock`).
+fn is_non_locking(plan: &Plan, phase: Phase) -> bool
+    ensures { result ≡ is_non_locking (plan_of plan.now) phase }
+{
+    plan.at(Object::PhaseNonLock, u32::from(phase.number())) == 1
+}
+
+/// Whether a vehicle detector without a delay calls the phase.
+fn has_prompt_detector(plan: &Plan, phase: Phase) -> bool
+    ensures { result ≡ has_prompt_detector (plan_of plan.now) phase }
+{
+    Detector::all().iter().any(|detector| {
+        detector_calls(plan, *detector, phase) && plan.detector_delay(*detector) == 0
+    })
+}
+
+/// Whether the phase has vehicle detectors, each of them with a delay.
+fn is_called_late(plan: &Plan, phase: Phase) -> bool
+    ensures { result ≡ is_called_late (plan_of plan.now) phase }
+{
+    has_detector(plan, phase) && !has_prompt_detector(plan, phase)
+}
+
+/// A53: whether the phase is non-locking, each of its vehicle detectors has a delay, and it has no recall of its own, so
+/// that a car that stops beyond the detectors is forgotten.
+pub(crate) fn forgets_cars(plan: &Plan, phase: Phase) -> bool
+    ensures { result ≡ forgets_cars (plan_of plan.now) phase }
+{
+    plan.is_enabled(phase)
+        && is_non_locking(plan, phase)
+        && is_called_late(plan, phase)
+        && is_unrecalled(plan, phase)
 }

@@ -120,6 +120,7 @@ fn of_phase(plan: &Plan, advice: Advice, phase: Phase) -> bool
         Advice::A23 => actuation::has_limit_alone(plan, phase),
         Advice::A24 => actuation::has_step_alone(plan, phase),
         Advice::A45 => coordination::recycles_nothing(plan, phase),
+        Advice::A53 => detection::forgets_cars(plan, phase),
         _ => false,
     }
 }

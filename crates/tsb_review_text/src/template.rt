@@ -150,5 +150,8 @@ fn template(advice: Advice) -> &'static [u8]
         Advice::A52 => {
             b"A52 ring P, side Q: R of its phases have dual entry, not 1, and the other ring has one there"
         }
+        Advice::A53 => {
+            b"A53 phase P: it is non-locking, and each of its detectors has a delay, so a car that stops beyond them is forgotten"
+        }
     }
 }
