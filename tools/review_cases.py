@@ -50,6 +50,7 @@ HELD = "it has no maximum presence and no track phases, so an input that stays o
 ALONE = "its dwell serves phase %d alone, and leaves the other ring without a phase"
 ENTRIES = "%d of its phases have dual entry, not 1, and the other ring has one there"
 FORGOTTEN = "it is non-locking, and each of its detectors has a delay, so a car that stops beyond them is forgotten"
+LATE_GREENS = "its permissive time of %d s lets greens begin late, and one that misses its force-off can last up to a cycle"
 NO_CALL = "while it has an alarm no car calls phase %d, since its fail time is 0 s"
 CASES = [
     Case(1, {"vehicleDetectorCallPhase.1": 0, "splitMode.1": 0}, ["phase 1: no detector, button, recall or split mode calls it"],
@@ -271,6 +272,9 @@ CASES = [
     Case(53, {"phaseNonLock.3": 1, "vehicleDetectorDelay.3": 50}, [f"phase 3: {FORGOTTEN}"], {"vehicleDetectorCallPhase.9": 3}),
     Case(53, {"phaseNonLock.3": 1, "phaseNonLock.7": 1, "vehicleDetectorDelay.3": 1, "vehicleDetectorDelay.7": 1},
          [f"phase {p}: {FORGOTTEN}" for p in (3, 7)], {"phaseNonLock.3": 0, "phaseMinRecall.7": 1}),
+    Case(54, {"patternPermissiveTime.1": 5}, [f"pattern 1: {LATE_GREENS % 5}"], {"coordForceMode.1": 2}),
+    Case(54, {**FOURTH, "patternPermissiveTime.1": 5, "patternPermissiveTime.4": 6}, [f"pattern {n}: {LATE_GREENS % t}" for n, t in ((1, 5), (4, 6))],
+         {"coordMaximumMode.1": 1}),
 ]
 
 

@@ -360,7 +360,7 @@ def coordination(plan: Plan) -> Iterator[tuple[int, str]]:
 
 
 def patterns(plan: Plan) -> Iterator[tuple[int, str]]:
-    """Advices A30 to A32, and A44."""
+    """Advices A30 to A32, A44 and A54."""
     kinds = ["CycleTime", "OffsetTime", "SplitNumber", "SequenceNumber", "PermissiveTime", "LeadLag"]
     for n in plan.patterns:
         cycle = plan.value("patternCycleTime", n)
@@ -374,6 +374,9 @@ def patterns(plan: Plan) -> Iterator[tuple[int, str]]:
         ends = {plan.split_end(n, p) for p in plan.enabled if plan.coordinated(n, p)}
         if plan.value("patternLeadLag", n) and len(ends) == 1:
             yield 44, f"pattern {n}: patternLeadLag has no effect, since the splits of its coordinated phases end at one time"
+        if plan.permissive(n) and not plan.value("coordForceMode", 1) and not plan.value("coordMaximumMode", 1):
+            yield 54, (f"pattern {n}: its permissive time of {seconds(plan.permissive(n))} s lets greens begin late, "
+                       "and one that misses its force-off can last up to a cycle")
 
 
 def correction(plan: Plan) -> Iterator[tuple[int, str]]:

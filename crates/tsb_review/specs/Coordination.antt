@@ -1,11 +1,11 @@
--- Advices on coordination: A27 to A32, and A42 to A47. Times are in tenths of a second.
+-- Advices on coordination: A27 to A32, A42 to A47, and A54. Times are in tenths of a second.
 use Rattle.std.specs.Prelude.{ℕ, ◌-◌, ◌==◌, nat_lt, Bool, true, false, not, ◌&&◌, ◌||◌, Option, Some, None, is_some}
 use Rattle.std.specs.List.{list_any}
 use Rattle.tsb_types.specs.Lists.{first, run_from}
-use Rattle.tsb_plan.specs.declared.object.Object.TheVariants.{PatternCycleTime, PatternOffsetTime, PatternSplitNumber, PatternSequenceNumber, PatternPermissiveTime, PatternLeadLag, CoordCorrectionMode}
+use Rattle.tsb_plan.specs.declared.object.Object.TheVariants.{PatternCycleTime, PatternOffsetTime, PatternSplitNumber, PatternSequenceNumber, PatternPermissiveTime, PatternLeadLag, CoordMaximumMode, CoordCorrectionMode}
 use Rattle.tsb_plan.specs.declared.plan.patterns.CorrectionMode.{CorrectionMode}
 use Rattle.tsb_plan.specs.declared.plan.patterns.CorrectionMode.TheVariants.{AtOnce}
-use Rattle.tsb_plan.specs.Parts.{is_used, permissive_time, leads_and_lags, correction_mode, correction_limit}
+use Rattle.tsb_plan.specs.Parts.{is_used, permissive_time, leads_and_lags, forces_late, correction_mode, correction_limit}
 use Rattle.tsb_plan.specs.Plan.{Plan, phases, is_enabled, minimum_green, has_soft_recall, recycles_walk}
 use Rattle.tsb_plan.specs.Running.{is_coordinated_now, is_omitted_now, is_on_pedestrian_recall, pattern_maximum}
 use Rattle.tsb_rules.specs.Rules.{has_walk, serves_pedestrians}
@@ -128,3 +128,12 @@ gives_correction plan = nat_lt 0 (plan.value CoordCorrectionMode 1) || nat_lt 0 
 -- a limit, or with a limit alone
 abbrev pub corrects_nothing : Plan → Bool
 corrects_nothing plan = gives_correction plan && is_at_once (correction_mode plan)
+
+-- nothing but its instant ends a green that demand holds in a pattern: neither late force-off nor a maximum
+abbrev pub ends_at_instants : Plan → Bool
+ends_at_instants plan = not (forces_late plan) && plan.value CoordMaximumMode 1 == 0
+
+-- A54: the used pattern n has a permissive time, and nothing but its instant ends a green: one that begins late by that
+-- time, and misses its instant, is held for up to a cycle
+abbrev pub permits_late_greens : Plan → ℕ → Bool
+permits_late_greens plan n = is_used plan n && (nat_lt 0 (permissive_time plan n) && ends_at_instants plan)

@@ -6,7 +6,7 @@ use Rattle.tsb_plan.specs.declared.object.Object.TheVariants.{CoordCorrectionMod
 use Rattle.tsb_plan.specs.Plan.{Plan, walk, pedestrian_clear, minimum_green, maximum, passage, minimum_gap, time_before_reduction, red_revert}
 use Rattle.tsb_plan.specs.Running.{pattern_maximum}
 use Rattle.tsb_review.specs.declared.advice.Advice.{Advice}
-use Rattle.tsb_review.specs.declared.advice.Advice.TheVariants.{A4, A7, A8, A9, A10, A11, A12, A13, A14, A16, A18, A19, A20, A21, A25, A26, A27, A28, A30, A32, A35, A39, A42, A43, A47, A48, A49}
+use Rattle.tsb_review.specs.declared.advice.Advice.TheVariants.{A4, A7, A8, A9, A10, A11, A12, A13, A14, A16, A18, A19, A20, A21, A25, A26, A27, A28, A30, A32, A35, A39, A42, A43, A47, A48, A49, A54}
 use Rattle.tsb_review.specs.declared.finding.Finding.{Finding}
 use Rattle.tsb_review.specs.declared.numbers.Numbers.{Numbers}
 use Rattle.tsb_review.specs.declared.place.Place.{Place}
@@ -81,6 +81,7 @@ of_ring_side plan r s = four r s (entry_count plan r s) 0
 abbrev pub of_pattern : Plan → Advice → ℕ → Numbers
 of_pattern plan A30 n = four n (number_of (first_same plan n)) 0 0
 of_pattern plan A32 n = four n (cycle plan n) 0 0
+of_pattern plan A54 n = four n (permissive_time plan n) 0 0
 of_pattern plan x n = four n 0 0 0
 
 -- of a preempt: its number, and times

@@ -117,11 +117,13 @@ pub enum Advice {
     A52,
     /// A non-locking phase has detectors with a delay alone, so a car that stops beyond them is forgotten.
     A53,
+    /// A pattern has a permissive time, and a green that misses its force-off by it is held for up to a cycle.
+    A54,
 }
 
 impl Advice {
     /// All advices, in order.
-    pub const ALL: [Advice; 52] = [
+    pub const ALL: [Advice; 53] = [
         Advice::A1,
         Advice::A2,
         Advice::A3,
@@ -174,6 +176,7 @@ impl Advice {
         Advice::A51,
         Advice::A52,
         Advice::A53,
+        Advice::A54,
     ];
 
     /// What the advice is given for.
@@ -214,7 +217,7 @@ impl Advice {
             Advice::A5 => Shape::Ring,
             Advice::A52 => Shape::RingSide,
             Advice::A16 | Advice::A47 => Shape::Unit,
-            Advice::A30 | Advice::A32 | Advice::A44 => Shape::Pattern,
+            Advice::A30 | Advice::A32 | Advice::A44 | Advice::A54 => Shape::Pattern,
             Advice::A33 | Advice::A36 | Advice::A37 | Advice::A51 => Shape::PreemptPhase,
             Advice::A34 | Advice::A35 | Advice::A38 | Advice::A50 => Shape::Preempt,
             Advice::A39 | Advice::A41 => Shape::Overlap,

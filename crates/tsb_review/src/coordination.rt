@@ -1,4 +1,4 @@
-//! Advices on coordination: A27 to A32, and A42 to A47. Times are in tenths of a second.
+//! Advices on coordination: A27 to A32, A42 to A47, and A54. Times are in tenths of a second.
 #![tactic(auto, unfolding(tsb_plan::specs::PlanOf::plan_of))]
 
 ghost use Rattle.std.specs.Prelude.{◌≡◌, ◌==◌};
@@ -8,7 +8,7 @@ ghost use Rattle.tsb_plan.specs.declared.object.Object.TheVariants.{CoordCorrect
 ghost use Rattle.tsb_plan.specs.Plan.{phases};
 ghost use Rattle.tsb_plan.specs.PlanOf.{plan_of};
 ghost use Rattle.tsb_review.specs.Splits.{passed_by};
-ghost use Rattle.tsb_review.specs.Coordination.{spare_time, has_tight_split, overrun, makes_late, recalls_omitted, yields_alike, is_same_before, first_same, is_repeated, is_actuated, yields_once, is_under, has_short_maximum, is_permissive, yields_too_long, ends_apart_from, ends_apart, leads_for_nothing, is_coordinated_by_pattern, recycles_nothing, walks_over_and_over, gives_correction, corrects_nothing};
+ghost use Rattle.tsb_review.specs.Coordination.{spare_time, has_tight_split, overrun, makes_late, recalls_omitted, yields_alike, is_same_before, first_same, is_repeated, is_actuated, yields_once, is_under, has_short_maximum, is_permissive, yields_too_long, ends_apart_from, ends_apart, leads_for_nothing, is_coordinated_by_pattern, recycles_nothing, walks_over_and_over, gives_correction, corrects_nothing, ends_at_instants, permits_late_greens};
 
 use crate::calls::{has_walk, is_recalled, is_recalled_in, serves_pedestrians};
 use crate::pedestrians::{overruns_split, pedestrian_time};
@@ -258,4 +258,18 @@ pub(crate) fn corrects_nothing(plan: &Plan) -> bool
     ensures { result ≡ corrects_nothing (plan_of plan.now) }
 {
     gives_correction(plan) && matches!(plan.correction_mode(), CorrectionMode::AtOnce)
+}
+
+/// Whether nothing but its instant ends a green that demand holds in a pattern: neither late force-off nor a maximum.
+fn ends_at_instants(plan: &Plan) -> bool
+    ensures { result ≡ ends_at_instants (plan_of plan.now) }
+{
+    !plan.forces_late() && plan.at(Object::CoordMaximumMode, 1) == 0
+}
+
+/// A54: whether the used pattern has a permissive time, and nothing but its instant ends a green.
+pub(crate) fn permits_late_greens(plan: &Plan, pattern: Pattern) -> bool
+    ensures { result ≡ permits_late_greens (plan_of plan.now) pattern }
+{
+    plan.is_used(pattern) && plan.permissive_time(pattern) > 0 && ends_at_instants(plan)
 }

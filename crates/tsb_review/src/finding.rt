@@ -177,6 +177,7 @@ fn of_pattern(plan: &Plan, advice: Advice, pattern: Pattern) -> bool
         Advice::A30 => coordination::is_repeated(plan, pattern),
         Advice::A32 => coordination::yields_once(plan, pattern),
         Advice::A44 => coordination::leads_for_nothing(plan, pattern),
+        Advice::A54 => coordination::permits_late_greens(plan, pattern),
         _ => false,
     }
 }

@@ -222,6 +222,7 @@ fn of_pattern(plan: &Plan, advice: Advice, pattern: Pattern) -> Numbers
     match advice {
         Advice::A30 => four(n, pattern_or_zero(first_same(plan, pattern)), 0, 0),
         Advice::A32 => four(n, plan.cycle(pattern), 0, 0),
+        Advice::A54 => four(n, plan.permissive_time(pattern), 0, 0),
         _ => four(n, 0, 0, 0),
     }
 }

@@ -153,5 +153,8 @@ fn template(advice: Advice) -> &'static [u8]
         Advice::A53 => {
             b"A53 phase P: it is non-locking, and each of its detectors has a delay, so a car that stops beyond them is forgotten"
         }
+        Advice::A54 => {
+            b"A54 pattern P: its permissive time of X s lets greens begin late, and one that misses its force-off can last up to a cycle"
+        }
     }
 }
