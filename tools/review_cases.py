@@ -51,6 +51,7 @@ ALONE = "its dwell serves phase %d alone, and leaves the other ring without a ph
 ENTRIES = "%d of its phases have dual entry, not 1, and the other ring has one there"
 FORGOTTEN = "it is non-locking, and each of its detectors has a delay, so a car that stops beyond them is forgotten"
 LATE_GREENS = "its permissive time of %d s lets greens begin late, and one that misses its force-off can last up to a cycle"
+SHUT_OUT = "it has calls of its own, and each used pattern omits it, so in coordination they have no effect"
 NO_CALL = "while it has an alarm no car calls phase %d, since its fail time is 0 s"
 CASES = [
     Case(1, {"vehicleDetectorCallPhase.1": 0, "splitMode.1": 0}, ["phase 1: no detector, button, recall or split mode calls it"],
@@ -275,6 +276,9 @@ CASES = [
     Case(54, {"patternPermissiveTime.1": 5}, [f"pattern 1: {LATE_GREENS % 5}"], {"coordForceMode.1": 2}),
     Case(54, {**FOURTH, "patternPermissiveTime.1": 5, "patternPermissiveTime.4": 6}, [f"pattern {n}: {LATE_GREENS % t}" for n, t in ((1, 5), (4, 6))],
          {"coordMaximumMode.1": 1}),
+    Case(55, {"splitMode.3": 5}, [f"phase 3: {SHUT_OUT}"], {"vehicleDetectorCallPhase.3": 0}),
+    Case(55, {"splitMode.3": 5, "splitMode.8": 5, "vehicleDetectorCallPhase.8": 0}, [f"phase {p}: {SHUT_OUT}" for p in (3, 8)],
+         {**FOURTH, "patternSplitNumber.4": 2, **SECOND_TABLE}),
 ]
 
 

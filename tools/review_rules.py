@@ -172,7 +172,7 @@ class Plan:
 
 
 def service(plan: Plan) -> Iterator[tuple[int, str]]:
-    """Advices A1 to A7, and A52."""
+    """Advices A1 to A7, A52 and A55."""
     for p in plan.enabled:
         called = plan.detectors(p) or plan.has_button(p) or plan.own_recall(p) or plan.phase("SoftRecall", p)
         if not called and not any(plan.recall(n, p) for n in plan.patterns):
@@ -217,6 +217,10 @@ def service(plan: Plan) -> Iterator[tuple[int, str]]:
             own = [p for p in entries if plan.phase("Ring", p) == r]
             if any(plan.phase("Ring", p) == r for p in here) and len(own) != 1 and own != entries:
                 yield 52, f"ring {r}, side {s}: {len(own)} of its phases have dual entry, not 1, and the other ring has one there"
+    for p in plan.enabled:
+        called = plan.detectors(p) or plan.has_button(p) or plan.any_recall(p)
+        if called and {plan.mode(n, p) for n in plan.patterns} == {OMITTED}:
+            yield 55, f"phase {p}: it has calls of its own, and each used pattern omits it, so in coordination they have no effect"
 
 
 def pedestrians(plan: Plan) -> Iterator[tuple[int, str]]:

@@ -42,7 +42,7 @@ KINDS = ["it stands twice", "is no whole number: seconds", "is no whole number: 
 REVIEWED, REFUSED = 0, 1
 # What `tsb check` says of a plan that breaks a rule begins so.
 RULE = "plan: rule "
-ADVICES = [n for n in range(1, 55) if n != 31]
+ADVICES = [n for n in range(1, 56) if n != 31]
 # Display lines have so many characters.
 DISPLAY = 53
 # Objects of phases, detectors and so on, with the number of their indices and values that bring advices about.

@@ -1,7 +1,7 @@
--- Advices on what is served: A1 to A7.
+-- Advices on what is served: A1 to A7, and A55.
 use Rattle.std.specs.Prelude.{ℕ, ◌==◌, nat_lt, Bool, not, ◌&&◌, ◌||◌, Option, Some, None, is_some, is_none}
 use Rattle.std.specs.List.{list_all, list_any}
-use Rattle.tsb_types.specs.Lists.{first}
+use Rattle.tsb_types.specs.Lists.{first, run_from}
 use Rattle.tsb_plan.specs.Parts.{call_phase, is_used, detector_delay, detector_extend, no_activity, maximum_presence, erratic_counts, fail_time}
 use Rattle.tsb_plan.specs.Plan.{Plan, phases, is_enabled, has_maximum_recall, has_soft_recall, ring_of, side_of, is_concurrent}
 use Rattle.tsb_plan.specs.Running.{is_coordinated_now, is_omitted_now}
@@ -84,3 +84,16 @@ rival_of plan (Some q) = first (is_rival plan q) (phases plan)
 abbrev pub never_recalls_softly : Plan → ℕ → Bool
 never_recalls_softly plan p =
     is_enabled plan p && (has_soft_recall plan p && (not (is_recalled plan None p) && is_some (rivalled plan)))
+
+-- p has a call of its own: of a detector, a button, a recall or a soft recall
+abbrev pub has_call : Plan → ℕ → Bool
+has_call plan p = has_detector plan p || (has_button plan p || (is_recalled plan None p || has_soft_recall plan p))
+
+-- there are used patterns, and each of them omits p
+abbrev pub is_always_omitted : Plan → ℕ → Bool
+is_always_omitted plan p =
+    list_any (is_used plan) (run_from 1 16) && list_all (λ n. not (is_used plan n) || is_omitted_now plan (Some n) p) (run_from 1 16)
+
+-- A55: p has a call of its own, and each used pattern omits it: then dual entry does not bring it in either
+abbrev pub is_shut_out : Plan → ℕ → Bool
+is_shut_out plan p = is_enabled plan p && (has_call plan p && is_always_omitted plan p)

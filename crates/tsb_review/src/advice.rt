@@ -119,11 +119,13 @@ pub enum Advice {
     A53,
     /// A pattern has a permissive time, and a green that misses its force-off by it is held for up to a cycle.
     A54,
+    /// A phase has calls of its own, and each used pattern omits it.
+    A55,
 }
 
 impl Advice {
     /// All advices, in order.
-    pub const ALL: [Advice; 53] = [
+    pub const ALL: [Advice; 54] = [
         Advice::A1,
         Advice::A2,
         Advice::A3,
@@ -177,6 +179,7 @@ impl Advice {
         Advice::A52,
         Advice::A53,
         Advice::A54,
+        Advice::A55,
     ];
 
     /// What the advice is given for.
@@ -202,7 +205,8 @@ impl Advice {
             | Advice::A23
             | Advice::A24
             | Advice::A45
-            | Advice::A53 => Shape::Phase,
+            | Advice::A53
+            | Advice::A55 => Shape::Phase,
             Advice::A2 | Advice::A25 | Advice::A26 | Advice::A48 | Advice::A49 => Shape::Detector,
             Advice::A3 => Shape::Phases,
             Advice::A4

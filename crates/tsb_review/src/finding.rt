@@ -121,6 +121,7 @@ fn of_phase(plan: &Plan, advice: Advice, phase: Phase) -> bool
         Advice::A24 => actuation::has_step_alone(plan, phase),
         Advice::A45 => coordination::recycles_nothing(plan, phase),
         Advice::A53 => detection::forgets_cars(plan, phase),
+        Advice::A55 => service::is_shut_out(plan, phase),
         _ => false,
     }
 }

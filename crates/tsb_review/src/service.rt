@@ -1,11 +1,14 @@
-//! Advices on what is served: A1 to A7.
+//! Advices on what is served: A1 to A7, and A55.
 #![tactic(auto, unfolding(tsb_plan::specs::PlanOf::plan_of))]
 
-ghost use Rattle.std.specs.Prelude.{◌≡◌, ◌||◌, not};
-ghost use Rattle.std.specs.List.{list_all};
+ghost use Rattle.std.specs.Prelude.{◌≡◌, ◌||◌, not, Some};
+ghost use Rattle.std.specs.List.{list_all, list_any};
+ghost use Rattle.tsb_types.specs.Lists.{run_from};
+ghost use Rattle.tsb_plan.specs.Parts.{is_used};
 ghost use Rattle.tsb_plan.specs.Plan.{phases, has_maximum_recall, has_soft_recall};
 ghost use Rattle.tsb_plan.specs.PlanOf.{plan_of};
-ghost use Rattle.tsb_review.specs.Service.{is_never_called, has_settings, is_set_for_nothing, is_kept_apart, can_wait_for, is_served_apart, apart_from, may_lose_coordination, is_in_ring, has_fixed_times, has_two_recalls, is_always_called, is_rival, has_rival, rivalled, rival_of, never_recalls_softly};
+ghost use Rattle.tsb_plan.specs.Running.{is_omitted_now};
+ghost use Rattle.tsb_review.specs.Service.{is_never_called, has_settings, is_set_for_nothing, is_kept_apart, can_wait_for, is_served_apart, apart_from, may_lose_coordination, is_in_ring, has_fixed_times, has_two_recalls, is_always_called, is_rival, has_rival, rivalled, rival_of, never_recalls_softly, has_call, is_always_omitted, is_shut_out};
 
 use crate::calls::{conflicts, has_button, has_detector, is_recalled, is_recalled_by_pattern};
 use crate::sought::{Sought, first_phase, some_phase};
@@ -169,4 +172,43 @@ pub(crate) fn never_recalls_softly(plan: &Plan, phase: Phase) -> bool
         && has_soft_recall(plan, phase)
         && !is_recalled(plan, phase)
         && rivalled(plan).is_some()
+}
+
+/// Whether the phase has a call of its own: of a detector, a button, a recall or a soft recall.
+fn has_call(plan: &Plan, phase: Phase) -> bool
+    ensures { result ≡ has_call (plan_of plan.now) phase }
+{
+    has_detector(plan, phase)
+        || has_button(plan, phase)
+        || is_recalled(plan, phase)
+        || has_soft_recall(plan, phase)
+}
+
+/// Whether each used pattern omits the phase.
+fn all_omit(plan: &Plan, phase: Phase) -> bool
+    ensures { result ≡ list_all (λ n. not (is_used (plan_of plan.now) n) || is_omitted_now (plan_of plan.now) (Some n) phase) (run_from 1 16) }
+{
+    Pattern::all().iter().all(|pattern| !plan.is_used(*pattern)
+        || plan.is_omitted_now(Some(*pattern), phase))
+}
+
+/// Whether there are used patterns.
+fn uses_patterns(plan: &Plan) -> bool
+    ensures { result ≡ list_any (is_used (plan_of plan.now)) (run_from 1 16) }
+{
+    Pattern::all().iter().any(|pattern| plan.is_used(*pattern))
+}
+
+/// Whether there are used patterns, and each of them omits the phase.
+fn is_always_omitted(plan: &Plan, phase: Phase) -> bool
+    ensures { result ≡ is_always_omitted (plan_of plan.now) phase }
+{
+    uses_patterns(plan) && all_omit(plan, phase)
+}
+
+/// A55: whether the phase has a call of its own, and each used pattern omits it.
+pub(crate) fn is_shut_out(plan: &Plan, phase: Phase) -> bool
+    ensures { result ≡ is_shut_out (plan_of plan.now) phase }
+{
+    plan.is_enabled(phase) && has_call(plan, phase) && is_always_omitted(plan, phase)
 }

@@ -156,5 +156,8 @@ fn template(advice: Advice) -> &'static [u8]
         Advice::A54 => {
             b"A54 pattern P: its permissive time of X s lets greens begin late, and one that misses its force-off can last up to a cycle"
         }
+        Advice::A55 => {
+            b"A55 phase P: it has calls of its own, and each used pattern omits it, so in coordination they have no effect"
+        }
     }
 }
