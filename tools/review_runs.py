@@ -52,6 +52,8 @@ OTHERS_COORDINATED: Change = {"splitCoordPhase.2": 0, "splitCoordPhase.6": 0, "s
 # A second pattern, as the first but for its offset, and add only.
 ADD_ONLY: Change = {"patternCycleTime.2": 90, "patternOffsetTime.2": 15, "patternSplitNumber.2": 1,
                     "patternSequenceNumber.2": 1, "coordCorrectionMode.1": 3}
+# Cars stay on detectors 2 and 6, and one is on detector 3 for 6 s.
+OVER_LOOP = row(1, 2, 6) + row(100, 2, 3, 6) + row(160, 2, 6)
 # Someone presses button 4 in the first cycle, and cars stay on detectors 1 and 3.
 CROSSING = row(100, 1, 3, button=4) + row(103, 1, 3)
 
@@ -151,4 +153,40 @@ RUNS = [
     Run(47, False, changed(CLEAN, {**ADD_ONLY, "coordCorrectionLimit.1": 50}), "",
         ["pattern 1", "step 200", "pattern 2", "step 298", "when interval 2", "step 1", "when interval 2"],
         ["ok", "ok", "tick 0000101", "tick 0000499"]),
+    # A car stays on detector 3 from tick 100. Phase 3 is green at 150, for its maximum, and at 550 again. At 700 its alarm
+    # comes, at 725 its gap is over, at 775 it is red, and then nothing calls it. With fail time 255 it has a green every 40 s.
+    Run(48, True, with_recalls("26", {"vehicleDetectorMaxPresence.3": 1}), row(100, 3),
+        ["step 4000", "when alarm 3", "when interval 3"], ["tick 0000700", "tick 0000775"]),
+    Run(48, False, with_recalls("26", {"vehicleDetectorMaxPresence.3": 1, "vehicleDetectorFailTime.3": 255}), row(100, 3),
+        ["step 4000", "when alarm 3", "when interval 3"], ["tick 0000700", "tick 0004000"]),
+    # The input of preempt 2 stays on. Its phases are green from tick 1, and with a maximum presence of 60 s for that long.
+    Run(50, True, with_recalls("26", {"preemptDwellPhase.2": 34}), "", ["preempt 2 on", "step 4000", "when stage"],
+        ["ok", "tick 0000001"]),
+    Run(50, False, with_recalls("26", {"preemptDwellPhase.2": 34, "preemptMaximumPresence.2": 60}), "",
+        ["preempt 2 on", "step 4000", "when stage"], ["ok", "tick 0000601"]),
+    # A preempt serves phase 2 alone, and cars wait at phase 6.
+    Run(51, True, with_recalls("26", {"preemptDwellPhase.2": 2}), row(1, 6), ["preempt 2 on", "step 1000", "when interval 6"],
+        ["ok", "never"]),
+    Run(51, False, with_recalls("26", {"preemptDwellPhase.2": 34}), row(1, 6), ["preempt 2 on", "step 1000", "when interval 6"],
+        ["ok", "tick 0000001"]),
+    # A car comes to detector 4, and one to detector 2 later. The rings cross back for phase 2, and ring 2 has none.
+    Run(52, True, with_recalls("", {"phaseDualEntry.2": 1}), row(1, 4) + row(2) + row(200, 2), ["step 1000", "when interval 2", "when interval 6"],
+        ["tick 0000250", "never"]),
+    Run(52, False, with_recalls("", {"phaseDualEntry.2": 1, "phaseDualEntry.6": 1}), row(1, 4) + row(2) + row(200, 2),
+        ["step 1000", "when interval 2", "when interval 6"], ["tick 0000250", "tick 0000250"]),
+    # Cars hold phases 2 and 6. One comes over detector 3 in 6 s, of which its call lasts 1 s. With a call that is remembered
+    # phase 2 has its maximum from tick 150 on.
+    Run(53, True, with_recalls("26", {"phaseNonLock.3": 1, "vehicleDetectorDelay.3": 50}), OVER_LOOP,
+        ["step 4000", "when output 3", "when interval 3"], ["tick 0000160", "never"]),
+    Run(53, False, with_recalls("26", {"vehicleDetectorDelay.3": 50}), OVER_LOOP, ["step 450", "when output 3", "when interval 3"],
+        ["tick 0000160", "tick 0000450"]),
+    # The permissive time lets phase 3 begin at its instant, tick 600. With late force-off it ends after its minimum.
+    Run(54, True, changed(CLEAN, {**ACTUATED, "patternPermissiveTime.1": 15}), row(550, 3),
+        ["pattern 1", "step 1499", "when interval 3", "step 1", "when interval 3"], ["ok", "tick 0000600", "tick 0001500"]),
+    Run(54, False, changed(CLEAN, {**ACTUATED, "patternPermissiveTime.1": 15, **FORCED_LATE}), row(550, 3),
+        ["pattern 1", "step 649", "when interval 3", "step 1", "when interval 3"], ["ok", "tick 0000600", "tick 0000650"]),
+    # A car waits on detector 3, and its phase is left out of each cycle.
+    Run(55, True, changed(CLEAN, {"splitMode.3": 5}), row(100, 3), ["pattern 1", "step 4000", "when call 3", "when interval 3"],
+        ["ok", "tick 0000100", "never"]),
+    Run(55, False, CLEAN, row(100, 3), ["pattern 1", "step 450", "when interval 3"], ["ok", "tick 0000450"]),
 ]
