@@ -71,7 +71,7 @@ def test_other_faults_say_when_they_come() -> None:
     assert str(placed).endswith("; line 1, column 2: expected nothing more")
     assert "\n" not in str(placed)
     named = PlanFault("plan: a\nb: no such object")
-    assert (named.line, named.place) == ("plan: a\nb: no such object", None)
+    assert (named.line, named.place) == ("plan: a?b: no such object", None)
 
 
 def test_errors_are_told_to_other_processes() -> None:

@@ -393,14 +393,16 @@ def test_the_plan_with_what_was_committed(server: Server) -> None:
 
 
 def test_a_preempt(page: Page) -> None:
-    """Its switch brings phases 3 and 8 at tick 71, as the README has it."""
+    """Its switch brings phases 3 and 8 at tick 71, as the README has it; until they are
+    green it is entering."""
     page.go(30)
     page.click("switch-1")
     assert page.find("switch-1").get_attribute("aria-checked") == "true"
     page.go(70)
-    assert page.lit("P3") == "R" and "1: dwell stage" in page.text("preempts")
+    assert page.lit("P3") == "R" and "1: entering" in page.text("preempts")
     page.click("tick-on")
     assert page.lit("P3") == page.lit("P8") == "G"
+    assert "1: dwell stage" in page.text("preempts")
     page.go(30)
     page.click("undo")
     assert page.text("said") == "undone switch"
