@@ -26,14 +26,20 @@ entry-same : (o : Object) (text : List ℕ) (d : Data) (p : Plan) → with_entry
 unfolding with_entry
 entry-same o text d p = refl
 
+then-same : (next other : Plan → Result Plan Error) → ((q : Plan) → next q ≡ other q) → (r : Result Plan Error) → then_on r next ≡ then_on r other
+then-same next other same (Ok q) = same q
+then-same next other same (Err f) = refl
+
 table-same : (o : Object) (table : Members) (p : Plan) → with_table Two o table p ≡ with_table Three o table p
 table-same o no_members p = refl
-table-same o (member text d rest) p = after (with_entry Two o text d p)
+table-same o (member text d rest) p =
+    then-same (with_table Two o rest) (with_table Three o rest) (λ q. table-same o rest q) (with_entry Two o text d p)
     ∙ ap (λ (r : Result Plan Error). then_on r (with_table Three o rest)) (entry-same o text d p)
-  where
-    after : (r : Result Plan Error) → then_on r (with_table Two o rest) ≡ then_on r (with_table Three o rest)
-    after (Ok q) = table-same o rest q
-    after (Err f) = refl
+
+member-by : (name : List ℕ) (d : Data) (p q : Plan) (o : Object) (table : Members) → object_named Three name ≡ Some o → as_object d ≡ Some table →
+    with_table Two o table p ≡ Ok q →
+    or_fault (object_named Three name) (no_such_object name) (λ o. or_fault (as_object d) (object_not_a_table o) (λ table. with_table Three o table p)) ≡ Ok q
+member-by name d p q o table found is made = rw (found, is) (sym (table-same o table p) ∙ made)
 
 -- what a member of version 2 gives, one of version 3 gives too
 member-later : (name : List ℕ) (d : Data) (p q : Plan) → with_member Two name d p ≡ Ok q → with_member Three name d p ≡ Ok q
@@ -50,7 +56,7 @@ member-later name d p q e = judged (bytes_eq name (codes "version")) e
         let o = or_ok (object_named Two name) (no_such_object name) _ q e in
         let t = or_ok (as_object d) (object_not_a_table o.0) _ q o.2 in
         let found : object_named Three name ≡ Some o.0 = (named_exact Three name o.0).1 (record { has = refl; name = ((named_exact Two name o.0).0 o.1).name }) in
-        rw (found, t.1) (sym (table-same o.0 t.0 p) ∙ t.2)
+        member-by name d p q o.0 t.0 found t.1 t.2
 
 members-later : (ms : Members) (p q : Plan) → with_members Two ms p ≡ Ok q → with_members Three ms p ≡ Ok q
 members-later no_members p q e = e
@@ -70,19 +76,19 @@ equal-is k l e = (bytes_eq-Decides k l).0 (sym (is_eq-slice_cmp k l) ∙ ap is_e
 
 members-renumbered : (d : Data) (ms : Members) (p q : Plan) → with_members Two ms p ≡ Ok q → with_members Three (put (codes "version") d ms) p ≡ Ok q
 members-renumbered d no_members p q e = rw (passed-over Three (codes "version") d p refl) e
-members-renumbered d (member name old rest) p q e = go (slice_cmp nat_cmp (codes "version") name) refl
+members-renumbered d (member name old rest) p q e = go (λ r f. members-renumbered d rest r q f) (slice_cmp nat_cmp (codes "version") name) refl
   where
-    go : (r : Ordering) → slice_cmp nat_cmp (codes "version") name ≡ r →
+    go : ((r : Plan) → with_members Two rest r ≡ Ok q → with_members Three (put (codes "version") d rest) r ≡ Ok q) → (r : Ordering) → slice_cmp nat_cmp (codes "version") name ≡ r →
         with_members Three (match_ordering r (member (codes "version") d (member name old rest)) (member name d rest) (member name old (put (codes "version") d rest))) p ≡ Ok q
-    go Less is = rw (passed-over Three (codes "version") d p refl) (members-later (member name old rest) p q e)
-    go Equal is =
+    go later Less is = rw (passed-over Three (codes "version") d p refl) (members-later (member name old rest) p q e)
+    go later Equal is =
         let same : name ≡ codes "version" = sym (equal-is (codes "version") name is) in
         let first = then_ok (with_member Two name old p) (with_members Two rest) q e in
         let kept : p ≡ first.0 = if_ok true p first.0 too_large (sym (passed-over Two name old p same) ∙ first.1) in
         rw (passed-over Three name d p same) (members-later rest p q (subst (λ (r : Plan). with_members Two rest r ≡ Ok q) (sym kept) first.2))
-    go Greater is =
+    go later Greater is =
         let first = then_ok (with_member Two name old p) (with_members Two rest) q e in
-        rw (member-later name old p first.0 first.1) (members-renumbered d rest first.0 q first.2)
+        rw (member-later name old p first.0 first.1) (later first.0 first.2)
 
 -- ## A text
 
