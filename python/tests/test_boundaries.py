@@ -107,7 +107,7 @@ def test_a_green_that_began_before_has_no_row() -> None:
         (1, 1, 2), (5, 4, 2), (5, 7, 2), (8, 10, 2), (9, 12, 2), (10, 1, 2), (20, 7, 2)
     )  # fmt: skip
     assert rows(measures.services(events)) == [
-        (2, 1, 5, 8, 9, "gap"), (2, 10, 20, None, None, "other")
+        (2, 1, 5, 8, None, 9, "gap"), (2, 10, 20, None, None, None, "other")
     ]  # fmt: skip
     for code, cause in ((4, "gap"), (5, "maximum"), (6, "force-off")):
         events = table((1, 1, 2), (5, code, 2), (5, 7, 2))

@@ -56,6 +56,19 @@ def test_splits() -> None:
     ]
 
 
+def test_splits_of_a_phase_that_waits() -> None:
+    """Red clearance times from 81 to 90, and the phase waits for the other ring to
+    110; without a time it begins and ends in a tick."""
+    events = table(
+        (1, 1, 2), (51, 7, 2), (81, 10, 2), (91, 11, 2), (111, 12, 2),
+        (120, 1, 2), (140, 7, 2), (170, 10, 2), (170, 11, 2), (180, 12, 2),
+    )  # fmt: skip
+    assert rows(measures.splits(events)) == [
+        (2, 1, 111, 5.0, 3.0, 1.0, 11.0),
+        (2, 120, 180, 2.0, 3.0, 0.0, 6.0),
+    ]
+
+
 def test_terminations() -> None:
     """A row for a phase, a column for a cause; what goes on is not counted."""
     found = measures.terminations(TWO)

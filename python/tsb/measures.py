@@ -31,6 +31,7 @@ from tsb.told import (
     PREEMPT_OFF,
     PREEMPT_ON,
     RED_CLEARANCE,
+    RED_CLEARANCE_ENDS,
     SERVICE,
     TRACK,
     WALK,
@@ -73,13 +74,13 @@ SHOWN = {GREEN: "green", GREEN_ENDS: "yellow", YELLOW_ENDS: "red"}
 
 def services(events: pd.DataFrame) -> pd.DataFrame:
     """Each time that a phase was served: its phase, the ticks at which its green
-    began (`green`) and ended (`yellow`), at which red clearance began (NA where there
-    is none) and at which it was no longer in service (`over`), and the `cause` that
-    ended its green: gap, maximum, force-off, or other, which is a preempt or a trip;
-    none for a green that goes on."""
+    began (`green`) and ended (`yellow`), at which red clearance began and its time
+    ended (`red_clearance`, `red_end`, NA where there is none) and at which it was no
+    longer in service (`over`), and the `cause` that ended its green: gap, maximum,
+    force-off, or other, which is a preempt or a trip; none for a green that goes on."""
     rows: list[Row] = []
     on: dict[int, Row] = {}
-    ends = {RED_CLEARANCE: "red_clearance", OVER: "over"}
+    ends = {RED_CLEARANCE: "red_clearance", RED_CLEARANCE_ENDS: "red_end", OVER: "over"}
     codes = {GREEN, *CAUSES, GREEN_ENDS, *ends}
     for tick, code, phase in ordered(events, codes):
         if code == GREEN:
@@ -92,7 +93,7 @@ def services(events: pd.DataFrame) -> pd.DataFrame:
             on[phase].setdefault("cause", OTHER)
         elif code in ends and phase in on:
             on[phase][ends[code]] = tick
-    names = ["phase", "green", "yellow", "red_clearance", "over"]
+    names = ["phase", "green", "yellow", "red_clearance", "red_end", "over"]
     found: pd.DataFrame = table_of(rows, names, ["cause"])
     return found
 
@@ -116,7 +117,8 @@ def greens_of(served: pd.DataFrame) -> pd.DataFrame:
 
 def splits(events: pd.DataFrame) -> pd.DataFrame:
     """The split of each service: `phase`, the ticks at which it began and was over,
-    and the seconds of green, of yellow, of red clearance and of all, `split_s`."""
+    and the seconds of green, of yellow, of red clearance and of all, `split_s`. These
+    last have the wait for the other ring too, in which a phase stays in red clearance."""
     return splits_of(services(events))
 
 
@@ -129,7 +131,7 @@ def splits_of(served: pd.DataFrame) -> pd.DataFrame:
         "over": served["over"],
         "green_s": seconds(served["yellow"], served["green"]),
         "yellow_s": seconds(red, served["yellow"]),
-        "red_clearance_s": seconds(served["over"], red),
+        "red_clearance_s": seconds(served["red_end"].fillna(served["over"]), red),
         "split_s": seconds(served["over"], served["green"]),
     }
     return pd.DataFrame(parts)
