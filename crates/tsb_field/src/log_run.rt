@@ -4,12 +4,11 @@ ghost use Rattle.tsb_program.specs.tsb_watched.Seen.{seen};
 ghost use Rattle.tsb_words.specs.FieldWords.{seen_log};
 ghost use Rattle.tsb_field.specs.LogEnds.{Logged, TellsFault, TellsLogEnd, TellsRead, TellsReport, TellsSummary, failed_device};
 
-use crate::fault_line::fault_line;
 use crate::report::{is_lost, report, status_of};
 use std::alloc::Global;
 use std::io::{Read, Write};
 use tsb_field_streams::{FilterError, Reading, Summary, log};
-use tsb_program::{Failure, Status, Watched, fail, tell};
+use tsb_program::{Failure, Status, Watched, fail, line_of, tell};
 use tsb_words::field_files::{LogAsked, Manner};
 
 /// What is told of a text of events without a header and without a row.
@@ -72,7 +71,7 @@ fn tell_end<W, E: Write>(
     }
     match ended {
         Ok(summary) => tell_read(alloc, manner, summary, output.has_failed(), errors),
-        Err(fault) => tell_fault(errors, fault),
+        Err(fault) => tell_fault(alloc, errors, fault),
     }
 }
 
@@ -104,7 +103,7 @@ fn bytes_of(name: Option<&str>) -> Option<&[u8]>
 }
 
 /// Says what ended a filter, where no device has failed.
-fn tell_fault<E: Write>(errors: &mut Watched<E>, fault: FilterError) -> u8
+fn tell_fault<E: Write>(alloc: Global, errors: &mut Watched<E>, fault: FilterError) -> u8
     ensures { TellsFault fault result (seen E.contents errors.old) (seen E.contents errors.new) }
 {
     match fault {
@@ -112,9 +111,9 @@ fn tell_fault<E: Write>(errors: &mut Watched<E>, fault: FilterError) -> u8
         FilterError::Memory | FilterError::Read | FilterError::Write => {
             fail(errors, Failure::Memory)
         }
-        _ => match fault_line(fault) {
-            Some(line) => tell(errors, Status::Refused, line.as_bytes()),
-            None => fail(errors, Failure::Memory),
+        _ => match line_of(alloc, fault.line()) {
+            Ok(line) => tell(errors, Status::Refused, line.as_bytes()),
+            Err(_) => fail(errors, Failure::Memory),
         },
     }
 }

@@ -4,7 +4,6 @@
 #![tactic(auto)]
 
 mod end;
-mod fault_line;
 mod log_run;
 mod outputs_run;
 mod report;
