@@ -2,26 +2,36 @@
 """What the gate would refuse without proving anything, found in seconds: run it at the top before submitting.
 
 It reports files that are not in the layout of `rt fmt` (run on a copy), must-fail edits whose old text is not in its
-file exactly once, lines of documents that are over 120 characters, public definitions without a comment, and names and
-paths that documents cite and the repository does not have.
+file exactly once, lines of documents that are over 120 characters, public definitions without a comment, names and
+paths that documents cite and the repository does not have, and what tools/pages/tree_facts.py finds.
 """
+import concurrent.futures
+import os
 import pathlib
 import shutil
 import subprocess
 import sys
 import tempfile
 
-import cited_names
-import definitions_index
+# (modules of tools/ have one name, whether a person runs this or another module does)
+sys.path[0] = str(pathlib.Path(__file__).resolve().parent.parent)
+
+from tools.pages import cited_names, definitions_index, tree_facts  # noqa: E402
+
+
+def lay_out(crate):
+    """Has the kit lay out the files of a crate."""
+    subprocess.run(["rt", "fmt"], cwd=crate, check=True, stdout=subprocess.DEVNULL, stderr=subprocess.DEVNULL)
 
 
 def out_of_layout(root):
     """The files that `rt fmt` would change."""
     with tempfile.TemporaryDirectory() as room:
-        copy = pathlib.Path(room) / "copy"
-        shutil.copytree(root, copy, ignore=shutil.ignore_patterns("out", ".git", ".venv", "data"))
-        for crate in sorted((copy / "crates").iterdir()):
-            subprocess.run(["rt", "fmt"], cwd=crate, check=True, stdout=subprocess.DEVNULL, stderr=subprocess.DEVNULL)
+        copy = pathlib.Path(room)
+        shutil.copytree(root / "crates", copy / "crates", ignore=shutil.ignore_patterns("out", "data"))
+        shutil.copy2(root / "crates.txt", copy)
+        with concurrent.futures.ThreadPoolExecutor(os.cpu_count()) as pool:
+            list(pool.map(lay_out, sorted((copy / "crates").iterdir())))
         for path in sorted(copy.rglob("*")):
             if path.suffix in (".rt", ".antt"):
                 name = path.relative_to(copy)
@@ -69,10 +79,12 @@ def main():
     found = list(out_of_layout(root))
     found += [it for it in map(misplaced, sorted(root.glob("crates/*/must-fail/*.edit"))) if it]
     for path in [*root.glob("*.md"), *root.glob("docs/*.md"), *root.glob("examples/*.md"),
-                 *root.glob("crates/*/README.md")]:
+                 *root.glob("cases/*.md"), *root.glob("crates/*/README.md"),
+                 *root.glob("tools/*/README.md")]:
         found += too_long(path)
     found += definitions_index.uncommented()
     found += cited_names.missing()
+    found += tree_facts.missing()
     print("\n".join(found) if found else "ready")
     return 1 if found else 0
 

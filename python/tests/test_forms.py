@@ -9,7 +9,8 @@ import pytest
 from tsb import Error, Log, frames
 
 START = "2026-11-22 07:00:00"
-# The files of tools/exports that are read, by the letters and numbers of their names.
+# The files of tools/programs/exports that are read, by the letters and numbers of
+# their names.
 READ = """a01 a02 a05 a06 a07 a08 a09 a10 a11 a12 a13 a14 a15 a16 a17 a18 a20 a21 a22
     a23 a24 a25 a28 a30 a31 a33 a35 a36 a37""".split()
 RANDOM = 60
@@ -30,7 +31,7 @@ def logs_of(path: Path) -> tuple[Log | None, Log | None]:
 def test_each_form_is_read_as_the_program_reads_it(top: Path) -> None:
     """Those of controllers, agencies and spreadsheets; what cannot be read says why."""
     read = []
-    for path in sorted((top / "tools/exports").glob("*.csv")):
+    for path in sorted((top / "tools/programs/exports").glob("*.csv")):
         program, table = logs_of(path)
         if table is not None:
             assert table == program, path.name
@@ -44,8 +45,8 @@ def test_exports_at_random(
 ) -> None:
     """Where a table is made of one, its log is that of the program."""
     monkeypatch.chdir(top)
-    monkeypatch.syspath_prepend(str(top / "tools"))
-    export_of = importlib.import_module("run_field").random_export
+    monkeypatch.syspath_prepend(str(top))
+    export_of = importlib.import_module("tools.programs.run_field").random_export
     path, both = tmp_path / "export.csv", 0
     for number in range(RANDOM):
         path.write_bytes(export_of(random.Random(f"export {number}")))

@@ -13,8 +13,8 @@ from tsb.manual import LAST_TICK, OBJECTS, REFUSALS, RULES
 
 
 def test_the_file_is_as_the_documents(top: Path) -> None:
-    """tools/python_manual.py would write it as it is."""
-    words = [sys.executable, "tools/python_manual.py", "--check"]
+    """tools/pages/python_manual.py would write it as it is."""
+    words = [sys.executable, "-m", "tools.pages.python_manual", "--check"]
     done = subprocess.run(words, cwd=top, capture_output=True, text=True, check=False)
     assert done.returncode == 0, done.stdout
 
@@ -22,12 +22,12 @@ def test_the_file_is_as_the_documents(top: Path) -> None:
 def test_objects_are_those_of_the_source(
     top: Path, monkeypatch: pytest.MonkeyPatch
 ) -> None:
-    """Names, ranges and units are those that tools/manual_table.py reads from the
+    """Names, ranges and units are those that tools/pages/manual_table.py reads from the
     source of tsb_plan."""
     monkeypatch.chdir(top)
-    monkeypatch.syspath_prepend(str(top / "tools"))
-    source = importlib.import_module("manual_table").objects()
-    assert set(source) == set(OBJECTS) and len(OBJECTS) == 68
+    monkeypatch.syspath_prepend(str(top))
+    source = importlib.import_module("tools.pages.manual_table").objects()
+    assert set(source) == set(OBJECTS) and len(OBJECTS) == 69
     for name, (_, _, values, unit, structural) in source.items():
         found = OBJECTS[name]
         assert found.unit == unit and found.structural == (structural == "S")
@@ -90,7 +90,7 @@ def test_errors_are_told_to_other_processes() -> None:
 def test_ranges_are_told() -> None:
     """Each object tells its range where a value is over it."""
     for name, it in OBJECTS.items():
-        plan = Plan()
+        plan = Plan(max(it.since, 2))
         plan[name][it.count] = it.greatest
         said = re.escape(f"0 to {it.greatest} ({it.unit})")
         with pytest.raises(OutOfRange, match=said):

@@ -1,6 +1,7 @@
 """What a panel is made of, with the real programs and no browser."""
 
 import random
+import re
 from collections.abc import Callable, Iterator
 from pathlib import Path
 from typing import Any
@@ -181,6 +182,33 @@ def test_where_overlaps_are(examples: Path, included: set[int], lane: Lane) -> N
     plan = Plan.read(examples / "main_and_oak.json")
     plan["overlapIncludedPhases"][1] = included
     assert layout_of(plan).overlaps == {1: lane}
+
+
+def test_the_manual_has_these_places(examples: Path) -> None:
+    """What A56 takes for usual is where the panel draws phases and crossings."""
+    plan = Plan.read(examples / "no_advice.json")
+    plan["phaseWalk"][6] = 7
+    layout = layout_of(plan)
+    manual = (examples.parent / "docs/MANUAL.md").read_text()
+    told = {
+        name: [it.strip() for it in cells.split("|")]
+        for name, cells in re.findall(r"^\| (.*?) \|(.*)\|$", manual, re.M)
+    }
+    comes = [layout.lanes[it].leg for it in range(1, 9)]
+    goes = [_leg_out(layout.lanes[it]) for it in range(1, 9)]
+    assert told["comes from the"] == comes
+    assert told["goes into the"] == goes
+    assert told["its crossing is over the"] == [
+        layout.crossings.get(it, "") for it in range(1, 9)
+    ]
+
+
+def _leg_out(lane: Lane) -> str:
+    """The leg that a lane goes into: a left turn into the next one clockwise, a through
+    lane into the one across."""
+    circle = ("west", "north", "east", "south")
+    steps = {"left": 1, "through": 2}[lane.turn]
+    return circle[(circle.index(lane.leg) + steps) % 4]
 
 
 def test_a_lane_has_one_head(examples: Path, tmp_path: Path) -> None:

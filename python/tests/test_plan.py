@@ -135,6 +135,8 @@ def test_names_and_indices_that_there_are_not() -> None:
         plan["Walk"]
     with pytest.raises(tsb.NoSuchObject, match="version 1 has no object overlapType"):
         Plan(1)["overlapType"]
+    with pytest.raises(tsb.NoSuchObject, match="version 2 has no object overlapAcr"):
+        plan["overlapAcrossRings"]
     with pytest.raises(tsb.NoSuchObject, match="phaseWalk.17: its indices are 1 to 16"):
         plan["phaseWalk"][17] = 1
     with pytest.raises(tsb.NoSuchObject, match="splitTime: table 9: it is 1 to 8"):

@@ -6,6 +6,7 @@ import resource
 import signal
 import subprocess
 import sys
+import tempfile
 import threading
 import time
 from collections.abc import Iterator
@@ -423,24 +424,59 @@ def test_what_processes_cannot_find(plans: list[Path], days: list[Path]) -> None
         sweep(plans[:1], days[:1], [lambda events, plan: events], client, **HOURS)
 
 
+def writes_slowly(folder: str) -> None:
+    """Work that takes a second in the middle of writing a file."""
+
+    def slowly(_file: int) -> None:
+        Path(folder, "begun").touch()
+        time.sleep(1)
+
+    os.fsync = slowly
+    kept.write(Path(folder) / "table", b"whole")
+
+
+def test_a_file_that_is_being_written_leaves_no_part(tmp_path: Path) -> None:
+    """Where its process ends in the middle: it is written to its end."""
+
+    def work() -> None:
+        with suppress(OSError):  # (there are no processes any more to try it again)
+            list(workers.done(writes_slowly, [(str(tmp_path),)]))
+
+    with local(1) as workers:
+        thread = threading.Thread(target=work)
+        thread.start()
+        while not (tmp_path / "begun").exists():
+            time.sleep(0.01)
+    thread.join()
+    assert {it.name for it in tmp_path.iterdir()} == {"begun", "table"}
+    assert (tmp_path / "table").read_bytes() == b"whole"
+
+
+def test_a_room_that_is_just_made_is_not_left(
+    tmp_path: Path, monkeypatch: pytest.MonkeyPatch
+) -> None:
+    """Ctrl-C as its folder is made comes once it is known that there is one."""
+    made = tempfile.mkdtemp
+
+    def interrupted(*words: Any) -> str:
+        folder = made(*words)
+        os.kill(os.getpid(), signal.SIGINT)
+        return folder
+
+    monkeypatch.setattr(tempfile, "tempdir", str(tmp_path))
+    monkeypatch.setattr(tempfile, "mkdtemp", interrupted)
+    with pytest.raises(KeyboardInterrupt), local(1):
+        pass
+    assert list(tmp_path.iterdir()) == []
+
+
 @pytest.mark.parametrize("number", [signal.SIGINT, signal.SIGTERM, signal.SIGKILL])
 def test_a_sweep_that_is_stopped_leaves_nothing(
     plans: list[Path], days: list[Path], tmp_path: Path, number: signal.Signals
 ) -> None:
-    """Ctrl-C and SIGTERM are a line; and whoever kills it finds the room empty. On a
-    busy machine one of some thirty tries failed, so a second one is allowed."""
-    try:
-        stopped(plans, days, tmp_path / "first", number)
-    except AssertionError:
-        stopped(plans, days, tmp_path / "second", number)
-
-
-def stopped(
-    plans: list[Path], days: list[Path], folder: Path, number: signal.Signals
-) -> None:
-    """Stops a sweep by a signal, and looks at what it said and left."""
-    out, room = folder / "out", folder / "room"
-    room.mkdir(parents=True)
+    """Ctrl-C and SIGTERM are a line; and whoever kills it finds the room empty."""
+    out, room = tmp_path / "out", tmp_path / "room"
+    room.mkdir()
     words = [sys.executable, "-m", "tsb", "sweep", *map(str, plans), "--workers", "2"]
     words += ["--days", *map(str, days), "--begin", "07:00:00", "--device", "7"]
     begun = subprocess.Popen(

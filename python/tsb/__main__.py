@@ -1,6 +1,6 @@
 """`python3 -m tsb` lists what there is; `python3 -m tsb WORD ..` does it.
 
-`python3 -m tsb --version` tells the version.
+`python3 -m tsb --version` tells the version, and `--help` lists as well.
 """
 
 import ast
@@ -16,6 +16,7 @@ from typing import TextIO
 
 from tsb import __version__, programs
 from tsb.errors import Error, NoProgram, shown
+from tsb.options import nearest
 
 # Modules with a function `main(words)`, which gives the status to end with.
 COMMANDS = ("new", "sumo", "sweep", "panel", "report")
@@ -44,6 +45,13 @@ def listed() -> Iterator[str]:
     yield from (f"  {name:9} {said}" for name, said in commands())
 
 
+def unknown(name: str) -> str:
+    """What is said of a word that is no command."""
+    right = nearest(name, COMMANDS)
+    meant = "" if right is None else f", did you mean {right}?"
+    return f"there is no command {shown(name)}{meant}; python3 -m tsb lists them"
+
+
 def forget_folder() -> None:
     """Nothing more is imported from the folder in which the command is given: Python
     looks there first, and its files may be anybody's."""
@@ -68,7 +76,7 @@ def tell(
 def main(words: list[str]) -> int:
     """Runs a command, and gives the status to end with."""
     warnings.showwarning = tell
-    if not words:
+    if words in ([], ["-h"], ["--help"]):
         print("\n".join(listed()))
         return 0
     name, *more = words
@@ -76,7 +84,7 @@ def main(words: list[str]) -> int:
         print(f"tsb {__version__}")
         return 0
     if name not in dict(commands()):
-        print(f"there is no command {name}; python3 -m tsb lists them", file=sys.stderr)
+        print(unknown(name), file=sys.stderr)
         return 2
     try:
         status: int = importlib.import_module(f"tsb.{name}").main(more)

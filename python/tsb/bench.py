@@ -23,6 +23,7 @@ from tsb.errors import (
 )
 from tsb.hold import Hold, whole
 from tsb.lines import Display, Event, Lines
+from tsb.manual import NEWEST
 from tsb.plan import Plan
 from tsb.progress import progress
 from tsb.rows import ALL_OFF, PEDESTRIANS, PREEMPTS, ROW, VEHICLES, Log, On, digits
@@ -362,7 +363,7 @@ class Transaction:
 
     def __setitem__(self, place: tuple[str, Index], value: Value) -> None:
         name, index = place
-        what = object_of(name)
+        what = object_of(name, NEWEST)
         number = number_of(what, value)
         self._say("set", name, index_of(what, index), number)
 

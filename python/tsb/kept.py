@@ -9,6 +9,7 @@ import fcntl
 import hashlib
 import os
 import re
+import threading
 import time
 import uuid
 from collections.abc import Iterable
@@ -21,6 +22,8 @@ from tsb.files import read
 SUM = 16  # digits of a sum in a name
 LONGEST = 1 << 30  # bytes of a result that are read
 YOUNG = 60  # seconds in which a part of a file has its lock, if it is to have one
+#: Held while a file is written, so that a process which ends leaves no part of one.
+WRITING = threading.Lock()
 _NAMED = re.compile(rf"(.+)\.([0-9a-f]{{{SUM}}})\.csv", re.S)
 _PART = re.compile(r"\.[0-9a-f]{32}\.part")
 
@@ -56,19 +59,25 @@ def keep(folder: Path, name: str, text: bytes) -> Path:
 def write(path: Path, text: bytes) -> None:
     """Writes a file, so that there is all of it or what was there before."""
     part = path.with_name(f".{uuid.uuid4().hex}.part")
-    try:
-        with part.open("xb") as file:
-            with suppress(OSError):  # (some disks of networks have no locks)
-                fcntl.flock(file, fcntl.LOCK_EX)
-            file.write(text)
-            file.flush()
-            os.fsync(file.fileno())
-            os.replace(part, path)
-    except OSError as fault:
-        raise OSError(fault.errno, fault.strerror, str(path)) from None
-    finally:
-        part.unlink(missing_ok=True)
+    with WRITING:
+        try:
+            _write(part, path, text)
+        except OSError as fault:
+            raise OSError(fault.errno, fault.strerror, str(path)) from None
+        finally:
+            part.unlink(missing_ok=True)
     _synced(path.parent)
+
+
+def _write(part: Path, path: Path, text: bytes) -> None:
+    """Writes a part of this name, and renames it once all of it is on the disk."""
+    with part.open("xb") as file:
+        with suppress(OSError):  # (some disks of networks have no locks)
+            fcntl.flock(file, fcntl.LOCK_EX)
+        file.write(text)
+        file.flush()
+        os.fsync(file.fileno())
+        os.replace(part, path)
 
 
 def _synced(folder: Path) -> None:

@@ -1,6 +1,6 @@
 """What docs/MANUAL.md says of objects, rules, faults and refusals.
 
-All of it is read from manual.json, which tools/python_manual.py writes from the
+All of it is read from manual.json, which tools/pages/python_manual.py writes from the
 documents: there is no other list of names, units or ranges in the package.
 """
 
@@ -98,6 +98,8 @@ LAST_TICK: int = _TOLD["ticks"]
 OBJECTS: Mapping[str, Object] = {
     name: Object(name=name, **said) for name, said in _TOLD["objects"].items()
 }
+# The version of plan texts that has all objects, as `set` knows them.
+NEWEST: int = max(it.since for it in OBJECTS.values())
 REFUSALS: Mapping[int, Refusal] = {
     int(number): Refusal(number=int(number), **said)
     for number, said in _TOLD["refusals"].items()

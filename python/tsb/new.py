@@ -12,6 +12,7 @@ from pathlib import Path
 from typing import NoReturn
 
 from tsb import programs
+from tsb.options import Words
 from tsb.plan import OK, Plan
 from tsb.values import seconds
 
@@ -221,11 +222,11 @@ def _coordinate(plan: Plan, choice: Choice) -> None:
         plan["splitCoordPhase"][TABLE, phase] = 1
 
 
-class _Words(argparse.ArgumentParser):
+class _Words(Words):
     """Words. A bad one ends the program with status 2, and its fault is one line."""
 
     def error(self, message: str) -> NoReturn:
-        self.exit(2, f"{self.prog}: {message}\n")
+        self.exit(2, f"{self.prog}: {self.with_nearest(message)}\n")
 
 
 def read_words(words: Sequence[str]) -> tuple[Choice, Path]:

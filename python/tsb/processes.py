@@ -10,18 +10,21 @@ import shutil
 import signal
 import tempfile
 import threading
+import time
 from collections import deque
 from collections.abc import Callable, Iterable, Iterator
 from concurrent.futures import FIRST_COMPLETED, Future, ProcessPoolExecutor, wait
 from concurrent.futures.process import BrokenProcessPool
-from contextlib import contextmanager
+from contextlib import ExitStack, contextmanager
 from multiprocessing import get_context
 from multiprocessing.connection import Connection
 from pathlib import Path
 from typing import Any
 
 from tsb.errors import Error
+from tsb.kept import WRITING
 
+PATIENCE = 10  # seconds in which a process that is to end can write a file
 RETRIES = 2  # times that work is tried again whose process died
 # A new process begins with what it is sent, and with nothing of this one.
 _CONTEXT = get_context("spawn")
@@ -41,6 +44,8 @@ class Processes:
         # (its other end is this process's alone, and ends with it)
         self._alive, self._end = _CONTEXT.Pipe(duplex=False)
         self._all: list[ProcessPoolExecutor] = []
+        # (a pool that two threads shut down at once closes its pipe twice)
+        self._ending = threading.Lock()
         self._free = [self._one() for _ in range(count)]
 
     def _one(self) -> ProcessPoolExecutor:
@@ -71,7 +76,8 @@ class Processes:
 
     def _another(self, dead: ProcessPoolExecutor) -> ProcessPoolExecutor:
         """One in place of a process that died."""
-        dead.shutdown()
+        with self._ending:
+            dead.shutdown()
         self._all.remove(dead)
         return self._one()
 
@@ -80,20 +86,19 @@ class Processes:
         worker = self._free.pop()
         # (Ctrl-C at a terminal is for this process alone: what it starts has it
         # blocked, and here it comes once the process is started)
-        before = signal.pthread_sigmask(signal.SIG_BLOCK, {signal.SIGINT})
-        try:
-            return worker, worker.submit(does, *words)
-        except BrokenProcessPool:
-            worker = self._another(worker)
-            return worker, worker.submit(does, *words)
-        finally:
-            signal.pthread_sigmask(signal.SIG_SETMASK, before)
+        with _held_back(signal.SIGINT):
+            try:
+                return worker, worker.submit(does, *words)
+            except BrokenProcessPool:
+                worker = self._another(worker)
+                return worker, worker.submit(does, *words)
 
     def close(self) -> None:
         """Ends all processes, in the middle of whatever they do."""
         self._end.close()
-        for it in self._all:
-            it.shutdown(cancel_futures=True)
+        for it in list(self._all):
+            with self._ending:
+                it.shutdown(cancel_futures=True)
         self._alive.close()
 
 
@@ -118,21 +123,38 @@ def _begun(alive: Connection, room: str) -> None:
 
 
 def _ended(alive: Connection, room: str) -> None:
-    """Waits for the end, and leaves nothing behind."""
+    """Waits for the end, and leaves nothing behind: a file that is being written is
+    written to its end, and the room is gone."""
     alive.poll(None)
-    shutil.rmtree(room, ignore_errors=True)
+    WRITING.acquire(timeout=PATIENCE)
+    until = time.monotonic() + PATIENCE
+    while os.path.exists(room) and time.monotonic() < until:
+        # (what is made in it meanwhile stays, and so does the room)
+        shutil.rmtree(room, ignore_errors=True)
     os._exit(1)
+
+
+@contextmanager
+def _held_back(*numbers: signal.Signals) -> Iterator[None]:
+    """A block in which these signals wait for its end."""
+    before = signal.pthread_sigmask(signal.SIG_BLOCK, numbers)
+    try:
+        yield
+    finally:
+        signal.pthread_sigmask(signal.SIG_SETMASK, before)
 
 
 @contextmanager
 def local(workers: int | None = None) -> Iterator[Processes]:
     """So many processes of this machine, one for each processor without a number."""
     count = (os.cpu_count() or 1) if workers is None else workers
-    with tempfile.TemporaryDirectory(
-        prefix="tsb-sweep-", ignore_cleanup_errors=True
-    ) as room:
-        made = Processes(count, Path(room))
-        try:
-            yield made
-        finally:
-            made.close()
+    with ExitStack() as at_end:
+        # (a room that is made and not yet known here would be left behind)
+        with _held_back(signal.SIGINT, signal.SIGTERM):
+            room = tempfile.TemporaryDirectory(
+                prefix="tsb-sweep-", ignore_cleanup_errors=True
+            )
+            at_end.enter_context(room)
+        made = Processes(count, Path(room.name))
+        at_end.callback(made.close)
+        yield made

@@ -10,7 +10,7 @@ use Rattle.tsb_program.specs.tsb_log_text.FaultLines.{log_fault}
 use Rattle.tsb_program.specs.declared.files.FileError.TheVariants as files
 use Rattle.tsb_program.specs.declared.read.ReadError.{ReadError}
 use Rattle.tsb_program.specs.declared.read.ReadError.TheVariants as faults
-use Rattle.tsb_program.specs.tsb_watched.Seen.{Seen}
+use Rattle.tsb_program.specs.tsb_lines.Seen.{Seen}
 use Rattle.tsb.specs.Ends.{Checks, Judged, Reported, Stops}
 use Rattle.tsb_program.specs.Lines.{Refuses, plan_line}
 use Rattle.tsb_program.specs.Read.{HasPlan, LogRead, PlanRead}

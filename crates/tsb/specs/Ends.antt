@@ -15,7 +15,7 @@ use Rattle.tsb_text.specs.Answers.{Setup}
 use Rattle.tsb_text.specs.Blame.{Blames}
 use Rattle.tsb_text.specs.Ended.{Ended}
 use Rattle.tsb_program.specs.tsb_lines.Writes.{AppendsFront}
-use Rattle.tsb_program.specs.tsb_watched.Seen.{GoesOut, Seen, Tells}
+use Rattle.tsb_program.specs.tsb_lines.Seen.{GoesOut, Seen, Tells}
 use Rattle.tsb.specs.Lines.{TellsWords}
 use Rattle.tsb_program.specs.Lines.{FailsToRead, TellsEnd, log_line, plan_line}
 use Rattle.tsb_program.specs.Failures.{Fails, failure_of}

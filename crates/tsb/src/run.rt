@@ -7,7 +7,7 @@ ghost use Rattle.tsb_words.specs.BenchWords.{Spells};
 ghost use Rattle.tsb_text.specs.tsb_objects.Checked.{checked_plan};
 ghost use Rattle.tsb.specs.Lines.{TellsWords};
 ghost use Rattle.tsb_program.specs.Statuses.{number};
-ghost use Rattle.tsb_program.specs.tsb_watched.Seen.{seen};
+ghost use Rattle.tsb_program.specs.tsb_lines.Seen.{seen};
 ghost use Rattle.tsb.specs.Ends.{Checks, Judged, Ran, RanBuiltIn, Reported, Did, Talked};
 
 use std::alloc::Global;

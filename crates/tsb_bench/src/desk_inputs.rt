@@ -24,8 +24,8 @@ ghost use Rattle.tsb_bench.specs.declared.cabinet.TheConstants.{MOST_CELLS};
 use crate::cabinet::{Cabinet, Changes};
 use tsb_cells::Reversible;
 use tsb_controller::Controller;
+use tsb_controller::plan_changes::differences_onto;
 use tsb_objects::{Checked, ObjectId, Refusal, Station};
-use tsb_records::plan_changes::differences_onto;
 use tsb_step::first_cell::DESK;
 use tsb_transact::Desk;
 

@@ -9,13 +9,13 @@ ghost use Rattle.tsb_bench.specs.Watched.{Holds, told};
 use crate::cabinet::Cabinet;
 use crate::monitor_cells::MonitorCells;
 use tsb_calls::Calls;
+use tsb_controller::undo_part;
 use tsb_detect::{Alarm, Detectors};
 use tsb_heads::Trip;
 use tsb_history::Record;
 use tsb_objects::{Detector, Interval, PedestrianInterval, Phase, Preempt, Stage};
 use tsb_phase::Phases;
 use tsb_preempt::Preempts;
-use tsb_records::undo_part;
 use tsb_step::first_cell::{CALLS, DETECTORS, MONITOR, PHASES, PREEMPTS};
 use tsb_types::Watch;
 

@@ -6,9 +6,14 @@
 
 pub mod command;
 mod lamps;
+pub mod laws;
+pub mod live_command;
+mod live_read;
 mod names;
 mod objects;
 mod read;
 
 pub use command::{Command, Reading};
+pub use live_command::{LiveCommand, LiveReading};
+pub use live_read::live_reading_of;
 pub use read::{LINE, read_command, reading_of, turned_on};

@@ -139,6 +139,7 @@ fn of_18_or_19(word: &[u8]) -> Option<Object>
         PreemptMinimumWalk  b"preemptMinimumWalk"
         PhaseDynamicMaxStep b"phaseDynamicMaxStep"
         CoordCorrectionMode b"coordCorrectionMode"
+        OverlapAcrossRings  b"overlapAcrossRings"
     }
 }
 

@@ -21,3 +21,6 @@ pub mod SeenLemmas
 pub mod EndingLemmas
 pub mod WaitLemmas
 pub mod Examples
+pub mod PartLemmas
+mod PlanChangeLemmas
+mod WordLemmas

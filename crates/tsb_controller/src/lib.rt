@@ -12,7 +12,9 @@ pub mod controller;
 mod found;
 mod inputs;
 pub mod laws;
+pub mod parts;
 pub mod passing;
+pub mod plan_changes;
 mod readers;
 mod record;
 mod seen;
@@ -25,4 +27,5 @@ mod watch;
 
 pub use causes::Causes;
 pub use controller::Controller;
+pub use parts::{part_of, touches, undo_entry, undo_part};
 pub use status::Beside;

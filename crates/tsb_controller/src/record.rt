@@ -5,10 +5,10 @@ ghost use Rattle.tsb_step.specs.declared.first_cell.TheConstants.{DETECTORS, LAY
 ghost use Rattle.tsb_controller.specs.Records.{changes, put_back};
 
 use crate::controller::Controller;
+use crate::undo_entry;
 use arrayvec::ArrayVec;
 use tsb_cells::Reversible;
 use tsb_history::Record;
-use tsb_records::undo_entry;
 use tsb_step::first_cell::{CALLS, COORD, DETECTORS, PHASES, PREEMPTS, RINGS};
 
 impl Controller {

@@ -5,7 +5,7 @@ ghost use Rattle.tsb_dialog.specs.Says.{Answered};
 
 use crate::pending::Pending;
 use std::io::Write;
-use tsb_watched::{Watched, WriteError};
+use tsb_lines::{Watched, WriteError};
 
 /// Whether a dialog goes on after a line.
 #[derive(Clone, Copy, PartialEq, Eq)]

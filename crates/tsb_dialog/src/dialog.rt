@@ -12,8 +12,7 @@ use crate::answers::{Answers, Flow};
 use crate::error::DialogError;
 use crate::pending::Pending;
 use std::io::{Read, Write};
-use tsb_lines::{KeptLine, cut_at_feed, without_return};
-use tsb_watched::{Watched, WriteError};
+use tsb_lines::{KeptLine, Watched, WriteError, cut_at_feed, without_return};
 
 /// The most bytes that a dialog may be given leave to read: 1 GiB.
 pub const LIMIT: usize = 1_073_741_824;

@@ -12,4 +12,4 @@ pub use answers::{Answers, Flow};
 pub use dialog::{KEPT, LIMIT, converse};
 pub use error::DialogError;
 pub use pending::Pending;
-pub use tsb_watched::{Watched, WriteError};
+pub use tsb_lines::{Watched, WriteError};

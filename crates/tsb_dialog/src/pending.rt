@@ -11,7 +11,7 @@ ghost use Rattle.tsb_dialog.specs.Said.{Said, Wrote, with_feed};
 use arrayvec::ArrayVec;
 use std::io::{self, Read, Write};
 use std::marker::Model;
-use tsb_watched::{Watched, WriteError};
+use tsb_lines::{Watched, WriteError};
 
 /// How many bytes of answers are put together before they are written.
 const ROOM: usize = 8192;

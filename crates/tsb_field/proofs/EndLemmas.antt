@@ -6,12 +6,12 @@ use Rattle.std.specs.Prelude.{Err, None, Some, Vec}
 use Rattle.std.specs.declared.option.Option.{Option}
 use Rattle.tsb_program.specs.Failures.{Fails}
 use Rattle.tsb_program.specs.declared.failure.Failure.{Failure}
-use Rattle.tsb_program.specs.tsb_watched.Seen.{Seen}
+use Rattle.tsb_program.specs.tsb_lines.Seen.{Seen}
 use Rattle.tsb_program.specs.Read.{HasNoPlan, HasPlan, LogRead}
 use Rattle.tsb_program.specs.Told.{FailsFile, TellsNoLog, TellsNoPlan, TellsWhy}
 use Rattle.tsb_program.specs.declared.files.FileError.TheVariants as causes
 use Rattle.tsb_program.specs.declared.read.PlanFault.{PlanFault}
-use Rattle.tsb_program.specs.tsb_json_place.declared.place.JsonPlace.{JsonPlace}
+use Rattle.tsb_program.specs.tsb_plan_notes.declared.place.JsonPlace.{JsonPlace}
 use Rattle.tsb_text.specs.tsb_plan.Plan.{Plan}
 use Rattle.tsb_text.specs.tsb_plan_text.declared.error.PlanError.{PlanError}
 use Rattle.tsb_program.specs.declared.read.ReadError.{ReadError}
@@ -26,10 +26,10 @@ use Rattle.tsb_field_display.specs.Stream.{ReadSo, ReplayRead}
 use Rattle.tsb_field_display.specs.declared.replay.Replay.{Replay}
 use Rattle.tsb_field_display.specs.declared.shown.Shown.{Shown}
 use Rattle.tsb_text.specs.declared.faults.OnFault.{OnFault}
-use Rattle.tsb_field_events.specs.Merge.{session_events}
-use Rattle.tsb_field_events.specs.Texts.{IsLog, LogWritten}
-use Rattle.tsb_field_events.specs.declared.error.EventsError.{EventsError}
-use Rattle.tsb_field_events.specs.declared.error.EventsError.TheVariants as events
+use Rattle.tsb_field_display.specs.Merge.{session_events}
+use Rattle.tsb_field_display.specs.Texts.{IsLog, LogWritten}
+use Rattle.tsb_field_display.specs.declared.events_error.EventsError.{EventsError}
+use Rattle.tsb_field_display.specs.declared.events_error.EventsError.TheVariants as events
 use Rattle.tsb_field_diagram.specs.Page.{diagram_text}
 use Rattle.tsb_record.specs.tsb_types.declared.event.Event.{Event}
 use Rattle.tsb_field_streams.specs.declared.error.FilterError.{FilterError}

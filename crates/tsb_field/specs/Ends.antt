@@ -7,10 +7,10 @@ use Rattle.tsb_lines.specs.Writes.{AppendsFront}
 use Rattle.tsb_program.specs.Read.{HasLog, HasPlan, RefusesLog, RefusesPlanAt}
 use Rattle.tsb_program.specs.Failures.{Fails}
 use Rattle.tsb_program.specs.Told.{FailsToReadFile, RefusesAt, RefusesLogText, TellsInputEnd}
-use Rattle.tsb_program.specs.tsb_json_place.declared.place.JsonPlace.{JsonPlace}
+use Rattle.tsb_program.specs.tsb_plan_notes.declared.place.JsonPlace.{JsonPlace}
 use Rattle.tsb_program.specs.declared.failure.Failure.{Failure}
 use Rattle.tsb_program.specs.declared.failure.Failure.TheVariants.{Memory, Input, Write}
-use Rattle.tsb_program.specs.tsb_watched.Seen.{GoesOut, Seen}
+use Rattle.tsb_program.specs.tsb_lines.Seen.{GoesOut, Seen}
 use Rattle.tsb_program.specs.declared.read.ReadError.{ReadError}
 use Rattle.tsb_program.specs.declared.read.ReadError.TheVariants as faults
 use Rattle.tsb_log_text.specs.declared.error.LogError.{LogError}
@@ -22,11 +22,11 @@ use Rattle.tsb_field_display.specs.declared.error.ReplayError.{ReplayError}
 use Rattle.tsb_field_display.specs.declared.error.ReplayError.TheVariants as replays
 use Rattle.tsb_field_display.specs.declared.shown.Shown.{Shown}
 use Rattle.tsb_field_diagram.specs.Page.{diagram_text}
-use Rattle.tsb_field_events.specs.declared.error.EventsError.{EventsError}
-use Rattle.tsb_field_events.specs.declared.error.EventsError.TheVariants as ends
-use Rattle.tsb_field_events.specs.Merge.{session_events}
-use Rattle.tsb_field_events.specs.Texts.{IsLog}
-use Rattle.tsb_field_events.specs.Ticks.{AreWritten}
+use Rattle.tsb_field_display.specs.declared.events_error.EventsError.{EventsError}
+use Rattle.tsb_field_display.specs.declared.events_error.EventsError.TheVariants as ends
+use Rattle.tsb_field_display.specs.Merge.{session_events}
+use Rattle.tsb_field_display.specs.Texts.{IsLog}
+use Rattle.tsb_field_display.specs.Ticks.{AreWritten}
 use Rattle.tsb_record.specs.Ended as recorded
 use Rattle.tsb_text.specs.declared.faults.OnFault.{OnFault}
 use Rattle.tsb_text.specs.declared.faults.OnFault.TheVariants.{GoOn, Stop}

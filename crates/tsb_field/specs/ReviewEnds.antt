@@ -9,7 +9,7 @@ use Rattle.tsb_program.specs.declared.failure.Failure.TheVariants.{Memory, Write
 use Rattle.tsb_program.specs.Lines.{plan_line}
 use Rattle.tsb_program.specs.Read.{IsFront}
 use Rattle.tsb_program.specs.Told.{FailsToReadFile, plan_lines}
-use Rattle.tsb_program.specs.tsb_watched.Seen.{GoesOut, Seen}
+use Rattle.tsb_program.specs.tsb_lines.Seen.{GoesOut, Seen}
 use Rattle.tsb_review_text.specs.Lines.{breaches_text, review_text}
 use Rattle.tsb_text.specs.tsb_plan.Plan.{Plan}
 use Rattle.tsb_text.specs.tsb_rules.declared.rules.Rule.{Rule}

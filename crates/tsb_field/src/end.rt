@@ -1,7 +1,7 @@
 //! How the program ends, and the lines that it writes then.
 ghost use Rattle.tsb_field.specs.Lines.{TellsLate, TellsWords};
 ghost use Rattle.tsb_field.specs.Ends.{Written};
-ghost use Rattle.tsb_program.specs.tsb_watched.Seen.{seen};
+ghost use Rattle.tsb_program.specs.tsb_lines.Seen.{seen};
 
 use std::io::Write;
 use tsb_program::{Failure, Status, Watched, fail, tell, write_line};

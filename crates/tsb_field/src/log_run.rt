@@ -1,6 +1,6 @@
 //! `log`: a controller's event log in, a log of inputs out.
 ghost use Rattle.std.specs.Prelude.{◌≡◌, ◌⊎◌, option_map, false, true};
-ghost use Rattle.tsb_program.specs.tsb_watched.Seen.{seen};
+ghost use Rattle.tsb_program.specs.tsb_lines.Seen.{seen};
 ghost use Rattle.tsb_words.specs.FieldWords.{seen_log};
 ghost use Rattle.tsb_field.specs.LogEnds.{Logged, TellsFault, TellsLogEnd, TellsRead, TellsReport, TellsSummary, failed_device};
 

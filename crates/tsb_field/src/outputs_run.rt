@@ -1,7 +1,7 @@
 //! `log` with and without a plan beside the events, which are of outputs of detectors then.
 ghost use Rattle.std.specs.Prelude.{◌≡◌, ◌==◌, ◌&&◌, not, option_map};
 ghost use Rattle.tsb_field_log.specs.Mapping.{wires_of};
-ghost use Rattle.tsb_program.specs.tsb_watched.Seen.{seen};
+ghost use Rattle.tsb_program.specs.tsb_lines.Seen.{seen};
 ghost use Rattle.tsb_text.specs.tsb_plan.PlanOf.{plan_of};
 ghost use Rattle.tsb_words.specs.FieldWords.{seen_log};
 ghost use Rattle.tsb_field.specs.LogEnds.{LoggedBeside, LoggedOn, LoggedTelling, LoggedWith, TellsWhere};

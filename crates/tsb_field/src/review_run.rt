@@ -4,7 +4,7 @@ ghost use Rattle.tsb_lines.specs.Writes.{AppendsFront};
 ghost use Rattle.tsb_program.specs.Lines.{plan_line};
 ghost use Rattle.tsb_program.specs.Statuses.{number};
 ghost use Rattle.tsb_program.specs.Told.{plan_lines};
-ghost use Rattle.tsb_program.specs.tsb_watched.Seen.{GoesOut, seen};
+ghost use Rattle.tsb_program.specs.tsb_lines.Seen.{GoesOut, seen};
 ghost use Rattle.tsb_review_text.specs.Lines.{breaches_text, review_text};
 ghost use Rattle.tsb_text.specs.tsb_plan.PlanOf.{plan_of};
 ghost use Rattle.tsb_text.specs.tsb_plan_text.PlanText.{drafted};
@@ -13,6 +13,7 @@ ghost use Rattle.tsb_field.specs.ReviewEnds.{Answered, FaultAnswered, PlacesAnsw
 
 use std::alloc::{AllocError, Global};
 use std::io::Write;
+use tsb_lines::WriteError;
 use tsb_plan_notes::notes;
 use tsb_plan_text::{LIMIT, PlanError, read_plan, read_unchecked};
 use tsb_program::{
@@ -20,7 +21,6 @@ use tsb_program::{
 };
 use tsb_review_text::{write_breaches, write_review};
 use tsb_text::{Plan, Rule};
-use tsb_watched::WriteError;
 
 /// Reviews the plan in a file, and gives the status that the program ends with. Of a file that is too large one byte more
 /// than the longest plan has is read.

@@ -5,7 +5,7 @@ ghost use Rattle.tsb_words.specs.declared.error.WordsError.{WordsError};
 ghost use Rattle.tsb_words.specs.FieldProgram.{Spells};
 ghost use Rattle.tsb_text.specs.Answers.{Setup};
 ghost use Rattle.tsb_text.specs.tsb_objects.Checked.{checked_plan};
-ghost use Rattle.tsb_program.specs.tsb_watched.Seen.{seen};
+ghost use Rattle.tsb_program.specs.tsb_lines.Seen.{seen};
 ghost use Rattle.tsb_field_diagram.specs.Page.{diagram_text};
 ghost use Rattle.tsb_field_display.specs.Remaining.{changes_in, last_in};
 ghost use Rattle.tsb_field.specs.Ends.{Did, Drawn, Draws, IsDiagram, LogNamed, Pictured, RanSo, Recorded, RecordedOn, WritesMade, failure_by, name_of, on_fault_of, Told, ToldOn, seconds_of, title_of};
@@ -18,8 +18,7 @@ use std::convert::AsStr;
 use std::io::{Read, Write};
 use tsb_event_text::Moment;
 use tsb_field_diagram::diagram_text;
-use tsb_field_display::{Replay, ReplayError, read_replay};
-use tsb_field_events::{EventsError, events_text, log_text};
+use tsb_field_display::{EventsError, Replay, ReplayError, events_text, log_text, read_replay};
 use tsb_log_text::{Log, LogError};
 use tsb_program::{
     Failure, Files, ReadError, Status, Watched, fail, log_of, plan_or_place, refuse_log,

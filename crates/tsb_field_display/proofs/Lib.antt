@@ -7,3 +7,7 @@ pub mod ReplayLemmas
 pub mod EventLemmas
 pub mod StreamLemmas
 pub mod Examples
+pub mod SessionLineLemmas
+pub mod OrderLemmas
+pub mod SessionLemmas
+pub mod ReadLemmas

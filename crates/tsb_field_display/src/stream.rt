@@ -10,8 +10,7 @@ use crate::replay::Replay;
 use std::alloc::{AllocError, Global};
 use std::io::Read;
 use tsb_display_text::WIDTH;
-use tsb_lines::{KeptLine, cut_at_feed};
-use tsb_watched::Watched;
+use tsb_lines::{KeptLine, Watched, cut_at_feed};
 
 /// How many bytes of a line are kept: those of a display line, the carriage return after them, and one more, by which
 /// a longer line is known.

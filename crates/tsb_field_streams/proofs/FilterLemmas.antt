@@ -23,9 +23,9 @@ use Rattle.tsb_field_log.specs.Streets.{tick_at, rows_in}
 use Rattle.tsb_field_log.specs.Pushed.{last_tick, rows_before}
 use Rattle.tsb_field_log.specs.Taken.{HasTaken}
 use Rattle.tsb_field_log.proofs.PushedLemmas.{last-push, order-last}
-use Rattle.tsb_held_rows.specs.Holding.{held_rows, most_rows}
-use Rattle.tsb_held_rows.specs.Order.{placed}
-use Rattle.tsb_held_rows.specs.declared.held.Held.{Held}
+use Rattle.tsb_field_streams.specs.Holding.{held_rows, most_rows}
+use Rattle.tsb_field_streams.specs.Order.{placed}
+use Rattle.tsb_field_streams.specs.declared.held.Held.{Held}
 use Rattle.tsb_field_streams.specs.declared.error.FilterError.{FilterError}
 use Rattle.tsb_field_streams.specs.declared.error.FilterError.TheVariants.{TimeOrder, TooManyRows, PastEnd, LogTooLarge}
 use Rattle.tsb_field_streams.specs.declared.filter.Filter.{Filter}

@@ -8,3 +8,7 @@ pub mod ReadLemmas
 pub mod StreamLemmas
 -- rows that are sorted within a window
 pub mod SortLemmas
+-- rows that are placed and sorted
+pub mod OrderLemmas
+-- the place of a row in a queue
+pub mod PlaceLemmas

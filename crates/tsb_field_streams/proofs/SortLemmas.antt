@@ -8,8 +8,8 @@ use Rattle.tsb_field_log.specs.Inputs.{signal_of}
 use Rattle.tsb_field_log.specs.Streets.{tick_at}
 use Rattle.tsb_field_log.specs.Pushed.{rows_before}
 use Rattle.tsb_log_text.specs.tsb_types.declared.limits.TheConstants.{TICKS}
-use Rattle.tsb_held_rows.specs.Order.{IsInOrderFrom, first_before, first_of, placed, placed_all, rest_before, rest_of, sorted, time_of}
-use Rattle.tsb_held_rows.proofs.OrderLemmas.{AllFrom, first-stays, stay-in-order}
+use Rattle.tsb_field_streams.specs.Order.{IsInOrderFrom, first_before, first_of, placed, placed_all, rest_before, rest_of, sorted, time_of}
+use Rattle.tsb_field_streams.proofs.OrderLemmas.{AllFrom, first-stays, stay-in-order}
 use Rattle.tsb_field_streams.specs.declared.error.FilterError.{FilterError}
 use Rattle.tsb_field_streams.specs.declared.error.FilterError.TheVariants.{TimeOrder, TooManyRows, PastEnd, LogTooLarge}
 use Rattle.tsb_field_streams.specs.declared.filter.TheConstants.{MOST_ROWS}

@@ -25,7 +25,7 @@ use Rattle.tsb_field_log.specs.Inputs.{signal_of}
 use Rattle.tsb_field_log.specs.Mapping.{leads_from}
 use Rattle.tsb_field_log.specs.Streets.{tick_at}
 use Rattle.tsb_field_log.specs.Pushed.{last_tick, rows_before}
-use Rattle.tsb_held_rows.specs.Order.{first_before, first_of, placed, rest_before, rest_of}
+use Rattle.tsb_field_streams.specs.Order.{first_before, first_of, placed, rest_before, rest_of}
 use Rattle.tsb_field_streams.specs.declared.error.Disorder.{Disorder}
 use Rattle.tsb_field_streams.specs.declared.error.FilterError.{FilterError}
 use Rattle.tsb_field_streams.specs.declared.error.FilterError.TheVariants.{LongLine, Malformed, TimeOrder, TooManyRows, PastEnd, LogTooLarge}

@@ -12,3 +12,9 @@ pub mod Clocks
 pub mod SortLaws
 -- the line that tells what ended a filter
 pub mod FaultLines
+-- rows in the order of time
+pub mod Order
+-- what is held
+pub mod Holding
+-- what holds of sorted rows
+pub mod OrderLaws

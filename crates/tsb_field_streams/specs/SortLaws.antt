@@ -1,7 +1,7 @@
 -- What holds of rows that are sorted within a window. Each law here is a clause of a function in src/laws.rt.
 use Rattle.std.specs.Prelude.{◌≡◌, ℕ, ◌≤◌, max, List, [], ◌∷◌, Some, None, Result, Ok, Err}
 use Rattle.tsb_event_text.specs.declared.rows.EventRow.{EventRow}
-use Rattle.tsb_held_rows.specs.Order.{IsInOrder, sorted, time_of}
+use Rattle.tsb_field_streams.specs.Order.{IsInOrder, sorted, time_of}
 use Rattle.tsb_field_streams.specs.declared.error.FilterError.{FilterError}
 use Rattle.tsb_field_streams.specs.declared.error.FilterError.TheVariants.{TooManyRows}
 use Rattle.tsb_field_streams.specs.Filtering.{Given, Stand, bound_of, start, with_counted}

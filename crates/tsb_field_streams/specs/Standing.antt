@@ -7,7 +7,7 @@ use Rattle.tsb_field_log.specs.declared.street.Rows.{Rows}
 use Rattle.tsb_field_log.specs.Streets.{tick_at, rows_in}
 use Rattle.tsb_field_log.specs.Pushed.{last_tick, rows_before}
 use Rattle.tsb_field_log.specs.Taken.{HasTaken}
-use Rattle.tsb_held_rows.specs.Holding.{held_rows, most_rows}
+use Rattle.tsb_field_streams.specs.Holding.{held_rows, most_rows}
 use Rattle.tsb_field_streams.specs.declared.error.FilterError.{FilterError}
 use Rattle.tsb_field_streams.specs.declared.filter.Filter.{Filter}
 use Rattle.tsb_field_streams.specs.declared.filter.Reading.{Reading}

@@ -7,12 +7,13 @@ ghost use Rattle.tsb_field_log.specs.Streets.{rows_in};
 ghost use Rattle.tsb_field_log.specs.Pushed.{rows_before};
 ghost use Rattle.tsb_field_log.specs.Ticks.{row_in};
 ghost use Rattle.tsb_field_log.specs.Taken.{HasTaken};
-ghost use Rattle.tsb_held_rows.specs.Holding.{held_rows, most_rows};
+ghost use Rattle.tsb_field_streams.specs.Holding.{held_rows, most_rows};
 ghost use Rattle.tsb_field_streams.specs.Filtering.{Given, Stand, how_many, may_be_plain, most_held, parameter_of, start, summary_at, text_of, time_place, wire_place, with_count, with_counted, with_event, with_first, with_formed, with_header, with_in_order, with_line, with_other_line, with_passed, with_row, with_row_line, with_signal, with_text, with_used, with_wide, without_mark};
 ghost use Rattle.tsb_field_streams.specs.declared.error.FilterError.TheVariants.{LogTooLarge};
 
 mod late;
 
+use crate::Held;
 use crate::error::{Disorder, FilterError};
 pub use late::MOST_HELD;
 pub(crate) use late::most_held;
@@ -21,7 +22,6 @@ use tsb_event_text::{
     is_passed, is_preface, row_fault, wide_row,
 };
 use tsb_field_log::{InputEvent, Kind, Rows, Signal, Street, Wire};
-use tsb_held_rows::Held;
 use tsb_lines::is_skipped;
 
 /// The greatest length of a line, in bytes.

@@ -5,12 +5,16 @@ mod clocks;
 mod error;
 mod fault_lines;
 mod filter;
+mod held;
 mod laws;
+mod order_laws;
 mod rows;
 mod stream;
 
 pub use error::{Disorder, FilterError};
 pub use fault_lines::FilterLine;
 pub use filter::{Filter, LINE, LeftOut, MOST_HELD, MOST_ROWS, Reading, Summary};
+pub use held::Held;
 pub use laws::late_rows_tell_what_sorted_rows_tell;
+pub use order_laws::sorted_rows_are_in_order;
 pub use stream::{EVENTS, log};

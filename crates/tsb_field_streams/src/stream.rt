@@ -7,13 +7,13 @@ ghost use Rattle.tsb_field_log.specs.Taken.{HasTaken};
 ghost use Rattle.tsb_field_streams.specs.Standing.{StandsAtStart, given_of};
 ghost use Rattle.tsb_field_streams.specs.Streaming.{Ended, EndedBehind, Finished, Follows, Gave, Known, TookLast, Went};
 
+use crate::Held;
 use crate::error::FilterError;
 use crate::filter::{Filter, LINE, Reading, Summary, most_held};
 use crate::rows::{write_last_rows, write_rows};
 use std::alloc::{AllocError, Global};
 use std::io::{Read, Write};
 use tsb_field_log::{Street, Wire, wires};
-use tsb_held_rows::Held;
 use tsb_lines::{KeptLine, cut_at_feed};
 
 /// The most events of a stream, in bytes: 1 GiB.

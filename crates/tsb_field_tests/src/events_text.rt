@@ -2,8 +2,7 @@
 
 use std::alloc::Global;
 use tsb_event_text::{Moment, read_moment};
-use tsb_field_display::{Shown, read_line};
-use tsb_field_events::{EventsError, events_text};
+use tsb_field_display::{EventsError, Shown, events_text, read_line};
 use tsb_log_text::LogRow;
 use tsb_types::{NumberSet, Row};
 

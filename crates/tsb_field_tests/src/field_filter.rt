@@ -3,8 +3,7 @@
 use std::alloc::{AllocError, Global};
 use tsb_event_text::{Column, Moment, RowFault, TimeForm, read_moment};
 use tsb_field_log::{Kind, Rows, Street, Wire, wires};
-use tsb_field_streams::{Disorder, Filter, FilterError, LeftOut, Reading, Summary};
-use tsb_held_rows::Held;
+use tsb_field_streams::{Disorder, Filter, FilterError, Held, LeftOut, Reading, Summary};
 use tsb_log_text::row_line;
 
 /// What a filter gives for lines from 07:00:00 on.

@@ -9,12 +9,12 @@ use Rattle.tsb_objects.specs.tsb_types.declared.lamp.Aspect.TheVariants.{Dark, R
 use Rattle.tsb_objects.specs.tsb_types.Intervals.{is_green, is_yellow, is_red_clear}
 use Rattle.tsb_objects.specs.tsb_types.Lists.{first, run_from}
 use Rattle.tsb_objects.specs.tsb_plan.Plan.{Plan, phases, ring_of}
-use Rattle.tsb_objects.specs.tsb_plan.Parts.{is_included, is_modifier}
+use Rattle.tsb_objects.specs.tsb_plan.Parts.{is_included, is_modifier, overlaps_across_rings}
 use Rattle.tsb_objects.specs.tsb_rules.PatternRules.{some_and}
 use Rattle.tsb_heads.specs.declared.monitor.Trip.{Trip}
 use Rattle.tsb_heads.specs.declared.monitor.Trip.TheVariants.{Conflict, GreenToRed}
 use Rattle.tsb_heads.specs.Heads.{Shown, Heads}
-use Rattle.tsb_heads.specs.Overlaps.{some_of, is_followed, keeps_green, is_kept_green, is_on_yellow, has_green_modifier, has_yellow_modifier, is_on_last_yellow, overlap_head}
+use Rattle.tsb_heads.specs.Overlaps.{some_of, other_ring, comes_across, is_followed, keeps_green, is_kept_green, is_on_yellow, has_green_modifier, has_yellow_modifier, is_on_last_yellow, overlap_head}
 use Rattle.tsb_heads.specs.Displays.{ordered, flashing, flashed, field, laid_over}
 use Rattle.tsb_heads.specs.Monitoring as monitor
 use Rattle.tsb_heads.specs.Monitoring.{is_red, are_in_conflict, conflict_of, conflict_by, conflict, goes_red, green_to_red}
@@ -32,7 +32,9 @@ module _ (plan : Plan) (s t : Shown) (count : plan.phase_count ≤ 16) (alike : 
   some-same list f g same = any-agree plan.phase_count (λ p. list p && f p) (λ p. list p && g p) count (λ p from to. ap (λ (b : Bool). list p && b) (same p from to))
 
   followed-same : (o p : ℕ) → is_followed plan s o p ≡ is_followed plan t o p
-  followed-same o p = ap (some_and (is_included plan o)) (alike.commitment (ring_of plan p))
+  followed-same o p =
+      ap₂ (λ (own other : Option ℕ). some_and (is_included plan o) own || (overlaps_across_rings plan o && (is_some own && some_and (comes_across plan o p) other)))
+      (alike.commitment (ring_of plan p)) (alike.commitment (other_ring (ring_of plan p)))
 
   keeps-same : (o p : ℕ) → 1 ≤ p → p ≤ 16 → keeps_green plan s o p ≡ keeps_green plan t o p
   keeps-same o p from to = ap₂ (λ (i : Interval) (b : Bool). is_green i || ((is_yellow i || is_red_clear i) && b)) (alike.interval p from to) (followed-same o p)

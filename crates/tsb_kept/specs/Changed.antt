@@ -1,21 +1,12 @@
 -- The tick at which one of the inputs of rows changed last.
 use Rattle.std.specs.Prelude.{ℕ, Bool, not, List, [], ◌∷◌, Option, Some, None, if◌then◌else◌}
-use Rattle.tsb_types.specs.Sets.{has_number}
 use Rattle.tsb_types.specs.declared.row.Row.{Row}
 use Rattle.tsb_log_text.specs.declared.log.LogRow.{LogRow}
 use Rattle.tsb_step.specs.tsb_plan.Plan.{Plan}
 use Rattle.tsb_step.specs.declared.inputs.Input.{Input}
 use Rattle.tsb_step.specs.declared.inputs.Input.TheVariants.{Tick}
 use Rattle.tsb_step.specs.Runs.{replay}
-use Rattle.tsb_kept.specs.declared.changed.RowInput.{RowInput}
-use Rattle.tsb_kept.specs.declared.changed.RowInput.TheVariants.{Vehicle, Pedestrian, Preempt}
 use Rattle.tsb_kept.specs.Kept.{last_row}
-
--- whether an input is on in a row
-abbrev pub value_of : RowInput → Row → Bool
-value_of (Vehicle d) row = has_number row.vehicles d
-value_of (Pedestrian d) row = has_number row.pedestrians d
-value_of (Preempt n) row = has_number row.preempts n
 
 -- one is true and the other is not
 abbrev pub differs : Bool → Bool → Bool

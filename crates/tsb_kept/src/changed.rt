@@ -1,38 +1,15 @@
 //! The tick at which one of the inputs of rows changed last.
 ghost use Rattle.std.specs.Prelude.{◌≡◌, ◌≤◌, List, length, take};
-ghost use Rattle.tsb_kept.specs.Changed.{change_in, last_change, value_of};
+ghost use Rattle.tsb_kept.specs.Changed.{change_in, last_change};
 ghost use Rattle.tsb_kept.specs.Kept.{kept_of, row_behind};
+ghost use Rattle.tsb_log_text.specs.RowInputs.{value_of};
 ghost use Rattle.tsb_step.specs.declared.inputs.Input.{Input as InputValue};
 ghost use Rattle.tsb_step.specs.tsb_plan.Plan.{Plan};
 ghost use Rattle.tsb_types.specs.Sets.{all_off};
 
 use crate::kept::Kept;
-use tsb_log_text::LogRow;
-use tsb_types::{Detector, PedestrianDetector, Preempt, Row};
-
-/// One of the inputs that a row has.
-#[derive(Clone, Copy)]
-pub enum RowInput {
-    /// A vehicle detector.
-    Vehicle(Detector),
-    /// A pedestrian detector.
-    Pedestrian(PedestrianDetector),
-    /// The input of a preempt.
-    Preempt(Preempt),
-}
-
-impl RowInput {
-    /// Whether it is on in a row.
-    pub fn is_on(&self, row: &Row) -> bool
-        ensures { result ≡ value_of self.now row.now }
-    {
-        match self {
-            RowInput::Vehicle(detector) => row.vehicles.contains(detector.number()),
-            RowInput::Pedestrian(detector) => row.pedestrians.contains(detector.number()),
-            RowInput::Preempt(preempt) => row.preempts.contains(preempt.number()),
-        }
-    }
-}
+use tsb_log_text::{LogRow, RowInput};
+use tsb_types::Row;
 
 impl Kept {
     /// The number of the newest tick, among the inputs that remain, at which an input of rows is on and was off before,

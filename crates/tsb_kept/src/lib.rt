@@ -5,5 +5,4 @@ pub mod changed;
 pub mod kept;
 pub mod laws;
 
-pub use changed::RowInput;
 pub use kept::{Kept, Other};

@@ -1,6 +1,7 @@
 pub mod TickLemmas
 pub mod KeptCallLemmas
 pub mod OverlapPhaseLemmas
+pub mod OverlapGreenLemmas
 pub mod RunningMaximumLemmas
 pub mod PreemptTurnLemmas
 pub mod GreenTimeLemmas

@@ -1,6 +1,6 @@
 -- Coordinated phases are served again, while a pattern runs and no preempt is in service. The laws here are the contracts of
 -- functions in src/operation.rt, and proved there, but for the last: that is STATED, NOT PROVED, and tested on runs at
--- random by `tools/test_coordination.py`. Times are in tenths of a second, which are ticks.
+-- random by `tools/reference/test_coordination.py`. Times are in tenths of a second, which are ticks.
 --
 -- Meanwhile no pattern is selected and nothing is committed. A pattern that is selected takes force-offs back, be it the
 -- one that runs; and a commit can move an instant away each time before the local counter comes to it. So over these no

@@ -3,13 +3,15 @@
 -- that object.
 use Rattle.std.specs.Prelude.{◌≡◌, ℕ, ◌==◌, true, false, ◌&&◌, ◌||◌, if◌then◌else◌, Option, Some, None, is_some, is_none}
 use Rattle.tsb_step.specs.tsb_cells.Timer.{has_reached}
-use Rattle.tsb_step.specs.tsb_plan.declared.object.Object.TheVariants.{CoordForceMode, CoordMaximumMode, PatternPermissiveTime, PatternLeadLag, PhasePedestrianRecycle, CoordCorrectionMode}
+use Rattle.tsb_step.specs.tsb_plan.declared.object.Object.TheVariants.{CoordForceMode, CoordMaximumMode, PatternPermissiveTime, PatternLeadLag, PhasePedestrianRecycle, CoordCorrectionMode, OverlapAcrossRings}
 use Rattle.tsb_step.specs.tsb_plan.Parts.{leads_and_lags, split_of, sequence_of}
 use Rattle.tsb_step.specs.tsb_plan.Plan.{Plan, is_enabled, side_of, is_concurrent}
 use Rattle.tsb_step.specs.tsb_plan.Running.{running}
 use Rattle.tsb_step.specs.tsb_rules.PatternRules.{some_and, each_pattern, split_end, ends_with, coordinated_agree, coordinated_phases_agree, permissive_times_end}
 use Rattle.tsb_step.specs.tsb_rules.Rules.{first_broken}
 use Rattle.tsb_step.specs.tsb_objects.Instants.{first_coordinated}
+use Rattle.tsb_step.specs.tsb_heads.Heads.{Shown}
+use Rattle.tsb_step.specs.tsb_heads.Overlaps.{is_followed_in_ring, is_followed}
 use Rattle.tsb_step.specs.tsb_coord.declared.correction.Correction.{Correction}
 use Rattle.tsb_step.specs.tsb_coord.Coordinated.{local, instant_by, force_off, agree, asks_force_off, asks_recycle, is_pattern}
 use Rattle.tsb_step.specs.tsb_coord.Correction.{in_step, local_now, forces, is_in_step, selected_correction}
@@ -17,7 +19,7 @@ use Rattle.tsb_step.specs.tsb_phase.Phase.{Given, GreenHeld}
 use Rattle.tsb_step.specs.tsb_phase.DynamicMaximum.{maximum_in_use}
 use Rattle.tsb_step.specs.tsb_phase.Green.{conflict_timer, acting_maximum, has_maxed_out, forced_latch}
 
--- each option of the plan is 0; of a pattern or a phase there may be one for each
+-- each option of the plan is 0; of a pattern, a phase or an overlap there may be one for each
 pub record HasNoOptions (plan : Plan) : Type 0 where
   pub coord_force_mode : plan.value CoordForceMode 1 ≡ 0
   pub coord_maximum_mode : plan.value CoordMaximumMode 1 ≡ 0
@@ -25,6 +27,7 @@ pub record HasNoOptions (plan : Plan) : Type 0 where
   pub pattern_lead_lag : (n : ℕ) → plan.value PatternLeadLag n ≡ 0
   pub phase_pedestrian_recycle : (p : ℕ) → plan.value PhasePedestrianRecycle p ≡ 0
   pub coord_correction_mode : plan.value CoordCorrectionMode 1 ≡ 0
+  pub overlap_across_rings : (o : ℕ) → plan.value OverlapAcrossRings o ≡ 0
 
 -- each definition that reads an option is the one without it
 pub record OptionsOff (plan : Plan) : Type 0 where
@@ -60,6 +63,8 @@ pub record OptionsOff (plan : Plan) : Type 0 where
   pub forcing : (selected : Option ℕ) (c : Correction) (t p : ℕ) → forces plan selected c t p ≡ asks_force_off plan t selected p
   -- K23 asks for nothing
   pub permissive : permissive_times_end plan ≡ true
+  -- an overlap lasts through a clearance by the commitment of the phase's own ring alone
+  pub followed : (s : Shown) (o p : ℕ) → is_followed plan s o p ≡ is_followed_in_ring plan s o p
 
 -- So it is in every plan whose options are 0.
 abbrev pub OptionsOffChangeNothing : Type 0

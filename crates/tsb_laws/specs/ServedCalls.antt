@@ -1,6 +1,6 @@
--- Calls are served in time, in free operation and with no preempt in service. Each law here is the contract of a function in
--- src/operation.rt, and proved there; `tools/test_stated_laws.py` tests them on runs at random besides. Times are in tenths of
--- a second, which are ticks.
+-- Calls are served in time, in free operation and with no preempt in service. Each law here is the contract of a
+-- function in src/operation.rt, and proved there; `tools/reference/test_stated_laws.py` tests them on runs at random
+-- besides. Times are in tenths of a second, which are ticks.
 --
 -- All but the first are of plans in which all phases of one side and of different rings are concurrent. Where they
 -- are not, a ring can wait for ever for a phase across that its own next phase does not go with.

@@ -23,8 +23,8 @@ use Rattle.tsb_field_display.specs.declared.shown.Signals.{Signals}
 use Rattle.tsb_field_display.specs.Events as display_lines
 use Rattle.tsb_field_display.specs.Reading.{shown_of, signals_of}
 use Rattle.tsb_field_display.specs.ReadBack.{Lit, lit_after, read_back, says_at}
-use Rattle.tsb_field_events.specs.Inputs.{events_of_rows}
-use Rattle.tsb_field_events.specs.Laws.{is_of_input}
+use Rattle.tsb_field_display.specs.Inputs.{events_of_rows}
+use Rattle.tsb_field_display.specs.SessionLaws.{is_of_input}
 
 -- ## Display lines
 

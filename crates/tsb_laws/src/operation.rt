@@ -6,7 +6,7 @@ ghost use Rattle.tsb_laws.specs.GreenEnds.{GreensEndForAReason};
 ghost use Rattle.tsb_laws.specs.InStep.{ComeIntoStep, OnceInStep, SelectedInStep, SelectionsGoOn};
 ghost use Rattle.tsb_laws.specs.LateGreens.{LateGreensAreReady, LateGreensMayEnd};
 ghost use Rattle.tsb_laws.specs.Options.{OptionsOffChangeNothing};
-ghost use Rattle.tsb_laws.specs.OverlapPhases.{OverlapsGoWithPhases};
+ghost use Rattle.tsb_laws.specs.OverlapPhases.{OverlapsEndWithAGreen, OverlapsGoWithPhases, OverlapsLastAcrossRings};
 ghost use Rattle.tsb_laws.specs.PatternEnds.{FloatingGreensAreReady, FloatingGreensMayEnd, MaximumGreensAreReady, MaximumGreensMayEnd, PermittedGreensAreReady, PermittedGreensMayEnd};
 ghost use Rattle.tsb_laws.specs.PreemptEntries.{PreemptsLetInTheirOwn};
 ghost use Rattle.tsb_laws.specs.PreemptStages.{DwellsAreReached, ExitsEnd, StagesAreReached};
@@ -76,6 +76,28 @@ pub fn greens_end_for_a_reason()
 /// Witness: `an_overlap` of OverlapRuns.
 pub fn overlaps_go_with_phases()
     ensures { OverlapsGoWithPhases }
+{}
+
+/// `ends`: An overlap leaves green with a green. A tick that turns the head of a normal overlap from green to yellow
+/// ends the green of a phase that it includes. So it is with `overlapAcrossRings` and without it.
+///
+/// Not said: anything of overlaps of type minusGreenYellow, from which a modifier phase takes the green.
+/// Mistake: an overlap across rings that counts the other ring's commitment alone, `keeps_by_the_other_ring` of
+/// Mistakes of tsb_heads (`red_before_8`, `would_be_green`, `would_drop`).
+/// Witness: `goes_over` of OverlapRuns, in which phase 1 has just left its green.
+///
+/// `across`: With `overlapAcrossRings` an overlap does not leave green between two phases of the two rings. Included
+/// phase 1, say, is in yellow change or red clearance, its ring is committed, and the other ring to included phase 8,
+/// with which phase 1 is not concurrent. So both rings cross the barrier. Then the head of a normal overlap is green,
+/// and it is green after the next tick too. It is so in each tick until phase 8 is Green, as commitments stand.
+///
+/// Needs: a tick that does not trip the monitor.
+/// Not said: anything where the ring of phase 1 is committed to no phase; it may be Red before phase 8 is Green.
+/// Mistake: an overlap that counts its own ring alone, `by_own_ring` (`shows_green`, `would_leave_green`).
+/// Witness: `goes_over` of OverlapRuns.
+pub fn overlaps_last_across_rings()
+    ensures ends { OverlapsEndWithAGreen }
+    ensures across { OverlapsLastAcrossRings }
 {}
 
 /// `bounded`: The maximum in use stays between the smaller and the larger of the maximum and the limit of the dynamic
@@ -328,7 +350,8 @@ pub fn phases_are_served_in_patterns()
 /// time, and instants are as counted from the first coordinated phase. Where no phase has pedestrian recycle, none may
 /// walk again within its green. Where `coordCorrectionMode` is 0, the local counter is in step at once. It is so behind
 /// each selection, and it alone says what is forced off. Where no pattern has a permissive time, K23 asks for nothing.
-/// So it is in every tick, for each phase, and whatever pattern is selected.
+/// Where no overlap has `overlapAcrossRings`, overlaps last through a clearance by the ring of its phase alone. So it
+/// is in every tick, for each phase, and whatever pattern is selected.
 ///
 /// Needs: for what instants are counted from, a plan that breaks no rule and a pattern that is used.
 /// Mistakes: force-off that is late whatever the mode is, `late_always` (`is_not_asked`, `would_ask`); that floats,
@@ -339,7 +362,8 @@ pub fn phases_are_served_in_patterns()
 /// `recycles_always` (`is_not_recycled`, `would_walk_again`); a local counter that takes the short way whatever the
 /// mode is, `steps_always` (`is_in_step_at_once`, `would_lag`); a selection that goes on from the old counter whatever
 /// the mode is, `goes_on_always` (`begins_in_step`, `would_begin_ahead`); a K23 that asks for a time, `asks_for_time`
-/// (`ends_in_time`, `would_refuse`).
+/// (`ends_in_time`, `would_refuse`); an overlap that goes on across rings always, `across_always`
+/// (`is_not_followed`, `would_follow`).
 /// Witness: `two_has_none`, `quad_has_none` of OptionMistakes, the built-in plans.
 pub fn options_off_change_nothing()
     ensures { OptionsOffChangeNothing }

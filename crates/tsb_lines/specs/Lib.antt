@@ -10,3 +10,5 @@ pub mod Laws
 pub mod Writes
 -- lines of a greatest length
 pub mod ShortLines
+-- what is seen of a reader or a writer
+pub mod Seen

@@ -8,7 +8,10 @@ pub mod digits;
 pub mod kept;
 pub mod laws;
 pub mod lines;
+mod reads;
 pub mod short;
+mod watched;
+mod watched_writes;
 pub mod words;
 pub mod writes;
 
@@ -16,5 +19,6 @@ pub use digits::{digit, seven_digits};
 pub use kept::KeptLine;
 pub use lines::{cut_at_feed, is_skipped, next_line, without_return};
 pub use short::ShortLine;
+pub use watched::Watched;
 pub use words::{next_word, number};
 pub use writes::{WriteError, pass_on, write_text};

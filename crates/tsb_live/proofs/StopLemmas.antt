@@ -7,8 +7,8 @@ use Rattle.tsb_program.specs.Told.{TellsNoPlan, TellsWhy}
 use Rattle.tsb_program.specs.declared.read.PlanFault.{PlanFault}
 use Rattle.tsb_program.specs.declared.read.ReadError.{ReadError}
 use Rattle.tsb_program.specs.declared.read.ReadError.TheVariants as faults
-use Rattle.tsb_program.specs.tsb_json_place.declared.place.JsonPlace.{JsonPlace}
-use Rattle.tsb_program.specs.tsb_watched.Seen.{Seen}
+use Rattle.tsb_program.specs.tsb_plan_notes.declared.place.JsonPlace.{JsonPlace}
+use Rattle.tsb_program.specs.tsb_lines.Seen.{Seen}
 use Rattle.tsb_live.specs.Ends.{Stops}
 
 stops-by : (why : ReadError PlanError) (place : Option JsonPlace) (name : List ℕ) (file : Option (List ℕ)) (status : ℕ) (told tells : Seen) → HasNoPlan why place file

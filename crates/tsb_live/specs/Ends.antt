@@ -13,10 +13,10 @@ use Rattle.tsb_text.specs.Blame.{Blames}
 use Rattle.tsb_text.specs.Faults.{fault_line}
 use Rattle.tsb_live_text.specs.LiveEnded.{LiveEnded}
 use Rattle.tsb_live_text.specs.declared.stop.Stop.{Stop}
-use Rattle.tsb_program.specs.tsb_watched.Seen.{Seen, Tells}
+use Rattle.tsb_program.specs.tsb_lines.Seen.{Seen, Tells}
 use Rattle.tsb_program.specs.Read.{HasPlan, RefusesPlanAt}
 use Rattle.tsb_program.specs.Told.{FailsToReadFile, RefusesAt, TellsInputEnd}
-use Rattle.tsb_program.specs.tsb_json_place.declared.place.JsonPlace.{JsonPlace}
+use Rattle.tsb_program.specs.tsb_plan_notes.declared.place.JsonPlace.{JsonPlace}
 use Rattle.tsb_live.specs.Lines.{TellsWords}
 
 -- a live run ended well with 0 and nothing told; or at a line with which something is wrong, with 4 and that line; or by

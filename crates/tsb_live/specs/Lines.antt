@@ -1,6 +1,6 @@
 -- The lines that the program writes of bad words.
 use Rattle.std.specs.Prelude.{◌≡◌, ℕ, codes}
-use Rattle.tsb_program.specs.tsb_watched.Seen.{Seen, Tells}
+use Rattle.tsb_program.specs.tsb_lines.Seen.{Seen, Tells}
 use Rattle.tsb_words.specs.declared.error.WordsError.{WordsError}
 use Rattle.tsb_words.specs.declared.error.WordsError.TheVariants as words
 use Rattle.tsb_program.specs.Failures.{Fails}

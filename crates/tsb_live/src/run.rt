@@ -5,7 +5,7 @@ ghost use Rattle.tsb_words.specs.declared.live.Asked.{Asked};
 ghost use Rattle.tsb_words.specs.declared.error.WordsError.{WordsError};
 ghost use Rattle.tsb_words.specs.LiveWords.{Spells};
 ghost use Rattle.tsb_text.specs.tsb_objects.Checked.{checked_plan};
-ghost use Rattle.tsb_program.specs.tsb_watched.Seen.{seen};
+ghost use Rattle.tsb_program.specs.tsb_lines.Seen.{seen};
 ghost use Rattle.tsb_live.specs.Lines.{TellsWords};
 ghost use Rattle.tsb_live.specs.Ends.{Did, Ran, Talked, after_fault};
 

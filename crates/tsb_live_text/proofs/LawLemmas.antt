@@ -19,11 +19,11 @@ use Rattle.tsb_command_text.specs.declared.command.Command.TheVariants.{Step}
 use Rattle.tsb_dialog.specs.Heard.{Runs}
 use Rattle.tsb_dialog.specs.declared.answers.Flow.{Flow}
 use Rattle.tsb_dialog.specs.declared.answers.Flow.TheVariants.{On}
-use Rattle.tsb_live_lines.specs.declared.command.LiveCommand.{LiveCommand}
-use Rattle.tsb_live_lines.specs.declared.command.LiveCommand.TheVariants as live
-use Rattle.tsb_live_lines.specs.declared.command.LiveReading.{LiveReading}
-use Rattle.tsb_live_lines.specs.declared.command.LiveReading.TheVariants.{Skip, Bad, Tick, Ask}
-use Rattle.tsb_live_lines.specs.LiveReadings.{live_reading}
+use Rattle.tsb_command_text.specs.declared.live_command.LiveCommand.{LiveCommand}
+use Rattle.tsb_command_text.specs.declared.live_command.LiveCommand.TheVariants as live
+use Rattle.tsb_command_text.specs.declared.live_command.LiveReading.{LiveReading}
+use Rattle.tsb_command_text.specs.declared.live_command.LiveReading.TheVariants.{Skip, Bad, Tick, Ask}
+use Rattle.tsb_command_text.specs.LiveReadings.{live_reading}
 use Rattle.tsb_log_text.specs.Logs.{row_at}
 use Rattle.tsb_text.specs.Answers.{Answers, Setup, Steps, Ticked, display_line, next_tick}
 use Rattle.tsb_text.specs.declared.faults.LineFault.{LineFault}

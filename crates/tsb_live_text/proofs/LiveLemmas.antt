@@ -6,7 +6,7 @@ use Rattle.tsb_bench.specs.Held.{Held, state_of, whole}
 use Rattle.tsb_command_text.specs.declared.command.Command.{Command}
 use Rattle.tsb_kept.specs.Kept.{Keeping, kept_of, nothing_kept}
 use Rattle.tsb_lines.specs.declared.writes.WriteError.{WriteError}
-use Rattle.tsb_plan_line.specs.PlanLine.{plan_text}
+use Rattle.tsb_status_text.specs.PlanLine.{plan_text}
 use Rattle.tsb_step.specs.declared.inputs.Input.{Input}
 use Rattle.tsb_step.specs.Play.{Follows}
 use Rattle.tsb_step.specs.State.{State}
@@ -32,11 +32,11 @@ use Rattle.tsb_text.specs.Tasks.{task_of}
 use Rattle.tsb_text.proofs.CourseLemmas.{course-begins, follows-state, is-kept}
 use Rattle.tsb_text.specs.declared.rows.Rows.TheVariants.{Held as HeldRow}
 use Rattle.tsb_text.specs.Rows.{rows_in}
-use Rattle.tsb_live_lines.specs.declared.command.LiveCommand.{LiveCommand}
-use Rattle.tsb_live_lines.specs.declared.command.LiveCommand.TheVariants as asks
-use Rattle.tsb_live_lines.specs.declared.command.LiveReading.{LiveReading}
-use Rattle.tsb_live_lines.specs.declared.command.LiveReading.TheVariants.{Skip}
-use Rattle.tsb_live_lines.specs.LiveReadings.{live_reading}
+use Rattle.tsb_command_text.specs.declared.live_command.LiveCommand.{LiveCommand}
+use Rattle.tsb_command_text.specs.declared.live_command.LiveCommand.TheVariants as asks
+use Rattle.tsb_command_text.specs.declared.live_command.LiveReading.{LiveReading}
+use Rattle.tsb_command_text.specs.declared.live_command.LiveReading.TheVariants.{Skip}
+use Rattle.tsb_command_text.specs.LiveReadings.{live_reading}
 use Rattle.tsb_live_text.specs.Changes.{Changes}
 use Rattle.tsb_live_text.specs.Live.{AsksLive, Leaves, Live, Reads, Says, Stopped, Tells, besides, echo_of, fault_by, flow_in, present, begun, setup, stop_in, stopped_at, with_echo, with_events, with_inputs, with_row, with_stop}
 use Rattle.tsb_live_text.specs.Standing.{Does, StandsLive, TellsOnce, TellsPlan}

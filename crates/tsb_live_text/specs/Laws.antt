@@ -8,12 +8,12 @@ use Rattle.tsb_dialog.specs.declared.answers.Flow.TheVariants.{On}
 use Rattle.tsb_command_text.specs.Readings.{reading}
 use Rattle.tsb_command_text.specs.declared.command.Reading.{Reading}
 use Rattle.tsb_command_text.specs.declared.command.Reading.TheVariants as session
-use Rattle.tsb_live_lines.specs.LiveReadings.{live_reading}
-use Rattle.tsb_live_lines.specs.declared.command.LiveReading.{LiveReading}
-use Rattle.tsb_live_lines.specs.declared.command.LiveCommand.TheVariants.{Session}
+use Rattle.tsb_command_text.specs.LiveReadings.{live_reading}
+use Rattle.tsb_command_text.specs.declared.live_command.LiveReading.{LiveReading}
+use Rattle.tsb_command_text.specs.declared.live_command.LiveCommand.TheVariants.{Session}
 use Rattle.tsb_text.specs.Replies.{Stand, says}
 use Rattle.tsb_text.specs.declared.faults.OnFault.TheVariants.{GoOn}
-use Rattle.tsb_live_lines.specs.declared.command.LiveReading.TheVariants.{Skip, Bad, Tick, Ask}
+use Rattle.tsb_command_text.specs.declared.live_command.LiveReading.TheVariants.{Skip, Bad, Tick, Ask}
 use Rattle.tsb_log_text.specs.Logs.{row_at}
 use Rattle.tsb_step.specs.declared.inputs.Input.{Input}
 use Rattle.tsb_step.specs.tsb_plan.Plan.{Plan}

@@ -1,6 +1,7 @@
 -- What a live run has come to, and what it answers to each line.
 use Rattle.std.specs.Prelude.{◌≡◌, ◌⊎◌, ℕ, List, [], ◌++◌, Bool, true, false, take, Option, Some, None, codes, option_map}
-use Rattle.tsb_kept.specs.Changed.{last_change, value_of}
+use Rattle.tsb_kept.specs.Changed.{last_change}
+use Rattle.tsb_log_text.specs.RowInputs.{value_of}
 use Rattle.tsb_kept.specs.Kept.{kept_of}
 use Rattle.tsb_types.specs.Sets.{all_off}
 use Rattle.tsb_types.specs.declared.refusal.Refusal.{Refusal}
@@ -16,13 +17,13 @@ use Rattle.tsb_command_text.specs.declared.command.Command.TheVariants.{Quit, St
 use Rattle.tsb_dialog.specs.declared.answers.Flow.{Flow}
 use Rattle.tsb_dialog.specs.declared.answers.Flow.TheVariants.{On, Over}
 use Rattle.tsb_dialog.specs.Said.{with_feed}
-use Rattle.tsb_live_lines.specs.declared.command.LiveCommand.{LiveCommand}
-use Rattle.tsb_live_lines.specs.declared.command.LiveCommand.TheVariants as asks
-use Rattle.tsb_live_lines.specs.declared.command.LiveReading.{LiveReading}
-use Rattle.tsb_live_lines.specs.declared.command.LiveReading.TheVariants.{Skip, Bad, Tick, Ask}
-use Rattle.tsb_live_lines.specs.LiveReadings.{live_reading}
-use Rattle.tsb_plan_line.specs.EditsLine.{edits_text}
-use Rattle.tsb_plan_line.specs.PlanLine.{plan_text}
+use Rattle.tsb_command_text.specs.declared.live_command.LiveCommand.{LiveCommand}
+use Rattle.tsb_command_text.specs.declared.live_command.LiveCommand.TheVariants as asks
+use Rattle.tsb_command_text.specs.declared.live_command.LiveReading.{LiveReading}
+use Rattle.tsb_command_text.specs.declared.live_command.LiveReading.TheVariants.{Skip, Bad, Tick, Ask}
+use Rattle.tsb_command_text.specs.LiveReadings.{live_reading}
+use Rattle.tsb_status_text.specs.EditsLine.{edits_text}
+use Rattle.tsb_status_text.specs.PlanLine.{plan_text}
 use Rattle.tsb_saved.specs.Saved.{saved_text}
 use Rattle.tsb_status_text.specs.StatusText.{status_text}
 use Rattle.tsb_text.specs.Answers.{Setup, display_line, refused_line, when_line}

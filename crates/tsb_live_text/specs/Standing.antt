@@ -4,7 +4,7 @@ use Rattle.tsb_lines.specs.declared.writes.WriteError.{WriteError}
 use Rattle.tsb_types.specs.declared.refusal.Refusal.TheVariants.{Memory}
 use Rattle.tsb_step.specs.tsb_plan.Plan.{Plan}
 use Rattle.tsb_dialog.specs.Said.{IsCutShort, Said, Wrote, with_feed}
-use Rattle.tsb_plan_line.specs.PlanLine.{plan_text}
+use Rattle.tsb_status_text.specs.PlanLine.{plan_text}
 use Rattle.tsb_text.specs.Answers.{refused_line}
 use Rattle.tsb_text.specs.declared.faults.LineFault.{LineFault}
 use Rattle.tsb_text.specs.declared.faults.LineFault.TheVariants.{Refused}

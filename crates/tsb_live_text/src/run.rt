@@ -4,7 +4,7 @@ ghost use Rattle.tsb_bench.specs.Held.{state_of};
 ghost use Rattle.tsb_dialog.specs.Blame.{AfterCalls};
 ghost use Rattle.tsb_dialog.specs.Said.{with_feed};
 ghost use Rattle.tsb_objects.specs.Checked.{checked_plan};
-ghost use Rattle.tsb_live_lines.specs.declared.command.LiveCommand.TheVariants as asks;
+ghost use Rattle.tsb_command_text.specs.declared.live_command.LiveCommand.TheVariants as asks;
 ghost use Rattle.tsb_text.specs.Blame.{Blames};
 ghost use Rattle.tsb_text.specs.Faults.{fault_words};
 ghost use Rattle.tsb_saved.specs.Saved.{saved_text};
@@ -18,14 +18,12 @@ use arrayvec::ArrayVec;
 use std::alloc::Global;
 use std::io::{Read, Write};
 use tsb_bench::Bench;
-use tsb_command_text::Command;
+use tsb_command_text::{Command, LiveCommand, LiveReading, live_reading_of};
 use tsb_dialog::{Answers, DialogError, Flow, Pending, Watched, WriteError, converse};
 use tsb_display_text::LineMaker;
-use tsb_live_lines::{LiveCommand, LiveReading, live_reading_of};
 use tsb_objects::{Checked, Refusal};
-use tsb_plan_line::{edits_line, plan_line};
 use tsb_saved::say_saved;
-use tsb_status_text::status_line;
+use tsb_status_text::{edits_line, plan_line, status_line};
 use tsb_text::{
     Course, LineFault, Mode, OnFault, Rows, SessionError, fault_words, obey, when_line,
 };

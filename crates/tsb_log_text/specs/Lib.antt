@@ -2,6 +2,8 @@
 pub mod Rows
 -- the text of rows
 pub mod LogText
+-- whether one of the inputs of a row is on
+pub mod RowInputs
 -- the rows of a text or its first error, and the row in force at a tick
 pub mod Logs
 -- how many rows have come by a tick

@@ -11,6 +11,7 @@ pub mod laws;
 mod line;
 pub mod log;
 mod read;
+mod row_input;
 mod row_text;
 mod search;
 
@@ -18,4 +19,5 @@ pub use error::{LogError, LogLine};
 pub use line::{RowLine, row_line};
 pub use log::{Log, LogRow};
 pub use read::{LIMIT, read_log};
+pub use row_input::RowInput;
 pub use row_text::inputs_of;

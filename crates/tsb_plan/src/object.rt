@@ -150,6 +150,8 @@ pub enum Object {
     CoordCorrectionMode,
     /// `coordCorrectionLimit`: 1 alone, percent of the cycle (profile); 0 to 50.
     CoordCorrectionLimit,
+    /// `overlapAcrossRings`: overlap, yes or no, whether the other ring's commitment counts too (profile); 0 to 1.
+    OverlapAcrossRings,
 }
 
 /// THE TABLE OF OBJECTS, each row as the macro that is named takes it: the object, its name in plan texts,
@@ -229,6 +231,7 @@ macro_rules! table {
             PhasePedestrianRecycle      "phasePedestrianRecycle"       1264 [16 1]      [since 2]   free
             CoordCorrectionMode         "coordCorrectionMode"          1280 [1 3]       [since 2]   free
             CoordCorrectionLimit        "coordCorrectionLimit"         1281 [1 50]      [since 2]   free
+            OverlapAcrossRings          "overlapAcrossRings"           1282 [4 1]       [since 3]   structural
         }
     };
 }

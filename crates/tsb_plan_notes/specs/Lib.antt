@@ -4,3 +4,9 @@ pub mod Units
 pub mod Notes
 -- a number, taken apart at its point
 pub mod Parts
+-- what a byte does
+pub mod Steps
+-- where a text stops, and what is told of it
+pub mod Places
+-- what holds of each text
+pub mod Laws

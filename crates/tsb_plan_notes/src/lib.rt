@@ -5,10 +5,18 @@
 #![tactic(auto)]
 
 mod entries;
+pub mod laws;
 mod lines;
+mod machine;
+mod next;
 mod numbers;
+mod place;
+mod step;
 mod text;
 mod units;
 
+pub use machine::DEPTH;
+pub use next::{Bracket, Next, Rest, Role};
+pub use place::{JsonPlace, TOLD, json_place, place_text};
 pub use text::notes;
 pub use units::{Unit, unit_of};

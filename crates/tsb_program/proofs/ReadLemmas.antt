@@ -17,7 +17,7 @@ use Rattle.tsb_program.specs.declared.files.FileError.TheVariants as files
 use Rattle.tsb_program.specs.declared.read.PlanFault.{PlanFault}
 use Rattle.tsb_program.specs.declared.read.ReadError.{ReadError}
 use Rattle.tsb_program.specs.Read.{BlamesFile, IsBlamed, IsFront, LogIn, LogRead, PlanFound, PlanIn, PlanPlaced, PlanRead, log_made, placed, plan_made}
-use Rattle.tsb_watched.specs.declared.watched.Watched.{Watched}
+use Rattle.tsb_lines.specs.declared.watched.Watched.{Watched}
 
 log-read : (answer : Result (List LogRow) LogError) (known : Option (List ℕ)) (text : List ℕ) → IsFront known 67108865 text
     → Gives answer (log_of text) → LogRead (log_made answer) known

@@ -14,7 +14,7 @@ use Rattle.tsb_program.specs.declared.read.ReadError.{ReadError}
 use Rattle.tsb_program.specs.declared.read.ReadError.TheVariants.{Refused}
 use Rattle.tsb_text.specs.declared.error.SessionError.{SessionError}
 use Rattle.tsb_text.specs.declared.error.SessionError.TheVariants as ends
-use Rattle.tsb_watched.specs.Seen.{GoesOut, Seen, Tells}
+use Rattle.tsb_lines.specs.Seen.{GoesOut, Seen, Tells}
 
 pub line-told : {T E : Type 0} (r : Result T E) (old new : Seen) (text : List ℕ) → AppendsFront old.bytes new.bytes text → OnOk r (GoesOut old new text) → OnErr r (new.failed ≡ true) → Tells old new text
 line-told (Ok t) old new text front whole blame = (front, λ well. whole)

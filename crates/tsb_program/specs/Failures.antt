@@ -4,7 +4,7 @@ use Rattle.tsb_program.specs.declared.failure.Failure.{Failure}
 use Rattle.tsb_program.specs.declared.failure.Failure.TheVariants.{Memory, Read, Input, Write}
 use Rattle.tsb_program.specs.declared.files.FileError.{FileError}
 use Rattle.tsb_program.specs.declared.files.FileError.TheVariants as files
-use Rattle.tsb_watched.specs.Seen.{Seen, Tells}
+use Rattle.tsb_lines.specs.Seen.{Seen, Tells}
 
 -- the line of a failure, without its end: of memory, of a read or of a write; of standard input a second one says
 -- which read it was

@@ -10,6 +10,5 @@ pub mod Lines
 pub mod Told
 -- the names of crates below, for those above
 pub use Rattle.tsb_lines.specs as tsb_lines
-pub use Rattle.tsb_watched.specs as tsb_watched
 pub use Rattle.tsb_log_text.specs as tsb_log_text
-pub use Rattle.tsb_json_place.specs as tsb_json_place
+pub use Rattle.tsb_plan_notes.specs as tsb_plan_notes

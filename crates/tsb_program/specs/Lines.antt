@@ -12,7 +12,7 @@ use Rattle.tsb_program.specs.declared.failure.Failure.TheVariants.{Memory, Read,
 use Rattle.tsb_program.specs.declared.files.FileError.{FileError}
 use Rattle.tsb_program.specs.declared.read.ReadError.{ReadError}
 use Rattle.tsb_program.specs.declared.read.ReadError.TheVariants as faults
-use Rattle.tsb_watched.specs.Seen.{Seen, Tells}
+use Rattle.tsb_lines.specs.Seen.{Seen, Tells}
 
 -- the line of what ended a session
 abbrev pub end_line : SessionError → List ℕ

@@ -4,8 +4,8 @@ use Rattle.std.specs.IoError.{error_kind}
 use Rattle.std.specs.declared.io.Error.{Error}
 use Rattle.std.specs.declared.io.ErrorKind.{ErrorKind}
 use Rattle.std.specs.declared.io.ErrorKind.TheVariants as device
-use Rattle.tsb_json_place.specs.Places.{json_place}
-use Rattle.tsb_json_place.specs.declared.place.JsonPlace.{JsonPlace}
+use Rattle.tsb_plan_notes.specs.Places.{json_place}
+use Rattle.tsb_plan_notes.specs.declared.place.JsonPlace.{JsonPlace}
 use Rattle.tsb_log_text.specs.declared.error.LogError.{LogError}
 use Rattle.tsb_log_text.specs.declared.error.LogError.TheVariants as logs
 use Rattle.tsb_log_text.specs.declared.log.LogRow.{LogRow}
@@ -24,7 +24,7 @@ use Rattle.tsb_program.specs.declared.files.FileError.TheVariants as files
 use Rattle.tsb_program.specs.declared.read.PlanFault.{PlanFault}
 use Rattle.tsb_program.specs.declared.read.ReadError.{ReadError}
 use Rattle.tsb_program.specs.declared.read.ReadError.TheVariants as faults
-use Rattle.tsb_watched.specs.declared.watched.Watched.{Watched}
+use Rattle.tsb_lines.specs.declared.watched.Watched.{Watched}
 
 -- these are the first bytes of a file, where its bytes are known, and all of them where there are no more than so many
 abbrev pub IsFront : Option (List ℕ) → ℕ → List ℕ → Type 0

@@ -1,7 +1,7 @@
 -- Second lines: where a plan's text stops being JSON, and which file was not read.
 use Rattle.std.specs.Prelude.{◌≡◌, ◌⊎◌, ℕ, ◌==◌, ◌||◌, nat_lt, if◌then◌else◌, List, [], ◌∷◌, ◌++◌, map, take, Option, Some, None, codes}
-use Rattle.tsb_json_place.specs.Places.{place_text}
-use Rattle.tsb_json_place.specs.declared.place.JsonPlace.{JsonPlace}
+use Rattle.tsb_plan_notes.specs.Places.{place_text}
+use Rattle.tsb_plan_notes.specs.declared.place.JsonPlace.{JsonPlace}
 use Rattle.tsb_log_text.specs.declared.error.LogError.{LogError}
 use Rattle.tsb_plan_text.specs.declared.error.PlanError.{PlanError}
 use Rattle.tsb_text.specs.declared.error.SessionError.{SessionError}
@@ -18,7 +18,7 @@ use Rattle.tsb_program.specs.declared.read.PlanFault.{PlanFault}
 use Rattle.tsb_program.specs.declared.read.ReadError.{ReadError}
 use Rattle.tsb_program.specs.declared.read.ReadError.TheVariants as faults
 use Rattle.tsb_program.specs.declared.told.TheConstants.{SHOWN}
-use Rattle.tsb_watched.specs.Seen.{Seen, Tells}
+use Rattle.tsb_lines.specs.Seen.{Seen, Tells}
 
 -- ## A file that was not read
 

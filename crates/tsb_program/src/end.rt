@@ -3,7 +3,7 @@ ghost use Rattle.std.specs.Prelude.{◌≡◌, ◌++◌, ◌∷◌, ℕ, [], IfO
 ghost use Rattle.tsb_log_text.specs.FaultLines.{log_fault};
 ghost use Rattle.tsb_plan_text.specs.FaultLines.{plan_fault};
 ghost use Rattle.tsb_program.specs.Lines.{Refuses, TellsEnd, TellsRefusal};
-ghost use Rattle.tsb_watched.specs.Seen.{seen};
+ghost use Rattle.tsb_lines.specs.Seen.{seen};
 
 use crate::failure::{Failure, fail};
 use crate::lines::{line_of, tell, with_end};
@@ -11,10 +11,10 @@ use crate::read::ReadError;
 use crate::status::Status;
 use std::alloc::{AllocError, Global};
 use std::io::Write;
+use tsb_lines::Watched;
 use tsb_log_text::LogError;
 use tsb_plan_text::PlanError;
 use tsb_text::SessionError;
-use tsb_watched::Watched;
 
 /// Why a text is refused: a program tells it by a line of its own.
 pub trait Refusal: Drop {

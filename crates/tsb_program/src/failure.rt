@@ -1,13 +1,13 @@
 //! What fails a program, and the line that it writes then.
 ghost use Rattle.std.specs.Prelude.{◌≡◌, ◌≤◌, length};
 ghost use Rattle.tsb_program.specs.Failures.{Fails, failure_text};
-ghost use Rattle.tsb_watched.specs.Seen.{seen};
+ghost use Rattle.tsb_lines.specs.Seen.{seen};
 
 use crate::lines::{tell, with_end};
 use crate::status::Status;
 use std::io::Write;
 use thiserror::Error;
-use tsb_watched::Watched;
+use tsb_lines::Watched;
 
 /// What failed. Each is printed as its line.
 #[derive(Clone, Copy, Debug, Error)]

@@ -12,7 +12,7 @@ use std::alloc::Global;
 use std::fs::File;
 use std::io::{self, ErrorKind, Read, Take};
 use thiserror::Error;
-use tsb_watched::Watched;
+use tsb_lines::Watched;
 
 /// A source of files.
 pub trait Files {

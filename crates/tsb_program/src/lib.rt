@@ -16,4 +16,4 @@ pub use lines::{line_of, tell, write_line};
 pub use read::{PlanFault, ReadError, log_of, plan_of, plan_or_place};
 pub use status::Status;
 pub use told::{fail_file, plan_lines, refuse_log, refuse_plan, tell_input_end};
-pub use tsb_watched::Watched;
+pub use tsb_lines::Watched;

@@ -2,14 +2,13 @@
 ghost use Rattle.std.specs.Prelude.{◌≡◌, ◌++◌, ◌∷◌, ◌≤◌, [], length, IfOk, IfSome, OnErr, OnOk, string_bytes, true};
 ghost use Rattle.tsb_lines.specs.Writes.{AppendsFront};
 ghost use Rattle.tsb_program.specs.Statuses.{number};
-ghost use Rattle.tsb_watched.specs.Seen.{GoesOut, Tells, seen};
+ghost use Rattle.tsb_lines.specs.Seen.{GoesOut, Tells, seen};
 
 use crate::status::Status;
 use std::alloc::{AllocError, Global};
 use std::fmt::Display;
 use std::io::Write;
-use tsb_lines::ShortLine;
-use tsb_watched::{Watched, WriteError};
+use tsb_lines::{ShortLine, Watched, WriteError};
 
 /// The greatest length of a line of what failed, with its end, in bytes.
 const ENDED: usize = 26;

@@ -6,9 +6,9 @@ use crate::files::{FileError, Files, read_file};
 use std::alloc::Global;
 use std::fmt::Display;
 use thiserror::Error;
-use tsb_json_place::{JsonPlace, json_place};
 use tsb_log_text::{LIMIT, Log, LogError, read_log};
 use tsb_objects::Checked;
+use tsb_plan_notes::{JsonPlace, json_place};
 use tsb_plan_text::{LIMIT as PLAN_LIMIT, PlanError, read_plan};
 
 /// Why a file gives nothing. Each is printed as what it has is.

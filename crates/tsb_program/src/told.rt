@@ -3,7 +3,7 @@ ghost use Rattle.std.specs.Prelude.{◌≡◌, ◌++◌, ◌≤◌, length, IfOk
 ghost use Rattle.tsb_lines.specs.Writes.{AppendsFront};
 ghost use Rattle.tsb_program.specs.Statuses.{number};
 ghost use Rattle.tsb_program.specs.Told.{FailsFile, TellsInputEnd, TellsNoLog, TellsNoPlan, cause_text, file_line, place_line, plan_lines, safe, shown};
-ghost use Rattle.tsb_watched.specs.Seen.{GoesOut, Tells, seen};
+ghost use Rattle.tsb_lines.specs.Seen.{GoesOut, Tells, seen};
 
 use crate::end::{tell_end, tell_refusal};
 use crate::failure::{Failure, fail};
@@ -14,12 +14,11 @@ use crate::status::Status;
 use arrayvec::ArrayVec;
 use std::alloc::{AllocError, Global};
 use std::io::Write;
-use tsb_json_place::{JsonPlace, TOLD, place_text};
-use tsb_lines::ShortLine;
+use tsb_lines::{ShortLine, Watched, WriteError};
 use tsb_log_text::LogError;
+use tsb_plan_notes::{JsonPlace, TOLD, place_text};
 use tsb_plan_text::PlanError;
 use tsb_text::SessionError;
-use tsb_watched::{Watched, WriteError};
 
 /// How many bytes of the name of a file are told at most.
 const SHOWN: usize = 200;

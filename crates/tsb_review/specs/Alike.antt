@@ -1,7 +1,8 @@
 -- Patterns in which an advice says the same of a phase: A12 and A43 are told once of them, in the first.
 use Rattle.std.specs.Prelude.{ℕ, ◌==◌, nat_lt, Bool, false, not, ◌&&◌}
 use Rattle.std.specs.List.{list_any}
-use Rattle.tsb_types.specs.Lists.{or_number, run_from}
+use Rattle.std.specs.Option.{option_eq}
+use Rattle.tsb_types.specs.Lists.{run_from}
 use Rattle.tsb_plan.specs.Parts.{permissive_time}
 use Rattle.tsb_plan.specs.Plan.{Plan}
 use Rattle.tsb_review.specs.declared.advice.Advice.{Advice}
@@ -21,7 +22,7 @@ overruns_alike plan n p m = overruns_split plan m p && green_of_split plan m p =
 abbrev pub is_permissive_alike : Plan → ℕ → ℕ → ℕ → Bool
 is_permissive_alike plan n p m =
     yields_too_long plan m p && (permissive_time plan m == permissive_time plan n &&
-    or_number (left_short plan m p) 0 == or_number (left_short plan n p) 0)
+    option_eq (λ q r. q == r) (left_short plan m p) (left_short plan n p))
 
 -- the advice says the same of p in pattern m as in pattern n
 abbrev pub is_alike : Plan → Advice → ℕ → ℕ → ℕ → Bool

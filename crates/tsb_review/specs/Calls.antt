@@ -1,9 +1,9 @@
 -- What calls a phase, and which phases conflict with it, as a plan says it for all runs.
-use Rattle.std.specs.Prelude.{ℕ, ◌==◌, Bool, not, ◌&&◌, ◌||◌, Option, Some}
+use Rattle.std.specs.Prelude.{ℕ, ◌==◌, Bool, not, ◌&&◌, ◌||◌, Option, Some, None}
 use Rattle.std.specs.List.{list_any}
 use Rattle.tsb_types.specs.Lists.{is, run_from}
 use Rattle.tsb_plan.specs.Parts.{call_phase, pedestrian_call_phase, is_used}
-use Rattle.tsb_plan.specs.Plan.{Plan, phases, is_enabled, is_concurrent, minimum_green}
+use Rattle.tsb_plan.specs.Plan.{Plan, phases, is_enabled, has_soft_recall, is_concurrent, minimum_green}
 use Rattle.tsb_plan.specs.Running.{is_on_minimum_recall, is_on_maximum_recall, is_on_pedestrian_recall}
 use Rattle.tsb_rules.specs.Rules.{has_walk}
 
@@ -20,6 +20,14 @@ has_button plan p = list_any (λ d. is p (pedestrian_call_phase plan d)) (run_fr
 abbrev pub is_recalled : Plan → Option ℕ → ℕ → Bool
 is_recalled plan runs p =
     is_on_minimum_recall plan runs p || (is_on_maximum_recall plan runs p || is_on_pedestrian_recall plan runs p)
+
+-- p has a recall of its own in free operation: for vehicles, for pedestrians, or soft
+abbrev pub has_recall : Plan → ℕ → Bool
+has_recall plan p = is_recalled plan None p || has_soft_recall plan p
+
+-- p has a call of its own: of a detector, a button or a recall
+abbrev pub has_call : Plan → ℕ → Bool
+has_call plan p = has_detector plan p || (has_button plan p || has_recall plan p)
 
 -- some used pattern recalls p
 abbrev pub is_recalled_by_pattern : Plan → ℕ → Bool

@@ -6,11 +6,11 @@ use Rattle.tsb_plan.specs.declared.object.Object.TheVariants.{PatternCycleTime, 
 use Rattle.tsb_plan.specs.declared.plan.patterns.CorrectionMode.{CorrectionMode}
 use Rattle.tsb_plan.specs.declared.plan.patterns.CorrectionMode.TheVariants.{AtOnce}
 use Rattle.tsb_plan.specs.Parts.{is_used, permissive_time, leads_and_lags, forces_late, correction_mode, correction_limit}
-use Rattle.tsb_plan.specs.Plan.{Plan, phases, is_enabled, minimum_green, has_soft_recall, recycles_walk}
+use Rattle.tsb_plan.specs.Plan.{Plan, phases, is_enabled, minimum_green, recycles_walk}
 use Rattle.tsb_plan.specs.Running.{is_coordinated_now, is_omitted_now, is_on_pedestrian_recall, pattern_maximum}
 use Rattle.tsb_rules.specs.Rules.{has_walk, serves_pedestrians}
 use Rattle.tsb_objects.specs.Instants.{end_of, may_recycle}
-use Rattle.tsb_review.specs.Calls.{is_recalled}
+use Rattle.tsb_review.specs.Calls.{is_recalled, has_recall}
 use Rattle.tsb_review.specs.Pedestrians.{overruns_split, pedestrian_time}
 use Rattle.tsb_review.specs.Splits.{green_of_split, passed_by, left_short}
 
@@ -35,7 +35,7 @@ makes_late plan n p = overruns_split plan n p && is_some (passed_by plan n p (ov
 -- A29: the used pattern n omits p, whose recall has then no effect
 abbrev pub recalls_omitted : Plan → ℕ → ℕ → Bool
 recalls_omitted plan n p =
-    is_used plan n && (is_enabled plan p && (is_omitted_now plan (Some n) p && (is_recalled plan None p || has_soft_recall plan p)))
+    is_used plan n && (is_enabled plan p && (is_omitted_now plan (Some n) p && has_recall plan p))
 
 -- patterns m and n have the same permissive time, and lead and lag alike
 abbrev pub yields_alike : Plan → ℕ → ℕ → Bool

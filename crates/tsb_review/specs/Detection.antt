@@ -3,9 +3,9 @@ use Rattle.std.specs.Prelude.{ℕ, ◌*◌, ◌==◌, nat_le, nat_lt, Bool, not,
 use Rattle.std.specs.List.{list_any}
 use Rattle.tsb_types.specs.Lists.{first, is, run_from}
 use Rattle.tsb_plan.specs.Parts.{call_phase, cycle, detector_delay, no_activity, maximum_presence, erratic_counts, fail_time}
-use Rattle.tsb_plan.specs.Plan.{Plan, is_enabled, is_non_locking, has_soft_recall}
+use Rattle.tsb_plan.specs.Plan.{Plan, is_enabled, is_non_locking}
 use Rattle.tsb_review.specs.Actuation.{phase_and}
-use Rattle.tsb_review.specs.Calls.{has_detector, is_recalled}
+use Rattle.tsb_review.specs.Calls.{has_detector, has_recall}
 
 -- vehicle detector d has a diagnosis: of no activity, of maximum presence or of erratic counts
 abbrev pub has_diagnosis : Plan → ℕ → Bool
@@ -15,13 +15,9 @@ has_diagnosis plan d = nat_lt 0 (no_activity plan d) || (nat_lt 0 (maximum_prese
 abbrev pub has_other_detector : Plan → ℕ → ℕ → Bool
 has_other_detector plan d p = list_any (λ e. not (e == d) && is p (call_phase plan e)) (run_from 1 16)
 
--- p has no recall of its own
-abbrev pub is_unrecalled : Plan → ℕ → Bool
-is_unrecalled plan p = not (is_recalled plan None p || has_soft_recall plan p)
-
 -- of vehicle detectors d alone calls p, which has no recall of its own
 abbrev pub is_only_caller : Plan → ℕ → ℕ → Bool
-is_only_caller plan d p = not (has_other_detector plan d p) && is_unrecalled plan p
+is_only_caller plan d p = not (has_other_detector plan d p) && not (has_recall plan p)
 
 -- A48: vehicle detector d has a diagnosis and a fail time of 0, and is the only one of its phase, which has no recall
 abbrev pub forgets_its_phase : Plan → ℕ → Bool
@@ -56,4 +52,4 @@ is_called_late plan p = has_detector plan p && not (has_prompt_detector plan p)
 -- A53: p is non-locking, each of its vehicle detectors has a delay, and it has no recall of its own: a car that stops
 -- beyond the detectors is forgotten
 abbrev pub forgets_cars : Plan → ℕ → Bool
-forgets_cars plan p = is_enabled plan p && (is_non_locking plan p && (is_called_late plan p && is_unrecalled plan p))
+forgets_cars plan p = is_enabled plan p && (is_non_locking plan p && (is_called_late plan p && not (has_recall plan p)))

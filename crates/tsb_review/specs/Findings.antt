@@ -2,11 +2,12 @@
 use Rattle.std.specs.Prelude.{ℕ, Bool, true, false, ◌&&◌, if◌then◌else◌, Option, Some, None}
 use Rattle.tsb_plan.specs.Plan.{Plan}
 use Rattle.tsb_review.specs.declared.advice.Advice.{Advice}
-use Rattle.tsb_review.specs.declared.advice.Advice.TheVariants.{A36}
+use Rattle.tsb_review.specs.declared.advice.Advice.TheVariants.{A36, A56}
 use Rattle.tsb_review.specs.declared.finding.Finding.{Finding}
 use Rattle.tsb_review.specs.declared.place.Place.{Place}
 use Rattle.tsb_review.specs.declared.place.Place.TheVariants as at
 use Rattle.tsb_review.specs.Advices.{holds, shape}
+use Rattle.tsb_review.specs.Overlaps.{is_turn_beside}
 use Rattle.tsb_review.specs.Places.{place_of}
 use Rattle.tsb_review.specs.Preempts.{has_track}
 
@@ -31,3 +32,17 @@ has_track_at plan place = false
 -- a preempt with track phases ends the walk that a finding is about, as MUTCD lets it
 abbrev pub ends_walk_for_track : Plan → Finding → Bool
 ends_walk_for_track plan f = is_of_walk f.advice && has_track_at plan f.place
+
+-- an advice is that of a right turn
+abbrev pub is_of_turn : Advice → Bool
+is_of_turn A56 = true
+is_of_turn a = false
+
+-- a place is an overlap that is a right turn, and the through phase beside it
+abbrev pub has_turn_beside : Plan → Place → Bool
+has_turn_beside plan (at.OverlapPhase o p) = is_turn_beside plan o p
+has_turn_beside plan place = false
+
+-- the right turn that a finding is about goes over the crossing of the phase that it names
+abbrev pub crosses_walk : Plan → Finding → Bool
+crosses_walk plan f = is_of_turn f.advice && has_turn_beside plan f.place

@@ -2,6 +2,8 @@
 pub mod Calls
 -- splits, and what a late green does to those that wait
 pub mod Splits
+-- where phases stand as usual
+pub mod Legs
 -- the advices, by what they are on
 pub mod Service
 pub mod Entry

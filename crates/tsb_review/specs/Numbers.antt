@@ -6,7 +6,7 @@ use Rattle.tsb_plan.specs.declared.object.Object.TheVariants.{CoordCorrectionMod
 use Rattle.tsb_plan.specs.Plan.{Plan, walk, pedestrian_clear, minimum_green, maximum, passage, minimum_gap, time_before_reduction, red_revert}
 use Rattle.tsb_plan.specs.Running.{pattern_maximum}
 use Rattle.tsb_review.specs.declared.advice.Advice.{Advice}
-use Rattle.tsb_review.specs.declared.advice.Advice.TheVariants.{A4, A7, A8, A9, A10, A11, A12, A13, A14, A16, A18, A19, A20, A21, A25, A26, A27, A28, A30, A32, A35, A39, A42, A43, A47, A48, A49, A54}
+use Rattle.tsb_review.specs.declared.advice.Advice.TheVariants.{A4, A7, A8, A9, A10, A11, A12, A13, A14, A16, A18, A19, A20, A21, A25, A26, A27, A28, A30, A32, A35, A39, A42, A43, A47, A48, A49, A54, A56}
 use Rattle.tsb_review.specs.declared.finding.Finding.{Finding}
 use Rattle.tsb_review.specs.declared.numbers.Numbers.{Numbers}
 use Rattle.tsb_review.specs.declared.place.Place.{Place}
@@ -18,7 +18,7 @@ use Rattle.tsb_review.specs.Clearance.{reverting}
 use Rattle.tsb_review.specs.Coordination.{spare_time, overrun, first_same}
 use Rattle.tsb_review.specs.Detection.{cycle_of, tripping}
 use Rattle.tsb_review.specs.Entry.{entry_count}
-use Rattle.tsb_review.specs.Overlaps.{split_at, split_from}
+use Rattle.tsb_review.specs.Overlaps.{split_at, split_from, turn_of}
 
 -- four numbers, and no fifth, which breaches of rules alone have
 abbrev pub four : ℕ → ℕ → ℕ → ℕ → Numbers
@@ -94,6 +94,11 @@ abbrev pub of_overlap : Plan → Advice → ℕ → Numbers
 of_overlap plan A39 o = four o (number_of (split_at plan o)) (number_of (split_from plan o (split_at plan o))) 0
 of_overlap plan x o = four o 0 0 0
 
+-- of a phase in an overlap: both, and the through phase beside which the overlap is a right turn
+abbrev pub of_overlap_phase : Plan → Advice → ℕ → ℕ → Numbers
+of_overlap_phase plan A56 o p = four o p (number_of (turn_of plan o)) 0
+of_overlap_phase plan x o p = four o p 0 0
+
 -- of an advice for a place
 abbrev pub at_place : Plan → Advice → Place → Numbers
 at_place plan x at.Unit = of_unit plan x
@@ -107,7 +112,7 @@ at_place plan x (at.Split n p) = of_split plan x n p
 at_place plan x (at.Preempt m) = of_preempt plan x m
 at_place plan x (at.PreemptPhase m p) = four m p 0 0
 at_place plan x (at.Overlap o) = of_overlap plan x o
-at_place plan x (at.OverlapPhase o p) = four o p 0 0
+at_place plan x (at.OverlapPhase o p) = of_overlap_phase plan x o p
 
 -- of a finding
 abbrev pub numbers_of : Plan → Finding → Numbers

@@ -5,13 +5,11 @@ use Rattle.tsb_types.specs.Lists.{first, run_from}
 use Rattle.tsb_plan.specs.Parts.{call_phase, is_used, detector_delay, detector_extend, no_activity, maximum_presence, erratic_counts, fail_time}
 use Rattle.tsb_plan.specs.Plan.{Plan, phases, is_enabled, has_maximum_recall, has_soft_recall, ring_of, side_of, is_concurrent}
 use Rattle.tsb_plan.specs.Running.{is_coordinated_now, is_omitted_now}
-use Rattle.tsb_review.specs.Calls.{has_detector, has_button, is_recalled, is_recalled_by_pattern, conflicts}
+use Rattle.tsb_review.specs.Calls.{is_recalled, has_call, is_recalled_by_pattern, conflicts}
 
 -- A1: p is enabled, and no detector, button, recall or split mode ever calls it
 abbrev pub is_never_called : Plan → ℕ → Bool
-is_never_called plan p =
-    is_enabled plan p && not (has_detector plan p || (has_button plan p || (is_recalled plan None p ||
-    (has_soft_recall plan p || is_recalled_by_pattern plan p))))
+is_never_called plan p = is_enabled plan p && not (has_call plan p || is_recalled_by_pattern plan p)
 
 -- vehicle detector d has a delay, an extension or a diagnosis
 abbrev pub has_settings : Plan → ℕ → Bool
@@ -84,10 +82,6 @@ rival_of plan (Some q) = first (is_rival plan q) (phases plan)
 abbrev pub never_recalls_softly : Plan → ℕ → Bool
 never_recalls_softly plan p =
     is_enabled plan p && (has_soft_recall plan p && (not (is_recalled plan None p) && is_some (rivalled plan)))
-
--- p has a call of its own: of a detector, a button, a recall or a soft recall
-abbrev pub has_call : Plan → ℕ → Bool
-has_call plan p = has_detector plan p || (has_button plan p || (is_recalled plan None p || has_soft_recall plan p))
 
 -- there are used patterns, and each of them omits p
 abbrev pub is_always_omitted : Plan → ℕ → Bool

@@ -121,11 +121,13 @@ pub enum Advice {
     A54,
     /// A phase has calls of its own, and each used pattern omits it.
     A55,
+    /// An overlap, as a right turn where phases stand as usual, meets a phase or its walk while both are green.
+    A56,
 }
 
 impl Advice {
     /// All advices, in order.
-    pub const ALL: [Advice; 54] = [
+    pub const ALL: [Advice; 55] = [
         Advice::A1,
         Advice::A2,
         Advice::A3,
@@ -180,6 +182,7 @@ impl Advice {
         Advice::A53,
         Advice::A54,
         Advice::A55,
+        Advice::A56,
     ];
 
     /// What the advice is given for.
@@ -225,7 +228,7 @@ impl Advice {
             Advice::A33 | Advice::A36 | Advice::A37 | Advice::A51 => Shape::PreemptPhase,
             Advice::A34 | Advice::A35 | Advice::A38 | Advice::A50 => Shape::Preempt,
             Advice::A39 | Advice::A41 => Shape::Overlap,
-            Advice::A40 => Shape::OverlapPhase,
+            Advice::A40 | Advice::A56 => Shape::OverlapPhase,
         }
     }
 }

@@ -8,7 +8,6 @@ ghost use Rattle.tsb_review.specs.Alike.{overruns_alike, is_permissive_alike, is
 use crate::advice::Advice;
 use crate::coordination::yields_too_long;
 use crate::finding::Finding;
-use crate::numbers::phase_or_zero;
 use crate::pedestrians::overruns_split;
 use crate::place::Place;
 use crate::splits::{green_of_split, left_short};
@@ -31,8 +30,7 @@ fn is_permissive_alike(plan: &Plan, pattern: Pattern, phase: Phase, other: Patte
 {
     yields_too_long(plan, other, phase)
         && plan.permissive_time(other) == plan.permissive_time(pattern)
-        && phase_or_zero(left_short(plan, other, phase))
-            == phase_or_zero(left_short(plan, pattern, phase))
+        && left_short(plan, other, phase) == left_short(plan, pattern, phase)
 }
 
 /// Whether the advice says the same of the phase in pattern `other` as in the pattern.

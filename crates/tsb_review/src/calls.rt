@@ -4,12 +4,13 @@
 ghost use Rattle.std.specs.Prelude.{◌≡◌, Some, None};
 ghost use Rattle.tsb_types.specs.Lists.{is};
 ghost use Rattle.tsb_plan.specs.Parts.{call_phase, pedestrian_call_phase};
+ghost use Rattle.tsb_plan.specs.Plan.{has_soft_recall};
 ghost use Rattle.tsb_plan.specs.PlanOf.{plan_of};
 ghost use Rattle.tsb_rules.specs.Rules.{has_walk, serves_pedestrians};
-ghost use Rattle.tsb_review.specs.Calls.{has_detector, has_button, is_recalled, is_recalled_by_pattern, recalls_pedestrians_in_pattern, conflicts, has_conflicts, is_for_pedestrians};
+ghost use Rattle.tsb_review.specs.Calls.{has_detector, has_button, is_recalled, has_recall, has_call, is_recalled_by_pattern, recalls_pedestrians_in_pattern, conflicts, has_conflicts, is_for_pedestrians};
 
 use crate::sought::{Sought, some_phase};
-use tsb_plan::Plan;
+use tsb_plan::{Object, Plan};
 use tsb_types::{Detector, Pattern, PedestrianDetector, Phase};
 
 /// Whether the vehicle detector calls the phase.
@@ -57,6 +58,27 @@ pub(crate) fn is_recalled(plan: &Plan, phase: Phase) -> bool
     plan.is_on_minimum_recall(None, phase)
         || plan.is_on_maximum_recall(None, phase)
         || plan.is_on_pedestrian_recall(None, phase)
+}
+
+/// Whether the phase has soft recall (`phaseSoftRecall`).
+pub(crate) fn has_soft_recall(plan: &Plan, phase: Phase) -> bool
+    ensures { result ≡ has_soft_recall (plan_of plan.now) phase }
+{
+    plan.at(Object::PhaseSoftRecall, u32::from(phase.number())) == 1
+}
+
+/// Whether the phase has a recall of its own in free operation: for vehicles, for pedestrians, or soft.
+pub(crate) fn has_recall(plan: &Plan, phase: Phase) -> bool
+    ensures { result ≡ has_recall (plan_of plan.now) phase }
+{
+    is_recalled(plan, phase) || has_soft_recall(plan, phase)
+}
+
+/// Whether the phase has a call of its own: of a detector, a button or a recall.
+pub(crate) fn has_call(plan: &Plan, phase: Phase) -> bool
+    ensures { result ≡ has_call (plan_of plan.now) phase }
+{
+    has_detector(plan, phase) || has_button(plan, phase) || has_recall(plan, phase)
 }
 
 /// Whether the phase is called at all times while the pattern runs: by a recall of its own or of its split mode, for

@@ -10,9 +10,8 @@ ghost use Rattle.tsb_plan.specs.PlanOf.{plan_of};
 ghost use Rattle.tsb_review.specs.Splits.{passed_by};
 ghost use Rattle.tsb_review.specs.Coordination.{spare_time, has_tight_split, overrun, makes_late, recalls_omitted, yields_alike, is_same_before, first_same, is_repeated, is_actuated, yields_once, is_under, has_short_maximum, is_permissive, yields_too_long, ends_apart_from, ends_apart, leads_for_nothing, is_coordinated_by_pattern, recycles_nothing, walks_over_and_over, gives_correction, corrects_nothing, ends_at_instants, permits_late_greens};
 
-use crate::calls::{has_walk, is_recalled, is_recalled_in, serves_pedestrians};
+use crate::calls::{has_recall, has_walk, is_recalled_in, serves_pedestrians};
 use crate::pedestrians::{overruns_split, pedestrian_time};
-use crate::service::has_soft_recall;
 use crate::sought::{Sought, some_phase};
 use crate::splits::{end_of, green_of_split, left_short, passed_by};
 use tsb_plan::{CorrectionMode, Object, Plan};
@@ -68,7 +67,7 @@ pub(crate) fn recalls_omitted(plan: &Plan, pattern: Pattern, phase: Phase) -> bo
     plan.is_used(pattern)
         && plan.is_enabled(phase)
         && plan.is_omitted_now(Some(pattern), phase)
-        && (is_recalled(plan, phase) || has_soft_recall(plan, phase))
+        && has_recall(plan, phase)
 }
 
 /// Whether the two patterns have the same permissive time, and lead and lag alike.

@@ -6,10 +6,9 @@ ghost use Rattle.tsb_plan.specs.Parts.{call_phase};
 ghost use Rattle.tsb_plan.specs.Plan.{is_non_locking};
 ghost use Rattle.tsb_plan.specs.PlanOf.{plan_of};
 ghost use Rattle.tsb_review.specs.Actuation.{phase_and};
-ghost use Rattle.tsb_review.specs.Detection.{has_diagnosis, has_other_detector, is_unrecalled, is_only_caller, forgets_its_phase, trips_within, tripping, cycle_of, trips_in_queue, has_prompt_detector, is_called_late, forgets_cars};
+ghost use Rattle.tsb_review.specs.Detection.{has_diagnosis, has_other_detector, is_only_caller, forgets_its_phase, trips_within, tripping, cycle_of, trips_in_queue, has_prompt_detector, is_called_late, forgets_cars};
 
-use crate::calls::{detector_calls, has_detector, is_recalled};
-use crate::service::has_soft_recall;
+use crate::calls::{detector_calls, has_detector, has_recall};
 use tsb_plan::{Object, Plan};
 use tsb_types::{Detector, Pattern, Phase};
 
@@ -29,18 +28,11 @@ fn has_other_detector(plan: &Plan, detector: Detector, phase: Phase) -> bool
     Detector::all().iter().any(|other| *other != detector && detector_calls(plan, *other, phase))
 }
 
-/// Whether the phase has no recall of its own.
-fn is_unrecalled(plan: &Plan, phase: Phase) -> bool
-    ensures { result ≡ is_unrecalled (plan_of plan.now) phase }
-{
-    !(is_recalled(plan, phase) || has_soft_recall(plan, phase))
-}
-
 /// Whether of vehicle detectors this one alone calls the phase, which has no recall of its own.
 fn is_only_caller(plan: &Plan, detector: Detector, phase: Phase) -> bool
     ensures { result ≡ is_only_caller (plan_of plan.now) detector phase }
 {
-    !has_other_detector(plan, detector, phase) && is_unrecalled(plan, phase)
+    !has_other_detector(plan, detector, phase) && !has_recall(plan, phase)
 }
 
 /// Whether the vehicle detector is the only one of its phase, which has no recall of its own.
@@ -127,5 +119,5 @@ pub(crate) fn forgets_cars(plan: &Plan, phase: Phase) -> bool
     plan.is_enabled(phase)
         && is_non_locking(plan, phase)
         && is_called_late(plan, phase)
-        && is_unrecalled(plan, phase)
+        && !has_recall(plan, phase)
 }

@@ -5,7 +5,7 @@ ghost use Rattle.std.specs.Prelude.{◌≡◌, ◌≤◌};
 ghost use Rattle.tsb_plan.specs.PlanOf.{plan_of};
 ghost use Rattle.tsb_review.specs.Places.{firsts, seconds};
 ghost use Rattle.tsb_review.specs.Advices.{holds, shape, of_unit, of_phase, of_phases, of_detector, of_ring, of_ring_side, of_pattern, of_split, of_preempt, of_preempt_phase, of_overlap, of_overlap_phase};
-ghost use Rattle.tsb_review.specs.Findings.{finding_at, finding_of, has_track_at, ends_walk_for_track};
+ghost use Rattle.tsb_review.specs.Findings.{finding_at, finding_of, has_track_at, ends_walk_for_track, has_turn_beside, crosses_walk};
 
 use crate::advice::Advice;
 use crate::place::{Place, place_of};
@@ -62,6 +62,23 @@ fn has_track_at(plan: &Plan, place: &Place) -> bool
 {
     match place {
         Place::PreemptPhase(preempt, _) => preempts::has_track(plan, *preempt),
+        _ => false,
+    }
+}
+
+/// Whether the right turn that the finding is about goes over the crossing of the phase that it names (A56).
+pub fn crosses_walk(plan: &Plan, finding: &Finding) -> bool
+    ensures { result ≡ crosses_walk (plan_of plan.now) finding.now }
+{
+    matches!(finding.advice, Advice::A56) && has_turn_beside(plan, &finding.place)
+}
+
+/// Whether the place is an overlap that is a right turn, and the through phase beside it.
+fn has_turn_beside(plan: &Plan, place: &Place) -> bool
+    ensures { result ≡ has_turn_beside (plan_of plan.now) place.now }
+{
+    match place {
+        Place::OverlapPhase(overlap, phase) => overlaps::is_turn_beside(plan, *overlap, *phase),
         _ => false,
     }
 }
@@ -244,6 +261,7 @@ fn of_overlap_phase(plan: &Plan, advice: Advice, overlap: Overlap, phase: Phase)
 {
     match advice {
         Advice::A40 => overlaps::modifies_itself(plan, overlap, phase),
+        Advice::A56 => overlaps::is_met(plan, overlap, phase),
         _ => false,
     }
 }

@@ -3,7 +3,7 @@
 
 ghost use Rattle.std.specs.Prelude.{◌≡◌};
 ghost use Rattle.tsb_plan.specs.PlanOf.{plan_of};
-ghost use Rattle.tsb_review.specs.Numbers.{four, number_of, revert_of, of_unit, of_phase, of_detector, of_split, of_ring_side, of_pattern, of_preempt, of_overlap, at_place, numbers_of};
+ghost use Rattle.tsb_review.specs.Numbers.{four, number_of, revert_of, of_unit, of_phase, of_detector, of_split, of_ring_side, of_pattern, of_preempt, of_overlap, of_overlap_phase, at_place, numbers_of};
 
 use crate::advice::Advice;
 use crate::clearance::reverting;
@@ -11,7 +11,7 @@ use crate::coordination::{correction_number, first_same, passed_by_overrun, spar
 use crate::detection::{cycle_of, tripping};
 use crate::entry::entry_count;
 use crate::finding::Finding;
-use crate::overlaps::{split_at, split_from};
+use crate::overlaps::{split_at, split_from, turn_of};
 use crate::pedestrians::{passed_by_rest, pedestrian_time};
 use crate::place::Place;
 use crate::service::{apart_from, rival_of, rivalled};
@@ -44,7 +44,7 @@ fn four(a: u32, b: u32, c: u32, d: u32) -> Numbers
 }
 
 /// The number of a phase, 0 for none.
-pub(crate) fn phase_or_zero(phase: Option<Phase>) -> u32
+fn phase_or_zero(phase: Option<Phase>) -> u32
     ensures { result ≡ number_of phase }
 {
     match phase {
@@ -110,9 +110,7 @@ fn at_place(plan: &Plan, advice: Advice, place: &Place) -> Numbers
             four(u32::from(preempt.number()), u32::from(phase.number()), 0, 0)
         }
         Place::Overlap(overlap) => of_overlap(plan, advice, *overlap),
-        Place::OverlapPhase(overlap, phase) => {
-            four(u32::from(overlap.number()), u32::from(phase.number()), 0, 0)
-        }
+        Place::OverlapPhase(overlap, phase) => of_overlap_phase(plan, advice, *overlap, *phase),
     }
 }
 
@@ -253,5 +251,16 @@ fn of_overlap(plan: &Plan, advice: Advice, overlap: Overlap) -> Numbers
             four(o, number, phase_or_zero(other), 0)
         }
         _ => four(o, 0, 0, 0),
+    }
+}
+
+/// Of a phase in an overlap: both, and the through phase beside which the overlap is a right turn.
+fn of_overlap_phase(plan: &Plan, advice: Advice, overlap: Overlap, phase: Phase) -> Numbers
+    ensures { result ≡ of_overlap_phase (plan_of plan.now) advice overlap phase }
+{
+    let (o, p) = (u32::from(overlap.number()), u32::from(phase.number()));
+    match advice {
+        Advice::A56 => four(o, p, phase_or_zero(turn_of(plan, overlap)), 0),
+        _ => four(o, p, 0, 0),
     }
 }

@@ -5,33 +5,21 @@ ghost use Rattle.std.specs.Prelude.{◌≡◌, ◌||◌, not, Some};
 ghost use Rattle.std.specs.List.{list_all, list_any};
 ghost use Rattle.tsb_types.specs.Lists.{run_from};
 ghost use Rattle.tsb_plan.specs.Parts.{is_used};
-ghost use Rattle.tsb_plan.specs.Plan.{phases, has_maximum_recall, has_soft_recall};
+ghost use Rattle.tsb_plan.specs.Plan.{phases, has_maximum_recall};
 ghost use Rattle.tsb_plan.specs.PlanOf.{plan_of};
 ghost use Rattle.tsb_plan.specs.Running.{is_omitted_now};
-ghost use Rattle.tsb_review.specs.Service.{is_never_called, has_settings, is_set_for_nothing, is_kept_apart, can_wait_for, is_served_apart, apart_from, may_lose_coordination, is_in_ring, has_fixed_times, has_two_recalls, is_always_called, is_rival, has_rival, rivalled, rival_of, never_recalls_softly, has_call, is_always_omitted, is_shut_out};
+ghost use Rattle.tsb_review.specs.Service.{is_never_called, has_settings, is_set_for_nothing, is_kept_apart, can_wait_for, is_served_apart, apart_from, may_lose_coordination, is_in_ring, has_fixed_times, has_two_recalls, is_always_called, is_rival, has_rival, rivalled, rival_of, never_recalls_softly, is_always_omitted, is_shut_out};
 
-use crate::calls::{conflicts, has_button, has_detector, is_recalled, is_recalled_by_pattern};
+use crate::calls::{conflicts, has_call, has_soft_recall, is_recalled, is_recalled_by_pattern};
 use crate::sought::{Sought, first_phase, some_phase};
-use tsb_plan::{Object, Plan};
+use tsb_plan::Plan;
 use tsb_types::{Detector, Pattern, Phase, Ring};
-
-/// Whether the phase has soft recall (`phaseSoftRecall`).
-pub(crate) fn has_soft_recall(plan: &Plan, phase: Phase) -> bool
-    ensures { result ≡ has_soft_recall (plan_of plan.now) phase }
-{
-    plan.at(Object::PhaseSoftRecall, u32::from(phase.number())) == 1
-}
 
 /// A1: whether the phase is enabled, and no detector, button, recall or split mode ever calls it.
 pub(crate) fn is_never_called(plan: &Plan, phase: Phase) -> bool
     ensures { result ≡ is_never_called (plan_of plan.now) phase }
 {
-    plan.is_enabled(phase)
-        && !(has_detector(plan, phase)
-            || has_button(plan, phase)
-            || is_recalled(plan, phase)
-            || has_soft_recall(plan, phase)
-            || is_recalled_by_pattern(plan, phase))
+    plan.is_enabled(phase) && !(has_call(plan, phase) || is_recalled_by_pattern(plan, phase))
 }
 
 /// Whether the vehicle detector has a delay, an extension or a diagnosis.
@@ -172,16 +160,6 @@ pub(crate) fn never_recalls_softly(plan: &Plan, phase: Phase) -> bool
         && has_soft_recall(plan, phase)
         && !is_recalled(plan, phase)
         && rivalled(plan).is_some()
-}
-
-/// Whether the phase has a call of its own: of a detector, a button, a recall or a soft recall.
-fn has_call(plan: &Plan, phase: Phase) -> bool
-    ensures { result ≡ has_call (plan_of plan.now) phase }
-{
-    has_detector(plan, phase)
-        || has_button(plan, phase)
-        || is_recalled(plan, phase)
-        || has_soft_recall(plan, phase)
 }
 
 /// Whether each used pattern omits the phase.

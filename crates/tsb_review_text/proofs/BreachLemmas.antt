@@ -5,7 +5,7 @@ use Rattle.std.specs.declared.result.Result.TheVariants.{Ok}
 use Rattle.std.proofs.lemmas.List.{append-nil}
 use Rattle.tsb_lines.proofs.StreamLemmas.{appends-nothing}
 use Rattle.tsb_lines.specs.declared.writes.WriteError.{WriteError}
-use Rattle.tsb_watched.specs.Seen.{Seen}
+use Rattle.tsb_lines.specs.Seen.{Seen}
 use Rattle.tsb_plan.specs.Plan.{Plan}
 use Rattle.tsb_types.specs.Lists.{run_from}
 use Rattle.tsb_breaches.specs.declared.breach.Breach.{Breach}

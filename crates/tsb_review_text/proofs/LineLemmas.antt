@@ -9,7 +9,7 @@ use Rattle.tsb_plan.specs.Plan.{Plan}
 use Rattle.tsb_review.specs.declared.finding.Finding.{Finding}
 use Rattle.tsb_review.specs.declared.numbers.Numbers.{Numbers}
 use Rattle.tsb_review.specs.Alike.{is_also_in}
-use Rattle.tsb_review.specs.Findings.{ends_walk_for_track}
+use Rattle.tsb_review.specs.Findings.{ends_walk_for_track, crosses_walk}
 use Rattle.tsb_breaches.specs.declared.fault.Fault.{Fault}
 use Rattle.tsb_review_text.specs.declared.line.TheConstants.{LONGEST}
 use Rattle.tsb_lines.specs.ShortLines.{Adds, fitting}
@@ -128,11 +128,13 @@ template-room x = search rules
 
 wording-room : (plan : Plan) (f : Finding) → sum_by cost (wording plan f) + 65 ≤ LONGEST
 unfolding cost
-wording-room plan f = go (ends_walk_for_track plan f)
+wording-room plan f = go (ends_walk_for_track plan f) (crosses_walk plan f)
   where
-    go : (b : Bool) → sum_by cost (if b then codes "A36 preempt P: it can end a walk of phase Q at once, as is allowed where a track has to be cleared" else template f.advice) + 65 ≤ LONGEST
-    go true = search rules
-    go false = template-room f.advice
+    go : (b c : Bool) → sum_by cost (if b then codes "A36 preempt P: it can end a walk of phase Q at once, as is allowed where a track has to be cleared" else
+        if c then codes "A56 overlap P: if phases stand as usual, it turns right beside phase Q over its crossing, and is green with its walk" else template f.advice) + 65 ≤ LONGEST
+    go true c = search rules
+    go false true = search rules
+    go false false = template-room f.advice
 
 breach-room : (f : Fault) → sum_by cost (breach_template f) + 1 ≤ LONGEST
 unfolding cost

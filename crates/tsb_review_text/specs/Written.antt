@@ -4,7 +4,7 @@ use Rattle.std.specs.Io.KnownBytes.{Appends}
 use Rattle.tsb_types.specs.Lists.{run_from}
 use Rattle.tsb_lines.specs.Writes.{AppendsFront}
 use Rattle.tsb_lines.specs.declared.writes.WriteError.{WriteError}
-use Rattle.tsb_watched.specs.Seen.{Seen}
+use Rattle.tsb_lines.specs.Seen.{Seen}
 use Rattle.tsb_plan.specs.Plan.{Plan}
 use Rattle.tsb_review.specs.declared.advice.Advice.{Advice}
 use Rattle.tsb_review.specs.declared.finding.Finding.{Finding}

@@ -5,7 +5,7 @@ ghost use Rattle.std.specs.Prelude.{◌≡◌, ◌≤◌};
 ghost use Rattle.tsb_plan.specs.PlanOf.{plan_of};
 ghost use Rattle.tsb_breaches.specs.Breaches.{shape};
 ghost use Rattle.tsb_breaches.specs.Places.{firsts, seconds, thirds};
-ghost use Rattle.tsb_watched.specs.Seen.{seen};
+ghost use Rattle.tsb_lines.specs.Seen.{seen};
 ghost use Rattle.tsb_review_text.specs.Lines.{breach_line, breaches_text};
 ghost use Rattle.tsb_review_text.specs.Written.{Wrote};
 ghost use Rattle.tsb_review_text.specs.BreachesWritten.{breach_text_at, breach_text_beside, breach_text_from, breach_text_of};
@@ -13,8 +13,8 @@ ghost use Rattle.tsb_review_text.specs.BreachesWritten.{breach_text_at, breach_t
 use crate::line::breach_line;
 use std::io::Write;
 use tsb_breaches::{Breach, Fault, breach_at};
+use tsb_lines::{Watched, WriteError};
 use tsb_plan::Plan;
-use tsb_watched::{Watched, WriteError};
 
 /// Writes a line for each place at which the plan breaks a rule: rule by rule in order, of each rule the ways to break it,
 /// and of each way its places in order, so each once. At an error the first bytes of the text may have gone out,

@@ -5,15 +5,15 @@ ghost use Rattle.std.specs.Prelude.{◌≡◌, ◌≤◌};
 ghost use Rattle.tsb_plan.specs.PlanOf.{plan_of};
 ghost use Rattle.tsb_review.specs.Advices.{shape};
 ghost use Rattle.tsb_review.specs.Places.{firsts, seconds};
-ghost use Rattle.tsb_watched.specs.Seen.{seen};
+ghost use Rattle.tsb_lines.specs.Seen.{seen};
 ghost use Rattle.tsb_review_text.specs.Lines.{line_of, review_text};
 ghost use Rattle.tsb_review_text.specs.Written.{Wrote, text_at, text_from, text_of};
 
 use crate::line::line_of;
 use std::io::Write;
+use tsb_lines::{Watched, WriteError};
 use tsb_plan::Plan;
 use tsb_review::{Advice, Finding, finding_at};
-use tsb_watched::{Watched, WriteError};
 
 /// Writes a line for each advice that holds of a part of the plan: advice by advice in order, and of each its places in
 /// order, so each once. At an error the first bytes of the text may have gone out, and a write has failed. It takes no

@@ -4,14 +4,16 @@ ghost use Rattle.tsb_plan.specs.PlanOf.{plan_of};
 ghost use Rattle.tsb_review_text.specs.Templates.{template, wording};
 
 use tsb_plan::Plan;
-use tsb_review::{Advice, Finding, ends_walk_for_track};
+use tsb_review::{Advice, Finding, crosses_walk, ends_walk_for_track};
 
-/// The text of a finding: that of its advice, but for a walk that ends for a track.
+/// The text of a finding: that of its advice, but for a walk that ends for a track, and for a right turn over a crossing.
 pub(crate) fn wording(plan: &Plan, finding: &Finding) -> &'static [u8]
     ensures { result.now ≡ wording (plan_of plan.now) finding.now }
 {
     if ends_walk_for_track(plan, finding) {
         b"A36 preempt P: it can end a walk of phase Q at once, as is allowed where a track has to be cleared"
+    } else if crosses_walk(plan, finding) {
+        b"A56 overlap P: if phases stand as usual, it turns right beside phase Q over its crossing, and is green with its walk"
     } else {
         template(finding.advice)
     }
@@ -158,6 +160,9 @@ fn template(advice: Advice) -> &'static [u8]
         }
         Advice::A55 => {
             b"A55 phase P: it has calls of its own, and each used pattern omits it, so in coordination they have no effect"
+        }
+        Advice::A56 => {
+            b"A56 overlap P: if phases stand as usual, it turns right beside phase R into the leg that phase Q goes into, and both can be green"
         }
     }
 }

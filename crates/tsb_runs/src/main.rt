@@ -1,10 +1,10 @@
 //! Runs that tools compare: commands that are played, and all ticks.
 //!
-//! Its input is `all ticks`, or the number of a command that is left out, or nothing. Given a number or nothing it plays
-//! commands of every kind on the plan of eight phases. It writes the answer to each, then what the copy and the bench
-//! show and undo; or what memory ran out for. tools/refused_calls.py refuses its requests for memory one after another,
-//! and leaves out the input that was refused, to see that the others are answered the same. For `all ticks` see
-//! `all_ticks`.
+//! Its input is `all ticks`, or the number of a command that is left out, or nothing. Given a number or nothing it
+//! plays commands of every kind on the plan of eight phases. It writes the answer to each, then what the copy and the
+//! bench show and undo; or what memory ran out for. tools/programs/refused_calls.py refuses its requests for memory one
+//! after another, and leaves out the input that was refused, to see that the others are answered the same. For
+//! `all ticks` see `all_ticks`.
 #![tactic(auto)]
 
 mod all_ticks;

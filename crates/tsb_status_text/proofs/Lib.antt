@@ -2,3 +2,11 @@ pub mod RoomLemmas
 pub mod ListLemmas
 pub mod AlikeLemmas
 pub mod Examples
+pub mod TokenLemmas
+pub mod PlanListLemmas
+pub mod TextLemmas
+pub mod DeskLemmas
+pub mod JsonLemmas
+pub mod FoundLemmas
+pub mod AcceptLemmas
+pub mod ReadLemmas

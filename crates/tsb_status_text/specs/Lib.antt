@@ -8,3 +8,11 @@ pub mod Names
 pub mod StatusText
 -- statuses of which a line says the same
 pub mod Alike
+-- the line of a plan
+pub mod PlanLine
+-- the line of the desk
+pub mod EditsLine
+-- that line byte by byte
+pub mod Bytes
+-- that lines are read as what they tell
+pub mod Laws

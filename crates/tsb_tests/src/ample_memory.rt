@@ -1,5 +1,5 @@
 //! Long runs with ample memory. A call that may answer `Memory` does not do so at any length, not beyond 65,536 and not
-//! beyond 1,000,000. The built programs are run through all 6,000,000 ticks besides (`tools/run_program.py`).
+//! beyond 1,000,000. The built programs are run through all 6,000,000 ticks besides (`tools/programs/run_program.py`).
 
 use std::alloc::{AllocError, Global};
 use std::test::Fail;
@@ -13,7 +13,7 @@ use tsb_objects::{
 /// More than a million.
 const MANY: u32 = 1_100_000;
 
-/// How many rows a long log has. The built programs read one of 1,100,000 (`tools/run_program.py`).
+/// How many rows a long log has. The built programs read one of 1,100,000 (`tools/programs/run_program.py`).
 const ROWS: u32 = 70_000;
 
 /// How many rounds of inputs there are.

@@ -24,7 +24,7 @@ fn id(object: Object, index: u32) -> ObjectId {
 }
 
 /// Objects, each with how many indices it has and its greatest value.
-const RANGES: [Value; 23] = [
+const RANGES: [Value; 24] = [
     (Object::PhaseEnabled, 16, 1),
     (Object::PhaseSide, 16, 4),
     (Object::PhaseConcurrency, 16, 65_535),
@@ -48,6 +48,7 @@ const RANGES: [Value; 23] = [
     (Object::PhasePedestrianRecycle, 16, 1),
     (Object::CoordCorrectionMode, 1, 3),
     (Object::CoordCorrectionLimit, 1, 50),
+    (Object::OverlapAcrossRings, 4, 1),
 ];
 
 /// Whether the object has so many indices and this greatest value, said in both ways.
@@ -71,7 +72,7 @@ fn have_ranges(wanted: &[Value]) -> bool {
 
 #[test]
 fn objects_have_their_ranges(rt: HostRuntime) {
-    assert!(rt; have_ranges(&RANGES) && Object::ALL.len() == 68);
+    assert!(rt; have_ranges(&RANGES) && Object::ALL.len() == 69);
     laws::cells_are_told_apart();
     laws::values_are_told_apart();
 }

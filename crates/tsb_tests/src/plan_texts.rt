@@ -122,7 +122,7 @@ fn all_padded_are_answered(alloc: Global, wanted: &[(&str, &str)]) -> bool {
 }
 
 /// Texts, each with what reading answers for it.
-const TEXTS: [(&str, &str); 11] = [
+const TEXTS: [(&str, &str); 13] = [
     (r#""#, "plan: not JSON"),
     (r#"{"version":1"#, "plan: not JSON"),
     (r#"[]"#, "plan: not a table"),
@@ -133,6 +133,14 @@ const TEXTS: [(&str, &str); 11] = [
     (r#"{"version":4,"version":1}"#, "plan: rule K1"),
     (r#"{"version":3}"#, "plan: rule K1"),
     (r#"{"version":1}"#, "plan: rule K1"),
+    (
+        r#"{"version":2,"overlapAcrossRings":{}}"#,
+        "plan: overlapAcrossRings: no such object",
+    ),
+    (
+        r#"{"version":3,"overlapAcrossRings":{"5":1}}"#,
+        "plan: overlapAcrossRings.5: no such object",
+    ),
     (SHORT_YELLOW, "plan: rule K8"),
 ];
 

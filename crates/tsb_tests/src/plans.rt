@@ -161,6 +161,8 @@ fn tells_of_overlaps(plan: &Plan) -> bool {
         && plan.modifier_phases(overlap).list() == 32
         && plan.is_minus_green_yellow(overlap)
         && !plan.is_minus_green_yellow(Overlap::of(2))
+        && !plan.overlaps_across_rings(overlap)
+        && plan.overlaps_across_rings(Overlap::of(2))
 }
 
 /// Whether the plan tells of patterns.
@@ -312,6 +314,7 @@ fn plans_tell_of_overlaps_patterns_and_preempts(rt: HostRuntime) {
         (Object::PreemptTrackGreen, 1, 3),
         (Object::PreemptTrackPhase, 1, 34),
         (Object::PreemptExitPhase, 1, 0x8001),
+        (Object::OverlapAcrossRings, 2, 1),
     ];
     let Some(plan) = changed_quad(&values) else {
         panic!(rt; "a value was refused");

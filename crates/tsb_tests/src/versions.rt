@@ -22,6 +22,16 @@ fn is_new(object: Object) -> bool {
         && object.range_in(Version::Three) == Some(range_of(object))
 }
 
+/// Whether version 3 alone has the object, with its whole range.
+fn is_of_3_alone(object: Object) -> bool {
+    object.since() == Version::Three
+        && !Version::One.has(object)
+        && !Version::Two.has(object)
+        && object.range_in(Version::One) == None
+        && object.range_in(Version::Two) == None
+        && object.range_in(Version::Three) == Some(range_of(object))
+}
+
 /// What version 1 has less of.
 const SMALLER: [(Object, u32, u32); 19] = [
     (Object::PhaseEnabled, 8, 1),
@@ -45,7 +55,7 @@ const SMALLER: [(Object, u32, u32); 19] = [
     (Object::UnitRedRevert, 1, 255),
 ];
 
-/// What version 1 has none of.
+/// What version 1 has none of, and versions 2 and 3 have.
 const NEW: [Object; 11] = [
     Object::PhaseDynamicMaxLimit,
     Object::PhaseDynamicMaxStep,
@@ -59,6 +69,9 @@ const NEW: [Object; 11] = [
     Object::CoordCorrectionMode,
     Object::CoordCorrectionLimit,
 ];
+
+/// What version 3 alone has.
+const OF_3_ALONE: [Object; 1] = [Object::OverlapAcrossRings];
 
 /// Whether version 1 has the objects with these indices and greatest values.
 fn have_ranges(wanted: &[(Object, u32, u32)]) -> bool {
@@ -130,6 +143,7 @@ fn is_whole_in_3(object: Object) -> bool {
 fn version_3_has_all(rt: HostRuntime) {
     assert!(rt; Version::NEWEST == Version::Three);
     assert!(rt; Object::ALL.iter().all(|object| is_whole_in_3(*object)));
+    assert!(rt; OF_3_ALONE.iter().all(|object| is_of_3_alone(*object)));
     assert!(rt;
         Version::One.number() == 1 && Version::Two.number() == 2 && Version::Three.number() == 3
     );
@@ -149,13 +163,15 @@ fn names_are() -> bool {
     is_named(Object::PhaseEnabled, "phaseEnabled")
         && is_named(Object::UnitMax2, "unitMax2")
         && is_named(Object::CoordCorrectionLimit, "coordCorrectionLimit")
+        && is_named(Object::OverlapAcrossRings, "overlapAcrossRings")
 }
 
 /// Whether objects are found by their names, where the version has them.
 fn names_are_found() -> bool {
-    let (split, last) = (Object::SplitTime, Object::CoordCorrectionLimit);
+    let (split, last) = (Object::SplitTime, Object::OverlapAcrossRings);
     finds(Version::One, split.name(), Some(split))
-        && finds(Version::Two, last.name(), Some(last))
+        && finds(Version::Three, last.name(), Some(last))
+        && finds(Version::Two, last.name(), None)
         && finds(Version::One, "overlapType", None)
         && finds(Version::Two, "overlaptype", None)
         && finds(Version::Two, "", None)
@@ -168,7 +184,7 @@ fn objects_have_names(rt: HostRuntime) {
 }
 
 /// What a plan's structure is made of.
-const STRUCTURAL: [Object; 7] = [
+const STRUCTURAL: [Object; 8] = [
     Object::PhaseRing,
     Object::PhaseSide,
     Object::PhaseConcurrency,
@@ -176,6 +192,7 @@ const STRUCTURAL: [Object; 7] = [
     Object::OverlapIncludedPhases,
     Object::OverlapType,
     Object::OverlapModifierPhases,
+    Object::OverlapAcrossRings,
 ];
 
 /// Whether all these objects are structural.
@@ -191,5 +208,5 @@ fn are_structural(objects: &[Object]) -> bool {
 #[test]
 fn structure_is_told(rt: HostRuntime) {
     assert!(rt; are_structural(&STRUCTURAL));
-    assert!(rt; Object::ALL.iter().filter(|o| is_structural(**o)).count() == 7);
+    assert!(rt; Object::ALL.iter().filter(|o| is_structural(**o)).count() == 8);
 }

@@ -10,6 +10,7 @@ from contextlib import suppress
 from pathlib import Path
 
 from tsb.errors import Error, shown
+from tsb.options import Words
 from tsb.panel.keep import Keep, Source
 from tsb.panel.layout import Layout
 from tsb.programs import marked
@@ -19,7 +20,7 @@ PORTS = 65_535  # the greatest port
 
 
 def _words() -> argparse.ArgumentParser:
-    words = argparse.ArgumentParser(
+    words = Words(
         prog=PROGRAM,
         description="Shows a bench in the browser: open the address that is printed.",
     )

@@ -173,21 +173,21 @@ def _spreads(
 
 
 def splits(both: Both) -> str:
-    """Splits of each phase: from 15 to 85 per cent, the median, the longest, and what
-    a pattern plans."""
+    """Splits of each phase: from 15 to 85 per cent, the median, the longest, and those
+    that were programmed as its greens began."""
     with drawn("splits", [2.4]) as drawing:
         tables = [it.splits for it in both]
         _spreads(drawing, both, tables, "p15", "seconds of service")
         phases = _phases(tables)
         told = False
-        for run, table in enumerate(tables):
-            planned = table["planned_s"].dropna()
+        for run, numbers in enumerate(both):
+            planned = numbers.programmed.dropna(subset="planned_s")
             places = _places(phases, run, len(both))
-            at = np.array([places[int(it)] for it in planned.index])
+            at = np.array([places[int(it)] for it in planned["phase"]])
             drawing.axes[0, 0].hlines(
-                plain(planned), at - BAR / 2, at + BAR / 2, color=INK,
+                plain(planned["planned_s"]), at - BAR / 2, at + BAR / 2, color=INK,
                 linestyles="dashed", linewidth=1.1, zorder=4,
-                label=None if told or not len(at) else "split of the pattern",
+                label=None if told or not len(at) else "programmed split",
             )  # fmt: skip
             told = told or len(at) > 0
         legend(drawing.axes[0, 0], 3)

@@ -50,7 +50,8 @@ BY_CAUSE = {"gap": "gap-out", "maximum": "max-out", "force-off": "force-off"}
 NO_PLACE = (
     "No detector has a place, that is a type and a distance from the stop bar: so each"
     " actuation counts in the moment in which the input goes on, and these are"
-    " actuations on green, not arrivals on green."
+    " actuations on green, not arrivals on green. The platoon ratio tells of platoons"
+    " only where detectors lie well before the stop bar."
 )
 SPREAD = {
     "count": ("count", count),
@@ -83,7 +84,9 @@ def terminations(both: Both) -> Section:
         "terminations", "Why greens ended",
         "A green ends by its gap, by its maximum or by a force-off; by none of them"
         " (other) where a preempt or the conflict monitor ends it. A phase that often"
-        " ends by its maximum has too little green, or others have too much.",
+        " ends by its maximum, or in a pattern by a force-off, has too little green, or"
+        " others have too much. That is not so of coordinated phases and of those with"
+        " maximum recall, which always end so.",
         any(len(it.greens) for it in both), "No green ended.", made,
     )  # fmt: skip
 
@@ -114,7 +117,7 @@ def splits(both: Both) -> Section:
     """How long phases were served."""
 
     def made() -> Iterable[Chart]:
-        columns = {**SPREAD, "planned_s": ("split of the pattern", seconds)}
+        columns = {**SPREAD, "planned_s": ("last programmed split", seconds)}
         drawn = _chart(
             "Bar: 15 to 85 per cent of the splits; mark: median; line: the longest",
             charts.splits(both),
@@ -167,8 +170,9 @@ def cycles(both: Both) -> Section:
     return _section(
         "cycles", "Greens a cycle",
         "Below 1 a phase was skipped in some cycles; above, it came again within one."
-        " Cycles of a pattern begin at local zero, those of free operation where the"
-        " barrier is crossed to the first side.",
+        " Cycles of a pattern begin at local zero, by its cycle and offset, also while"
+        " the controller still comes into step with it. Those of free operation begin"
+        " where the barrier is crossed to the first side.",
         any(len(it.cycles) for it in both), "No whole cycle.", made,
     )  # fmt: skip
 

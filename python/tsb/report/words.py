@@ -4,6 +4,8 @@ import argparse
 from collections.abc import Sequence
 from pathlib import Path
 
+from tsb.options import Words
+
 PROGRAM = "python3 -m tsb report"
 USAGE = f"""
   {PROGRAM} --plan-a PLAN [--plan-b PLAN | --street]
@@ -28,7 +30,7 @@ def read_words(words: Sequence[str]) -> argparse.Namespace:
 
 
 def _words() -> argparse.ArgumentParser:
-    words = argparse.ArgumentParser(
+    words = Words(
         prog=PROGRAM,
         usage=USAGE,
         description="Writes a page of charts and tables of one run or two.",

@@ -9,6 +9,7 @@ from typing import Any
 
 from tsb.errors import Error, shown
 from tsb.files import word
+from tsb.options import Words
 from tsb.programs import run
 from tsb.progress import progress
 from tsb.rows import Log
@@ -22,13 +23,14 @@ from tsb.sumo.propose import propose, zones
 from tsb.sumo.trips import read_trips, summary
 
 PROGRAM = "python3 -m tsb sumo"
+OTHERS = ("propose", "nema", "example")  # commands beside a run
 SOME = 100  # ticks, after which it is asked whether trips are left
 FROM = "2000-01-01 00:00:00"  # of the events, where no other time is given
 
 
 def main(words: Sequence[str]) -> int:
     """Carries out a command; its status."""
-    others = {"propose": _propose, "nema": _nema, "example": _example}
+    others = dict(zip(OTHERS, (_propose, _nema, _example), strict=True))
     command = others.get(words[0]) if words else None
     try:
         return _run(words) if command is None else command(words[1:])
@@ -80,11 +82,12 @@ def _run(words: Sequence[str]) -> int:
     return 0
 
 
-def _words() -> argparse.ArgumentParser:
-    words = argparse.ArgumentParser(
+def _words() -> Words:
+    words = Words(
         prog=PROGRAM,
+        others=OTHERS,
         description="Runs plans on traffic of SUMO that reacts to them.",
-        epilog="Other commands: propose, nema, example; each has --help.",
+        epilog=f"Other commands: {', '.join(OTHERS)}; each has --help.",
     )
     words.add_argument("net", help="SUMO's net")
     words.add_argument("routes", help="SUMO's routes, several with commas between")
@@ -154,7 +157,7 @@ def _summary(out: Path, given: argparse.Namespace, ticks: int) -> None:
 
 
 def _propose(words: Sequence[str]) -> int:
-    of = argparse.ArgumentParser(
+    of = Words(
         prog=f"{PROGRAM} propose",
         description="Begins a plan and a mapping for a traffic light of a net, by the"
         " directions of its links, and says what was guessed.",
@@ -181,7 +184,7 @@ def _propose(words: Sequence[str]) -> int:
 
 
 def _nema(words: Sequence[str]) -> int:
-    of = argparse.ArgumentParser(
+    of = Words(
         prog=f"{PROGRAM} nema",
         description="Makes a plan and a mapping of a tlLogic of type NEMA.",
     )
@@ -207,7 +210,7 @@ def _write(out: Path, tls: str, draft: Draft) -> None:
 
 
 def _example(words: Sequence[str]) -> int:
-    of = argparse.ArgumentParser(
+    of = Words(
         prog=f"{PROGRAM} example",
         description="Writes an intersection with its traffic, to try things on.",
     )

@@ -2,7 +2,7 @@
 use Rattle.std.specs.Prelude.{◌≡◌, ℕ, ◌*◌, true, List, [], ◌∷◌, Option, Some, None, Result, Ok, Err, refl}
 use Rattle.std.proofs.Common.{arith}
 use Rattle.tsb_event_text.specs.declared.rows.EventRow.{EventRow}
-use Rattle.tsb_held_rows.specs.Order.{first_before, rest_before}
+use Rattle.tsb_field_streams.specs.Order.{first_before, rest_before}
 use Rattle.tsb_field_streams.specs.declared.error.FilterError.{FilterError}
 use Rattle.tsb_field_streams.specs.Filtering.{Given, Stand, start, with_given, with_held}
 use Rattle.tsb_field_streams.specs.SortLaws.{AreWithin, rows_behind, rows_taken}

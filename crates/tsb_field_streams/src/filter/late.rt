@@ -1,6 +1,6 @@
 //! Rows that come a little out of order: they are held until no other row may come before them.
 ghost use Rattle.std.specs.Prelude.{◌≡◌, ◌<◌, length};
-ghost use Rattle.tsb_held_rows.specs.Holding.{held_rows, most_rows};
+ghost use Rattle.tsb_field_streams.specs.Holding.{held_rows, most_rows};
 ghost use Rattle.tsb_field_streams.specs.Filtering.{Given, Stand, bound_of, most_held, with_due, with_given, with_held, with_late, with_next};
 
 use super::{Filter, NO_ROWS, time_place};

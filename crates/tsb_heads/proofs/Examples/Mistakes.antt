@@ -10,17 +10,17 @@ use Rattle.tsb_objects.specs.tsb_types.declared.lamp.Lamp.TheVariants as lamps
 use Rattle.tsb_objects.specs.tsb_types.Intervals.{is_green, is_yellow, is_red_clear}
 use Rattle.tsb_objects.specs.tsb_types.Lists.{first, run_from}
 use Rattle.tsb_objects.specs.tsb_plan.declared.object.Object.TheVariants.{OverlapType, OverlapModifierPhases}
-use Rattle.tsb_objects.specs.tsb_plan.Plan.{Plan, phases, walk, with_values}
+use Rattle.tsb_objects.specs.tsb_plan.Plan.{Plan, phases, walk, ring_of, with_values}
 use Rattle.tsb_objects.specs.tsb_plan.Parts.{is_included}
 use Rattle.tsb_objects.specs.tsb_plan.Quad.{quad}
 use Rattle.tsb_objects.specs.tsb_rules.PatternRules.{some_and}
 use Rattle.tsb_heads.specs.declared.monitor.Trip.{Trip}
 use Rattle.tsb_heads.specs.declared.monitor.Trip.TheVariants.{Conflict, GreenToRed}
 use Rattle.tsb_heads.specs.Heads.{Shown, Heads, aspect_of, vehicle_head}
-use Rattle.tsb_heads.specs.Overlaps.{some_of, is_followed, is_kept_green, is_on_yellow, has_green_modifier, has_yellow_modifier, is_on_last_yellow, overlap_head}
+use Rattle.tsb_heads.specs.Overlaps.{some_of, other_ring, comes_across, is_followed, is_kept_green, is_on_yellow, has_green_modifier, has_yellow_modifier, is_on_last_yellow, overlap_head}
 use Rattle.tsb_heads.specs.Displays.{field}
 use Rattle.tsb_heads.specs.Monitoring.{gives_way, lets_walk, has_right_of_way, conflict_of, conflict_by, conflict, is_red, goes_red, green_to_red, judge}
-use Rattle.tsb_heads.proofs.Examples.Examples.{two_in, committed, through, across, to_3_and_6}
+use Rattle.tsb_heads.proofs.Examples.Examples.{two_in, committed, through, across, to_3_and_6, crossed}
 
 -- ## The head of a phase that is not enabled is red
 
@@ -64,6 +64,31 @@ by_its_ring = refl
 by_any_ring : some_of across (is_included across 1) (keeps_by_any_ring across to_3_and_6 1) ≡ true
 unfolding across quad run_from
 by_any_ring = refl
+
+-- ## An overlap across rings stays green where the other ring alone is committed
+
+abbrev pub keeps_by_the_other_ring : Plan → Shown → ℕ → ℕ → Bool
+keeps_by_the_other_ring plan s o p = is_green (s.interval p) || ((is_yellow (s.interval p) || is_red_clear (s.interval p)) &&
+    some_and (comes_across plan o p) (s.commitment (other_ring (ring_of plan p))))
+
+-- ring 2 is committed to 8, and 6 is Yellow still: 1, which clears to no phase, is Red before 8 is Green
+abbrev pub to_8 : Shown
+to_8 = committed 2 8 (two_in 1 intervals.RedClear 6 intervals.Yellow)
+
+abbrev pub with_1_red : Shown
+with_1_red = committed 2 8 (two_in 1 intervals.Red 6 intervals.Yellow)
+
+red_before_8 : overlap_head crossed to_8 1 ≡ Red
+unfolding crossed quad run_from is_kept_green is_on_yellow
+red_before_8 = refl
+
+would_be_green : some_of crossed (is_included crossed 1) (keeps_by_the_other_ring crossed to_8 1) ≡ true
+unfolding crossed quad run_from
+would_be_green = refl
+
+would_drop : some_of crossed (is_included crossed 1) (keeps_by_the_other_ring crossed with_1_red 1) ≡ false
+unfolding crossed quad run_from
+would_drop = refl
 
 -- ## A minusGreenYellow overlap is yellow while its ring follows with an included phase
 

@@ -6,8 +6,9 @@ use Rattle.tsb_types.specs.declared.row.Row.{Row}
 use Rattle.tsb_log_text.specs.declared.log.LogRow.{LogRow}
 use Rattle.tsb_log_text.specs.Logs.{row_at}
 use Rattle.tsb_step.specs.declared.inputs.Input.TheVariants.{Pattern, Tick}
-use Rattle.tsb_kept.specs.Changed.{change_in, value_of}
-use Rattle.tsb_kept.specs.declared.changed.RowInput.TheVariants.{Vehicle}
+use Rattle.tsb_kept.specs.Changed.{change_in}
+use Rattle.tsb_log_text.specs.RowInputs.{value_of}
+use Rattle.tsb_log_text.specs.declared.row_input.RowInput.TheVariants.{Vehicle}
 use Rattle.tsb_kept.specs.Kept.{Keeping, gone_back, keeping, nothing_kept, with_other, with_row}
 use Rattle.tsb_kept.specs.Laws.{Differ, given_again}
 

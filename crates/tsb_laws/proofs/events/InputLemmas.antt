@@ -20,8 +20,8 @@ use Rattle.tsb_step.specs.State.{State}
 use Rattle.tsb_step.specs.Step.{step}
 use Rattle.tsb_events.proofs.OrderLemmas.{alarm-span, call-span, clearing-span, crossing-span, ending-span, flash-span, green-span, one-code, overlap-span, pattern-span, pedestrian-span, preempt-span}
 use Rattle.tsb_log_text.specs.declared.log.LogRow.{LogRow}
-use Rattle.tsb_field_events.specs.Inputs.{events_behind, events_of_row, events_of_rows}
-use Rattle.tsb_field_events.specs.Laws.{is_of_input}
+use Rattle.tsb_field_display.specs.Inputs.{events_behind, events_of_row, events_of_rows}
+use Rattle.tsb_field_display.specs.SessionLaws.{is_of_input}
 use Rattle.tsb_record.specs.Along.{last_row, told_along}
 use Rattle.tsb_laws.specs.Told.{InputsMakeTheLog, if_changed, is_same_row, log_of}
 use Rattle.tsb_laws.proofs.events.KeptLemmas.{Kept, both, first-alone, second-alone, all-told, none-of, not-among}

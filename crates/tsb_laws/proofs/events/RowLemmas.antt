@@ -15,8 +15,8 @@ use Rattle.tsb_step.specs.Step.{step}
 use Rattle.tsb_log_text.specs.declared.log.LogRow.{LogRow}
 use Rattle.tsb_field_display.specs.ReadBack.{lit_after, says_at}
 use Rattle.tsb_field_display.proofs.LawLemmas.{after, begun-or-ended, effect, is_lit_of, leads-told, lit-append}
-use Rattle.tsb_field_events.specs.Inputs.{events_of_row}
-use Rattle.tsb_field_events.specs.Laws.{is_of_input}
+use Rattle.tsb_field_display.specs.Inputs.{events_of_row}
+use Rattle.tsb_field_display.specs.SessionLaws.{is_of_input}
 use Rattle.tsb_record.specs.Along.{last_row, told_along}
 use Rattle.tsb_laws.specs.Told.{RunsTellTheInputs, says_pedestrian, says_preempt, says_vehicle}
 use Rattle.tsb_laws.proofs.events.InputLemmas.{by_input, others-kept, row-told, ticks-kept}

@@ -2,6 +2,7 @@
 -- in service, and each other input leaves all from which heads are found.
 use Rattle.std.proofs.Common.{◌≡◌, ℕ, ◌==◌, nat_lt, Bool, true, false, not, ◌&&◌, ◌||◌, if◌then◌else◌, List, [], ◌∷◌, Option, None, is_some, refl, sym, ap, ◌∙◌, inl, inr, ◌⊎◌}
 use Rattle.std.specs.List.{list_any}
+use Rattle.std.proofs.Math.Path.{fun_ext}
 use Rattle.std.proofs.lemmas.Bool.{and_parts, true≢false, false≢true}
 use Rattle.tsb_step.specs.tsb_types.declared.interval.Interval.{Interval}
 use Rattle.tsb_step.specs.tsb_types.declared.interval.Interval.TheVariants as intervals
@@ -12,7 +13,7 @@ use Rattle.tsb_step.specs.tsb_types.declared.lamp.Aspect.TheVariants.{Dark, Red,
 use Rattle.tsb_step.specs.tsb_types.declared.lamp.PedestrianAspect.TheVariants as pedestrian_aspects
 use Rattle.tsb_step.specs.tsb_types.Intervals.{is_green, is_yellow, is_red_clear, is_dont_walk, in_service}
 use Rattle.tsb_step.specs.tsb_types.Sets.{names}
-use Rattle.tsb_step.specs.tsb_plan.declared.object.Object.TheVariants.{PhaseEnabled, PhaseRing, OverlapIncludedPhases, OverlapType, OverlapModifierPhases}
+use Rattle.tsb_step.specs.tsb_plan.declared.object.Object.TheVariants.{PhaseEnabled, PhaseRing, PhaseConcurrency, OverlapIncludedPhases, OverlapType, OverlapModifierPhases, OverlapAcrossRings}
 use Rattle.tsb_step.specs.tsb_plan.Objects.{is_structural}
 use Rattle.tsb_step.specs.tsb_plan.Parts.{is_included, is_modifier}
 use Rattle.tsb_step.specs.tsb_plan.Plan.{Plan, phases, ring_of, is_enabled, walk}
@@ -20,7 +21,7 @@ use Rattle.tsb_step.specs.tsb_rules.PatternRules.{some_and}
 use Rattle.tsb_step.specs.tsb_heads.Heads.{Shown, aspect_of, vehicle_head, pedestrian_aspect_of, pedestrian_head}
 use Rattle.tsb_step.specs.tsb_heads.Displays.{ordered, flashed, flashing}
 use Rattle.tsb_step.specs.tsb_heads.Monitoring.{gives_way, lets_walk}
-use Rattle.tsb_step.specs.tsb_heads.Overlaps.{is_followed, keeps_green, is_kept_green, is_on_yellow, has_green_modifier, has_yellow_modifier, is_on_last_yellow, overlap_head}
+use Rattle.tsb_step.specs.tsb_heads.Overlaps.{other_ring, is_followed, keeps_green, is_kept_green, is_on_yellow, has_green_modifier, has_yellow_modifier, is_on_last_yellow, overlap_head}
 use Rattle.tsb_step.specs.tsb_heads.Reading.{commitment_of}
 use Rattle.tsb_step.specs.tsb_ring.Rings.{Ring, Ring1, Ring2}
 use Rattle.tsb_step.proofs.tsb_ring.MoveLemmas.{or_cases}
@@ -89,6 +90,8 @@ record SamePlan (plan later : Plan) : Type 0 where
   pub included : (o : ℕ) → later.value OverlapIncludedPhases o ≡ plan.value OverlapIncludedPhases o
   pub type : (o : ℕ) → later.value OverlapType o ≡ plan.value OverlapType o
   pub modifiers : (o : ℕ) → later.value OverlapModifierPhases o ≡ plan.value OverlapModifierPhases o
+  pub option : (o : ℕ) → later.value OverlapAcrossRings o ≡ plan.value OverlapAcrossRings o
+  pub lists : later.value PhaseConcurrency ≡ plan.value PhaseConcurrency
 
 alike : (plan later : Plan) → later ≡ plan → SamePlan plan later
 alike plan later e = record {
@@ -98,6 +101,8 @@ alike plan later e = record {
   included = λ o. ap (λ (x : Plan). x.value OverlapIncludedPhases o) e;
   type = λ o. ap (λ (x : Plan). x.value OverlapType o) e;
   modifiers = λ o. ap (λ (x : Plan). x.value OverlapModifierPhases o) e;
+  option = λ o. ap (λ (x : Plan). x.value OverlapAcrossRings o) e;
+  lists = ap (λ (x : Plan). x.value PhaseConcurrency) e;
 }
 
 alike_committed : (s : State) (station q : ℕ) → IsGood s → verdict s (inputs.Commit station) ≡ None → in_service (interval s q) ≡ true →
@@ -110,6 +115,8 @@ alike_committed s station q good taken serves = record {
   included = λ o. kept is_structural s.plan s.desk.edits (leaves_structure s station q good taken serves) OverlapIncludedPhases o refl;
   type = λ o. kept is_structural s.plan s.desk.edits (leaves_structure s station q good taken serves) OverlapType o refl;
   modifiers = λ o. kept is_structural s.plan s.desk.edits (leaves_structure s station q good taken serves) OverlapModifierPhases o refl;
+  option = λ o. kept is_structural s.plan s.desk.edits (leaves_structure s station q good taken serves) OverlapAcrossRings o refl;
+  lists = fun_ext (λ p. kept is_structural s.plan s.desk.edits (leaves_structure s station q good taken serves) PhaseConcurrency p refl);
 }
 
 -- an input that is taken while a phase is in service leaves all of the plan that heads look at
@@ -213,14 +220,21 @@ some_same : (plan later : Plan) (f g : ℕ → Bool) → later.phase_count ≡ p
     list_any f (phases later) ≡ list_any g (phases plan)
 some_same plan later f g e h = rw e (any_same f g (phases plan) h)
 
--- of one phase p in this interval, of this ring, with the two commitments: whether an overlap of this list is kept green
--- by it, and so on
-kept_by : ℕ → Interval → ℕ → Option ℕ → Option ℕ → ℕ → Bool
-kept_by list i ring one two p =
-    names list p && (is_green i || ((is_yellow i || is_red_clear i) && some_and (λ q. names list q) (commitment_of one two ring)))
+-- of one phase p of this ring, with the two commitments: whether a phase of this list follows it, with this value of
+-- `overlapAcrossRings` and these lists of concurrent phases
+followed_by : ℕ → ℕ → (ℕ → ℕ) → ℕ → Option ℕ → Option ℕ → ℕ → Bool
+followed_by list option lists ring one two p =
+    some_and (λ q. names list q) (commitment_of one two ring)
+    || (option == 1 && (is_some (commitment_of one two ring)
+    && some_and (λ q. names list q && not (names (lists q) p)) (commitment_of one two (other_ring ring))))
 
-last_by : ℕ → Interval → ℕ → Option ℕ → Option ℕ → ℕ → Bool
-last_by list i ring one two p = names list p && (is_yellow i && not (some_and (λ q. names list q) (commitment_of one two ring)))
+-- in this interval: whether an overlap of this list is kept green by it, and so on
+kept_by : ℕ → ℕ → (ℕ → ℕ) → Interval → ℕ → Option ℕ → Option ℕ → ℕ → Bool
+kept_by list option lists i ring one two p =
+    names list p && (is_green i || ((is_yellow i || is_red_clear i) && followed_by list option lists ring one two p))
+
+last_by : ℕ → ℕ → (ℕ → ℕ) → Interval → ℕ → Option ℕ → Option ℕ → ℕ → Bool
+last_by list option lists i ring one two p = names list p && (is_yellow i && not (followed_by list option lists ring one two p))
 
 green_by : ℕ → Interval → ℕ → Bool
 green_by list i p = names list p && is_green i
@@ -228,13 +242,13 @@ green_by list i p = names list p && is_green i
 yellow_by : ℕ → Interval → ℕ → Bool
 yellow_by list i p = names list p && is_yellow i
 
-kept_same : (l m : ℕ) (i j : Interval) (x y : ℕ) (a b c d : Option ℕ) (p : ℕ) → m ≡ l → j ≡ i → y ≡ x → c ≡ a → d ≡ b →
-    kept_by m j y c d p ≡ kept_by l i x a b p
-kept_same l m i j x y a b c d p e f g h k = rw (e, f, g, h, k) refl
+kept_same : (l m u v : ℕ) (s t : ℕ → ℕ) (i j : Interval) (x y : ℕ) (a b c d : Option ℕ) (p : ℕ) → m ≡ l → v ≡ u → t ≡ s → j ≡ i → y ≡ x → c ≡ a → d ≡ b →
+    kept_by m v t j y c d p ≡ kept_by l u s i x a b p
+kept_same l m u v s t i j x y a b c d p e n w f g h k = rw (e, n, w, f, g, h, k) refl
 
-last_same : (l m : ℕ) (i j : Interval) (x y : ℕ) (a b c d : Option ℕ) (p : ℕ) → m ≡ l → j ≡ i → y ≡ x → c ≡ a → d ≡ b →
-    last_by m j y c d p ≡ last_by l i x a b p
-last_same l m i j x y a b c d p e f g h k = rw (e, f, g, h, k) refl
+last_same : (l m u v : ℕ) (s t : ℕ → ℕ) (i j : Interval) (x y : ℕ) (a b c d : Option ℕ) (p : ℕ) → m ≡ l → v ≡ u → t ≡ s → j ≡ i → y ≡ x → c ≡ a → d ≡ b →
+    last_by m v t j y c d p ≡ last_by l u s i x a b p
+last_same l m u v s t i j x y a b c d p e n w f g h k = rw (e, n, w, f, g, h, k) refl
 
 green_same : (l m : ℕ) (i j : Interval) (p : ℕ) → m ≡ l → j ≡ i → green_by m j p ≡ green_by l i p
 green_same l m i j p e f = rw (e, f) refl
@@ -243,21 +257,23 @@ yellow_same : (l m : ℕ) (i j : Interval) (p : ℕ) → m ≡ l → j ≡ i →
 yellow_same l m i j p e f = rw (e, f) refl
 
 kept_alike : (s t : State) (o : ℕ) → SameSight s t → is_kept_green t.plan (shown t) o ≡ is_kept_green s.plan (shown s) o
-unfolding is_kept_green kept_by
+unfolding is_kept_green kept_by followed_by
 kept_alike s t o same =
     some_same s.plan t.plan (λ p. is_included t.plan o p && keeps_green t.plan (shown t) o p) (λ p. is_included s.plan o p && keeps_green s.plan (shown s) o p)
-    same.plan.count (λ p. kept_same (s.plan.value OverlapIncludedPhases o) (t.plan.value OverlapIncludedPhases o) (interval s p) (interval t p)
+    same.plan.count (λ p. kept_same (s.plan.value OverlapIncludedPhases o) (t.plan.value OverlapIncludedPhases o)
+    (s.plan.value OverlapAcrossRings o) (t.plan.value OverlapAcrossRings o) (s.plan.value PhaseConcurrency) (t.plan.value PhaseConcurrency) (interval s p) (interval t p)
     (ring_of s.plan p) (ring_of t.plan p) (s.rings.commitment Ring1) (s.rings.commitment Ring2) (t.rings.commitment Ring1) (t.rings.commitment Ring2) p
-    (same.plan.included o) (same.interval p) (same.plan.ring p) (same.commitment Ring1) (same.commitment Ring2))
+    (same.plan.included o) (same.plan.option o) same.plan.lists (same.interval p) (same.plan.ring p) (same.commitment Ring1) (same.commitment Ring2))
 
 last_alike : (s t : State) (o : ℕ) → SameSight s t → is_on_last_yellow t.plan (shown t) o ≡ is_on_last_yellow s.plan (shown s) o
-unfolding is_on_last_yellow last_by
+unfolding is_on_last_yellow last_by followed_by
 last_alike s t o same =
     some_same s.plan t.plan (λ p. is_included t.plan o p && (is_yellow (interval t p) && not (is_followed t.plan (shown t) o p)))
     (λ p. is_included s.plan o p && (is_yellow (interval s p) && not (is_followed s.plan (shown s) o p)))
-    same.plan.count (λ p. last_same (s.plan.value OverlapIncludedPhases o) (t.plan.value OverlapIncludedPhases o) (interval s p) (interval t p)
+    same.plan.count (λ p. last_same (s.plan.value OverlapIncludedPhases o) (t.plan.value OverlapIncludedPhases o)
+    (s.plan.value OverlapAcrossRings o) (t.plan.value OverlapAcrossRings o) (s.plan.value PhaseConcurrency) (t.plan.value PhaseConcurrency) (interval s p) (interval t p)
     (ring_of s.plan p) (ring_of t.plan p) (s.rings.commitment Ring1) (s.rings.commitment Ring2) (t.rings.commitment Ring1) (t.rings.commitment Ring2) p
-    (same.plan.included o) (same.interval p) (same.plan.ring p) (same.commitment Ring1) (same.commitment Ring2))
+    (same.plan.included o) (same.plan.option o) same.plan.lists (same.interval p) (same.plan.ring p) (same.commitment Ring1) (same.commitment Ring2))
 
 on_alike : (s t : State) (o : ℕ) → SameSight s t → is_on_yellow t.plan (shown t) o ≡ is_on_yellow s.plan (shown s) o
 unfolding is_on_yellow yellow_by

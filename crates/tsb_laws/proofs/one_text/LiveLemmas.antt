@@ -3,11 +3,11 @@ use Rattle.std.proofs.Common.{◌≡◌, ◌⊎◌, ℕ, zero, suc, Bool, false,
 use Rattle.tsb_dialog.specs.Heard.{Runs}
 use Rattle.tsb_dialog.specs.Said.{with_feed}
 use Rattle.tsb_dialog.specs.declared.answers.Flow.{Flow}
-use Rattle.tsb_live_lines.specs.LiveReadings.{live_reading}
-use Rattle.tsb_live_lines.specs.declared.command.LiveCommand.{LiveCommand}
-use Rattle.tsb_live_lines.specs.declared.command.LiveCommand.TheVariants as live
-use Rattle.tsb_live_lines.specs.declared.command.LiveReading.{LiveReading}
-use Rattle.tsb_live_lines.specs.declared.command.LiveReading.TheVariants.{Skip, Bad, Tick, Ask}
+use Rattle.tsb_command_text.specs.LiveReadings.{live_reading}
+use Rattle.tsb_command_text.specs.declared.live_command.LiveCommand.{LiveCommand}
+use Rattle.tsb_command_text.specs.declared.live_command.LiveCommand.TheVariants as live
+use Rattle.tsb_command_text.specs.declared.live_command.LiveReading.{LiveReading}
+use Rattle.tsb_command_text.specs.declared.live_command.LiveReading.TheVariants.{Skip, Bad, Tick, Ask}
 use Rattle.tsb_live_text.specs.Changes.{Changes, line_after, owed, shows_same, tick_text}
 use Rattle.tsb_live_text.specs.Live.{AsksLive, Leaves, Live, Reads, Says, Tells, besides, fault_by, flow_in, present, setup, stopped_at, with_inputs, with_row, with_stop}
 use Rattle.tsb_step.specs.Play.{Cmd, IsRight, remaining_after}

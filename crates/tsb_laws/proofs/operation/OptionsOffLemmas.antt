@@ -4,9 +4,11 @@ use Rattle.std.proofs.Math.Path.{fun_ext}
 use Rattle.tsb_step.specs.tsb_plan.declared.object.Object.TheVariants.{CoordCorrectionMode}
 use Rattle.tsb_step.specs.tsb_plan.declared.plan.patterns.CorrectionMode.TheVariants.{AtOnce}
 use Rattle.tsb_step.specs.tsb_plan.Plan.{Plan, side_of, is_concurrent, recycles_walk}
-use Rattle.tsb_step.specs.tsb_plan.Parts.{forces_late, floats, permissive_time, leads_and_lags, split_of, sequence_of, correction_limit, correction_mode_of, correction_mode}
+use Rattle.tsb_step.specs.tsb_plan.Parts.{forces_late, floats, permissive_time, leads_and_lags, split_of, sequence_of, correction_limit, correction_mode_of, correction_mode, overlaps_across_rings}
 use Rattle.tsb_step.specs.tsb_plan.Running.{running, maximum_by_mode}
 use Rattle.tsb_step.specs.tsb_rules.PatternRules.{some_and, each_pattern, split_end, ends_with, coordinated_agree, coordinated_phases_agree}
+use Rattle.tsb_step.specs.tsb_heads.Heads.{Shown}
+use Rattle.tsb_step.specs.tsb_heads.Overlaps.{is_followed_in_ring, is_followed_across, is_followed}
 use Rattle.tsb_step.specs.tsb_coord.Coordinated.{local}
 use Rattle.tsb_step.proofs.tsb_coord.CorrectionLemmas.{in_step_at_once, local_in_step, forces_in_step}
 use Rattle.tsb_step.proofs.tsb_coord.LocalLemmas.{options_off}
@@ -52,6 +54,16 @@ agree_at_once plan none =
     ap (each_pattern plan) (fun_ext (λ n. ap (λ (apart : Bool). some_and (λ s. some_and (coordinated_agree plan apart s) (split_of plan n)) (sequence_of plan n))
     (not_apart plan n none)))
 
+-- what is found without the option alone
+alone : (own option other : Bool) → option ≡ false → (own || (option && other)) ≡ own
+alone true option other off = refl
+alone false option other off = rw off refl
+
+in_ring_alone : (plan : Plan) (s : Shown) (o p : ℕ) → HasNoOptions plan → is_followed plan s o p ≡ is_followed_in_ring plan s o p
+in_ring_alone plan s o p none =
+    alone (is_followed_in_ring plan s o p) (overlaps_across_rings plan o) (is_followed_across plan s o p)
+    (ap (λ (value : ℕ). value == 1) (none.overlap_across_rings o))
+
 pub options-off : (plan : Plan) → HasNoOptions plan → OptionsOff plan
 options-off plan none = record {
   forced = λ t selected p. options_off plan t selected p (never_late plan none) (λ n. no_time plan n none);
@@ -67,4 +79,5 @@ options-off plan none = record {
   counting = λ selected c t. local_in_step plan selected c t (in_step_at_once plan selected c t (step_at_once plan none));
   forcing = λ selected c t p. forces_in_step plan selected c t p (in_step_at_once plan selected c (t - 1) (step_at_once plan none));
   permissive = times_end plan (λ n. no_time plan n none);
+  followed = λ s o p. in_ring_alone plan s o p none;
 }

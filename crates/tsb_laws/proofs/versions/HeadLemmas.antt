@@ -1,5 +1,5 @@
 -- Heads show the same on the wide plan, and the monitor judges the same.
-use Rattle.std.proofs.Common.{◌≡◌, ℕ, ◌≤◌, ◌==◌, nat_lt, Bool, true, false, not, ◌&&◌, if◌then◌else◌, Option, Some, None, is_some, refl, arith, ◌∙◌, ap}
+use Rattle.std.proofs.Common.{◌≡◌, ℕ, ◌≤◌, ◌==◌, nat_lt, Bool, true, false, not, ◌&&◌, ◌||◌, if◌then◌else◌, Option, Some, None, is_some, refl, arith, ◌∙◌, ap}
 use Rattle.std.specs.Option.{option_map}
 use Rattle.std.proofs.Math.Path.{fun_ext}
 use Rattle.std.proofs.lemmas.Bool.Decides.{nat_tests}
@@ -7,15 +7,15 @@ use Rattle.tsb_step.specs.tsb_types.declared.lamp.Aspect.TheVariants.{Dark}
 use Rattle.tsb_step.specs.tsb_types.declared.lamp.PedestrianAspect.TheVariants as pedestrian_aspects
 use Rattle.tsb_step.specs.tsb_types.declared.lamp.Lamp.{Lamp}
 use Rattle.tsb_step.specs.tsb_types.declared.lamp.Lamp.TheVariants as lamps
-use Rattle.tsb_step.specs.tsb_types.Intervals.{is_green, is_yellow}
+use Rattle.tsb_step.specs.tsb_types.Intervals.{is_green, is_yellow, is_red_clear}
 use Rattle.tsb_step.specs.tsb_types.Lists.{first}
-use Rattle.tsb_step.specs.tsb_plan.declared.object.Object.TheVariants.{OverlapIncludedPhases, OverlapModifierPhases}
+use Rattle.tsb_step.specs.tsb_plan.declared.object.Object.TheVariants.{OverlapIncludedPhases, OverlapModifierPhases, OverlapAcrossRings}
 use Rattle.tsb_step.specs.tsb_plan.Plan.{Plan, phases, ring_of}
-use Rattle.tsb_step.specs.tsb_plan.Parts.{is_included, is_modifier}
+use Rattle.tsb_step.specs.tsb_plan.Parts.{is_included, is_modifier, overlaps_across_rings}
 use Rattle.tsb_step.specs.tsb_rules.PatternRules.{some_and}
 use Rattle.tsb_step.specs.tsb_heads.declared.monitor.Trip.TheVariants.{GreenToRed}
 use Rattle.tsb_step.specs.tsb_heads.Heads.{Shown, Heads}
-use Rattle.tsb_step.specs.tsb_heads.Overlaps.{some_of, is_followed, keeps_green, is_kept_green, is_on_yellow, has_green_modifier, has_yellow_modifier, is_on_last_yellow, overlap_head}
+use Rattle.tsb_step.specs.tsb_heads.Overlaps.{some_of, is_followed_in_ring, is_followed_across, is_followed, keeps_green, is_kept_green, is_on_yellow, has_green_modifier, has_yellow_modifier, is_on_last_yellow, overlap_head}
 use Rattle.tsb_step.specs.tsb_heads.Displays.{ordered, flashing, display, laid_over, field}
 use Rattle.tsb_step.specs.tsb_heads.Monitoring.{has_right_of_way, are_in_conflict, conflict_of, conflict_by, conflict, goes_red, green_to_red, judge}
 use Rattle.tsb_laws.specs.Widened.{IsNarrow, widened, IsLampWithin}
@@ -40,14 +40,25 @@ not-modifier plan o narrow p out =
     let none : plan.value OverlapModifierPhases o ≡ 0 = narrow.placed OverlapModifierPhases o refl in
     names-none (plan.value OverlapModifierPhases o) p (rw none (omega arith)) out
 
-followed-same : (plan : Plan) (s : Shown) (o : ℕ) (c : Option ℕ) → some_and (is_included (widened plan) o) c ≡ some_and (is_included plan o) c
-followed-same plan s o None = refl
-followed-same plan s o (Some p) = refl
+in_ring-same : (plan : Plan) (o : ℕ) (c : Option ℕ) → some_and (is_included (widened plan) o) c ≡ some_and (is_included plan o) c
+in_ring-same plan o None = refl
+in_ring-same plan o (Some p) = refl
+
+option-off : (option own too other too_other : Bool) → option ≡ false → own ≡ too → (own || (option && other)) ≡ (too || (option && too_other))
+option-off option own too other too_other off e = rw (off, e) refl
+
+-- version 1 has no overlaps across rings
+followed-same : (plan : Plan) (s : Shown) (o p : ℕ) → IsNarrow plan → is_followed (widened plan) s o p ≡ is_followed plan s o p
+followed-same plan s o p narrow =
+    option-off (overlaps_across_rings plan o) (is_followed_in_ring (widened plan) s o p) (is_followed_in_ring plan s o p)
+    (is_followed_across (widened plan) s o p) (is_followed_across plan s o p)
+    (ap (λ (n : ℕ). n == 1) (narrow.placed OverlapAcrossRings o refl)) (in_ring-same plan o (s.commitment (ring_of plan p)))
 
 kept_green-same : (plan : Plan) (s : Shown) (o : ℕ) → IsNarrow plan → is_kept_green (widened plan) s o ≡ is_kept_green plan s o
 unfolding is_kept_green
 kept_green-same plan s o narrow =
-    ap (some_of (widened plan) (is_included plan o)) (fun_ext (λ p. rw (followed-same plan s o (s.commitment (ring_of plan p))) refl))
+    ap (some_of (widened plan) (is_included plan o))
+    (fun_ext (λ p. ap (λ (b : Bool). is_green (s.interval p) || ((is_yellow (s.interval p) || is_red_clear (s.interval p)) && b)) (followed-same plan s o p narrow)))
     ∙ some_of-same plan (is_included plan o) (keeps_green plan s o) narrow (not-included plan o narrow)
 
 on_yellow-same : (plan : Plan) (s : Shown) (o : ℕ) → IsNarrow plan → is_on_yellow (widened plan) s o ≡ is_on_yellow plan s o
@@ -65,7 +76,7 @@ yellow_modifier-same plan s o narrow = some_of-same plan (is_modifier plan o) (�
 last_yellow-same : (plan : Plan) (s : Shown) (o : ℕ) → IsNarrow plan → is_on_last_yellow (widened plan) s o ≡ is_on_last_yellow plan s o
 unfolding is_on_last_yellow
 last_yellow-same plan s o narrow =
-    ap (some_of (widened plan) (is_included plan o)) (fun_ext (λ p. rw (followed-same plan s o (s.commitment (ring_of plan p))) refl))
+    ap (some_of (widened plan) (is_included plan o)) (fun_ext (λ p. ap (λ (b : Bool). is_yellow (s.interval p) && not b) (followed-same plan s o p narrow)))
     ∙ some_of-same plan (is_included plan o) (λ p. is_yellow (s.interval p) && not (is_followed plan s o p)) narrow (not-included plan o narrow)
 
 overlap_head-same : (plan : Plan) (s : Shown) → IsNarrow plan → overlap_head (widened plan) s ≡ overlap_head plan s

@@ -7,8 +7,8 @@ use Rattle.tsb_command_text.specs.Commands.{command_of_two}
 use Rattle.tsb_command_text.specs.Readings.{reading}
 use Rattle.tsb_live_text.specs.Laws.{AsksAsThere, RunsAsThere}
 use Rattle.tsb_dialog.specs.Said.{with_feed}
-use Rattle.tsb_live_lines.specs.LiveReadings.{live_reading}
-use Rattle.tsb_live_lines.specs.declared.command.LiveReading.TheVariants as reads
+use Rattle.tsb_command_text.specs.LiveReadings.{live_reading}
+use Rattle.tsb_command_text.specs.declared.live_command.LiveReading.TheVariants as reads
 use Rattle.tsb_log_text.specs.Rows.{inputs_of}
 use Rattle.tsb_objects.specs.tsb_plan.Two.{two}
 use Rattle.tsb_step.specs.declared.inputs.Input.TheVariants.{Pattern, Tick}

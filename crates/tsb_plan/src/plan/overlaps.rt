@@ -8,7 +8,7 @@ use crate::plan::Plan;
 use tsb_types::{Overlap, PhaseSet};
 
 impl Plan {
-    ghost use Rattle.tsb_plan.specs.Parts.{is_included, is_modifier, is_minus_green_yellow};
+    ghost use Rattle.tsb_plan.specs.Parts.{is_included, is_modifier, is_minus_green_yellow, overlaps_across_rings};
     ghost use Rattle.tsb_plan.specs.PlanOf.{plan_of};
     ghost use Rattle.tsb_types.specs.Sets.{has};
 
@@ -36,5 +36,13 @@ impl Plan {
         ensures { result ≡ is_minus_green_yellow (plan_of self.now) overlap }
     {
         self.value(Object::OverlapType, u32::from(overlap.number())) == 1
+    }
+
+    /// Whether the overlap goes on through the clearance of a phase to one of the other ring (`overlapAcrossRings`,
+    /// profile).
+    pub fn overlaps_across_rings(&self, overlap: Overlap) -> bool
+        ensures { result ≡ overlaps_across_rings (plan_of self.now) overlap }
+    {
+        self.value(Object::OverlapAcrossRings, u32::from(overlap.number())) == 1
     }
 }

@@ -1,4 +1,4 @@
-use Rattle.tsb_program.specs.tsb_watched.Seen.{seen}
+use Rattle.tsb_program.specs.tsb_lines.Seen.{seen}
 use Rattle.tsb.proofs.ReadLemmas.{checks}
 use Rattle.tsb.proofs.run.check.Goals as goal
 

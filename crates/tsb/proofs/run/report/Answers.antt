@@ -1,6 +1,6 @@
 use Rattle.std.proofs.Common.{◌∙◌, Err, List, ℕ, ap, subst}
 use Rattle.tsb_program.specs.Lines.{plan_line}
-use Rattle.tsb_program.specs.tsb_watched.Seen.{seen}
+use Rattle.tsb_program.specs.tsb_lines.Seen.{seen}
 use Rattle.tsb.proofs.ReadLemmas.{refused-so}
 use Rattle.tsb.specs.Ends.{Judged}
 use Rattle.tsb.proofs.run.report.Goals as goal

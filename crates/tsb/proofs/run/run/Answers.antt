@@ -1,6 +1,6 @@
 use Rattle.std.proofs.Common.{inr, refl}
 use Rattle.tsb_text.specs.tsb_objects.Checked.{checked_plan}
-use Rattle.tsb_program.specs.tsb_watched.Seen.{seen}
+use Rattle.tsb_program.specs.tsb_lines.Seen.{seen}
 use Rattle.tsb.proofs.ReadLemmas.{stops-log}
 use Rattle.tsb.proofs.run.run.Goals as goal
 

@@ -1,7 +1,7 @@
 use Rattle.std.proofs.Common.{◌∙◌, ◌++◌, ◌∷◌, [], List, ℕ, ap, inl, subst}
 use Rattle.tsb_field_streams.specs.FaultLines.{filter_fault}
 use Rattle.tsb_field_streams.specs.declared.error.FilterError.{FilterError}
-use Rattle.tsb_program.specs.tsb_watched.Seen.{Tells, seen}
+use Rattle.tsb_program.specs.tsb_lines.Seen.{Tells, seen}
 use Rattle.tsb_field.proofs.EndLemmas.{told-fault}
 use Rattle.tsb_field.proofs.log_run.tell_fault.Goals as goal
 

@@ -1,5 +1,5 @@
 use Rattle.std.proofs.Common.{◌∙◌, List, ℕ, inl, subst}
-use Rattle.tsb_program.specs.tsb_watched.Seen.{Tells, seen}
+use Rattle.tsb_program.specs.tsb_lines.Seen.{Tells, seen}
 use Rattle.tsb_field.proofs.log_run.tell_report.Goals as goal
 
 pub returns-in-Ok : goal.returns-in-Ok

@@ -1,6 +1,6 @@
 use Rattle.std.proofs.Common.{Option, subst}
 use Rattle.tsb_program.specs.declared.failure.Failure.{Failure}
-use Rattle.tsb_program.specs.tsb_watched.Seen.{seen}
+use Rattle.tsb_program.specs.tsb_lines.Seen.{seen}
 use Rattle.tsb_words.specs.FieldWords.{seen_log}
 use Rattle.tsb_field.specs.LogEnds.{TellsLogEnd}
 use Rattle.tsb_field.proofs.EndLemmas.{ended-as, passed-on}

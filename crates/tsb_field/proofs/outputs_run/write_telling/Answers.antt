@@ -1,4 +1,4 @@
-use Rattle.tsb_program.specs.tsb_watched.Seen.{seen}
+use Rattle.tsb_program.specs.tsb_lines.Seen.{seen}
 use Rattle.tsb_words.specs.FieldWords.{seen_log}
 use Rattle.tsb_field.proofs.EndLemmas.{told-more}
 use Rattle.tsb_field.proofs.outputs_run.write_telling.Goals as goal

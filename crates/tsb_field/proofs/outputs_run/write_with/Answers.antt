@@ -1,6 +1,6 @@
 use Rattle.std.proofs.Common.{◌∙◌, List, ℕ, inl, inr, refl, subst}
 use Rattle.tsb_field_log.specs.Mapping.{wires_of}
-use Rattle.tsb_program.specs.tsb_watched.Seen.{seen}
+use Rattle.tsb_program.specs.tsb_lines.Seen.{seen}
 use Rattle.tsb_text.specs.tsb_plan.PlanOf.{plan_of}
 use Rattle.tsb_words.specs.FieldWords.{seen_log}
 use Rattle.tsb_field.specs.LogEnds.{LoggedTelling}

@@ -1,5 +1,5 @@
 use Rattle.std.proofs.Common.{List, inl, inr, refl, subst, ℕ}
-use Rattle.tsb_program.specs.tsb_watched.Seen.{seen}
+use Rattle.tsb_program.specs.tsb_lines.Seen.{seen}
 use Rattle.tsb_field.specs.ReviewEnds.{TextReviewed}
 use Rattle.tsb_field.proofs.review_run.review_plan.Goals as goal
 

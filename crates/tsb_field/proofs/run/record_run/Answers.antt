@@ -1,5 +1,5 @@
 use Rattle.std.proofs.Common.{Ok, Err, refl}
-use Rattle.tsb_program.specs.tsb_watched.Seen.{seen}
+use Rattle.tsb_program.specs.tsb_lines.Seen.{seen}
 use Rattle.tsb_field.proofs.EndLemmas.{log-same, writes-made}
 use Rattle.tsb_field.proofs.run.record_run.Goals as goal
 

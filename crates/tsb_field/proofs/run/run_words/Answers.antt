@@ -1,5 +1,5 @@
 use Rattle.std.proofs.Common.{◌∙◌, Ok, Some, ap, refl}
-use Rattle.tsb_program.specs.tsb_watched.Seen.{seen as seen_of}
+use Rattle.tsb_program.specs.tsb_lines.Seen.{seen as seen_of}
 use Rattle.tsb_words.specs.FieldWords.{seen}
 use Rattle.tsb_words.specs.declared.field_files.Asked.{Asked}
 use Rattle.tsb_words.specs.declared.field_files.Asked.TheVariants as asks

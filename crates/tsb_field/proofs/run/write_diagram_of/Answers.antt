@@ -1,5 +1,5 @@
 use Rattle.std.proofs.Common.{inr, refl}
-use Rattle.tsb_program.specs.tsb_watched.Seen.{seen}
+use Rattle.tsb_program.specs.tsb_lines.Seen.{seen}
 use Rattle.tsb_field.proofs.EndLemmas.{drawn-read, not-drawn}
 use Rattle.tsb_field.proofs.run.write_diagram_of.Goals as goal
 

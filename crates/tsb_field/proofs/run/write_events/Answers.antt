@@ -1,5 +1,5 @@
 use Rattle.std.proofs.Common.{inl, refl}
-use Rattle.tsb_program.specs.tsb_watched.Seen.{seen}
+use Rattle.tsb_program.specs.tsb_lines.Seen.{seen}
 use Rattle.tsb_field.proofs.EndLemmas.{stops, told-on}
 use Rattle.tsb_field.proofs.run.write_events.Goals as goal
 

@@ -1,7 +1,7 @@
 use Rattle.std.proofs.Common.{inl, inr, refl}
 use Rattle.tsb_field_display.specs.Remaining.{changes_in}
-use Rattle.tsb_field_events.specs.Merge.{session_events}
-use Rattle.tsb_program.specs.tsb_watched.Seen.{seen}
+use Rattle.tsb_field_display.specs.Merge.{session_events}
+use Rattle.tsb_program.specs.tsb_lines.Seen.{seen}
 use Rattle.tsb_field.proofs.EndLemmas.{log-same, not-drawn, told-read, writes-made}
 use Rattle.tsb_field.proofs.run.write_events_of.Goals as goal
 

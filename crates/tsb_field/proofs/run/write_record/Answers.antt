@@ -1,6 +1,6 @@
 use Rattle.std.proofs.Common.{inr, refl}
 use Rattle.tsb_text.specs.tsb_objects.Checked.{checked_plan}
-use Rattle.tsb_program.specs.tsb_watched.Seen.{seen}
+use Rattle.tsb_program.specs.tsb_lines.Seen.{seen}
 use Rattle.tsb_field.proofs.EndLemmas.{no-plan, recorded-on}
 use Rattle.tsb_field.proofs.run.write_record.Goals as goal
 

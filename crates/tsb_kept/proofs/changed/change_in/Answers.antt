@@ -1,6 +1,6 @@
 use Rattle.std.proofs.Common.{◌∙◌, arith, rules}
 use Rattle.tsb_log_text.specs.Places.{no_row}
-use Rattle.tsb_kept.specs.Changed.{value_of}
+use Rattle.tsb_log_text.specs.RowInputs.{value_of}
 use Rattle.tsb_kept.proofs.ChangeLemmas.{change-there, differs-as, no-change-there}
 use Rattle.tsb_kept.proofs.changed.change_in.Goals as goal
 

@@ -1,6 +1,7 @@
 use Rattle.std.proofs.Common.{◌≡◌, ◌≤◌, length, take}
 use Rattle.tsb_types.specs.Sets.{all_off}
-use Rattle.tsb_kept.specs.Changed.{change_in, value_of}
+use Rattle.tsb_kept.specs.Changed.{change_in}
+use Rattle.tsb_log_text.specs.RowInputs.{value_of}
 use Rattle.tsb_kept.proofs.changed.change_in.Given as goal
 
 abbrev pub invariant-loop-left : goal.invariant-loop-left

@@ -20,8 +20,8 @@ use Rattle.tsb_step.proofs.Examples.Scenes.{vehicle}
 use Rattle.tsb_text.specs.tsb_display_text.Line.{line_of}
 use Rattle.tsb_field_display.specs.Events as lines
 use Rattle.tsb_field_display.specs.ReadBack.{Lit, lit_after, read_back, says_at}
-use Rattle.tsb_field_events.specs.Inputs.{events_of_row}
-use Rattle.tsb_field_events.specs.Laws.{is_of_input}
+use Rattle.tsb_field_display.specs.Inputs.{events_of_row}
+use Rattle.tsb_field_display.specs.SessionLaws.{is_of_input}
 use Rattle.tsb_record.specs.Along.{last_row, told_along}
 use Rattle.tsb_laws.specs.Told.{is_of_line, log_of, says_vehicle, shown_in, signals}
 use Rattle.tsb_laws.proofs.safety.Examples.CrossingRuns.{known, quick, walked}

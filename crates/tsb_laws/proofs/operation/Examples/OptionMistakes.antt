@@ -9,6 +9,9 @@ use Rattle.tsb_step.specs.tsb_plan.Running.{running, is_coordinated_now, split_g
 use Rattle.tsb_step.specs.tsb_plan.Two.{two}
 use Rattle.tsb_step.specs.tsb_rules.PatternRules.{each_pattern, ends_with, permissive_times_end}
 use Rattle.tsb_step.specs.tsb_objects.Instants.{is_behind, walk_and_clearance, is_left}
+use Rattle.tsb_step.specs.tsb_heads.Heads.{Shown}
+use Rattle.tsb_step.specs.tsb_heads.Overlaps.{is_followed_in_ring, is_followed_across, is_followed}
+use Rattle.tsb_step.specs.Signs.{shown}
 use Rattle.tsb_step.specs.tsb_coord.declared.correction.Correction.{Correction}
 use Rattle.tsb_step.specs.tsb_coord.Coordinated.{counter, local, residue_of_difference, end_of, force_off, agree, yields_to, instant_of, is_late, asks_force_off, asks_recycle}
 use Rattle.tsb_step.specs.tsb_coord.Correction.{in_step, by_short_way, is_in_step, begun, selected_correction}
@@ -16,6 +19,7 @@ use Rattle.tsb_step.specs.tsb_phase.Phase.{Given, GreenHeld}
 use Rattle.tsb_step.specs.tsb_phase.Green.{conflict_timer, has_maxed_out, forced_latch}
 use Rattle.tsb_step.proofs.Examples.Scenes.{opened}
 use Rattle.tsb_laws.specs.Options.{HasNoOptions}
+use Rattle.tsb_laws.proofs.operation.Examples.OverlapRuns.{over}
 
 two_has_none : HasNoOptions two
 unfolding two
@@ -26,6 +30,7 @@ two_has_none = record {
   pattern_lead_lag = λ n. refl;
   phase_pedestrian_recycle = λ p. refl;
   coord_correction_mode = refl;
+  overlap_across_rings = λ o. refl;
 }
 
 quad_has_none : HasNoOptions quad
@@ -37,6 +42,7 @@ quad_has_none = record {
   pattern_lead_lag = λ n. refl;
   phase_pedestrian_recycle = λ p. refl;
   coord_correction_mode = refl;
+  overlap_across_rings = λ o. refl;
 }
 
 -- ## Force-off that is late whatever the mode is
@@ -209,3 +215,17 @@ ends_in_time = refl
 would_refuse : asks_for_time quad ≡ false
 unfolding opened
 would_refuse = refl
+
+-- ## An overlap that goes on across rings whatever the option is
+
+abbrev across_always : Plan → Shown → ℕ → ℕ → Bool
+across_always plan s o p = is_followed_in_ring plan s o p || is_followed_across plan s o p
+
+-- 1 clears, and the rings are committed to 4 and 8
+is_not_followed : is_followed (over 0).plan (shown (over 0)) 1 1 ≡ false
+unfolding opened
+is_not_followed = refl
+
+would_follow : across_always (over 0).plan (shown (over 0)) 1 1 ≡ true
+unfolding opened
+would_follow = refl

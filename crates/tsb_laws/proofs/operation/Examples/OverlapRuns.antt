@@ -1,22 +1,26 @@
--- A run from power-up in which an overlap is green, and a mistake that the law of overlaps refuses.
-use Rattle.std.proofs.Common.{◌≡◌, ℕ, Bool, true, List, [], ◌∷◌, Some, None, refl}
+-- A run from power-up in which an overlap is green, a state in which one goes on over the barrier, and mistakes that
+-- the laws of overlaps refuse.
+use Rattle.std.proofs.Common.{◌≡◌, ℕ, Bool, true, false, List, [], ◌∷◌, Some, None, refl}
 use Rattle.tsb_step.specs.tsb_types.Sets.{all_off}
 use Rattle.tsb_step.specs.tsb_types.declared.lamp.Aspect.TheVariants as aspects
 use Rattle.tsb_step.specs.tsb_types.Intervals.{in_service}
+use Rattle.tsb_step.specs.tsb_plan.declared.object.Object.TheVariants.{OverlapIncludedPhases, OverlapAcrossRings}
 use Rattle.tsb_step.specs.tsb_plan.Parts.{is_included}
-use Rattle.tsb_step.specs.tsb_plan.Plan.{Plan}
+use Rattle.tsb_step.specs.tsb_plan.Plan.{Plan, with_values}
 use Rattle.tsb_step.specs.tsb_plan.Quad.{quad}
 use Rattle.tsb_step.specs.tsb_rules.PatternRules.{some_and}
+use Rattle.tsb_step.specs.tsb_heads.Overlaps.{is_followed_in_ring}
 use Rattle.tsb_step.specs.tsb_heads.Monitoring.{gives_way}
 use Rattle.tsb_step.specs.tsb_ring.Rings.{Ring1}
 use Rattle.tsb_step.proofs.tsb_ring.Examples.Scenes.{both}
 use Rattle.tsb_step.specs.declared.inputs.Input.{Input}
 use Rattle.tsb_step.specs.declared.inputs.Input.TheVariants.{Tick}
 use Rattle.tsb_step.specs.State.{State, interval}
-use Rattle.tsb_step.specs.Signs.{display}
+use Rattle.tsb_step.specs.Signs.{shown, display}
 use Rattle.tsb_step.specs.Runs.{replay, AreTaken}
 use Rattle.tsb_step.specs.Laws.{IsConsistent}
 use Rattle.tsb_step.proofs.Examples.Scenes.{opened, clearing, these, all_red, red}
+use Rattle.tsb_laws.specs.OverlapPhases.{GoesOver}
 use Rattle.tsb_laws.proofs.safety.Examples.PlanFits.{quad_consistent}
 
 -- ## Overlap 1 includes 1 and 2, and 2 is Green from tick 1 on
@@ -59,3 +63,43 @@ green_by_commitment s o = some_and (is_included s.plan o) (s.rings.commitment Ri
 would_show_green : green_by_commitment leaving 1 ≡ true
 unfolding opened
 would_show_green = refl
+
+-- ## Overlap 1 includes 1 and 8, and phase 1 clears while both rings cross to 4 and 8
+
+-- with this value of overlapAcrossRings
+abbrev pub over : ℕ → State
+over option = record red {
+  plan = with_values quad ((OverlapIncludedPhases, 1, 129) ∷ (OverlapAcrossRings, 1, option) ∷ []);
+  phases = these (1 ∷ []) (clearing 5) all_red;
+  rings = record { last = both (Some 1) (Some 6); commitment = both (Some 4) (Some 8); side = 1; crossing = Some 2 };
+}
+
+goes_over : GoesOver (over 1) 1
+unfolding quad
+goes_over = record {
+  option = refl;
+  ring = Ring1;
+  from = 1;
+  own = refl;
+  included = refl;
+  clears = refl;
+  beside = 4;
+  commits = refl;
+  to = 8;
+  crosses = refl;
+  comes = refl;
+  apart = refl;
+}
+
+shows_green : (display (over 1)).overlap 1 ≡ aspects.Green
+unfolding opened
+shows_green = refl
+
+-- ## An overlap that goes by the commitment of the phase's own ring, though it has the option
+
+abbrev by_own_ring : State → ℕ → ℕ → Bool
+by_own_ring s o p = is_followed_in_ring s.plan (shown s) o p
+
+would_leave_green : by_own_ring (over 1) 1 1 ≡ false
+unfolding opened
+would_leave_green = refl

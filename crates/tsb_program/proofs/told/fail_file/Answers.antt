@@ -1,5 +1,5 @@
 use Rattle.std.proofs.Common.{◌∙◌, ◌++◌, List, ℕ, codes, subst}
-use Rattle.tsb_watched.specs.Seen.{Tells, seen}
+use Rattle.tsb_lines.specs.Seen.{Tells, seen}
 use Rattle.tsb_program.proofs.told.fail_file.Goals as goal
 
 pub returns-in-Read : goal.returns-in-Read

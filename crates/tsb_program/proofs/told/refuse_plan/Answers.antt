@@ -1,5 +1,5 @@
 use Rattle.std.proofs.Common.{◌∙◌, ◌++◌, List, ℕ, ap, inl, subst}
-use Rattle.tsb_watched.specs.Seen.{Tells, seen}
+use Rattle.tsb_lines.specs.Seen.{Tells, seen}
 use Rattle.tsb_program.specs.Lines.{plan_line}
 use Rattle.tsb_program.proofs.TellLemmas.{refused-so}
 use Rattle.tsb_program.proofs.told.refuse_plan.Goals as goal

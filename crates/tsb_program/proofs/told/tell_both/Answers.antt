@@ -1,5 +1,5 @@
 use Rattle.std.proofs.Common.{◌++◌}
-use Rattle.tsb_watched.specs.Seen.{seen}
+use Rattle.tsb_lines.specs.Seen.{seen}
 use Rattle.tsb_program.proofs.TellLemmas.{line-told}
 use Rattle.tsb_program.proofs.told.tell_both.Goals as goal
 

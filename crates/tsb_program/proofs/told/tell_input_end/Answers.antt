@@ -1,4 +1,4 @@
-use Rattle.tsb_watched.specs.Seen.{seen}
+use Rattle.tsb_lines.specs.Seen.{seen}
 use Rattle.tsb_program.proofs.TellLemmas.{input-told}
 use Rattle.tsb_program.proofs.told.tell_input_end.Goals as goal
 

@@ -1,4 +1,4 @@
-use Rattle.tsb_watched.specs.Seen.{seen}
+use Rattle.tsb_lines.specs.Seen.{seen}
 use Rattle.tsb_program.proofs.TellLemmas.{both-whole, front-before, front-behind}
 use Rattle.tsb_program.proofs.told.write_both.Goals as goal
 

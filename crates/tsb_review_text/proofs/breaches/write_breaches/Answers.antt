@@ -1,5 +1,5 @@
 use Rattle.tsb_plan.specs.PlanOf.{plan_of}
-use Rattle.tsb_watched.specs.Seen.{seen}
+use Rattle.tsb_lines.specs.Seen.{seen}
 use Rattle.tsb_breaches.specs.Breaches.{faults}
 use Rattle.tsb_review_text.specs.BreachesWritten.{breach_text_of}
 use Rattle.tsb_review_text.proofs.BreachLemmas.{by-faults}

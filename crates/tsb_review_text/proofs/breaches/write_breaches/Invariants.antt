@@ -1,6 +1,6 @@
 use Rattle.std.proofs.Common.{drop, flat_map}
 use Rattle.tsb_plan.specs.PlanOf.{plan_of}
-use Rattle.tsb_watched.specs.Seen.{seen}
+use Rattle.tsb_lines.specs.Seen.{seen}
 use Rattle.tsb_review_text.specs.Lines.{breaches_text}
 use Rattle.tsb_review_text.specs.BreachesWritten.{breach_text_of}
 use Rattle.tsb_review_text.proofs.WriteLemmas.{Went}

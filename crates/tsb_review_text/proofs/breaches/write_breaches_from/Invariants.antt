@@ -1,7 +1,7 @@
 use Rattle.std.proofs.Common.{◌+◌, ◌-◌, flat_map}
 use Rattle.tsb_types.specs.Lists.{run_from}
 use Rattle.tsb_plan.specs.PlanOf.{plan_of}
-use Rattle.tsb_watched.specs.Seen.{seen}
+use Rattle.tsb_lines.specs.Seen.{seen}
 use Rattle.tsb_review_text.specs.BreachesWritten.{breach_text_beside, breach_text_from}
 use Rattle.tsb_review_text.proofs.WriteLemmas.{Went}
 use Rattle.tsb_review_text.proofs.breaches.write_breaches_from.Given as goal

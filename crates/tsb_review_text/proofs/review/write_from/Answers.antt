@@ -3,7 +3,7 @@ use Rattle.tsb_types.specs.Lists.{run_from}
 use Rattle.tsb_plan.specs.PlanOf.{plan_of}
 use Rattle.tsb_review.specs.Advices.{shape}
 use Rattle.tsb_review.specs.Places.{seconds}
-use Rattle.tsb_watched.specs.Seen.{seen}
+use Rattle.tsb_lines.specs.Seen.{seen}
 use Rattle.tsb_review_text.specs.Written.{text_at, text_from}
 use Rattle.tsb_review_text.proofs.WriteLemmas.{end-run, fail-run, next-run, start-run}
 use Rattle.tsb_review_text.proofs.review.write_from.Goals as goal

@@ -1,6 +1,6 @@
 use Rattle.tsb_plan.specs.PlanOf.{plan_of}
 use Rattle.tsb_review.specs.Advices.{advices}
-use Rattle.tsb_watched.specs.Seen.{seen}
+use Rattle.tsb_lines.specs.Seen.{seen}
 use Rattle.tsb_review_text.specs.Written.{text_of}
 use Rattle.tsb_review_text.proofs.WriteLemmas.{by-advices, end-list, fail-list, next-list, start-list}
 use Rattle.tsb_review_text.proofs.review.write_review.Goals as goal

@@ -1,6 +1,6 @@
 use Rattle.std.proofs.Common.{◌≡◌, ◌∙◌, List, ℕ, length, nat_le, false, sym, ap}
 use Rattle.tsb_event_text.specs.declared.rows.EventRow.{EventRow}
-use Rattle.tsb_held_rows.specs.Holding.{most_rows}
+use Rattle.tsb_field_streams.specs.Holding.{most_rows}
 use Rattle.tsb_field_streams.specs.Filtering.{bound_of, most_held, with_held}
 use Rattle.tsb_field_streams.proofs.FilterLemmas.{late-takes}
 use Rattle.tsb_field_streams.proofs.filter.Filter.take_late.Goals as goal

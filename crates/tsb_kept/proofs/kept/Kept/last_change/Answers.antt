@@ -1,6 +1,7 @@
 use Rattle.std.proofs.Common.{◌∙◌, ap}
 use Rattle.tsb_types.specs.Sets.{all_off}
-use Rattle.tsb_kept.specs.Changed.{change_in, value_of}
+use Rattle.tsb_kept.specs.Changed.{change_in}
+use Rattle.tsb_log_text.specs.RowInputs.{value_of}
 use Rattle.tsb_kept.specs.Kept.{Keeping}
 use Rattle.tsb_kept.proofs.ChangeLemmas.{kept-change}
 use Rattle.tsb_kept.proofs.kept.Kept.last_change.Goals as goal

@@ -1,8 +1,9 @@
 use Rattle.std.proofs.Common.{◌≡◌, ◌∙◌, ap, refl, rules, subst, codes, None}
 use Rattle.tsb_bench.specs.Held.{state_of}
-use Rattle.tsb_kept.specs.Changed.{last_change, value_of}
+use Rattle.tsb_kept.specs.Changed.{last_change}
+use Rattle.tsb_log_text.specs.RowInputs.{value_of}
 use Rattle.tsb_kept.specs.Kept.{kept_of}
-use Rattle.tsb_plan_line.specs.EditsLine.{edits_text}
+use Rattle.tsb_status_text.specs.EditsLine.{edits_text}
 use Rattle.tsb_saved.specs.Saved.{saved_text}
 use Rattle.tsb_step.specs.State.{State}
 use Rattle.tsb_step.specs.Status.{status}
@@ -10,7 +11,7 @@ use Rattle.tsb_status.specs.Alike.{Alike}
 use Rattle.tsb_status.specs.Plain.{status_of}
 use Rattle.tsb_status_text.specs.StatusText.{status_text}
 use Rattle.tsb_text.specs.Answers.{when_line}
-use Rattle.tsb_live_lines.specs.declared.command.LiveCommand.TheVariants as asks
+use Rattle.tsb_command_text.specs.declared.live_command.LiveCommand.TheVariants as asks
 use Rattle.tsb_live_text.specs.Live.{present, with_echo, with_events}
 use Rattle.tsb_live_text.proofs.LiveLemmas.{does-as, does-plan, does-tell, echo-stands, events-stands, present-kept, present-state, same-echo}
 use Rattle.tsb_live_text.proofs.run.LiveRun.ask.Goals as goal

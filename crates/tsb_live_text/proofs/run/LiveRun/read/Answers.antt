@@ -1,7 +1,7 @@
 use Rattle.std.proofs.Common.{◌∙◌, None, Ok, Some, refl}
 use Rattle.tsb_text.specs.Faults.{fault_words}
 use Rattle.tsb_text.specs.declared.faults.LineFault.TheVariants.{BadCommand}
-use Rattle.tsb_live_lines.specs.declared.command.LiveReading.TheVariants as reads
+use Rattle.tsb_command_text.specs.declared.live_command.LiveReading.TheVariants as reads
 use Rattle.tsb_live_text.specs.Live.{with_row}
 use Rattle.tsb_live_text.proofs.LiveLemmas.{does-read, does-skip, does-tell, row-stands, same-echo}
 use Rattle.tsb_live_text.proofs.run.LiveRun.read.Goals as goal

@@ -1,0 +1,163 @@
+-- A line asks one thing: rows, commands of `tsb run` and commands that are asked live alone are apart.
+use Rattle.std.proofs.Common.{◌≡◌, ℕ, ◌==◌, Bool, true, false, List, [], ◌∷◌, refl, sym, subst, inl, inr, ◌⊎◌, Option, Some, None, codes}
+use Rattle.std.specs.Prelude.{bytes_eq}
+use Rattle.std.specs.Option.{option_map}
+use Rattle.std.proofs.lemmas.Slice.Eq.{bytes_eq-Decides}
+use Rattle.tsb_lines.specs.Words.{words_of, onto_word, number_of}
+use Rattle.tsb_command_text.specs.Commands.{command_in, command_of_one, command_of_two, command_of_three, command_of_five, on_or_off, watch_of_two}
+use Rattle.tsb_command_text.specs.declared.command.Command.{Command}
+use Rattle.tsb_command_text.specs.declared.command.Command.TheVariants as session
+use Rattle.tsb_log_text.specs.declared.row_input.RowInput.{RowInput}
+use Rattle.tsb_log_text.specs.declared.row_input.RowInput.TheVariants.{Vehicle, Pedestrian, Preempt}
+use Rattle.tsb_log_text.specs.tsb_types.declared.row.Row.{Row}
+use Rattle.tsb_log_text.specs.Rows.{inputs_of}
+use Rattle.tsb_command_text.specs.LiveCommands.{input_of_two, number_to, own_in, own_of_one, own_of_three, own_of_two}
+use Rattle.tsb_command_text.specs.declared.live_command.LiveCommand.{LiveCommand}
+use Rattle.tsb_command_text.specs.declared.live_command.LiveCommand.TheVariants.{Session, Changes, Events, Echo, When}
+use Rattle.tsb_command_text.proofs.RowLemmas.{IsNone, first-digit}
+
+-- it is asked live alone
+abbrev pub IsOwn : LiveCommand → Type 0
+IsOwn (Session c) = ⊥
+IsOwn c = Unit {0}
+
+-- at most one of the three is there, and the second is asked live alone
+abbrev pub AreApart : Option Row → Option LiveCommand → Option Command → Type 0
+AreApart (Some r) (Some x) c = ⊥
+AreApart (Some r) None (Some c) = ⊥
+AreApart (Some r) None None = Unit {0}
+AreApart None (Some x) (Some c) = ⊥
+AreApart None (Some x) None = IsOwn x
+AreApart None None c = Unit {0}
+
+-- ## Words of commands that are asked live alone
+
+mapped : {A : Type 0} → (f : A → LiveCommand) → ((a : A) → IsOwn (f a)) → (o : Option A) → AreApart None (option_map f o) None
+mapped f own None = tt
+mapped f own (Some a) = own a
+
+of-input : (f : ℕ → RowInput) (o : Option ℕ) → AreApart None (option_map When (option_map f o)) None
+of-input f None = tt
+of-input f (Some n) = tt
+
+-- a word is one of these, or another
+named : (w name : List ℕ) → (w ≡ name) ⊎ (bytes_eq w name ≡ false)
+named w name = at (bytes_eq w name) refl
+  where
+    at : (b : Bool) → bytes_eq w name ≡ b → (w ≡ name) ⊎ (bytes_eq w name ≡ false)
+    at true e = inl ((bytes_eq-Decides w name).0 e)
+    at false e = inr e
+
+one-apart : (w : List ℕ) → AreApart None (own_of_one w) (command_of_one w)
+unfolding own_of_one command_of_one
+one-apart w = elim (named w (codes "status")) [
+  | inl is ↦ subst (λ (v : List ℕ). AreApart None (own_of_one v) (command_of_one v)) (sym is) tt
+  | inr no-status ↦ elim (named w (codes "plan")) [
+    | inl is ↦ subst (λ (v : List ℕ). AreApart None (own_of_one v) (command_of_one v)) (sym is) tt
+    | inr no-plan ↦ elim (named w (codes "edits")) [
+      | inl is ↦ subst (λ (v : List ℕ). AreApart None (own_of_one v) (command_of_one v)) (sym is) tt
+      | inr no-edits ↦ elim (named w (codes "save")) [
+        | inl is ↦ subst (λ (v : List ℕ). AreApart None (own_of_one v) (command_of_one v)) (sym is) tt
+        | inr no-save ↦ rw (no-status, no-plan, no-edits, no-save) tt
+      ]
+    ]
+  ]
+]
+
+two-apart : (w x : List ℕ) → AreApart None (own_of_two w x) (command_of_two w x)
+unfolding own_of_two command_of_two
+two-apart w x = elim (named w (codes "changes")) [
+  | inl is ↦ subst (λ (v : List ℕ). AreApart None (own_of_two v x) (command_of_two v x)) (sym is) (mapped Changes (λ n. tt) (number_of x))
+  | inr no-changes ↦ elim (named w (codes "events")) [
+    | inl is ↦ subst (λ (v : List ℕ). AreApart None (own_of_two v x) (command_of_two v x)) (sym is) (mapped Events (λ b. tt) (on_or_off x))
+    | inr no-events ↦ elim (named w (codes "echo")) [
+      | inl is ↦ subst (λ (v : List ℕ). AreApart None (own_of_two v x) (command_of_two v x)) (sym is) (mapped Echo (λ b. tt) (on_or_off x))
+      | inr no-echo ↦ rw (no-changes, no-events, no-echo) tt
+    ]
+  ]
+]
+
+-- ticks at which an input of rows changed, and a value of the controller
+watches-apart : (x y : List ℕ) → AreApart None (option_map When (input_of_two x y)) (option_map session.When (watch_of_two x y))
+watches-apart x y = elim (named x (codes "input")) [
+  | inl is ↦ subst (λ (v : List ℕ). AreApart None (option_map When (input_of_two v y)) (option_map session.When (watch_of_two v y))) (sym is)
+      (of-input Vehicle (number_to 16 y))
+  | inr no-input ↦ elim (named x (codes "button")) [
+    | inl is ↦ subst (λ (v : List ℕ). AreApart None (option_map When (input_of_two v y)) (option_map session.When (watch_of_two v y))) (sym is)
+        (of-input Pedestrian (number_to 8 y))
+    | inr no-button ↦ elim (named x (codes "preempt")) [
+      | inl is ↦ subst (λ (v : List ℕ). AreApart None (option_map When (input_of_two v y)) (option_map session.When (watch_of_two v y))) (sym is)
+          (of-input Preempt (number_to 4 y))
+      | inr no-preempt ↦ rw (no-input, no-button, no-preempt) tt
+    ]
+  ]
+]
+
+three-apart : (w x y : List ℕ) → AreApart None (own_of_three w x y) (command_of_three w x y)
+unfolding own_of_three command_of_three
+three-apart w x y = elim (named w (codes "when")) [
+  | inl is ↦ subst (λ (v : List ℕ). AreApart None (own_of_three v x y) (command_of_three v x y)) (sym is) (watches-apart x y)
+  | inr no-when ↦ rw no-when tt
+]
+
+words-apart : (ws : List (List ℕ)) → AreApart None (own_in ws) (command_in ws)
+words-apart [] = tt
+words-apart (w ∷ []) = one-apart w
+words-apart (w ∷ x ∷ []) = two-apart w x
+words-apart (w ∷ x ∷ y ∷ []) = three-apart w x y
+words-apart (w ∷ x ∷ y ∷ z ∷ ws) = tt
+
+-- ## Rows
+
+-- words of which the first begins with a digit
+row-48 : (r : Row) (w : List ℕ) (ws : List (List ℕ)) → AreApart (Some r) (own_in ((48 ∷ w) ∷ ws)) (command_in ((48 ∷ w) ∷ ws))
+unfolding own_of_one own_of_two own_of_three command_of_one command_of_two command_of_three command_of_five
+row-48 r w [] = tt
+row-48 r w (x ∷ []) = tt
+row-48 r w (x ∷ y ∷ []) = tt
+row-48 r w (x ∷ y ∷ z ∷ []) = tt
+row-48 r w (x ∷ y ∷ z ∷ v ∷ []) = tt
+row-48 r w (x ∷ y ∷ z ∷ v ∷ u ∷ ws) = tt
+
+row-49 : (r : Row) (w : List ℕ) (ws : List (List ℕ)) → AreApart (Some r) (own_in ((49 ∷ w) ∷ ws)) (command_in ((49 ∷ w) ∷ ws))
+unfolding own_of_one own_of_two own_of_three command_of_one command_of_two command_of_three command_of_five
+row-49 r w [] = tt
+row-49 r w (x ∷ []) = tt
+row-49 r w (x ∷ y ∷ []) = tt
+row-49 r w (x ∷ y ∷ z ∷ []) = tt
+row-49 r w (x ∷ y ∷ z ∷ v ∷ []) = tt
+row-49 r w (x ∷ y ∷ z ∷ v ∷ u ∷ ws) = tt
+
+-- the first word begins as the line does
+onto-first : (d : ℕ) (bs : List ℕ) (ws : List (List ℕ)) → (w : List ℕ) × (rest : List (List ℕ)) × (onto_word d bs ws ≡ (d ∷ w) ∷ rest)
+onto-first d [] ws = ([], ws, refl)
+onto-first d (b ∷ bs) [] = ([], [], refl)
+onto-first d (b ∷ bs) (w ∷ ws) = at (b == 32) refl
+  where
+    at : (t : Bool) → (b == 32) ≡ t → (v : List ℕ) × (rest : List (List ℕ)) × (onto_word d (b ∷ bs) (w ∷ ws) ≡ (d ∷ v) ∷ rest)
+    at true e = ([], w ∷ ws, rw e refl)
+    at false e = (w, ws, rw e refl)
+
+begun-apart : (r : Row) (d : ℕ) (bs : List ℕ) → (d ≡ 48) ⊎ (d ≡ 49) → AreApart (Some r) (own_in (words_of (d ∷ bs))) (command_in (words_of (d ∷ bs)))
+begun-apart r d bs (inl is) =
+    let first : (w : List ℕ) × (rest : List (List ℕ)) × (onto_word 48 bs (words_of bs) ≡ (48 ∷ w) ∷ rest) = onto-first 48 bs (words_of bs) in
+    subst (λ (e : ℕ). AreApart (Some r) (own_in (words_of (e ∷ bs))) (command_in (words_of (e ∷ bs)))) (sym is)
+    (subst (λ (ws : List (List ℕ)). AreApart (Some r) (own_in ws) (command_in ws)) (sym first.2) (row-48 r first.0 first.1))
+begun-apart r d bs (inr is) =
+    let first : (w : List ℕ) × (rest : List (List ℕ)) × (onto_word 49 bs (words_of bs) ≡ (49 ∷ w) ∷ rest) = onto-first 49 bs (words_of bs) in
+    subst (λ (e : ℕ). AreApart (Some r) (own_in (words_of (e ∷ bs))) (command_in (words_of (e ∷ bs)))) (sym is)
+    (subst (λ (ws : List (List ℕ)). AreApart (Some r) (own_in ws) (command_in ws)) (sym first.2) (row-49 r first.0 first.1))
+
+row-apart : (line : List ℕ) (r : Row) → inputs_of line ≡ Some r → AreApart (Some r) (own_in (words_of line)) (command_in (words_of line))
+unfolding inputs_of
+row-apart [] r e = absurd (subst (λ (o : Option Row). IsNone o) e tt)
+row-apart (d ∷ bs) r e = begun-apart r d bs (first-digit d bs r e)
+
+-- ## Lines
+
+pub apart : (line : List ℕ) → AreApart (inputs_of line) (own_in (words_of line)) (command_in (words_of line))
+apart line = at (inputs_of line) refl
+  where
+    at : (o : Option Row) → inputs_of line ≡ o → AreApart o (own_in (words_of line)) (command_in (words_of line))
+    at None e = words-apart (words_of line)
+    at (Some r) e = row-apart line r e

@@ -1,0 +1,51 @@
+-- The commands of a live session, by the words of a line.
+use Rattle.std.specs.Prelude.{ℕ, List, [], ◌∷◌, if◌then◌else◌, Option, Some, None, codes, bytes_eq}
+use Rattle.std.specs.Option.{option_map, option_or}
+use Rattle.tsb_lines.specs.Words.{number_of}
+use Rattle.tsb_command_text.specs.Commands.{command_in, on_or_off}
+use Rattle.tsb_command_text.specs.Lamps.{from_one_to}
+use Rattle.tsb_log_text.specs.declared.row_input.RowInput.{RowInput}
+use Rattle.tsb_log_text.specs.declared.row_input.RowInput.TheVariants.{Vehicle, Pedestrian, Preempt}
+use Rattle.tsb_command_text.specs.declared.live_command.LiveCommand.{LiveCommand}
+use Rattle.tsb_command_text.specs.declared.live_command.LiveCommand.TheVariants.{Session, Status, Changes, Plan, Edits, Events, Echo, Save, When}
+
+-- of the commands that are asked live alone that of one word
+unfoldable pub own_of_one : List ℕ → Option LiveCommand
+own_of_one w =
+    if bytes_eq w (codes "status") then Some Status else
+    if bytes_eq w (codes "plan") then Some Plan else
+    if bytes_eq w (codes "edits") then Some Edits else
+    if bytes_eq w (codes "save") then Some Save else None
+
+-- of two
+unfoldable pub own_of_two : List ℕ → List ℕ → Option LiveCommand
+own_of_two w x =
+    if bytes_eq w (codes "changes") then option_map Changes (number_of x) else
+    if bytes_eq w (codes "events") then option_map Events (on_or_off x) else
+    if bytes_eq w (codes "echo") then option_map Echo (on_or_off x) else None
+
+-- the number that a word is, where it is 1 to most: leading zeros are allowed
+abbrev pub number_to : ℕ → List ℕ → Option ℕ
+number_to most w = from_one_to most (number_of w)
+
+-- the input of rows that these words name: of a vehicle detector, of a pedestrian detector, of a preempt
+abbrev pub input_of_two : List ℕ → List ℕ → Option RowInput
+input_of_two w n =
+    if bytes_eq w (codes "input") then option_map Vehicle (number_to 16 n) else
+    if bytes_eq w (codes "button") then option_map Pedestrian (number_to 8 n) else
+    if bytes_eq w (codes "preempt") then option_map Preempt (number_to 4 n) else None
+
+-- of three
+unfoldable pub own_of_three : List ℕ → List ℕ → List ℕ → Option LiveCommand
+own_of_three w x y = if bytes_eq w (codes "when") then option_map When (input_of_two x y) else None
+
+-- of these words
+abbrev pub own_in : List (List ℕ) → Option LiveCommand
+own_in (w ∷ []) = own_of_one w
+own_in (w ∷ x ∷ []) = own_of_two w x
+own_in (w ∷ x ∷ y ∷ []) = own_of_three w x y
+own_in ws = None
+
+-- the command that these words are: one that is asked live alone, or one of `tsb run`
+abbrev pub live_command_in : List (List ℕ) → Option LiveCommand
+live_command_in ws = option_or (own_in ws) (option_map Session (command_in ws))

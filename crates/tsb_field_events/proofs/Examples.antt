@@ -1,2 +1,0 @@
--- Computed mistakes that the definitions refuse.
-pub mod Mistakes

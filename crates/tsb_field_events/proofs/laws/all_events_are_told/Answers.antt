@@ -1,5 +1,0 @@
-use Rattle.tsb_field_events.proofs.SessionLemmas.{all-told}
-use Rattle.tsb_field_events.proofs.laws.all_events_are_told.Goals as goal
-
-pub returns : goal.returns
-returns c = all-told

@@ -1,5 +1,0 @@
-use Rattle.tsb_field_events.proofs.SessionLemmas.{stand-in-order}
-use Rattle.tsb_field_events.proofs.laws.events_stand_in_order.Goals as goal
-
-pub returns : goal.returns
-returns c = stand-in-order

@@ -1,5 +1,0 @@
-use Rattle.tsb_field_events.proofs.ReadLemmas.{header-read}
-use Rattle.tsb_field_events.proofs.laws.the_header_is_read.Goals as goal
-
-pub returns : goal.returns
-returns c = header-read

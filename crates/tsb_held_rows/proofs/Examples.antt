@@ -1,2 +1,0 @@
--- Mistakes that the definitions refuse.
-pub mod OrderMistakes

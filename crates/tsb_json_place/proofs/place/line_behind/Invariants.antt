@@ -1,9 +1,0 @@
-use Rattle.std.proofs.Common.{◌≡◌, ◌≤◌, ◌+◌, take}
-use Rattle.tsb_json_place.specs.Places.{line_behind}
-use Rattle.tsb_json_place.proofs.place.line_behind.Given as goal
-
-abbrev pub invariant-loop-byte : goal.invariant-loop-byte
-invariant-loop-byte l = record {
-  line : l.line ≡ line_behind (take l.byte-index l.bytes);
-  bound : l.line ≤ l.byte-index + 1;
-}

@@ -1,5 +1,0 @@
-pub mod RowLemmas
-pub mod CommandLemmas
-pub mod ReadingLemmas
-pub mod LawLemmas
-pub mod Examples

@@ -1,8 +1,0 @@
-use Rattle.tsb_live_lines.proofs.LawLemmas.{same-commands, same-skips}
-use Rattle.tsb_live_lines.proofs.laws.commands_of_sessions_are_kept.Goals as goal
-
-pub returns-clause-commands : goal.returns-clause-commands
-returns-clause-commands c = same-commands
-
-pub returns-clause-skipped : goal.returns-clause-skipped
-returns-clause-skipped c = same-skips

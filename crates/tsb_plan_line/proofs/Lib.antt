@@ -1,9 +1,0 @@
-pub mod TokenLemmas
-pub mod ListLemmas
-pub mod TextLemmas
-pub mod DeskLemmas
-pub mod JsonLemmas
-pub mod FoundLemmas
-pub mod AcceptLemmas
-pub mod ReadLemmas
-pub mod Examples

@@ -1,9 +1,0 @@
-use Rattle.std.proofs.Common.{◌≡◌, ◌++◌, drop, true}
-use Rattle.tsb_lines.specs.ShortLines.{fitting}
-use Rattle.tsb_plan_line.specs.declared.line.TheConstants.{LONGEST}
-use Rattle.tsb_plan_line.specs.Bytes.{list_bytes}
-use Rattle.tsb_plan_line.proofs.edits.push_edits.Given as goal
-
--- the edits so far, and those that are left, are all
-abbrev pub invariant-loop-edit : goal.invariant-loop-edit
-invariant-loop-edit l = fitting LONGEST (l.line ++ list_bytes l.first (drop l.edit-index l.edits)) ≡ fitting LONGEST (l.fn.line ++ list_bytes true l.edits)

@@ -1,5 +1,0 @@
-use Rattle.tsb_plan_line.proofs.ReadLemmas.{read_back, told_apart}
-use Rattle.tsb_plan_line.proofs.laws.lines_are_read_back.Goals as goal
-
-pub returns : goal.returns
-returns c = record { reads = read_back c.versions_say_the_same.ensures.apart; apart = told_apart c.versions_say_the_same.ensures.apart }

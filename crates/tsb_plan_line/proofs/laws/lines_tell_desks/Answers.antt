@@ -1,5 +1,0 @@
-use Rattle.tsb_plan_line.proofs.DeskLemmas.{desks_apart, their_json}
-use Rattle.tsb_plan_line.proofs.laws.lines_tell_desks.Goals as goal
-
-pub returns : goal.returns
-returns c = record { json = their_json; apart = desks_apart }

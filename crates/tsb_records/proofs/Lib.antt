@@ -1,3 +1,0 @@
-pub mod PartLemmas
-mod PlanChangeLemmas
-mod WordLemmas

@@ -1,2 +1,0 @@
--- what is seen of a reader or a writer
-pub mod Seen

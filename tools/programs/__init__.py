@@ -1,0 +1,1 @@
+"""What runs the built programs: words, files, pipes, sessions, failing calls, and releases of them."""

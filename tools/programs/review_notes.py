@@ -1,0 +1,133 @@
+"""What is told of the text of a plan, read a second time: from docs/MANUAL.md, and from nothing of the crates.
+
+`notes(text)` gives the lines: a name or an index that comes again in its table, and a value that is no whole number.
+`written(source, plan)` writes a plan as a text at random that has such.
+"""
+import json
+import random
+from collections.abc import Iterator
+from typing import Any
+
+from tools import TOP
+
+Pairs = list[tuple[str, Any]]
+
+MANUAL = json.loads((TOP / "python/tsb/manual.json").read_text())
+OBJECTS: dict[str, dict[str, Any]] = MANUAL["objects"]
+UNITS = ["seconds", "tenths of a second", "minutes"]
+MOST = 2**32 - 1
+
+
+class Number(str):
+    """A number of JSON, as its text has it."""
+
+
+class Table:
+    """An object of JSON: names and values in the order of the text."""
+
+    def __init__(self, pairs: Pairs) -> None:
+        self.pairs = pairs
+
+
+def parsed(text: bytes) -> Any:
+    """The value of a JSON text, or None where it is none."""
+    def refused(word: str) -> None:
+        raise ValueError(word)
+    try:
+        return json.loads(text.decode(), object_pairs_hook=Table, parse_int=Number, parse_float=Number, parse_constant=refused)
+    except ValueError:
+        return None
+
+
+def shown(value: Any) -> str:
+    """A value as JSON, without spaces."""
+    if isinstance(value, Number):
+        return str(value)
+    if isinstance(value, Table):
+        return "{" + ",".join(f"{json.dumps(name, ensure_ascii=False)}:{shown(it)}" for name, it in value.pairs) + "}"
+    if isinstance(value, list):
+        return "[" + ",".join(map(shown, value)) + "]"
+    return json.dumps(value, ensure_ascii=False)
+
+
+def unit_of(name: str) -> str | None:
+    """The unit of an object's values, where they are times."""
+    unit = OBJECTS[name]["unit"].split(", ")[0]
+    return unit if unit in UNITS else None
+
+
+def is_whole(value: Any) -> bool:
+    """Whether a value is a whole number as plans have it."""
+    return isinstance(value, Number) and value.isdigit() and int(value) <= MOST
+
+
+def meant(name: str, value: Any) -> str:
+    """What a value in seconds says in tenths of a second, where it has one decimal."""
+    whole, _, decimal = value.partition(".") if isinstance(value, Number) else ("", "", "")
+    has_tenths = whole.isdigit() and decimal.isdigit() and len(decimal) == 1 and int(whole) <= MOST
+    return f", {int(whole + decimal)}" if has_tenths and unit_of(name) == "tenths of a second" else ""
+
+
+def counting(text: str) -> dict[str, dict[str, int]]:
+    """The plan of a text that `check` takes: of what comes twice the last."""
+    plan: dict[str, dict[str, int]] = json.loads(text)
+    return {name: table for name, table in plan.items() if name != "version"}
+
+
+def again(path: str, at: int, pairs: Pairs) -> Iterator[str]:
+    """That a name comes again, with its next value."""
+    name, value = pairs[at]
+    for other, later in pairs[at + 1:]:
+        if other == name:
+            yield f"{path}: it stands twice, as {shown(value)} and as {shown(later)}, and the last one counts"
+            return
+
+
+def of_table(name: str, entries: Pairs) -> Iterator[str]:
+    """What is told of the table of an object."""
+    for at, (index, value) in enumerate(entries):
+        if index not in map(str, range(1, OBJECTS[name]["count"] + 1)):
+            continue
+        yield from again(f"{name}.{index}", at, entries)
+        if not is_whole(value):
+            unit = unit_of(name)
+            yield f"{name}.{index}: {shown(value)} is no whole number" + (f": {unit}{meant(name, value)}" if unit else "")
+
+
+def notes(text: bytes) -> list[str]:
+    """What is told of a text."""
+    value = parsed(text)
+    found: list[str] = []
+    for at, (name, it) in enumerate(value.pairs if isinstance(value, Table) else []):
+        if name in OBJECTS or name == "version":
+            found += again(name, at, value.pairs)
+        if name in OBJECTS and isinstance(it, Table):
+            found += of_table(name, it.pairs)
+    return found
+
+
+OTHERS = ["3.2", "7.5", "0.5", "12.0", "3.25", "-1", "1e2", "32.0e0", "4294967295.9", "4294967296", "4294967295", "99999999999.5",
+          '"32"', '"a\\nb\\u00e9"', "true", "null", "[1, 2.5]", '{"a": {}}', "0", "35", "1"]
+INDICES = ["0", "01", "1", "2", "8", "16", "17", "+1", "128", "129", ""]
+
+
+def written(source: random.Random, plan: dict[str, dict[str, int]]) -> bytes:
+    """A text of the plan in which some names and indices come again, and some values are no whole numbers."""
+    members: list[tuple[str, list[tuple[str, str]] | str]] = [("version", "2")]
+    members += [(name, [(index, str(value)) for index, value in table.items()]) for name, table in plan.items()]
+    for _ in range(source.choice([0, 1, 1, 2, 3])):
+        name, table = source.choice(members)
+        kind = source.random()
+        if kind < 0.2:
+            members.insert(source.randint(0, len(members)), (name, table if isinstance(table, str) else table[:source.randint(0, 3)]))
+        elif kind < 0.3:
+            # (a text of version 1 is none of those that tools/programs/review_rules.py reads)
+            members.append((source.choice(["phaseWalk", "unknown", name]), source.choice(OTHERS)) if name != "version" else ("version", "2"))
+        elif isinstance(table, list):
+            known = [index for index, _ in table] or ["1"]
+            index = source.choice(known) if source.random() < 0.8 else source.choice(INDICES)
+            table.insert(source.randint(0, len(table)), (index, source.choice(OTHERS)))
+    space = source.choice(["", " ", "\n  "])
+    def body(table: list[tuple[str, str]] | str) -> str:
+        return table if isinstance(table, str) else "{" + f",{space}".join(f'"{index}":{space}{it}' for index, it in table) + "}"
+    return ("{" + f",{space}".join(f'"{name}":{space}{body(table)}' for name, table in members) + "}").encode()

@@ -1,0 +1,71 @@
+"""Runs `tsb_field record` on stored sessions and compares what it writes with the sums of an independent reference.
+
+    python3 -m tools.programs.run_record PROGRAM [SUMS CASES..]
+
+PROGRAM is that of tsb_field. Without SUMS they are cases/records.sums, of the sessions that lie beside it;
+tools/reference/make_events.py writes such a file. Of a session whose plan or log has a fault, the record has nothing,
+and the status is 1. The sums are of records that go on: each line on standard error is of a command that was refused or
+is none, and tells its number and its text. A strict record of the same session is the same where there is no such line;
+else it tells the first alone, has nothing, and the status is 4.
+"""
+import datetime
+import pathlib
+import re
+import subprocess
+import sys
+
+from tools.programs import stored_cases, stored_sums
+
+# When tick 1 begins, and which controller it is.
+FROM, DEVICE = datetime.datetime(2026, 11, 22, 7), "1001"
+USAGE = "python3 -m tools.programs.run_record PROGRAM [SUMS CASES..]"
+FILES = ["records.sums", "even.cases", "late.cases", "aimed.cases", "tripped.cases", "options.cases", "worked.cases",
+         "mangled.cases"]
+# What is told of a command that was not carried out.
+TOLD = re.compile(rb"command ([1-9][0-9]*): (.*): (?:bad command|refused E[0-9]+ [A-Za-z]+(?: [1-4])?)")
+# How many bytes of a line are told.
+SHOWN = 200
+
+
+def shown(line: bytes) -> bytes:
+    """A line as it is told: its first bytes, with `?` for each that is no printable ASCII."""
+    return bytes(byte if 32 <= byte <= 126 else ord("?") for byte in line[:SHOWN])
+
+
+def is_told(errors: bytes, commands: bytes) -> bool:
+    """Whether each line that is told has the number and the text of a line of the commands, in their order."""
+    *ended, last = commands.split(b"\n")
+    lines = [*(line.removesuffix(b"\r") for line in ended), last]
+    before = 0
+    for told in errors.splitlines():
+        found = TOLD.fullmatch(told)
+        if not found or not before < int(found[1]) <= len(lines) or found[2] != shown(lines[int(found[1]) - 1]):
+            return False
+        before = int(found[1])
+    return not errors or errors.endswith(b"\n")
+
+
+def ran(program: pathlib.Path, case: stored_cases.Case, *more: str) -> subprocess.CompletedProcess[bytes]:
+    """A record of a session."""
+    return stored_sums.ran([program, "record", "--from", f"{FROM}", "--device", DEVICE, *more], case)
+
+
+def difference(program: pathlib.Path, case: stored_cases.Case, wanted: str) -> str | None:
+    """What a record has otherwise than it should."""
+    done, strict = ran(program, case, "--go-on"), ran(program, case)
+    found = stored_sums.difference(done, case, wanted, stored_cases.checksum)
+    if found is not None:
+        return found
+    if wanted != "fault" and not is_told(done.stderr, case.commands):
+        return f"{case.name}: told {done.stderr[:200]!r}"
+    first = done.stderr.splitlines(True)[:1]
+    stops = wanted != "fault" and first
+    expected = (4, b"", first[0]) if stops else (done.returncode, done.stdout, done.stderr)
+    if (strict.returncode, strict.stdout, strict.stderr) != expected:
+        return f"{case.name}: strict {strict.returncode}, {strict.stdout[:80]!r}, {strict.stderr[:200]!r}"
+    return None
+
+
+if __name__ == "__main__":
+    WELL = "records: {count} sessions have the events of the reference"
+    sys.exit(stored_sums.compare(sys.argv[1:], USAGE, FILES, difference, WELL))
