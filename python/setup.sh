@@ -8,6 +8,7 @@ set -eu -o pipefail
 here=$(cd "$(dirname "${BASH_SOURCE[0]}")" && pwd)
 python=/usr/bin/python3
 packages="python3 python3-numpy python3-pandas python3-tqdm python3-pytest python3-pytest-asyncio python3-hypothesis
+    python3-mypy
     python3-dask python3-distributed python3-matplotlib python3-jinja2 python3-aiohttp python3-selenium chromium chromium-driver
     python3-pip-whl sumo sumo-tools"
 

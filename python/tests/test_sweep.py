@@ -431,7 +431,7 @@ def writes_slowly(folder: str) -> None:
         Path(folder, "begun").touch()
         time.sleep(1)
 
-    os.fsync = slowly
+    setattr(os, "fsync", slowly)
     kept.write(Path(folder) / "table", b"whole")
 
 
@@ -459,7 +459,7 @@ def test_a_room_that_is_just_made_is_not_left(
     made = tempfile.mkdtemp
 
     def interrupted(*words: Any) -> str:
-        folder = made(*words)
+        folder: str = made(*words)
         os.kill(os.getpid(), signal.SIGINT)
         return folder
 
