@@ -46,7 +46,8 @@ def tested(programs: list[str]) -> tuple[int, int]:
 
 def typed() -> tuple[int, int]:
     """Whether types are right by mypy."""
-    words = [".venv/bin/python", "-m", "mypy", "--config-file", "pyproject.toml", "--cache-dir", os.devnull, "tsb", "tests"]
+    words = [".venv/bin/python", "-m", "mypy", "--config-file", "pyproject.toml", "--cache-dir", os.devnull,
+             "tsb", "tests"]
     done = subprocess.run(words, cwd=PYTHON, stdin=subprocess.DEVNULL)
     return (0, 1) if done.returncode else (1, 0)
 
