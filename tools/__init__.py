@@ -7,7 +7,7 @@ What a person types is here: gate, build, look, release and ready.py. The rest i
 - pages: writes documents from the source, and checks what they cite;
 - programs: runs the built programs, and compares what they write with the documents;
 - reference: makes stored sessions and tests laws by an independent implementation, which is not here;
-- speed, peers: measure, and write docs/SPEED.md and docs/PEERS.md.
+- speed, peers: measure, and write docs/trust/SPEED.md and docs/trust/PEERS.md.
 """
 import pathlib
 

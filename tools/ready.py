@@ -78,7 +78,7 @@ def main():
     root = pathlib.Path.cwd()
     found = list(out_of_layout(root))
     found += [it for it in map(misplaced, sorted(root.glob("crates/*/must-fail/*.edit"))) if it]
-    for path in [*root.glob("*.md"), *root.glob("docs/*.md"), *root.glob("examples/*.md"),
+    for path in [*root.glob("*.md"), *root.glob("docs/*/*.md"), *root.glob("examples/*.md"),
                  *root.glob("cases/*.md"), *root.glob("crates/*/README.md"),
                  *root.glob("tools/*/README.md")]:
         found += too_long(path)

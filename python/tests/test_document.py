@@ -1,4 +1,4 @@
-"""The code of docs/PYTHON.md, run as an engineer would."""
+"""The code of docs/use/PYTHON.md, run as an engineer would."""
 
 import contextlib
 import io
@@ -19,7 +19,7 @@ def test_the_document_prints_what_it_says(
     """Block after block, in one session."""
     (tmp_path / "examples").symlink_to(top / "examples")
     monkeypatch.chdir(tmp_path)
-    blocks = BLOCK.findall((top / "docs/PYTHON.md").read_text())
+    blocks = BLOCK.findall((top / "docs/use/PYTHON.md").read_text())
     assert len(blocks) >= 7
     names: dict[str, Any] = {}
     for code, wanted in blocks:
@@ -33,6 +33,6 @@ def test_the_document_prints_what_it_says(
 
 def test_the_example_is_short(top: Path) -> None:
     """Thirty lines from the export to the picture."""
-    blocks = BLOCK.findall((top / "docs/PYTHON.md").read_text())
+    blocks = BLOCK.findall((top / "docs/use/PYTHON.md").read_text())
     example = next(code for code, _ in blocks if "read_export" in code)
     assert len([it for it in example.splitlines() if it.strip()]) <= 30

@@ -1,4 +1,4 @@
-"""Exports in the forms that docs/FIELD.md has: as `tsb_field log` reads them."""
+"""Exports in the forms that docs/use/FIELD.md has: as `tsb_field log` reads them."""
 
 import importlib
 import random

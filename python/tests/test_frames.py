@@ -88,7 +88,7 @@ EXPORTS = {
 
 @pytest.mark.parametrize("name", EXPORTS)
 def test_exports(tmp_path: Path, name: str) -> None:
-    """An export in the names that docs/FIELD.md has, in any order."""
+    """An export in the names that docs/use/FIELD.md has, in any order."""
     path = tmp_path / "export.csv"
     path.write_text(EXPORTS[name], encoding="utf-8")
     found = frames.read_export(path)

@@ -36,7 +36,7 @@ def test_objects_are_those_of_the_source(
 
 def test_each_refusal_has_its_cure(top: Path) -> None:
     """The twelve lines of the manual's chapter 7, with their meaning and cure."""
-    text = (top / "docs/MANUAL.md").read_text()
+    text = (top / "docs/use/MANUAL.md").read_text()
     assert sorted(REFUSALS) == list(range(1, 13))
     for number, refusal in REFUSALS.items():
         station = " 3" if refusal.name == "Busy" else ""
@@ -49,7 +49,7 @@ def test_each_refusal_has_its_cure(top: Path) -> None:
 
 def test_each_rule_has_its_cure(top: Path) -> None:
     """The rules of the manual's chapter 4."""
-    text = (top / "docs/MANUAL.md").read_text()
+    text = (top / "docs/use/MANUAL.md").read_text()
     assert list(RULES) == [f"K{it}" for it in range(1, 24)]
     for name in RULES:
         fault = PlanFault(f"plan: rule {name}")

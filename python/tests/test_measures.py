@@ -105,7 +105,7 @@ def test_arrivals() -> None:
 
 
 def test_preempts() -> None:
-    """The worst moment of docs/FIELD.md, with the input of the train at tick 172:
+    """The worst moment of docs/use/FIELD.md, with the input of the train at tick 172:
     both rings had to go on to phases 4 and 8, and phase 7 is green 16.3 s later."""
     plan = Plan()
     plan["preemptTrackPhase"][1] = {4, 7}
@@ -137,7 +137,7 @@ def test_no_events() -> None:
 
 @pytest.mark.parametrize("name", ["quad", "main_and_oak"])
 def test_terminations_are_those_of_the_document(top: Path, name: str) -> None:
-    """The counts of docs/FIELD.md for an hour of traffic, by the same programs."""
+    """The counts of docs/use/FIELD.md for an hour of traffic, by the same programs."""
     from tsb import Bench
 
     with Bench(
@@ -146,7 +146,9 @@ def test_terminations_are_those_of_the_document(top: Path, name: str) -> None:
         it.step(36000)
         found = measures.terminations(frames.of_events(it.events))
     said = (
-        (top / "docs/FIELD.md").read_text().split(f"\n{name}: phase, gap, maximum")[1]
+        (top / "docs/use/FIELD.md")
+        .read_text()
+        .split(f"\n{name}: phase, gap, maximum")[1]
     )
     for line in said.splitlines()[1:9]:
         phase, *counts = map(int, line.split())

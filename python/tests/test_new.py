@@ -96,7 +96,7 @@ def test_each_choice_serves_all(choice: Sequence[str]) -> None:
 
 
 def test_the_plan_of_eight_phases(capsys: pytest.CaptureFixture[str]) -> None:
-    """Its values are those of docs/PYTHON.md, all others are 0."""
+    """Its values are those of docs/use/PYTHON.md, all others are 0."""
     with made(EIGHT) as out:
         plan = Plan.read(out)
     lefts, mains, sides = (1, 3, 5, 7), (2, 6), (4, 8)
@@ -234,7 +234,7 @@ def test_the_words_of_the_documents(top: Path, tmp_path: Path) -> None:
         for page in ("PYTHON", "MANUAL")
         for line in re.findall(
             r"^python/\.venv/bin/python -m tsb new .*$",
-            (top / f"docs/{page}.md").read_text(), re.M,
+            (top / f"docs/use/{page}.md").read_text(), re.M,
         )
     }  # fmt: skip
     words = command.split()[1:]
@@ -242,7 +242,7 @@ def test_the_words_of_the_documents(top: Path, tmp_path: Path) -> None:
         [sys.executable, *words], cwd=tmp_path, capture_output=True, text=True,
         check=True,
     )  # fmt: skip
-    text = (top / "docs/PYTHON.md").read_text()
+    text = (top / "docs/use/PYTHON.md").read_text()
     assert f"```\n{done.stdout}```\n" in text
     with made(EIGHT) as out:
         assert (tmp_path / words[-1]).read_text() == out.read_text()

@@ -636,7 +636,7 @@ def test_a_program_of_type_nema_is_read_back(cars: Path, tmp_path: Path) -> None
 def test_sumos_controller_shows_the_same_on_its_rows(
     cars: Path, tmp_path: Path
 ) -> None:
-    """(docs/PEERS.md has longer ones; what parts them there comes later)"""
+    """(docs/trust/PEERS.md has longer ones; what parts them there comes later)"""
     plan = crossroads.plan(latched=True)
     at = Intersection.of(cars / "net.xml", "C", cars / "mapping.json")
     (tmp_path / "nema.xml").write_text(nema_of(plan, at))
@@ -677,7 +677,7 @@ def test_the_document_prints_what_it_says(
     top: Path, tmp_path: Path, monkeypatch: pytest.MonkeyPatch
 ) -> None:
     monkeypatch.chdir(tmp_path)
-    blocks = BLOCK.findall((top / "docs/SUMO.md").read_text())
+    blocks = BLOCK.findall((top / "docs/use/SUMO.md").read_text())
     assert len(blocks) == 2
     names: dict[str, Any] = {}
     for code, wanted in blocks:

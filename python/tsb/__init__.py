@@ -1,7 +1,7 @@
 """A proved bench for signal timing plans that can be wound back.
 
 `Bench` runs a plan tick by tick, `Plan` is a plan by the names of its objects, and
-`tsb.frames` and `tsb.measures` make tables of what came of it. docs/PYTHON.md shows
+`tsb.frames` and `tsb.measures` make tables of what came of it. docs/use/PYTHON.md shows
 how they go together.
 """
 

@@ -285,7 +285,7 @@ class Bench:
         self._do("reset")
 
     def give(self, command: str) -> str:
-        """Gives an input that is no tick as a command of docs/MANUAL.md, chapter 6:
+        """Gives an input that is no tick as a command of docs/use/MANUAL.md, chapter 6:
         its answer, `ok` or of a `verify` the rule that the plan would break."""
         if command.partition(" ")[0] not in INPUTS:
             raise BadCommand(command)

@@ -67,7 +67,7 @@ class ProgramDied(Error):
 
 
 class Refused(Error):
-    """A refusal E1 to E12, as docs/MANUAL.md has it in chapter 7.
+    """A refusal E1 to E12, as docs/use/MANUAL.md has it in chapter 7.
 
     `number` is 1 to 12, `name` as `NoSuchPattern`; `meaning`, `cause` and `cure` are
     the manual's. `command` is what was asked, and `line` the answer. `station` is the
@@ -111,7 +111,7 @@ class Refused(Error):
 
 
 class PlanFault(Error):
-    """The first fault of a plan, as docs/MANUAL.md has it in chapters 2 and 4.
+    """The first fault of a plan, as docs/use/MANUAL.md has it in chapters 2 and 4.
 
     `line` is that of `tsb check`, as `plan: rule K8`. `rule` is the rule that the
     plan breaks, with its cure, and None where the text is no plan. `place` is where the
@@ -154,8 +154,8 @@ class BadCommand(Error):
 
     def __init__(self, command: str) -> None:
         super().__init__(
-            f"{command}: bad command: docs/MANUAL.md, chapter 6, has the commands with"
-            " their ranges, and docs/LIVE.md those of a live run"
+            f"{command}: bad command: docs/use/MANUAL.md, chapter 6, has the commands"
+            " with their ranges, and docs/use/LIVE.md those of a live run"
         )
         self.command = command
 

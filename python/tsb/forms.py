@@ -1,4 +1,5 @@
-"""The forms in which event logs of controllers come: docs/FIELD.md, "`tsb_field log`".
+"""The forms in which event logs of controllers come: docs/use/FIELD.md, "`tsb_field
+log`".
 
 A text becomes columns of text, by the lines that have them, and texts of times become
 moments. What cannot be read is an `Error` that names its line.

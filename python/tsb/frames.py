@@ -145,8 +145,8 @@ def to_log(table: pd.DataFrame) -> Log:
 
 def read_export(path: AnyPath) -> pd.DataFrame:
     """A controller's event log as a table: CSV with or without a header, or Parquet
-    where pyarrow is there. Columns have the names of docs/FIELD.md, and times one of
-    its forms; `Error` says what is neither."""
+    where pyarrow is there. Columns have the names of docs/use/FIELD.md, and times one
+    of its forms; `Error` says what is neither."""
     try:
         if Path(path).suffix == ".parquet":
             return export_of_table(_read_parquet(path))
@@ -180,10 +180,10 @@ def _read_parquet(path: AnyPath) -> pd.DataFrame:
 
 def export_of_table(table: pd.DataFrame) -> pd.DataFrame:
     """The export of a table from elsewhere, as a database: columns have the names of
-    docs/FIELD.md, in any order, and others are left out. Times are moments, or texts
-    in one of its forms. A row whose parameter is no number is left out, as NULL, and
-    a warning tells how many; of an input it is an `Error`. Without a column of devices
-    all are the same one, ""."""
+    docs/use/FIELD.md, in any order, and others are left out. Times are moments, or
+    texts in one of its forms. A row whose parameter is no number is left out, as NULL,
+    and a warning tells how many; of an input it is an `Error`. Without a column of
+    devices all are the same one, ""."""
     places = places_of(table.columns)
     time, code, parameter = (
         table.iloc[:, places[it]] for it in ("time", "code", "parameter")
@@ -283,13 +283,14 @@ def log_of_export(
     as_outputs: AnyPath | None = None,
 ) -> Log:
     """The log of inputs that an export makes, by `tsb_field log`: its tick 1 begins
-    at the start. `export` is a table, or a file of docs/FIELD.md's forms; its rows may
-    stand in any order. The mappings lead channels of the controller to inputs of the
-    bench, as `vehicles={21: 2, 22: 2}`; others lead to their own numbers. What is left
-    out is told as a warning, and so is a form of times that the first row said. Without
-    an event of an input from the start on it is an error, unless it may be empty. Where
-    the events are those of detector outputs, `as_outputs` is the file of the session's
-    plan: a warning tells each detector whose delay or extension acts twice."""
+    at the start. `export` is a table, or a file of docs/use/FIELD.md's forms; its rows
+    may stand in any order. The mappings lead channels of the controller to inputs of
+    the bench, as `vehicles={21: 2, 22: 2}`; others lead to their own numbers. What is
+    left out is told as a warning, and so is a form of times that the first row said.
+    Without an event of an input from the start on it is an error, unless it may be
+    empty. Where the events are those of detector outputs, `as_outputs` is the file of
+    the session's plan: a warning tells each detector whose delay or extension acts
+    twice."""
     words = ["log", f"--from={start}"]
     words += ["--allow-empty"] if allow_empty else []
     words += [] if device is None else [f"--device={device}"]

@@ -1,4 +1,4 @@
-"""What the bench answers: display lines (docs/MANUAL.md, chapter 6) and events."""
+"""What the bench answers: display lines (docs/use/MANUAL.md, chapter 6) and events."""
 
 from collections.abc import Iterable, Iterator, Sequence
 from typing import NamedTuple, overload
@@ -103,7 +103,7 @@ class Lines(Sequence[Display]):
 
 
 class Event(NamedTuple):
-    """An event of an input: docs/FIELD.md has the codes, those of the Indiana
+    """An event of an input: docs/use/FIELD.md has the codes, those of the Indiana
     enumerations, and what the parameter of each is."""
 
     tick: int

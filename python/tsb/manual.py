@@ -1,4 +1,4 @@
-"""What docs/MANUAL.md says of objects, rules, faults and refusals.
+"""What docs/use/MANUAL.md says of objects, rules, faults and refusals.
 
 All of it is read from manual.json, which tools/pages/python_manual.py writes from the
 documents: there is no other list of names, units or ranges in the package.

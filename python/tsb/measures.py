@@ -1,7 +1,7 @@
 """What a run's events say of its greens, waits, arrivals and preempts.
 
 Each measure reads a table of events (`tick`, `code`, `parameter`; `tsb.frames`), of a
-bench or of a street's controller, by the codes that docs/FIELD.md lists. Ticks are
+bench or of a street's controller, by the codes that docs/use/FIELD.md lists. Ticks are
 tenths of a second; times in seconds end with `_s`. What begins before the first event
 or does not end by the last is not known: its ticks and seconds are NA.
 """

@@ -1,6 +1,6 @@
 """A plan of up to eight phases with the defaults of practice, to begin with.
 
-docs/PYTHON.md, "A plan to begin with", has its words and its values.
+docs/use/PYTHON.md, "A plan to begin with", has its words and its values.
 """
 
 import argparse
@@ -235,7 +235,7 @@ def read_words(words: Sequence[str]) -> tuple[Choice, Path]:
         prog=PROGRAM,
         description="Writes a plan of up to eight phases with the defaults of practice,"
         " which `tsb check` passes.",
-        epilog='docs/PYTHON.md, "A plan to begin with", has its values.',
+        epilog='docs/use/PYTHON.md, "A plan to begin with", has its values.',
         allow_abbrev=False,
     )
     for name, which in (

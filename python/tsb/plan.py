@@ -1,6 +1,6 @@
 """Plans: built and changed by the names of objects and their units.
 
-The text of a plan is that of docs/MANUAL.md, chapter 2; names, units and ranges are
+The text of a plan is that of docs/use/MANUAL.md, chapter 2; names, units and ranges are
 those of chapter 3. Whether a plan breaks a rule, the bench is asked.
 """
 

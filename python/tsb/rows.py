@@ -1,4 +1,4 @@
-"""Rows of inputs, and logs of them (docs/MANUAL.md, chapter 5).
+"""Rows of inputs, and logs of them (docs/use/MANUAL.md, chapter 5).
 
 A row is 30 characters, as `0001000000000000 00000000 0000`: a digit for each of 16
 vehicle detectors, 8 pedestrian detectors and 4 preempt inputs, 1 for on.

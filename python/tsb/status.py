@@ -1,4 +1,4 @@
-"""The status of a controller, as docs/LIVE.md has it: by the names of NTCIP 1202.
+"""The status of a controller, as docs/use/LIVE.md has it: by the names of NTCIP 1202.
 
 Sets are of numbers of phases, overlaps or detectors; times are in tenths of a second,
 None where they do not run.

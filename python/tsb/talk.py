@@ -1,4 +1,4 @@
-"""A live program at the end of two pipes (docs/LIVE.md)."""
+"""A live program at the end of two pipes (docs/use/LIVE.md)."""
 
 import os
 import select

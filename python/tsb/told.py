@@ -1,4 +1,4 @@
-"""The codes of events (docs/FIELD.md), and how tables of them are gone through."""
+"""The codes of events (docs/use/FIELD.md), and how tables of them are gone through."""
 
 from collections.abc import Collection, Iterable, Iterator
 from typing import Any

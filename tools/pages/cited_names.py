@@ -4,7 +4,8 @@ A path below `crates`, `docs`, `examples`, `python` or `tools` has to be there. 
 stand in the sources, or as the name of a file. Names that are said to stand in a file, as in "`is_ready` and `may_end`
 in `crates/tsb_phase/specs/Ready.antt`", or in "`Wants.antt` there", have to stand in that file. Code blocks are left
 out, and so is what is no name, such as a line of a display; of the glossary the names of the standards.
-docs/DEFINITIONS.md, which tools/pages/definitions_index.py writes from the source, may be missing and is not looked at.
+docs/work/DEFINITIONS.md, which tools/pages/definitions_index.py writes from the source, may be missing and is not
+looked at.
 
 The comment above a law names mistakes and witnesses: each has to be in `specs/` or `proofs/` of the law's crate, or of
 one that is named there. A name that only comments of programs have counts as missing.
@@ -18,7 +19,7 @@ from collections.abc import Iterator
 
 from tools.pages.laws import Law, laws
 
-DOCUMENTS = ["README.md", "CONTRIBUTING.md", "docs/*.md", "examples/README.md", "cases/README.md",
+DOCUMENTS = ["README.md", "CONTRIBUTING.md", "docs/*/*.md", "examples/README.md", "cases/README.md",
              "crates/*/README.md", "tools/*/README.md"]
 SOURCES = ["crates/*/src/**/*.rt", "crates/*/specs/**/*.antt", "crates/*/proofs/**/*.antt", "tools/**/*.py",
            "python/tsb/**/*.py", "python/tests/**/*.py", "python/pyproject.toml"]
@@ -31,10 +32,10 @@ NAME = re.compile(r"(?:[A-Za-z]\w*::)*[A-Za-z]\w*(?:-\w+)*$")
 PLACED = re.compile(r"((?:`[\w:-]+`(?: \(\w+\))?(?:, clause|, | and )?)+) in (?:`(crates/[\w./]+)`|`([\w.]+)` there)")
 
 # The standards' own names stand beside ours here.
-GLOSSARY = pathlib.Path("docs/GLOSSARY.md")
+GLOSSARY = pathlib.Path("docs/work/GLOSSARY.md")
 
 # It is written from the source, and not kept.
-DEFINITIONS = pathlib.Path("docs/DEFINITIONS.md")
+DEFINITIONS = pathlib.Path("docs/work/DEFINITIONS.md")
 
 # Words of the documents that are no names of the sources, and paths that only the build makes, or that are no paths.
 OTHER = {"rattle", "kit", "13b", "uniq", "xargs", "vehicleDetectorStatusGroupActive", "P02"}

@@ -1,4 +1,4 @@
-"""Writes docs/DEFINITIONS.md, the index of the public definitions in crates/*/specs; run it at the top.
+"""Writes docs/work/DEFINITIONS.md, the index of the public definitions in crates/*/specs; run it at the top.
 
 A row has a definition, the first sentence of the comment above it, and the functions and types of `src/`, of whatever
 crate, whose clauses name it. Each module is introduced by the first sentence at its head. Crates come in the order of
@@ -11,14 +11,14 @@ import sys
 import textwrap
 from collections.abc import Iterable, Iterator
 
-INDEX = pathlib.Path("docs/DEFINITIONS.md")
+INDEX = pathlib.Path("docs/work/DEFINITIONS.md")
 HEAD = """# Definitions
 
 Each public definition in `specs/`, crate by crate from the cells up to the program, with the first sentence of the
 comment above it; `tools/pages/definitions_index.py` writes this document. The last column has the public functions and
 types whose clauses name the definition, or else the private ones, in parentheses, six at most; where it is empty, the
-definition is a part of others. docs/LAWS.md says how definitions are to be read, what each law needs, and what it does
-not say; docs/READING.md goes from a question to the definition.
+definition is a part of others. docs/trust/LAWS.md says how definitions are to be read, what each law needs, and what it
+does not say; docs/work/READING.md goes from a question to the definition.
 """
 
 # How many functions and types a row has.

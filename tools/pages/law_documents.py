@@ -1,10 +1,10 @@
-"""Writes what docs/LAWS.md and docs/PROVED.md say of laws, from the comments above them; run it at the top.
+"""Writes what docs/trust/LAWS.md and docs/trust/PROVED.md say of laws, from the comments above them; run it at the top.
 
-In docs/LAWS.md a line `<!-- laws` begins a list of laws, each line a crate, a colon and functions. What follows that
-list, up to `<!-- end of laws -->`, is written from the comments, and all else there by hand. docs/PROVED.md has one
-such part, the tables of all titles, section by section. With `--check` nothing is written: the script then fails where
-a document is not what the comments give, and names the first line that differs. With `--lacking` it lists the laws
-whose comments name no mistake or no witness.
+In docs/trust/LAWS.md a line `<!-- laws` begins a list of laws, each line a crate, a colon and functions. What follows
+that list, up to `<!-- end of laws -->`, is written from the comments, and all else there by hand. docs/trust/PROVED.md
+has one such part, the tables of all titles, section by section. With `--check` nothing is written: the script then
+fails where a document is not what the comments give, and names the first line that differs. With `--lacking` it lists
+the laws whose comments name no mistake or no witness.
 """
 import dataclasses
 import itertools
@@ -16,7 +16,7 @@ from collections.abc import Iterator
 
 from tools.pages.laws import BrokenComment, Law, laws
 
-LAWS, PROVED = pathlib.Path("docs/LAWS.md"), pathlib.Path("docs/PROVED.md")
+LAWS, PROVED = pathlib.Path("docs/trust/LAWS.md"), pathlib.Path("docs/trust/PROVED.md")
 PART = re.compile(r"(<!-- laws\n(.*?)-->\n).*?(<!-- end of laws -->)", re.S)
 TABLES = re.compile(r"(<!-- titles of laws: written by tools/pages/law_documents.py -->\n).*?(<!-- end of titles -->)",
                     re.S)
@@ -64,19 +64,25 @@ def wrapped(text: str, indent: str = "") -> str:
 
 
 def told(entry: Entry) -> str:
-    """An entry of docs/LAWS.md."""
+    """An entry of docs/trust/LAWS.md."""
     first = wrapped(f"**{entry.law.title}** ({entry.contract()}). {entry.law.sentences}".strip())
-    notes = (wrapped(f"- *{label}:* {text}", "  ") for label, text in entry.law.notes)
+    notes = (wrapped(f"- *{label}:* {placed(text)}", "  ") for label, text in entry.law.notes)
     return "\n".join([first, *notes]) + "\n"
 
 
+def placed(text: str) -> str:
+    """A text in which documents that it names without their folder have it."""
+    found = {it.name: it.as_posix() for it in pathlib.Path("docs").glob("*/*.md")}
+    return re.sub(r"\bdocs/(\w+\.md)", lambda it: found.get(it[1], it[0]), text)
+
+
 def with_laws(text: str) -> str:
-    """docs/LAWS.md as the comments give it."""
+    """docs/trust/LAWS.md as the comments give it."""
     return PART.sub(lambda part: part[1] + "\n" + "\n".join(map(told, entries(part[2]))) + "\n" + part[3], text)
 
 
 def tables(text: str) -> str:
-    """The tables of docs/PROVED.md, by the lists of docs/LAWS.md."""
+    """The tables of docs/trust/PROVED.md, by the lists of docs/trust/LAWS.md."""
     lines: list[str] = []
     section = ""
     for heading, part in SECTION.findall(text):
@@ -96,7 +102,7 @@ def written() -> dict[pathlib.Path, str]:
 
 
 def misplaced() -> list[str]:
-    """The laws that docs/LAWS.md does not list just once."""
+    """The laws that docs/trust/LAWS.md does not list just once."""
     places = [place for _, part, _ in PART.findall(LAWS.read_text()) for place in listed(part)]
     return [f"{LAWS}: lists {places.count(law)} times: {' '.join(law)}" for law in laws() if places.count(law) != 1]
 

@@ -1,5 +1,5 @@
 #!/usr/bin/env python3
-"""Writes the table of objects in docs/MANUAL.md from the one table in the source; run it at the top.
+"""Writes the table of objects in docs/use/MANUAL.md from the one table in the source; run it at the top.
 
 Names, indices, ranges, units and what is structural come from crates/tsb_plan/src/object.rt: its table, and the
 comments of its variants for what an index counts and for units. What an object means is the last cell of its row in
@@ -13,7 +13,7 @@ import re
 import sys
 
 SOURCE = pathlib.Path("crates/tsb_plan/src/object.rt")
-MANUAL = pathlib.Path("docs/MANUAL.md")
+MANUAL = pathlib.Path("docs/use/MANUAL.md")
 README = pathlib.Path("README.md")
 EXAMPLES = pathlib.Path("examples")
 BEGIN, END = "<!-- objects: written by tools/pages/manual_table.py -->", "<!-- end of objects -->"

@@ -1,5 +1,5 @@
-"""Writes python/tsb/manual.json from tables of docs/MANUAL.md and docs/FIELD.md; run it at the top. With `--check` it
-only compares.
+"""Writes python/tsb/manual.json from tables of docs/use/MANUAL.md and docs/use/FIELD.md; run it at the top. With
+`--check` it only compares.
 
 The package has names, units, ranges, rules, cures and the columns of an export from this file alone. The table of
 objects in the manual is written by manual_table.py from the source of tsb_plan, so a name or a range has one home.
@@ -10,7 +10,7 @@ import re
 import sys
 from typing import Any
 
-MANUAL, FIELD = pathlib.Path("docs/MANUAL.md"), pathlib.Path("docs/FIELD.md")
+MANUAL, FIELD = pathlib.Path("docs/use/MANUAL.md"), pathlib.Path("docs/use/FIELD.md")
 WRITTEN = pathlib.Path("python/tsb/manual.json")
 INDEX = re.compile(r"(?:(.+?),? )?1(?: to (\d+))?(?: \((?:(none|version \d)|(\d+))\))?")
 RANGE = re.compile(r"0 to (\d+)(?: \((\d+)\))?")

@@ -1,7 +1,7 @@
 """The pages of the site, made of the repository's documents: tools/site.
 
-A document is a page, and of the manual each chapter is one. What a document cites, as docs/FIELD.md or chapter 8, leads
-there; blocks of the manual's sessions and files lead to the files of `examples/`.
+A document is a page, and of the manual each chapter is one. What a document cites, as docs/use/FIELD.md or chapter 8,
+leads there; blocks of the manual's sessions and files lead to the files of `examples/`.
 """
 import dataclasses
 import pathlib
@@ -22,7 +22,7 @@ PARTS: dict[str, list[str]] = {
 HOME = "index"
 # What such a page is called in the navigation, where its heading is too long.
 SHORT = {"FIELD": "Event logs, diagrams, reports, sweeps", "READING": "From a question to its rule"}
-# Documents that are not in docs/.
+# Documents that are not in the folders of docs/.
 ELSEWHERE = {HOME: "README.md", "CONTRIBUTING": "CONTRIBUTING.md", "CHANGELOG": "CHANGELOG.md",
              "SECURITY": "SECURITY.md", "EXAMPLES": "examples/README.md"}
 FENCE = "```"
@@ -30,10 +30,10 @@ LANGUAGES = {"sh", "python"}
 # What stays as it is: code, and links.
 KEPT = re.compile(r"(`+[^`]+`+|!?\[[^\]]*\]\([^)]*\))")
 # A document, and behind it a chapter or a heading; a chapter alone, within the manual.
-CITED = re.compile(r'\b(?P<path>(?:docs/)?(?P<page>[A-Z_]+)\.md|examples/README\.md)'
+CITED = re.compile(r'\b(?P<path>(?:docs/\w+/)?(?P<page>[A-Z_]+)\.md|examples/README\.md)'
                    r'(?:, (?:chapter (?P<chapter>\d+)|"(?P<heading>[^"]+)"))?')
 CHAPTER = re.compile(r"\b[Cc]hapter (\d+)\b")
-PICTURE = re.compile(r"(!\[[^\]]*\]\()(?:\.\./|docs/)")
+PICTURE = re.compile(r"(!\[[^\]]*\]\()(?:(?:\.\./)+|docs/use/)")
 ITEM = re.compile(r"(- |\d+\. )")
 
 
@@ -62,13 +62,19 @@ def slug(heading: str) -> str:
 
 def path_of(name: str) -> pathlib.Path:
     """The document of a page."""
-    return TOP / ELSEWHERE.get(name, f"docs/{name}.md")
+    kept = {it.stem: it for it in kept_documents()}
+    return kept[name] if name in kept else TOP / ELSEWHERE[name]
+
+
+def kept_documents() -> list[pathlib.Path]:
+    """The documents in the folders of docs/."""
+    return sorted((TOP / "docs").glob("*/*.md"))
 
 
 def chapters() -> dict[str, str]:
     """The chapters of the manual by their pages, and under its own name what comes before them."""
     found, at = {MANUAL: ""}, MANUAL
-    for line, is_code in lines_of((TOP / "docs/MANUAL.md").read_text()):
+    for line, is_code in lines_of((TOP / "docs/use/MANUAL.md").read_text()):
         if (begun := re.match(r"## (\d+) ", line)) and not is_code:
             at = f"{MANUAL}_{begun[1]}"
             found[at] = ""
@@ -94,7 +100,7 @@ def documents() -> dict[str, str]:
     manual = chapters()
     others = [it for it in [HOME, *named] if it not in manual]
     found = {it: path_of(it).read_text() for it in others} | manual
-    kept = {it.stem for it in (TOP / "docs").glob("*.md")}
+    kept = {it.stem for it in kept_documents()}
     if missing := (found.keys() | kept) - {HOME, MANUAL, *named}:
         raise Astray(f"the site has no place for {', '.join(sorted(missing))}")
     return found

@@ -24,12 +24,12 @@ MONITOR = re.compile(r"^pub const MONITOR_CELLS: usize = (\d+);", re.M)
 OBJECT = re.compile(r'^ +\w+ +"\w+" +(\d+) \[(\d+) \d+\]', re.M)
 ROW = re.compile(r"^\| (\w+)[^|]* \| (\d+) \| (\d+) \|$", re.M)
 
-DOCUMENTS = ["README.md", "CONTRIBUTING.md", "docs/*.md", "examples/README.md", "cases/README.md",
+DOCUMENTS = ["README.md", "CONTRIBUTING.md", "docs/*/*.md", "examples/README.md", "cases/README.md",
              "crates/*/README.md", "tools/*/README.md"]
 # It has the table of objects, each with its first cell and how many indices it has.
 OBJECTS = pathlib.Path("crates/tsb_plan/src/object.rt")
 # It has the table of cells, layer after layer.
-CONTRACTS = pathlib.Path("docs/CONTRACTS.md")
+CONTRACTS = pathlib.Path("docs/work/CONTRACTS.md")
 WORDS = {it: k for k, it in enumerate("one two three four five six seven eight nine ten eleven twelve".split(), 1)}
 # The layers whose cells are numbered, in the order of CONTRACTS, with their crates; the plan's are in tsb_plan.
 LAYERS = {"desk": "tsb_transact", "detectors": "tsb_detect", "calls": "tsb_calls", "phases": "tsb_phase",
@@ -65,14 +65,15 @@ TWICE = {
 UNPROVED = {"tsb_tests", "tsb_field_tests", "tsb_layer_runs", "tsb_runs", "tsb_speed"}
 
 # Files that comments name by their old places. A comment waits for a change of its crate, as that is proved anew.
-MOVED = {"src/laws.rt", "src/desk_laws.rt", "tools/test_coordination.py", "tools/test_stated_laws.py"}
+MOVED = {"src/laws.rt", "src/desk_laws.rt", "tools/test_coordination.py", "tools/test_stated_laws.py",
+         *(f"docs/{it}.md" for it in ("CONTRACTS", "DECISIONS", "MANUAL", "SAFETY"))}
 
 # Numbers that are of something else.
 OTHERS = {
     "64 edits": "as many has a transaction",
-    "55 crates": "as many were proved in the run of the gate that docs/EVIDENCE.md has",
+    "55 crates": "as many were proved in the run of the gate that docs/trust/EVIDENCE.md has",
     "51 crates": "as many had edits in that run",
-    "3 objects": "a chapter of docs/MANUAL.md",
+    "3 objects": "a chapter of docs/use/MANUAL.md",
     "16 cells": "columns of tsb_cells",
     "63 cells": "layers of at most as many have a block for each cell",
 }

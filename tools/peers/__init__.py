@@ -1,1 +1,1 @@
-"""What runs SUMO's controller and the bench, and writes docs/PEERS.md: `python3 -m tools.peers`."""
+"""What runs SUMO's controller and the bench, and writes docs/trust/PEERS.md: `python3 -m tools.peers`."""

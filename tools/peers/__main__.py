@@ -1,5 +1,5 @@
 """Runs SUMO's own NEMA controller and the bench on the same traffic, and writes what
-came of it into docs/PEERS.md: python3 -m tools.peers FOLDER [--write] [--only WORD,..].
+came of it into docs/trust/PEERS.md: python3 -m tools.peers FOLDER [--write] [--only WORD,..].
 
 The runs are kept in FOLDER: what is there is not run again, so that it can be stopped
 and started. All runs take an hour or two. With --only it makes the runs of kinds with
@@ -159,7 +159,7 @@ def main() -> int:
     words.add_argument("--seconds", type=int, default=3600)
     words.add_argument("--seeds", type=int, default=5)
     words.add_argument("--only", default="", help="words, with commas between")
-    words.add_argument("--write", action="store_true", help="write docs/PEERS.md")
+    words.add_argument("--write", action="store_true", help="write docs/trust/PEERS.md")
     given = words.parse_args()
     only: list[str] = given.only.split(",")
     folder: Path = given.folder
@@ -174,7 +174,7 @@ def main() -> int:
     if given.write:
         found = tables.Runs(folder, given.seeds)
         made = {head: of(found) for head, of in TABLES.items() if _has(only, head)}
-        tables.write(TOP / "docs" / "PEERS.md", made)
+        tables.write(TOP / "docs/trust/PEERS.md", made)
     return 0
 
 

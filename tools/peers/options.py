@@ -1,4 +1,4 @@
-"""The tables of docs/PEERS.md on the options of coordination: of the runs that
+"""The tables of docs/trust/PEERS.md on the options of coordination: of the runs that
 tools/peers keeps in a folder, and of short ones without SUMO, whose inputs are told
 beforehand."""
 

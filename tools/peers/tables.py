@@ -1,4 +1,4 @@
-"""The tables of docs/PEERS.md, of the runs that tools/peers keeps in a folder."""
+"""The tables of docs/trust/PEERS.md, of the runs that tools/peers keeps in a folder."""
 
 import gzip
 import re

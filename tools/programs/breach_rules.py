@@ -1,5 +1,5 @@
-"""Where a plan breaks the rules, read a second time: from chapter 4 of docs/MANUAL.md and the plan's JSON, and from nothing
-of the crates.
+"""Where a plan breaks the rules, read a second time: from chapter 4 of docs/use/MANUAL.md and the plan's JSON, and from
+nothing of the crates.
 
 `breaches(plan)` gives the lines that a review writes of a plan that is refused by a rule, and none of one that meets them
 all. The plan is a plan text of version 2 as Python reads its JSON, with values in range.

@@ -1,4 +1,5 @@
-"""Worked runs of tsb_field: its words, what it reads, and what it has to write, each found by hand from docs/FIELD.md.
+"""Worked runs of tsb_field: its words, what it reads, and what it has to write, each found by hand from
+docs/use/FIELD.md.
 
 tools/programs/run_field.py runs them in a folder with a copy of the examples and the files of `fill`.
 """
@@ -616,7 +617,7 @@ ALL_TOLD = shown(*sum(TOLD, []))
 # A session whose second tick is taken back. No display line has shown that yet.
 UNDONE = b"".join(LINES[:2]) + b"undone tick\n"
 
-# The session of docs/MANUAL.md in which `preempt 1 on` is given before tick 1, and no row of a log has that input.
+# The session of docs/use/MANUAL.md in which `preempt 1 on` is given before tick 1, and no row of a log has that input.
 SWITCHED = display(0, "RR-R-R-R", "---D", "R") + b"ok\n" + display(1, "RR-R-R-R", "---D", "R", 1) + b"".join(
     display(tick, "RR-G-R-G", "---D", "G", 1) for tick in (2, 3))
 SWITCHED_TOLD = ["07:00:00.0 105 1", "07:00:00.1 1 4", "07:00:00.1 1 8", "07:00:00.1 61 1"]

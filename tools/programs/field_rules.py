@@ -1,7 +1,7 @@
 """The rules of tsb_field's filters in plain Python, for tools/programs/run_field.py to judge it by.
 
-Nothing here is fast, and nothing of it comes from the program: each rule of docs/FIELD.md is computed as it is said.
-Moments are whole nanoseconds from the first day of the year 1 on. Texts are bytes.
+Nothing here is fast, and nothing of it comes from the program: each rule of docs/use/FIELD.md is computed as it is
+said. Moments are whole nanoseconds from the first day of the year 1 on. Texts are bytes.
 """
 import bisect
 import datetime
@@ -97,8 +97,8 @@ class Fault(Exception):
 def moment(text):
     """The moment that a time names, or None.
 
-    It is None for times of the year 0000 too, which docs/FIELD.md takes: Python's calendar begins with the year 1. So a
-    worked run has that year, and no text at random.
+    It is None for times of the year 0000 too, which docs/use/FIELD.md takes: Python's calendar begins with the year 1.
+    So a worked run has that year, and no text at random.
     """
     found = TIME.fullmatch(text)
     if not found:

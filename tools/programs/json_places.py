@@ -1,7 +1,7 @@
 """Where texts stop being JSON: what tsb_live tells of plan texts at random, beside a second reading of RFC 8259.
 
 The reading knows tokens by regular expressions, and what may follow them by a stack. It is written from the standard
-and from docs/MANUAL.md, not from the definitions of the crate tsb_plan_notes.
+and from docs/use/MANUAL.md, not from the definitions of the crate tsb_plan_notes.
 """
 import concurrent.futures
 import json

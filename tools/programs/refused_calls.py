@@ -4,8 +4,8 @@
 
 PROGRAM is that of crate tsb, PLAYER that of tsb_runs. A library that is loaded before that of C (refused_call.c,
 built by the kit's compiler) refuses the k-th request for memory, read or write, for k from 1 on until a run makes
-fewer. Each run has to end as docs/MANUAL.md says. Where an input was refused for want of memory, the answers behind it
-have to be those of a run in which it was not given.
+fewer. Each run has to end as docs/use/MANUAL.md says. Where an input was refused for want of memory, the answers behind
+it have to be those of a run in which it was not given.
 """
 import collections
 import errno

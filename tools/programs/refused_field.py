@@ -2,9 +2,9 @@
 the top, with the program's path.
 
 It does for tsb_field what tools/programs/refused_calls.py does for tsb, by the same library: the k-th request for
-memory, read or write is refused, for k from 1 on until a run makes fewer. Each run has to end as docs/FIELD.md says:
-with 3, the line of the failure, and a prefix of what it writes otherwise; where a read of `log` fails, with the rows
-that are known by then.
+memory, read or write is refused, for k from 1 on until a run makes fewer. Each run has to end as docs/use/FIELD.md
+says: with 3, the line of the failure, and a prefix of what it writes otherwise; where a read of `log` fails, with the
+rows that are known by then.
 """
 import errno
 import pathlib

@@ -88,7 +88,7 @@ def proved(release: Release) -> str:
     sums = "".join(f"{release.proof.sums[it]}  {it}\n" for it in RELEASED)
     return (f"{release.name()}\n\ncommit {release.proof.commit}\nkit {release.proof.kit}\n\n"
             f"The three programs were proved by tools/gate of that commit. Their SHA-256:\n\n{sums}\n"
-            "What is promised of them stands in docs/PROVED.md of the commit. The package in Python is tested.\n\n"
+            "What is promised of them stands in docs/trust/PROVED.md of the commit. The package in Python is tested.\n\n"
             f"The gate passed:\n\n{release.proof.table.rstrip()}\n")
 
 

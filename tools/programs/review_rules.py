@@ -1,7 +1,8 @@
-"""The advices on a plan, read a second time: from docs/MANUAL.md and the plan's JSON, and from nothing of the crates.
+"""The advices on a plan, read a second time: from docs/use/MANUAL.md and the plan's JSON, and from nothing of the
+crates.
 
 `review(plan)` gives the lines that a review of a plan writes. The plan is a plan text of version 3 that meets the rules
-of docs/MANUAL.md, as Python reads its JSON. Times are kept in tenths of a second.
+of docs/use/MANUAL.md, as Python reads its JSON. Times are kept in tenths of a second.
 """
 import collections
 from collections.abc import Iterator

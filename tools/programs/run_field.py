@@ -4,11 +4,11 @@
 
 PROGRAM is that of tsb_field, BENCH that of tsb, which answers the hour of the examples.
 
-Worked runs, of tools/programs/field_cases.py, have the exact bytes and the status that the rules of docs/FIELD.md ask
-for. Behind them come texts at random, the same in each run of this tool: logs go to events and back, events, exports in
-all forms and display lines are compared with what tools/programs/field_rules.py makes of them, and so are the bars of
-diagrams, which are read as XML. So are the sessions of the examples, and their hour of traffic. There are texts of the
-greatest sizes, too.
+Worked runs, of tools/programs/field_cases.py, have the exact bytes and the status that the rules of docs/use/FIELD.md
+ask for. Behind them come texts at random, the same in each run of this tool: logs go to events and back, events,
+exports in all forms and display lines are compared with what tools/programs/field_rules.py makes of them, and so are
+the bars of diagrams, which are read as XML. So are the sessions of the examples, and their hour of traffic. There are
+texts of the greatest sizes, too.
 """
 import itertools
 import pathlib

@@ -146,8 +146,8 @@ def all_can_be_found(site: Site) -> None:
 def what_is_cited_and_nowhere_is_told(site: Site) -> None:
     """A document or a chapter that there is not stops the site."""
     marks = site_pages.marks_of(site.documents)
-    for name, words in (("FIELD", "as docs/NOWHERE.md has it"), ("MANUAL_8", "see chapter 99"),
-                        ("LIVE", "docs/MANUAL.md, chapter 77")):
+    for name, words in (("FIELD", "as docs/use/NOWHERE.md has it"), ("MANUAL_8", "see chapter 99"),
+                        ("LIVE", "docs/use/MANUAL.md, chapter 77")):
         try:
             said = site_pages.linked(name, words, marks)
         except site_pages.Astray:
@@ -159,15 +159,15 @@ def citations_lead(site: Site) -> None:
     """Worked by hand: a document, one of its headings, a chapter, and what stays as it is."""
     marks = site_pages.marks_of(site.documents)
     for name, words, wanted in (
-        ("LIVE", "as docs/FIELD.md has it", "as [docs/FIELD.md](FIELD.md) has it"),
-        ("LIVE", "(docs/MANUAL.md, chapter 6)", "([docs/MANUAL.md, chapter 6](MANUAL_6.md))"),
+        ("LIVE", "as docs/use/FIELD.md has it", "as [docs/use/FIELD.md](FIELD.md) has it"),
+        ("LIVE", "(docs/use/MANUAL.md, chapter 6)", "([docs/use/MANUAL.md, chapter 6](MANUAL_6.md))"),
         ("MANUAL_9", "as in chapter 8.", "as in [chapter 8](MANUAL_8.md)."),
         ("LIVE", "as in chapter 8.", "as in chapter 8."),
-        ("MANUAL_8", 'docs/FIELD.md, "The worst moment for a preempt"',
-         '[docs/FIELD.md, "The worst moment for a preempt"](FIELD.md#the-worst-moment-for-a-preempt)'),
-        ("LIVE", 'docs/MANUAL.md, "Coming into step"',
-         '[docs/MANUAL.md, "Coming into step"](MANUAL_8.md#coming-into-step)'),
-        ("FIELD", "`docs/FIELD.md` and [docs/LIVE.md](x)", "`docs/FIELD.md` and [docs/LIVE.md](x)"),
+        ("MANUAL_8", 'docs/use/FIELD.md, "The worst moment for a preempt"',
+         '[docs/use/FIELD.md, "The worst moment for a preempt"](FIELD.md#the-worst-moment-for-a-preempt)'),
+        ("LIVE", 'docs/use/MANUAL.md, "Coming into step"',
+         '[docs/use/MANUAL.md, "Coming into step"](MANUAL_8.md#coming-into-step)'),
+        ("FIELD", "`docs/use/FIELD.md` and [docs/use/LIVE.md](x)", "`docs/use/FIELD.md` and [docs/use/LIVE.md](x)"),
     ):
         said = site_pages.cited(name, words, marks)
         check(said == wanted, f"{words}: {said}")

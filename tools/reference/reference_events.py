@@ -2,8 +2,8 @@
 
 An event has a tick number, a code and a parameter. The codes are those of the Indiana enumerations. `events_of` finds
 the events of one input, from the states before and after it. `record` writes those of a session, as CSV. What a tick
-works with and does not keep, as whether a gap had expired, is found once more here: as chapter 8 of docs/MANUAL.md says
-it, from the state before the tick, its row, and what the state after it has of detectors and preempts.
+works with and does not keep, as whether a gap had expired, is found once more here: as chapter 8 of docs/use/MANUAL.md
+says it, from the state before the tick, its row, and what the state after it has of detectors and preempts.
 
 Nothing here is fast, and nothing of it comes from the program. `reference` is that of make_sessions.py.
 """

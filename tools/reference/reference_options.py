@@ -1,7 +1,7 @@
 """The options that plans have, laid over an independent reference that was written before them.
 
-`with_options` gives the module `tsb_oracle` of a reference the seven objects of docs/MANUAL.md, "Coordination options":
-`coordForceMode`, `coordMaximumMode`, `coordCorrectionMode`, `coordCorrectionLimit`, `patternPermissiveTime`,
+`with_options` gives the module `tsb_oracle` of a reference the seven objects of docs/use/MANUAL.md, "Coordination
+options": `coordForceMode`, `coordMaximumMode`, `coordCorrectionMode`, `coordCorrectionLimit`, `patternPermissiveTime`,
 `patternLeadLag` and `phasePedestrianRecycle`, with K23 and what `patternLeadLag` changes of K20. It has
 `overlapAcrossRings` of the same chapter too, and reads texts of version 3, which alone have that. All tools that take
 `--reference FOLDER` do so; a reference that has the options stays as it is.
@@ -10,8 +10,8 @@ It replaces the functions that an option changes. The tick of the reference itse
 local counter, by which it would force phases off, but which greens the pattern ends for a conflict in this tick: as
 though these had been forced off before. What such a tick leaves of that is then put right.
 
-Each rule is that of chapter 8 of docs/MANUAL.md. Nothing here is fast, and nothing of it comes from the program. The
-options are those of the final numbers of phases and sides alone.
+Each rule is that of chapter 8 of docs/use/MANUAL.md. Nothing here is fast, and nothing of it comes from the program.
+The options are those of the final numbers of phases and sides alone.
 """
 import functools
 import json
@@ -26,7 +26,7 @@ Plan = dict[str, list[int]]
 Found = TypeVar("Found")
 
 # The objects of the options, each with how many indices it has and its greatest value. They come last, in this order,
-# in the plan that a live session tells (docs/LIVE.md).
+# in the plan that a live session tells (docs/use/LIVE.md).
 OBJECTS = {
     "coordForceMode": (1, 2), "coordMaximumMode": (1, 2), "patternPermissiveTime": (16, 255), "patternLeadLag": (16, 1),
     "phasePedestrianRecycle": (16, 1), "coordCorrectionMode": (1, 3), "coordCorrectionLimit": (1, 50),

@@ -2,7 +2,8 @@
 
 `status_of` gives what NTCIP 1202 names as status objects: sets of phases, overlaps and detectors, the state of each
 preempt, of coordination, flash, desk and rings, and what each phase waits for that is called and not green. It says it
-as docs/DECISIONS.md has it under "What a status says", from the state alone. `line_of` writes it as one line of JSON.
+as docs/work/DECISIONS.md has it under "What a status says", from the state alone. `line_of` writes it as one line of
+JSON.
 
 Nothing here is fast, and nothing of it comes from the program. `reference` is that of make_sessions.py.
 """

@@ -1,7 +1,7 @@
 """The line of a status as tsb_status_text writes it, from what reference_status.py finds of a state of the reference.
 
-`line_of` puts each group of status objects into an object of its own, names states as docs/DECISIONS.md has it under
-"What a status says", and leaves out the parts that a wait of its kind does not have. It writes with Python's own
+`line_of` puts each group of status objects into an object of its own, names states as docs/work/DECISIONS.md has it
+under "What a status says", and leaves out the parts that a wait of its kind does not have. It writes with Python's own
 JSON, so a line that is the same is JSON.
 """
 import json

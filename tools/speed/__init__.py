@@ -1,1 +1,1 @@
-"""What measures the programs, and writes docs/SPEED.md: `python3 -m tools.speed`."""
+"""What measures the programs, and writes docs/trust/SPEED.md: `python3 -m tools.speed`."""

@@ -2,7 +2,7 @@
 
     python3 -m tools.speed TSB TSB_FIELD TSB_LIVE [--beside PLAIN] [--runs N] [--only SUBJECTS] [--write]
 
-The three are the built programs. Each subject gives tables of docs/SPEED.md:
+The three are the built programs. Each subject gives tables of docs/trust/SPEED.md:
 
 - sessions: ticks with their lines, ticks taken back, records that `when` reads, lines of commands;
 - texts: plan texts that are checked, and a long log;
@@ -16,7 +16,7 @@ By the clock the median and, in brackets, the least of N runs are told (7 withou
 instructions are told too, as callgrind counts them: those of a run with some work less those of one without it, so that
 the start of the program falls out. They are the same each time, whatever else the machine does. With PLAIN, which
 answers `check` and `run` as TSB does, the runs of both are made in turn, and the ratios are told. `--write` puts the
-tables into docs/SPEED.md; the words around them stay.
+tables into docs/trust/SPEED.md; the words around them stay.
 """
 
 import argparse
@@ -30,7 +30,7 @@ from tools.speed.live import lives
 from tools.speed.profile import profile
 from tools.speed.sessions import change_growth, edit_growth, phase_growth, sessions, texts, tick_growth
 
-DOCUMENT = pathlib.Path("docs/SPEED.md")
+DOCUMENT = pathlib.Path("docs/trust/SPEED.md")
 SUBJECTS = ["sessions", "texts", "files", "lives", "phases", "changes", "edits", "ticks", "profile"]
 
 
@@ -46,12 +46,12 @@ def words_of() -> argparse.Namespace:
     parser.add_argument("--days", type=int, default=40, help="how many days are recorded (40)")
     parser.add_argument("--part", type=int, default=1, help="a part of the ticks, to try this program (1, for all)")
     parser.add_argument("--only", default=",".join(SUBJECTS), help="these subjects, with commas between")
-    parser.add_argument("--write", action="store_true", help="puts the tables into docs/SPEED.md")
+    parser.add_argument("--write", action="store_true", help="puts the tables into docs/trust/SPEED.md")
     asked = parser.parse_args()
     if not set(asked.only.split(",")) <= set(SUBJECTS):
         parser.error(f"the subjects are {', '.join(SUBJECTS)}")
     if asked.write and not (asked.beside and has_counter() and asked.part == 1):
-        parser.error("--write needs --beside, valgrind and all ticks: the tables of docs/SPEED.md have all columns")
+        parser.error("--write needs --beside, valgrind and all ticks, for all columns of docs/trust/SPEED.md")
     return asked
 
 

@@ -1,6 +1,6 @@
 """A front panel in the browser: the intersection, the controller, time and the desk.
 
-Each page has a live bench of its own. docs/PANEL.md shows what is on it.
+Each page has a live bench of its own. docs/use/PANEL.md shows what is on it.
 """
 
 from collections.abc import Sequence

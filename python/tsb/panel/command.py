@@ -27,7 +27,7 @@ def _words() -> argparse.ArgumentParser:
     words.add_argument("plan", type=Path, metavar="PLAN")
     words.add_argument("log", type=Path, nargs="?", metavar="LOG")
     words.add_argument(
-        "--layout", type=Path, metavar="FILE", help="where phases are (docs/PANEL.md)"
+        "--layout", type=Path, metavar="FILE", help="where phases are (docs/use/PANEL.md)"
     )
     words.add_argument(
         "--runs",

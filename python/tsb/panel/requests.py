@@ -107,7 +107,7 @@ NAME = r"[A-Za-z0-9][A-Za-z0-9_-]{0,39}"
 A_NAME = "1 to 40 letters, digits, - and _, of which the first is no sign"
 
 
-# Inputs of the bench that are no ticks: each is a command of docs/MANUAL.md
+# Inputs of the bench that are no ticks: each is a command of docs/use/MANUAL.md
 
 
 class _Given:

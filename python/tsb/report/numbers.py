@@ -1,5 +1,5 @@
-"""The numbers of a run: tables of what its events say, each as docs/FIELD.md defines
-it under "What the report's numbers mean"."""
+"""The numbers of a run: tables of what its events say, each as docs/use/FIELD.md
+defines it under "What the report's numbers mean"."""
 
 from dataclasses import dataclass
 from functools import cached_property

@@ -1,7 +1,7 @@
 """Plans in a closed loop with SUMO: cars that react to what the bench shows.
 
 `Intersection.of` joins a net, a traffic light and a mapping; `Loop` steps SUMO and the
-benches together, and takes both back. docs/SUMO.md shows how.
+benches together, and takes both back. docs/use/SUMO.md shows how.
 """
 
 from collections.abc import Sequence

@@ -14,7 +14,7 @@ It is a file of JSON that a user writes, or that `tsb.sumo.propose` begins:
      "preempts": {"1": {"classes": ["emergency"], "edges": ["S_far", "S_near"]}}}
 
 Links are numbered as the letters of the traffic light's state in SUMO (`linkIndex` of
-the net). Only `tls` has to be there. docs/SUMO.md has the meaning of each.
+the net). Only `tls` has to be there. docs/use/SUMO.md has the meaning of each.
 """
 
 import json

@@ -2,7 +2,8 @@
 of one.
 
 What SUMO means by a value is not always what the bench means by it. Each difference is
-in docs/PEERS.md; those that were met in a program are among the notes of its draft.
+in docs/trust/PEERS.md; those that were met in a program are among the notes of its
+draft.
 """
 
 import math
