@@ -4,8 +4,7 @@ A path below `crates`, `docs`, `examples`, `python` or `tools` has to be there. 
 stand in the sources, or as the name of a file. Names that are said to stand in a file, as in "`is_ready` and `may_end`
 in `crates/tsb_phase/specs/Ready.antt`", or in "`Wants.antt` there", have to stand in that file. Code blocks are left
 out, and so is what is no name, such as a line of a display; of the glossary the names of the standards.
-docs/work/DEFINITIONS.md, which tools/pages/definitions_index.py writes from the source, may be missing and is not
-looked at.
+Pages that tools/pages/written.py makes of the source may be missing and are not looked at.
 
 The comment above a law names mistakes and witnesses: each has to be in `specs/` or `proofs/` of the law's crate, or of
 one that is named there. A name that only comments of programs have counts as missing.
@@ -17,6 +16,7 @@ import re
 import sys
 from collections.abc import Iterator
 
+from tools.pages import written
 from tools.pages.laws import Law, laws
 
 DOCUMENTS = ["README.md", "CONTRIBUTING.md", "docs/*/*.md", "examples/README.md", "cases/README.md",
@@ -34,13 +34,10 @@ PLACED = re.compile(r"((?:`[\w:-]+`(?: \(\w+\))?(?:, clause|, | and )?)+) in (?:
 # The standards' own names stand beside ours here.
 GLOSSARY = pathlib.Path("docs/work/GLOSSARY.md")
 
-# It is written from the source, and not kept.
-DEFINITIONS = pathlib.Path("docs/work/DEFINITIONS.md")
-
 # Words of the documents that are no names of the sources, and paths that only the build makes, or that are no paths.
 OTHER = {"rattle", "kit", "13b", "uniq", "xargs", "vehicleDetectorStatusGroupActive", "P02"}
 MADE = {"crates/tsb/out/tsb", "crates/tsb_field/out/tsb_field", "crates/tsb_ring/must-fail/name.edit",
-        "python/.venv", "python/.venv/bin/python", str(DEFINITIONS)}
+        "python/.venv", "python/.venv/bin/python", *map(str, written.PAGES)}
 
 
 def words_of(path: pathlib.Path) -> set[str]:
@@ -120,7 +117,7 @@ def missing() -> Iterator[str]:
     """All of it, document after document, and law after law."""
     known = names()
     for path in itertools.chain.from_iterable(sorted(pathlib.Path().glob(it)) for it in DOCUMENTS):
-        if path != DEFINITIONS:
+        if path not in written.PAGES:
             yield from absent(path, known)
             yield from misplaced(path)
     for law in itertools.chain.from_iterable(laws().values()):

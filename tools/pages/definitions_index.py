@@ -17,8 +17,8 @@ HEAD = """# Definitions
 Each public definition in `specs/`, crate by crate from the cells up to the program, with the first sentence of the
 comment above it; `tools/pages/definitions_index.py` writes this document. The last column has the public functions and
 types whose clauses name the definition, or else the private ones, in parentheses, six at most; where it is empty, the
-definition is a part of others. docs/trust/LAWS.md says how definitions are to be read, what each law needs, and what it
-does not say; docs/work/READING.md goes from a question to the definition.
+definition is a part of others. docs/trust/PROVED.md, "Laws", says how definitions are to be read; docs/work/READING.md
+goes from a question to the definition.
 """
 
 # How many functions and types a row has.

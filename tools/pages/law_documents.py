@@ -1,10 +1,8 @@
-"""Writes what docs/trust/LAWS.md and docs/trust/PROVED.md say of laws, from the comments above them; run it at the top.
+"""Writes docs/trust/LAWS.md from the comments above the laws; run it at the top. The page is not kept in git.
 
-In docs/trust/LAWS.md a line `<!-- laws` begins a list of laws, each line a crate, a colon and functions. What follows
-that list, up to `<!-- end of laws -->`, is written from the comments, and all else there by hand. docs/trust/PROVED.md
-has one such part, the tables of all titles, section by section. With `--check` nothing is written: the script then
-fails where a document is not what the comments give, and names the first line that differs. With `--lacking` it lists
-the laws whose comments name no mistake or no witness.
+`tools/pages/laws_by_subject.txt` says which laws stand under which heading. With `--check` nothing is written. Either
+way the script fails where a law is not listed just once, or where a comment does not have the form of a law's. With
+`--lacking` it lists the laws whose comments name no mistake or no witness.
 """
 import dataclasses
 import itertools
@@ -16,11 +14,15 @@ from collections.abc import Iterator
 
 from tools.pages.laws import BrokenComment, Law, laws
 
-LAWS, PROVED = pathlib.Path("docs/trust/LAWS.md"), pathlib.Path("docs/trust/PROVED.md")
-PART = re.compile(r"(<!-- laws\n(.*?)-->\n).*?(<!-- end of laws -->)", re.S)
-TABLES = re.compile(r"(<!-- titles of laws: written by tools/pages/law_documents.py -->\n).*?(<!-- end of titles -->)",
-                    re.S)
-SECTION = re.compile(r"^## ([^\n]+)|^<!-- laws\n(.*?)-->", re.M | re.S)
+PAGE, SUBJECTS = pathlib.Path("docs/trust/LAWS.md"), pathlib.Path("tools/pages/laws_by_subject.txt")
+HEAD = """# Laws
+
+What holds of every run of the controller, of its records, of plans and of texts: each law by its name in the trade's
+words, with its function, its crate, and the clause where it has several. `tools/pages/law_documents.py` writes this
+page from the comments above the functions. docs/trust/PROVED.md, "Laws", says how a law is to be read, and what
+*Needs*, *Not said*, *Mistake* and *Witness* mean.
+"""
+LISTED = re.compile(r"(tsb_\w+): ")
 
 
 @dataclasses.dataclass
@@ -36,19 +38,25 @@ class Entry:
         return f"`{self.law.function}` of {', '.join(self.crates)}{clause}"
 
 
-def listed(text: str) -> Iterator[tuple[str, str]]:
+def blocks() -> list[str]:
+    """The headings, texts and lists of the subjects, without the comment at the head."""
+    lines = [it for it in SUBJECTS.read_text().splitlines() if not it.startswith("# ")]
+    return [it.strip("\n") for it in re.split(r"\n{2,}", "\n".join(lines)) if it.strip()]
+
+
+def listed(block: str) -> Iterator[tuple[str, str]]:
     """The crates and functions that a list names."""
-    for line in text.splitlines():
-        crate, _, functions = line.partition(": ")
+    _, *parts = LISTED.split(block)
+    for crate, functions in zip(parts[::2], parts[1::2]):
         yield from ((crate, it) for it in functions.split())
 
 
-def entries(text: str) -> list[Entry]:
+def entries(block: str) -> list[Entry]:
     """The laws of a list, in its order, those in the same words as one."""
     found: list[Entry] = []
-    for crate, function in listed(text):
+    for crate, function in listed(block):
         if (crate, function) not in laws():
-            raise BrokenComment(f"{LAWS}: {crate} has no law {function}")
+            raise BrokenComment(f"{SUBJECTS}: {crate} has no law {function}")
         for law in laws()[crate, function]:
             same = [it for it in found if it.law.function == function and it.law.text() == law.text()]
             if same:
@@ -63,9 +71,9 @@ def wrapped(text: str, indent: str = "") -> str:
     return textwrap.fill(text, 120, subsequent_indent=indent, break_long_words=False, break_on_hyphens=False)
 
 
-def told(entry: Entry) -> str:
-    """An entry of docs/trust/LAWS.md."""
-    first = wrapped(f"**{entry.law.title}** ({entry.contract()}). {entry.law.sentences}".strip())
+def spelled(entry: Entry) -> str:
+    """An entry of the page."""
+    first = wrapped(f"**{entry.law.title}** ({entry.contract()}). {placed(entry.law.sentences)}".strip())
     notes = (wrapped(f"- *{label}:* {placed(text)}", "  ") for label, text in entry.law.notes)
     return "\n".join([first, *notes]) + "\n"
 
@@ -76,44 +84,18 @@ def placed(text: str) -> str:
     return re.sub(r"\bdocs/(\w+\.md)", lambda it: found.get(it[1], it[0]), text)
 
 
-def with_laws(text: str) -> str:
-    """docs/trust/LAWS.md as the comments give it."""
-    return PART.sub(lambda part: part[1] + "\n" + "\n".join(map(told, entries(part[2]))) + "\n" + part[3], text)
-
-
-def tables(text: str) -> str:
-    """The tables of docs/trust/PROVED.md, by the lists of docs/trust/LAWS.md."""
-    lines: list[str] = []
-    section = ""
-    for heading, part in SECTION.findall(text):
-        section = heading or section
-        if heading or not part:
-            continue
-        if f"**{section}**" not in lines:
-            lines += ["", f"**{section}**", "", "| Law | Contract |", "|---|---|"]
-        lines += [f"| {it.law.title} | {it.contract()} |" for it in entries(part)]
-    return "\n".join([*lines, "", ""])
-
-
-def written() -> dict[pathlib.Path, str]:
-    """Both documents as the comments give them."""
-    text = with_laws(LAWS.read_text())
-    return {LAWS: text, PROVED: TABLES.sub(lambda part: part[1] + tables(text) + part[2], PROVED.read_text())}
+def page() -> str:
+    """The whole page."""
+    parts = [HEAD]
+    for block in blocks():
+        parts += map(spelled, entries(block)) if LISTED.match(block) else [f"{block}\n"]
+    return "\n".join(parts)
 
 
 def misplaced() -> list[str]:
-    """The laws that docs/trust/LAWS.md does not list just once."""
-    places = [place for _, part, _ in PART.findall(LAWS.read_text()) for place in listed(part)]
-    return [f"{LAWS}: lists {places.count(law)} times: {' '.join(law)}" for law in laws() if places.count(law) != 1]
-
-
-def differences(path: pathlib.Path, now: str) -> list[str]:
-    """The first line of a document that differs."""
-    pairs = itertools.zip_longest(path.read_text().splitlines(), now.splitlines(), fillvalue="(no line)")
-    for number, (was, new) in enumerate(pairs, 1):
-        if was != new:
-            return [f"{path}:{number}: {was}\nis to be: {new}"]
-    return []
+    """The laws that are not listed just once."""
+    places = [place for block in blocks() if LISTED.match(block) for place in listed(block)]
+    return [f"{SUBJECTS}: lists {places.count(law)} times: {' '.join(law)}" for law in laws() if places.count(law) != 1]
 
 
 def lacking() -> None:
@@ -124,25 +106,17 @@ def lacking() -> None:
             print(f"{law.place()}: no {' and no '.join(it.lower() for it in missing)}")
 
 
-def rewritten(is_check: bool) -> list[str]:
-    """Writes the documents, or only compares them; gives what is wrong."""
-    wrong = misplaced()
-    for path, text in written().items():
-        if is_check:
-            wrong += differences(path, text)
-        else:
-            path.write_text(text)
-    return wrong
-
-
 def main(words: list[str]) -> int:
+    """Writes the page, or only looks; the status to end with."""
     if words not in ([], ["--check"], ["--lacking"]):
         sys.exit("usage: python3 -m tools.pages.law_documents [--check | --lacking]")
     try:
         if words == ["--lacking"]:
             lacking()
             return 0
-        wrong = rewritten(is_check=bool(words))
+        wrong, text = misplaced(), page()
+        if not words:
+            PAGE.write_text(text)
     except BrokenComment as error:
         wrong = [str(error)]
     print("\n".join(wrong) if wrong else f"{len(laws())} laws, as in the source")

@@ -14,6 +14,7 @@ import re
 import sys
 from collections.abc import Iterator
 
+from tools.pages import written
 from tools.pages.laws import laws
 
 TYPE = re.compile(r"^pub (?:struct|enum|trait) (\w+)", re.M)
@@ -188,7 +189,7 @@ def missing() -> Iterator[str]:
     yield from wrong_cells(layers)
     tree = numbers_of_tree(layers)
     for path in itertools.chain.from_iterable(sorted(pathlib.Path().glob(it)) for it in DOCUMENTS):
-        if path.name != "DEFINITIONS.md":
+        if path not in written.PAGES:
             is_readme = path.parts[0] == "crates"
             yield from wrong_numbers(path, numbers_of_crate(path.parent, tree, layers) if is_readme else tree)
 

@@ -12,13 +12,14 @@ import pathlib
 import re
 import shutil
 import subprocess
+import sys
 import tarfile
 import tempfile
 import time
 import tomllib
 import zipfile
 
-from tools.pages import manual_pages
+from tools.pages import manual_pages, written
 from tools.prover.proved_programs import RELEASED, Proof
 
 # The command of the package in Python, beside the programs.
@@ -187,10 +188,13 @@ def manual(release: Release, name: str) -> bytes:
 
 
 def archive(release: Release, to: pathlib.Path) -> None:
-    """The programs alone, with the pages, the documents and the examples."""
+    """The programs alone, with the pages, those that are made of the source too, the documents and the examples."""
     words = ["git", "ls-files", "-z", "docs", "examples"]
     listed = subprocess.run(words, cwd=release.top, capture_output=True, text=True, check=True).stdout
-    files = {it: ((release.top / it).read_bytes(), 0o644) for it in [*PAGES, *filter(None, listed.split("\0"))]}
+    made = [sys.executable, "-m", "tools.pages.written"]
+    subprocess.run(made, cwd=release.top, stdout=subprocess.DEVNULL, check=True)
+    pages = [*PAGES, *map(str, written.PAGES), *filter(None, listed.split("\0"))]
+    files = {it: ((release.top / it).read_bytes(), 0o644) for it in pages}
     files |= {f"bin/{it}": (release.programs[it].read_bytes(), 0o755) for it in RELEASED}
     files |= {f"man/man1/{it}.1": (manual(release, it), 0o644) for it in RELEASED}
     files["PROVED.txt"] = proved(release).encode(), 0o644

@@ -97,7 +97,7 @@ def the_archive_is_whole(made: pathlib.Path, room: pathlib.Path) -> None:
     ran(["tar", "-xzf", next(made.glob("*.tar.gz"))], room, {})
     folder = next(room.glob("tsb-*"))
     check(ran([folder / "bin/tsb", "check", folder / "examples/quad.json"], room, {}) == "plan ok\n", "tsb check")
-    pages = [*release_parts.PAGES, "PROVED.txt", "docs/use/MANUAL.md"]
+    pages = [*release_parts.PAGES, "PROVED.txt", "docs/use/MANUAL.md", "docs/trust/LAWS.md"]
     check(all((folder / it).is_file() for it in pages), "a page is missing")
     for name in proved_programs.RELEASED:
         the_manual_page_is_well(folder / "man/man1" / f"{name}.1", room)
