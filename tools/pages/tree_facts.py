@@ -72,8 +72,6 @@ MOVED = {"src/laws.rt", "src/desk_laws.rt", "tools/test_coordination.py", "tools
 # Numbers that are of something else.
 OTHERS = {
     "64 edits": "as many has a transaction",
-    "55 crates": "as many were proved in the run of the gate that docs/trust/EVIDENCE.md has",
-    "51 crates": "as many had edits in that run",
     "3 objects": "a chapter of docs/use/MANUAL.md",
     "16 cells": "columns of tsb_cells",
     "63 cells": "layers of at most as many have a block for each cell",
