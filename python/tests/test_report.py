@@ -19,7 +19,7 @@ from tsb.tasks import events_of_record, recorded
 
 START = "2026-11-22 07:00:00"
 TOP = Path(__file__).resolve().parents[2]
-EXAMPLES, FIELD = TOP / "examples", TOP / "docs/use/FIELD.md"
+EXAMPLES, DOCUMENT = TOP / "examples", TOP / "docs/use/PYTHON.md"
 PLANS = {"A": "main_and_oak", "B": "shorter_cycle"}
 SESSION = "pattern 1\nstep 36000\n"
 VOID = {"meta", "br", "hr", "img", "input", "link"}
@@ -96,12 +96,12 @@ def days(tmp_path_factory: pytest.TempPathFactory) -> Path:
 
 @pytest.fixture(scope="session")
 def two(tmp_path_factory: pytest.TempPathFactory) -> Path:
-    """The report of docs/use/FIELD.md, made by its words: a pattern on the hour of
+    """The report of docs/use/PYTHON.md, made by its words: a pattern on the hour of
     traffic, and the same with a shorter cycle."""
     folder = tmp_path_factory.mktemp("document")
     for name in ("examples", "python"):
         (folder / name).symlink_to(TOP / name)
-    blocks = re.findall("^```sh\n(.*?)^```", FIELD.read_text(), re.M | re.S)
+    blocks = re.findall("^```sh\n(.*?)^```", DOCUMENT.read_text(), re.M | re.S)
     (words,) = (it for it in blocks if "tsb report" in it)
     subprocess.run(["bash", "-euc", words], cwd=folder, check=True)
     return folder / "report.html"

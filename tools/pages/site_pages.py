@@ -21,7 +21,7 @@ PARTS: dict[str, list[str]] = {
 }
 HOME = "index"
 # What such a page is called in the navigation, where its heading is too long.
-SHORT = {"FIELD": "Event logs, diagrams, reports, sweeps", "READING": "From a question to its rule"}
+SHORT = {"FIELD": "Event logs and diagrams", "PYTHON": "Python, reports, sweeps", "READING": "From a question to its rule"}
 # Documents that are not in the folders of docs/.
 ELSEWHERE = {HOME: "README.md", "CONTRIBUTING": "CONTRIBUTING.md", "CHANGELOG": "CHANGELOG.md",
              "SECURITY": "SECURITY.md", "EXAMPLES": "examples/README.md"}

@@ -1,6 +1,6 @@
 """A page of charts and tables of one run or two, to look at and to hand on.
 
-docs/use/FIELD.md, "The report", has its words, and says what each number means.
+docs/use/PYTHON.md, "A page to hand on", has its words, and says what each number means.
 """
 
 from collections.abc import Sequence

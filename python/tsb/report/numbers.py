@@ -1,4 +1,4 @@
-"""The numbers of a run: tables of what its events say, each as docs/use/FIELD.md
+"""The numbers of a run: tables of what its events say, each as docs/use/PYTHON.md
 defines it under "What the report's numbers mean"."""
 
 from dataclasses import dataclass

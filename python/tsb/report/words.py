@@ -34,7 +34,7 @@ def _words() -> argparse.ArgumentParser:
         prog=PROGRAM,
         usage=USAGE,
         description="Writes a page of charts and tables of one run or two.",
-        epilog='docs/use/FIELD.md, "A page to hand on", says what each number means.',
+        epilog='docs/use/PYTHON.md, "A page to hand on", says what each number means.',
         allow_abbrev=False,
     )
     for run, which in (("a", "the first run"), ("b", "the second run")):
