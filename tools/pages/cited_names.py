@@ -20,7 +20,7 @@ from tools.pages import written
 from tools.pages.laws import Law, laws
 
 DOCUMENTS = ["README.md", "CONTRIBUTING.md", "docs/*/*.md", "examples/README.md", "cases/README.md",
-             "crates/*/README.md", "tools/*/README.md"]
+             "crates/*/README.md", "python/README.md", "tools/*/README.md"]
 SOURCES = ["crates/*/src/**/*.rt", "crates/*/specs/**/*.antt", "crates/*/proofs/**/*.antt", "tools/**/*.py",
            "python/tsb/**/*.py", "python/tests/**/*.py", "python/pyproject.toml"]
 

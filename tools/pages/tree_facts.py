@@ -26,7 +26,7 @@ OBJECT = re.compile(r'^ +\w+ +"\w+" +(\d+) \[(\d+) \d+\]', re.M)
 ROW = re.compile(r"^\| (\w+)[^|]* \| (\d+) \| (\d+) \|$", re.M)
 
 DOCUMENTS = ["README.md", "CONTRIBUTING.md", "docs/*/*.md", "examples/README.md", "cases/README.md",
-             "crates/*/README.md", "tools/*/README.md"]
+             "crates/*/README.md", "python/README.md", "tools/*/README.md"]
 # It has the table of objects, each with its first cell and how many indices it has.
 OBJECTS = pathlib.Path("crates/tsb_plan/src/object.rt")
 # It has the table of cells, layer after layer.
