@@ -198,7 +198,7 @@ def test_the_manual_has_these_places(examples: Path) -> None:
     goes = [_leg_out(layout.lanes[it]) for it in range(1, 9)]
     assert told["comes from the"] == comes
     assert told["goes into the"] == goes
-    assert told["its crossing is over the"] == [
+    assert told["its crosswalk is over the"] == [
         layout.crossings.get(it, "") for it in range(1, 9)
     ]
 
