@@ -98,5 +98,5 @@ def test_ranges_are_told() -> None:
 
 
 def test_the_last_tick() -> None:
-    """As in the manual's chapter 12."""
+    """As in the manual's chapter 9."""
     assert LAST_TICK == 6_000_000

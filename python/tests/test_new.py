@@ -231,7 +231,7 @@ def test_the_words_of_the_documents(top: Path, tmp_path: Path) -> None:
     of commands has it."""
     (command,) = {
         line
-        for page in ("PYTHON", "MANUAL")
+        for page in ("PYTHON", "TUTORIAL")
         for line in re.findall(
             r"^python/\.venv/bin/python -m tsb new .*$",
             (top / f"docs/use/{page}.md").read_text(), re.M,

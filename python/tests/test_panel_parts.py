@@ -189,7 +189,7 @@ def test_the_manual_has_these_places(examples: Path) -> None:
     plan = Plan.read(examples / "no_advice.json")
     plan["phaseWalk"][6] = 7
     layout = layout_of(plan)
-    manual = (examples.parent / "docs/use/MANUAL.md").read_text()
+    manual = (examples.parent / "docs/use/REVIEW.md").read_text()
     told = {
         name: [it.strip() for it in cells.split("|")]
         for name, cells in re.findall(r"^\| (.*?) \|(.*)\|$", manual, re.M)

@@ -25,11 +25,11 @@ class Page:
 
 PAGES = {
     "tsb": Page("a bench for traffic signal timing plans", ["check PLAN", "run PLAN LOG", ""], [
-        ("docs/use/MANUAL.md", it) for it in ("2 ", "3 ", "4 ", "5 ", "6 ", "7 ", "12 ")]),
+        ("docs/use/MANUAL.md", it) for it in ("2 ", "3 ", "4 ", "5 ", "6 ", "7 ", "9 ")]),
     "tsb_live": Page("live runs of the bench: inputs as they come", ["PLAN"], [("docs/use/LIVE.md", "")]),
     "tsb_field": Page("event logs, phase diagrams and reviews of plans for the bench",
                       ["log WORD ..", "record WORD .. PLAN LOG", "events WORD ..", "diagram WORD ..", "review PLAN"],
-                      [("docs/use/FIELD.md", "`"), ("docs/use/FIELD.md", "Faults"), ("docs/use/MANUAL.md", "11 ")]),
+                      [("docs/use/FIELD.md", "`"), ("docs/use/FIELD.md", "Faults"), ("docs/use/REVIEW.md", "")]),
 }
 ITEM = re.compile(r" *(-|\d+\.) (.*)")
 BULLET = "\\(bu"

@@ -4,7 +4,7 @@
 Names, indices, ranges, units and what is structural come from crates/tsb_plan/src/object.rt: its table, and the
 comments of its variants for what an index counts and for units. What an object means is the last cell of its row in
 the manual, and is kept. With `--check` nothing is written. It then fails where the manual's table is another one than
-the source gives, where a block of the manual or of the README that is headed `session NAME` or `file NAME`, or a row of
+the source gives, where a block of the manual, the tutorial, the README or the page of reviews that is headed `session NAME` or `file NAME`, or a row of
 a table of the manual that begins with a command behind `> `, is not what the examples have, and where the examples lack
 a command, a word of `when`, a refusal of the manual or a kind of input that is taken back.
 """
@@ -14,7 +14,8 @@ import sys
 
 SOURCE = pathlib.Path("crates/tsb_plan/src/object.rt")
 MANUAL = pathlib.Path("docs/use/MANUAL.md")
-README = pathlib.Path("README.md")
+# Other documents that show examples.
+OTHERS = [pathlib.Path(it) for it in ("README.md", "docs/use/TUTORIAL.md", "docs/use/REVIEW.md")]
 EXAMPLES = pathlib.Path("examples")
 BEGIN, END = "<!-- objects: written by tools/pages/manual_table.py -->", "<!-- end of objects -->"
 
@@ -182,7 +183,8 @@ def main(words):
         wrong += [f"missing: {line}" for line in now if line not in was]
         if not wrong and was != now:
             wrong.append("the rows stand in another order than the source's")
-        wrong += [*other_blocks(text), *other_blocks(README.read_text()), *other_rows(text), *unshown(text)]
+        wrong += [*other_blocks(text), *other_rows(text), *unshown(text)]
+        wrong += [fault for it in OTHERS for fault in other_blocks(it.read_text())]
     elif words:
         sys.exit("usage: python3 -m tools.pages.manual_table [--check]")
     else:

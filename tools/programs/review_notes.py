@@ -1,4 +1,4 @@
-"""What is told of the text of a plan, read a second time: from docs/use/MANUAL.md, and from nothing of the crates.
+"""What is told of the text of a plan, read a second time: from docs/use/REVIEW.md, and from nothing of the crates.
 
 `notes(text)` gives the lines: a name or an index that comes again in its table, and a value that is no whole number.
 `written(source, plan)` writes a plan as a text at random that has such.

@@ -1,4 +1,4 @@
-"""The advices on a plan, read a second time: from docs/use/MANUAL.md and the plan's JSON, and from nothing of the
+"""The advices on a plan, read a second time: from docs/use/REVIEW.md and the plan's JSON, and from nothing of the
 crates.
 
 `review(plan)` gives the lines that a review of a plan writes. The plan is a plan text of version 3 that meets the rules

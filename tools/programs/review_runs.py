@@ -1,7 +1,7 @@
 """Runs of the bench that show what an advice warns of, and that it does not come a step beside.
 
 Each run is a plan with the advice or a step beside, what happens on the street, and commands with the answers that show
-it, worked by hand from docs/use/MANUAL.md. Display lines are left out, but for what heads have to show in one of them.
+it, worked by hand from docs/use/REVIEW.md. Display lines are left out, but for what heads have to show in one of them.
 """
 import dataclasses
 

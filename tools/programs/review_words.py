@@ -1,4 +1,4 @@
-"""Worked runs of `tsb_field review`: its words, and what it has to write, each found by hand from docs/use/MANUAL.md.
+"""Worked runs of `tsb_field review`: its words, and what it has to write, each found by hand from docs/use/REVIEW.md.
 
 tools/programs/run_field.py runs them with those of tools/programs/field_cases.py, in the same folder.
 """

@@ -7,7 +7,7 @@ many at random as PLANS says (3,000): changes of these. What it answers is compa
 and of the cases also with their own lines. Each advice has to occur in both. Of a plan that breaks a rule it has to
 answer what TSB, the program tsb, says to `check`, and then where: that is compared with tools/programs/breach_rules.py,
 on the plans of tools/programs/breach_cases.py, also with their own lines, and on as many at random
-(tools/programs/breach_checks.py). The example of each advice in docs/use/MANUAL.md, and the reviews of its plans, have
+(tools/programs/breach_checks.py). The example of each advice in docs/use/REVIEW.md, and the reviews of its plans, have
 to be what it answers. As many texts at random, in which names come twice and values are no whole numbers, are compared
 with tools/programs/review_notes.py. TSB also runs tools/programs/review_runs.py, which show in runs what some advices
 warn of.
@@ -223,7 +223,7 @@ def note_faults(programs: Programs, texts: int, seed: int) -> list[str]:
 
 def manual_faults(programs: Programs) -> list[str]:
     """What the manual has otherwise: what is told of a text, the reviews of its plans, and the example of each advice."""
-    text = (TOP / "docs/use/MANUAL.md").read_text()
+    text = (TOP / "docs/use/REVIEW.md").read_text()
     given, line, noted = NOTED.search(text).groups()  # type: ignore[union-attr]
     told = programs.told(programs.field, "review", text=f'{{"version": 2, {given}}}')
     if told != (REFUSED, f"{line}\n{noted}", ""):
