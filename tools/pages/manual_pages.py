@@ -156,9 +156,7 @@ def main(words: list[str]) -> int:
 
 def version(top: pathlib.Path) -> str:
     """The version, from the one place where it stands."""
-    found = re.search(r'^__version__ = "([^"]+)"$', (top / "python/tsb/__init__.py").read_text(), re.M)
-    assert found is not None
-    return found[1]
+    return (top / "VERSION").read_text().strip()
 
 
 if __name__ == "__main__":

@@ -10,7 +10,9 @@ import shutil
 
 from tools.programs import field_rules
 from tools.programs.field_rules import HEADER
-from tools.programs.run_program import ENDLESS, EXAMPLES, FULL, INPUT, NOT_JSON, TORN, WRITE, Run, not_read
+from tools.programs.run_program import (
+    ENDLESS, EXAMPLES, FULL, HINT, INPUT, NOT_JSON, TORN, VERSION, WRITE, Run, not_read,
+)
 
 USAGE = (
     b"usage: tsb_field log --from TIME [--device ID] [--time-form FORM] [--zone OFFSET] [--count] [--allow-empty]\n"
@@ -709,7 +711,8 @@ def joined_runs(given):
 def word_runs():
     """Words that are bad, and other spellings of good ones."""
     for words in [
-        [], ["what"], ["--help"], ["-h"], ["help"], ["--version"], ["Log", *FROM], ["log"], ["log", "--help"],
+        [], ["what"], ["--help", "log"], ["-h"], ["help"], ["--version", "log"], ["LOG", *FROM], ["log"],
+        ["log", *FROM, "--help"], ["log", "--version"], ["what", "--help"], [*LOG, "--", "--devise"],
         [*LOG, *FROM], [*LOG, "more"], [*LOG, "--log", "car.log"], [*LOG, "--device", "-7"], [*LOG, "--device"],
         [*LOG, "--vehicle", "1"], [*LOG, "--time-form"], [*LOG, "--time-form", "month"], [*LOG, "--zone", "07:00"],
         [*LOG, "--zone"], [*LOG, "--zone=+24:00"], [*LOG, "--zone", "-07:00"], [*LOG, "--count=1"], [*LOG, "--count", "--count"],
@@ -728,6 +731,16 @@ def word_runs():
         ["diagram", "--title", b"\xc3"],
     ]:
         yield Run(words, 2, b"", USAGE, CAR)
+    for words, right in [
+        (["Log", *FROM], b"log"), (["lgo"], b"log"), (["dagram"], b"diagram"), (["--hlep"], b"--help"),
+        (["reviews", "quad.json"], b"review"), ([*LOG, "--devise", "7"], b"--device"), ([*LOG, "--zones=Z"], b"--zone"),
+        (["log", "--form", AT], b"--from"), ([*LOG, "--count", "--srot"], b"--sort"),
+        ([*EVENTS, "--lgo=car.log"], b"--log"), (["record", *FROM, "--go-no"], b"--go-on"),
+        (["diagram", "--seconds-perline", "9"], b"--seconds-per-line"), (["review", "--hel"], b"--help"),
+    ]:
+        yield Run(words, 2, b"", HINT % right, CAR)
+    yield Run(["--version"], 0, VERSION % b"tsb_field", b"", CAR)
+    yield Run(["--version"], 3, b"", WRITE, CAR, stdout=FULL)
     turned = ["log", "--device=7", "--from", AT.replace(" ", "T")]
     for words in [["log", f"--from={AT}"], turned, [*LOG, "--vehicle=2=2"]]:
         yield Run(words, 0, CAR_LOG, b"", CAR)

@@ -247,7 +247,7 @@ def plans(live: pathlib.Path, tsb: pathlib.Path) -> list[str]:
 def words(live: pathlib.Path) -> list[str]:
     """Words that ask for nothing."""
     wrong = []
-    for given in [[], [PLAN, PLAN], ["--what", PLAN], ["--help"], ["-x", PLAN], [PLAN, "examples/empty.log"]]:
+    for given in [[], [PLAN, PLAN], ["--what", PLAN], ["-h"], ["-x", PLAN], [PLAN, "examples/empty.log"]]:
         status, output, errors = ran([live, *given], b"show\n")
         if (status, output) != (2, b"") or not LIVE_USAGE.fullmatch(errors):
             wrong.append(f"words {given}: {status} {output!r} {errors!r}")

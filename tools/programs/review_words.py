@@ -37,5 +37,5 @@ def runs() -> Iterator[Run]:
         yield Run(["review", name], 3, b"", WRITE, stdout=FULL)
     for name in ["none.json", "folder", TORN]:
         yield Run(["review", name], 3, b"", not_read(name), stdout="/dev/null")
-    for words in ["", "tee.json empty.log", "--log=empty.log tee.json", "--help", "tee.json --count"]:
+    for words in ["", "tee.json empty.log", "--log=empty.log tee.json", "tee.json --help", "tee.json --count"]:
         yield Run(["review", *words.split()], 2, b"", USAGE, stdout="/dev/null")

@@ -20,6 +20,9 @@ import threading
 EXAMPLES = pathlib.Path("examples")
 USAGE = b"usage: tsb check PLAN or tsb run PLAN LOG\n"
 LIVE_USAGE = b"usage: tsb_live [--strict] PLAN\n"
+# What a program answers of its version, and what it says of a word that is nearly right.
+VERSION = b"%s " + pathlib.Path("VERSION").read_bytes()
+HINT = b"did you mean %s? --help lists the words\n"
 READ, WRITE = b"read fault\n", b"write fault\n"
 # What tsb_live and tsb_field tell of standard input, and why they don't read some paths; of others nothing is known.
 INPUT = READ + b"standard input\n"
@@ -186,12 +189,19 @@ def live_runs():
     session, commands = (EXAMPLES / "step_and_back.expected").read_bytes(), b"step 1\nback 1\n"
     for words in [
         [], [""], ["--strict"], ["--what", "two.json"], ["two.json", "--what"], ["two.json", "two.json"],
-        ["two.json", "empty.log"], ["--help"], ["-h"], ["two.json", "--help"], ["--version"], ["-s", "two.json"],
-        ["--strict=true", "two.json"], ["--stric", "two.json"], ["--strict", "two.json", "--strict"],
+        ["two.json", "empty.log"], ["-h"], ["two.json", "--help"], ["--version", "two.json"], ["-s", "two.json"],
+        ["--strict=true", "two.json"], ["--", "--strct", "two.json"], ["--strict", "two.json", "--strict"],
         ["--strict", "--strict", "two.json"], ["--"], ["--", "two.json", "--"], ["--", "two.json", "--strict"],
         ["--strict", "--"], [b"\xff"], ["two.json", b"\xc3"],
     ]:
         yield Run(words, 3 if words == [""] else 2, b"", not_read("") if words == [""] else LIVE_USAGE, commands)
+    for words, right in [
+        (["--stric", "two.json"], b"--strict"), (["two.json", "--srtict"], b"--strict"), (["--hepl"], b"--help"),
+        (["--strictt=1"], b"--strict"), (["two.json", "--vresion", "--"], b"--version"),
+    ]:
+        yield Run(words, 2, b"", HINT % right, commands)
+    yield Run(["--version"], 0, VERSION % b"tsb_live", b"", commands)
+    yield Run(["--version"], 3, b"", WRITE, commands, stdout=FULL)
     for words in [
         ["two.json"], ["--", "two.json"], ["two.json", "--"], ["--", "--help"], ["./two.json"],
         ["with spaces/two.json"], [TWELVE], ["check"], ["--strict", "two.json"], ["two.json", "--strict"],

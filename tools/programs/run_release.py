@@ -17,6 +17,7 @@ import urllib.request
 from collections.abc import Callable
 
 from tools import TOP
+from tools.pages import manual_pages
 from tools.programs import release_parts
 from tools.prover import proved_programs
 
@@ -55,8 +56,9 @@ def asked(programs: pathlib.Path, room: pathlib.Path, more: dict[str, str]) -> N
     check("7,2026-11-22 07:00:05.0,4,2\n" in record, "tsb_field record")
     line = "0000001 RGRRRGRR-------- -D-------------- G--- 0 ----\n"
     check(ran([programs / "tsb_live", plan], room, more, f"{16 * '0'} {8 * '0'} 0000\n") == line, "tsb_live")
-    told = ran([programs / "tsb-py", "--version"], room, more)
-    check(re.fullmatch(r"tsb \d+\.\d+\.\d+\n", told) is not None, f"tsb-py --version: {told}")
+    version = manual_pages.version(TOP)
+    for name, told in {"tsb-py": "tsb", "tsb_field": "tsb_field", "tsb_live": "tsb_live"}.items():
+        check(ran([programs / name, "--version"], room, more) == f"{told} {version}\n", f"{name} --version")
     listed = ran([programs / "tsb-py"], room, more)
     check(all(str(programs / it) in listed for it in proved_programs.RELEASED), f"other programs: {listed}")
     with subprocess.Popen([programs / "tsb-py", "panel", plan, log], cwd=room, text=True, stdout=subprocess.PIPE,
@@ -131,8 +133,7 @@ def it_is_made_alike(made: pathlib.Path, room: pathlib.Path, release: release_pa
 def it_refuses(room: pathlib.Path, programs: dict[str, pathlib.Path]) -> None:
     """What is not clean, not proved, proved of another commit, or not the program that was proved."""
     shutil.copytree(TOP / "tools", room / "tools", ignore=shutil.ignore_patterns("__pycache__"))
-    for name in ["python/tsb/__init__.py", "CHANGELOG.md", ".gitignore"]:
-        (room / name).parent.mkdir(parents=True, exist_ok=True)
+    for name in ["VERSION", "CHANGELOG.md", ".gitignore"]:
         shutil.copy2(TOP / name, room / name)
     git = ["git", "-c", "user.name=tsb", "-c", "user.email=tsb@localhost"]
     (room / "CHANGELOG.md").write_text("## [Unreleased]\n")

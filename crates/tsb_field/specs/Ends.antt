@@ -38,6 +38,8 @@ use Rattle.tsb_text.specs.Blame.{Blames}
 use Rattle.tsb_text.specs.declared.error.SessionError.{SessionError}
 use Rattle.tsb_text.specs.tsb_plan.Plan.{Plan}
 use Rattle.tsb_text.specs.tsb_plan_text.declared.error.PlanError.{PlanError}
+use Rattle.tsb_words.specs.FieldProgram.{Spells}
+use Rattle.tsb_words.specs.Near.{field_near}
 use Rattle.tsb_words.specs.FieldWords.{Wish, diagram, events, log, recording, reviewing, seen}
 use Rattle.tsb_words.specs.declared.field_files.Asked.{Asked}
 use Rattle.tsb_words.specs.declared.error.WordsError.{WordsError}
@@ -211,7 +213,13 @@ DidWish (events from device path) status files input left old new told tells = T
 DidWish (diagram path title seconds) status files input left old new told tells = Pictured status (title_of title) (seconds_of seconds) files path input left old new told tells
 DidWish (reviewing plan) status files input left old new told tells = (left ≡ input) × Reviewed status plan (files plan) old new told tells
 
--- what was done for what the words ask
-abbrev pub Did : Result Asked WordsError → ℕ → (List ℕ → Option (List ℕ)) → (input left old new told tells : Seen) → Type 0
-Did (Ok asked) status files input left old new told tells = DidWish (seen asked) status files input left old new told tells
-Did (Err fault) status files input left old new told tells = (left ≡ input) × (new ≡ old) × TellsWords fault status told tells
+-- what was done for what the words ask, where this right word is near a bad one
+abbrev pub Did : Option (List ℕ) → Result Asked WordsError → ℕ → (List ℕ → Option (List ℕ)) → (input left old new told tells : Seen) → Type 0
+Did near (Ok asked) status files input left old new told tells = DidWish (seen asked) status files input left old new told tells
+Did near (Err fault) status files input left old new told tells = (left ≡ input) × (new ≡ old) × TellsWords near fault status told tells
+
+-- the page that words ask for, if any, is written, with nothing read; else what the words ask was done
+abbrev pub Answered : Option (List ℕ) → List (List ℕ) → ℕ → (List ℕ → Option (List ℕ)) → (input left old new told tells : Seen) → Type 0
+Answered (Some page) words status files input left old new told tells = (left ≡ input) × Written status page old new told tells
+Answered None words status files input left old new told tells =
+    (answer : Result Asked WordsError) × Spells words answer × Did (field_near words) answer status files input left old new told tells

@@ -1,8 +1,9 @@
 -- The lines that the program tells, each with its end.
-use Rattle.std.specs.Prelude.{◌≡◌, ◌⊎◌, ℕ, List, [], ◌∷◌, ◌++◌, IfSome, Option, codes}
+use Rattle.std.specs.Prelude.{◌≡◌, ◌⊎◌, ℕ, List, [], ◌∷◌, ◌++◌, IfSome, Option, Some, None, codes}
 use Rattle.tsb_program.specs.tsb_lines.Seen.{Seen, Tells}
 use Rattle.tsb_words.specs.declared.error.WordsError.{WordsError}
 use Rattle.tsb_words.specs.declared.error.WordsError.TheVariants as words
+use Rattle.tsb_words.specs.Near.{hint}
 use Rattle.tsb_program.specs.Failures.{Fails}
 use Rattle.tsb_program.specs.declared.failure.Failure.TheVariants.{Memory}
 
@@ -11,10 +12,19 @@ abbrev pub usage : List ℕ
 usage =
     codes "usage: tsb_field log --from TIME [--device ID] [--time-form FORM] [--zone OFFSET] [--count] [--allow-empty]\n          [--sort] [--sort-within SECONDS] [--as-outputs PLAN]\n          [--vehicle CHANNEL=DETECTOR].. [--pedestrian CHANNEL=DETECTOR].. [--preempt CHANNEL=INPUT]..\n    or tsb_field record --from TIME --device ID [--go-on] PLAN LOG\n    or tsb_field events --from TIME --device ID [--log LOG]\n    or tsb_field diagram [--log LOG] [--title TEXT] [--seconds-per-line N]\n    or tsb_field review PLAN\n"
 
--- bad words end with 2 and how the program is used; words may run out of memory
-abbrev pub TellsWords : WordsError → ℕ → Seen → Seen → Type 0
-TellsWords words.Memory status told tells = Fails Memory status told tells
-TellsWords words.Bad status told tells = (status ≡ 2) × Tells told tells usage
+-- what is told of bad words: the right word that was perhaps meant, or else how the program is used
+abbrev pub bad_line : Option (List ℕ) → List ℕ
+bad_line (Some right) = hint right
+bad_line None = usage
+
+-- bad words end with 2 and that line
+abbrev pub TellsBad : Option (List ℕ) → ℕ → Seen → Seen → Type 0
+TellsBad near status told tells = (status ≡ 2) × Tells told tells (bad_line near)
+
+-- the same, where this right word is near; words may run out of memory
+abbrev pub TellsWords : Option (List ℕ) → WordsError → ℕ → Seen → Seen → Type 0
+TellsWords near words.Memory status told tells = Fails Memory status told tells
+TellsWords near words.Bad status told tells = TellsBad near status told tells
 
 -- what was refused is told in its own words, with this status, where there is memory for the line
 abbrev pub Refuses : ℕ → Option (List ℕ) → ℕ → Seen → Seen → Type 0

@@ -1,11 +1,13 @@
 //! How the program ends, and the lines that it writes then.
-ghost use Rattle.tsb_field.specs.Lines.{TellsLate, TellsWords};
+ghost use Rattle.std.specs.Prelude.{option_map};
+ghost use Rattle.tsb_field.specs.Lines.{TellsBad, TellsLate, TellsWords};
 ghost use Rattle.tsb_field.specs.Ends.{Written};
 ghost use Rattle.tsb_program.specs.tsb_lines.Seen.{seen};
 
 use std::io::Write;
 use tsb_program::{Failure, Status, Watched, fail, tell, write_line};
 use tsb_words::WordsError;
+use tsb_words::near::hint;
 
 /// How the program is used.
 const USAGE: &[u8] =
@@ -18,13 +20,28 @@ const USAGE: &[u8] =
     or tsb_field review PLAN
 ";
 
-/// Says why words ask for nothing, and gives the status that the program ends with.
-pub(crate) fn tell_words_fault<E: Write>(errors: &mut Watched<E>, fault: WordsError) -> u8
-    ensures { TellsWords fault result (seen E.contents errors.old) (seen E.contents errors.new) }
+/// Says why words ask for nothing, and gives the status that the program ends with. Of bad words it says which right word
+/// was perhaps meant, or else how the program is used.
+pub(crate) fn tell_words_fault<E: Write>(
+    errors: &mut Watched<E>,
+    near: Option<&str>,
+    fault: WordsError,
+) -> u8
+    ensures { TellsWords (option_map (λ right. right.now) near.entry) fault result (seen E.contents errors.old) (seen E.contents errors.new) }
 {
     match fault {
         WordsError::Memory => fail(errors, Failure::Memory),
-        WordsError::Bad => tell(errors, Status::BadWords, USAGE),
+        WordsError::Bad => tell_bad_words(errors, near),
+    }
+}
+
+/// Says of bad words which right word was perhaps meant, or else how the program is used.
+fn tell_bad_words<E: Write>(errors: &mut Watched<E>, near: Option<&str>) -> u8
+    ensures { TellsBad (option_map (λ right. right.now) near.entry) result (seen E.contents errors.old) (seen E.contents errors.new) }
+{
+    match near {
+        Some(right) => tell(errors, Status::BadWords, hint(right).as_bytes()),
+        None => tell(errors, Status::BadWords, USAGE),
     }
 }
 

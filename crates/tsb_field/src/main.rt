@@ -26,7 +26,7 @@ const BUFFER: usize = 65_536;
 fn main(rt: HostRuntime) -> ExitCode {
     let status = match words_given(&rt) {
         Ok(words) => run_buffered(&rt, words.as_slice()),
-        Err(fault) => tell_words_fault(&mut Watched::new(rt.stderr()), fault),
+        Err(fault) => tell_words_fault(&mut Watched::new(rt.stderr()), None, fault),
     };
     ExitCode::from(status)
 }

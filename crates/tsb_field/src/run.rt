@@ -3,12 +3,14 @@ ghost use Rattle.std.specs.Prelude.{◌≡◌, Result, false, map, option_map, t
 ghost use Rattle.tsb_words.specs.declared.field_files.Asked.{Asked};
 ghost use Rattle.tsb_words.specs.declared.error.WordsError.{WordsError};
 ghost use Rattle.tsb_words.specs.FieldProgram.{Spells};
+ghost use Rattle.tsb_words.specs.Near.{field_near};
+ghost use Rattle.tsb_words.specs.Pages.{field_page};
 ghost use Rattle.tsb_text.specs.Answers.{Setup};
 ghost use Rattle.tsb_text.specs.tsb_objects.Checked.{checked_plan};
 ghost use Rattle.tsb_program.specs.tsb_lines.Seen.{seen};
 ghost use Rattle.tsb_field_diagram.specs.Page.{diagram_text};
 ghost use Rattle.tsb_field_display.specs.Remaining.{changes_in, last_in};
-ghost use Rattle.tsb_field.specs.Ends.{Did, Drawn, Draws, IsDiagram, LogNamed, Pictured, RanSo, Recorded, RecordedOn, WritesMade, failure_by, name_of, on_fault_of, Told, ToldOn, seconds_of, title_of};
+ghost use Rattle.tsb_field.specs.Ends.{Answered, Did, Drawn, Draws, IsDiagram, LogNamed, Pictured, RanSo, Recorded, RecordedOn, WritesMade, failure_by, name_of, on_fault_of, Told, ToldOn, seconds_of, title_of};
 
 use crate::end::{tell_late, tell_words_fault, write_all};
 use crate::outputs_run::run_log;
@@ -27,6 +29,8 @@ use tsb_program::{
 use tsb_record::{OnFault, Outcome, record};
 use tsb_text::Checked;
 use tsb_words::field_files::{Asked, read_words};
+use tsb_words::near::field_near;
+use tsb_words::pages::field_page;
 
 /// The title of a diagram where words give none.
 const TITLE: &[u8] = b"Phase diagram";
@@ -39,7 +43,8 @@ const SECONDS: u32 = 300;
 /// ended a strict record.
 ///
 /// The log, the events, the diagram or the review go to `output`, and what was left out, faults, bad words and failures to
-/// `errors`. A second line has where the text of a plan stops being JSON, or what was not read.
+/// `errors`. A second line has where the text of a plan stops being JSON, or what was not read. The version and the help,
+/// where the words ask for one of them, go to `output`.
 pub fn run_words<S: AsStr, F: Files, R: Read, W: Write, E: Write>(
     alloc: Global,
     words: &[S],
@@ -51,7 +56,28 @@ pub fn run_words<S: AsStr, F: Files, R: Read, W: Write, E: Write>(
     requires reads { input.old.failed ≡ false }
     requires writes { errors.old.failed ≡ false }
     requires flushed { errors.old.flushed ≡ true }
-    ensures { (answer : Result Asked WordsError) × Spells (map S.text words.now) answer × Did answer result (F.bytes files.now)
+    ensures { Answered (field_page (map S.text words.now)) (map S.text words.now) result (F.bytes files.now)
+        (seen R.remaining input.old) (seen R.remaining input.new) (seen W.contents output.old) (seen W.contents output.new) (seen E.contents errors.old) (seen E.contents errors.new) }
+{
+    match field_page(words) {
+        Some(page) => write_all(output, errors, page),
+        None => run_asked(alloc, words, files, input, output, errors),
+    }
+}
+
+/// Does what words ask for that ask for no page.
+fn run_asked<S: AsStr, F: Files, R: Read, W: Write, E: Write>(
+    alloc: Global,
+    words: &[S],
+    files: &F,
+    input: &mut Watched<R>,
+    output: &mut Watched<W>,
+    errors: &mut Watched<E>,
+) -> u8
+    requires reads { input.old.failed ≡ false }
+    requires writes { errors.old.failed ≡ false }
+    requires flushed { errors.old.flushed ≡ true }
+    ensures { (answer : Result Asked WordsError) × Spells (map S.text words.now) answer × Did (field_near (map S.text words.now)) answer result (F.bytes files.now)
         (seen R.remaining input.old) (seen R.remaining input.new) (seen W.contents output.old) (seen W.contents output.new) (seen E.contents errors.old) (seen E.contents errors.new) }
 {
     match read_words(alloc, words) {
@@ -85,7 +111,7 @@ pub fn run_words<S: AsStr, F: Files, R: Read, W: Write, E: Write>(
             write_diagram(alloc, log, title, seconds, files, input, output, errors)
         }
         Ok(Asked::Review { plan }) => review_plan(alloc, plan, files, output, errors),
-        Err(fault) => tell_words_fault(errors, fault),
+        Err(fault) => tell_words_fault(errors, field_near(words), fault),
     }
 }
 

@@ -29,3 +29,5 @@ mod field_words;
 mod filter_lines;
 #[cfg(test)]
 mod log_stream;
+#[cfg(test)]
+mod word_pages;

@@ -4,6 +4,8 @@
 use Rattle.std.specs.Prelude.{◌≡◌, ◌⊎◌, ℕ, Bool, List, Option, Some, None, Result, Ok, Err, true, false, codes}
 use Rattle.tsb_words.specs.declared.live.Asked.{Asked}
 use Rattle.tsb_words.specs.declared.error.WordsError.{WordsError}
+use Rattle.tsb_words.specs.LiveWords.{Spells}
+use Rattle.tsb_words.specs.Near.{live_near}
 use Rattle.tsb_text.specs.tsb_plan.Plan.{Plan}
 use Rattle.tsb_text.specs.tsb_plan_text.declared.error.PlanError.{PlanError}
 use Rattle.tsb_text.specs.declared.error.SessionError.{SessionError}
@@ -13,7 +15,10 @@ use Rattle.tsb_text.specs.Blame.{Blames}
 use Rattle.tsb_text.specs.Faults.{fault_line}
 use Rattle.tsb_live_text.specs.LiveEnded.{LiveEnded}
 use Rattle.tsb_live_text.specs.declared.stop.Stop.{Stop}
-use Rattle.tsb_program.specs.tsb_lines.Seen.{Seen, Tells}
+use Rattle.tsb_program.specs.tsb_lines.Seen.{GoesOut, Seen, Tells}
+use Rattle.tsb_program.specs.tsb_lines.Writes.{AppendsFront}
+use Rattle.tsb_program.specs.Failures.{Fails}
+use Rattle.tsb_program.specs.declared.failure.Failure.TheVariants.{Write}
 use Rattle.tsb_program.specs.Read.{HasPlan, RefusesPlanAt}
 use Rattle.tsb_program.specs.Told.{FailsToReadFile, RefusesAt, TellsInputEnd}
 use Rattle.tsb_program.specs.tsb_plan_notes.declared.place.JsonPlace.{JsonPlace}
@@ -50,8 +55,21 @@ abbrev pub after_fault : Bool → OnFault
 after_fault true = StopRun
 after_fault false = GoOn
 
--- what was done for what the words ask, where files has the known bytes of each path
-abbrev pub Did : Result Asked WordsError → ℕ → (List ℕ → Option (List ℕ)) → (input left old new told tells : Seen) → Type 0
-Did (Ok asked) status files input left old new told tells =
+-- what was done for what the words ask, where files has the known bytes of each path, and the right word near a bad one
+abbrev pub Did : Option (List ℕ) → Result Asked WordsError → ℕ → (List ℕ → Option (List ℕ)) → (input left old new told tells : Seen) → Type 0
+Did near (Ok asked) status files input left old new told tells =
     Ran asked.plan.now status (after_fault asked.is_strict) (files asked.plan.now) input left old new told tells
-Did (Err fault) status files input left old new told tells = (left ≡ input) × (new ≡ old) × TellsWords fault status told tells
+Did near (Err fault) status files input left old new told tells = (left ≡ input) × (new ≡ old) × TellsWords near fault status told tells
+
+-- this page is written whole, nothing is told, and the program ends with 0; or the writer failed, which is told, with a
+-- prefix of the page
+abbrev pub WritesPage : List ℕ → ℕ → (old new told tells : Seen) → Type 0
+WritesPage page status old new told tells =
+    ((status ≡ 0) × GoesOut old new page × (tells ≡ told))
+    ⊎ ((new.failed ≡ true) × AppendsFront old.bytes new.bytes page × Fails Write status told tells)
+
+-- the page that words ask for, if any, is written, with nothing read; else what the words ask was done
+abbrev pub Answered : Option (List ℕ) → List (List ℕ) → ℕ → (List ℕ → Option (List ℕ)) → (input left old new told tells : Seen) → Type 0
+Answered (Some page) words status files input left old new told tells = (left ≡ input) × WritesPage page status old new told tells
+Answered None words status files input left old new told tells =
+    (answer : Result Asked WordsError) × Spells words answer × Did (live_near words) answer status files input left old new told tells

@@ -19,7 +19,7 @@ fn main(rt: HostRuntime) -> ExitCode {
             &mut Watched::new(rt.stdout()),
             &mut Watched::new(rt.stderr()),
         ),
-        Err(fault) => tell_words_fault(&mut Watched::new(rt.stderr()), fault),
+        Err(fault) => tell_words_fault(&mut Watched::new(rt.stderr()), None, fault),
     };
     ExitCode::from(status)
 }

@@ -1,5 +1,5 @@
 -- The command of `tsb_field` as `clap` reads it, and what is made of what `clap` answers.
-use Rattle.std.specs.Prelude.{Bool, true, false, if◌then◌else◌, Option, Some, None, option_and_then, option_map, unwrap_or, List, [], ◌∷◌, ◌++◌, ℕ, codes, bytes_eq, Result}
+use Rattle.std.specs.Prelude.{Bool, false, if◌then◌else◌, Option, Some, None, option_and_then, option_map, unwrap_or, List, [], ◌∷◌, ◌++◌, ℕ, codes, bytes_eq, Result}
 use Rattle.clap.specs.Simple.{App, Shape, new_shape}
 use Rattle.clap.specs.Walk.{Row, Rule, Text, all_of, first_of}
 use Rattle.tsb_event_text.specs.Events.{can_be_written}

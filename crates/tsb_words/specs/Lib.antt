@@ -16,3 +16,7 @@ pub mod FieldProgram
 pub mod LiveWords
 -- its command as `clap` reads it
 pub mod LiveProgram
+-- the pages that words ask for: versions, and how programs are used
+pub mod Pages
+-- right words that were perhaps meant by wrong ones
+pub mod Near

@@ -22,6 +22,7 @@ use std::convert::AsStr;
 use tsb_event_text::{Moment, TimeForm, Zone, can_be_written};
 use tsb_field_log::{Kind, Wire};
 use wires::add_option;
+pub(crate) use wires::parts;
 
 /// What the words of `log` ask for.
 #[derive(Drop)]

@@ -7,5 +7,7 @@ mod error;
 pub mod field_files;
 pub mod live;
 mod matches;
+pub mod near;
+pub mod pages;
 
 pub use error::WordsError;

@@ -58,7 +58,7 @@ fn wire_between(kind: Kind, channel: &[u8], input: &[u8]) -> Option<Wire>
 }
 
 /// What comes before the first `=` of a word, and what follows it.
-fn parts(word: &[u8]) -> Option<(&[u8], &[u8])>
+pub(crate) fn parts(word: &[u8]) -> Option<(&[u8], &[u8])>
     ensures { option_map (λ parts. (parts.0.now, parts.1.now)) result ≡ parts_of word.now }
 {
     let end = memchr(b'=', word)?;

@@ -4,7 +4,7 @@ use Rattle.tsb_words.specs.FieldWords.{seen}
 use Rattle.tsb_words.specs.declared.field_files.Asked.{Asked}
 use Rattle.tsb_words.specs.declared.field_files.Asked.TheVariants as asks
 use Rattle.tsb_field.proofs.EndLemmas.{pictured-as, recorded-as}
-use Rattle.tsb_field.proofs.run.run_words.Goals as goal
+use Rattle.tsb_field.proofs.run.run_asked.Goals as goal
 
 pub returns-in-Ok-Record : goal.returns-in-Ok-Record
 returns-in-Ok-Record g c = (

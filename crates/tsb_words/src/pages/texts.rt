@@ -1,0 +1,125 @@
+//! The pages that words can ask for.
+
+/// The version of `tsb_live`.
+pub(crate) const LIVE_VERSION: &[u8] = b"tsb_live 1.0.0\n";
+
+/// The version of `tsb_field`.
+pub(crate) const FIELD_VERSION: &[u8] = b"tsb_field 1.0.0\n";
+
+/// How `tsb_live` is used.
+pub(crate) const LIVE_HELP: &[u8] = b"usage: tsb_live [--strict] PLAN
+
+Answers lines of standard input as they come: a row of inputs is one tick of 0.1 s.
+
+PLAN       the file of the plan, as of `tsb check`
+--strict   the run ends at the first line that is refused or is no command
+--version  the version
+--help     this page
+
+A row has 16 vehicle detectors, 8 pedestrian buttons and 4 preempts, 1 for on and 0 for off. Other
+lines are commands, such as `step 10`, `status` or `back 5`. Steps are counted in ticks.
+
+Example: one tick in which detector 2 is on
+
+    echo '0100000000000000 00000000 0000' | tsb_live plan.json
+
+docs/LIVE.md has all lines and their answers.
+";
+
+/// How `tsb_field` is used.
+pub(crate) const FIELD_HELP: &[u8] = b"usage: tsb_field COMMAND ..
+
+log        from a controller's event log to a log of inputs for `tsb run`
+record     from the commands of a session to a controller's event log
+events     from what `tsb run` answers to a controller's event log
+diagram    from what `tsb run` answers to a phase diagram, as SVG
+review     what can be wrong with a plan that runs
+
+--version  the version
+--help     this page; after a command, its words with their units and an example
+
+All but `review` read standard input, and all write standard output. docs/FIELD.md has more.
+";
+
+/// How `log` is used.
+pub(crate) const LOG_HELP: &[u8] = b"usage: tsb_field log --from TIME [OPTION ..] < EXPORT > LOG
+
+Reads a controller's event log as CSV, and writes a log of inputs for `tsb run`. A tick is 0.1 s.
+
+--from TIME                    tick 1 begins then: YYYY-MM-DD HH:MM:SS; has to be given
+--device ID                    only rows of this device count
+--vehicle CHANNEL=DETECTOR     the channel is vehicle detector 1 to 16 of the bench
+--pedestrian CHANNEL=DETECTOR  the channel is pedestrian detector 1 to 8
+--preempt CHANNEL=INPUT        the channel is preempt input 1 to 4
+--time-form FORM               year-first, month-first, day-first, seconds or milliseconds
+--zone OFFSET                  times are told by the clock of this zone, as -07:00 or Z
+--sort                         rows may come up to 60 s late
+--sort-within SECONDS          rows may come so late, 1 to 3600 s
+--as-outputs PLAN              events are of outputs of the detectors of this plan
+--count                        tells on standard error how much was read
+--allow-empty                  no row, and no event of an input, is no fault
+
+A value that begins with a hyphen comes after `=`, as in --zone=-07:00. Example:
+
+    tsb_field log --from \"2026-11-22 07:00:00\" --device 1001 --count < export.csv > hour.log
+";
+
+/// How `record` is used.
+pub(crate) const RECORD_HELP: &[u8] =
+    b"usage: tsb_field record --from TIME --device ID [--go-on] PLAN LOG < COMMANDS > EXPORT
+
+Runs the commands of a session, and writes its events as a controller's event log, as CSV.
+
+PLAN, LOG    the files of a plan and of a log of inputs, as of `tsb run`
+--from TIME  tick 1 begins then: YYYY-MM-DD HH:MM:SS; has to be given
+--device ID  what the first column has, at most 900 bytes; has to be given
+--go-on      goes on after a line that is refused or is no command
+
+Steps are counted in ticks of 0.1 s. Example, ten minutes:
+
+    echo \"step 6000\" | tsb_field record --from \"2026-11-22 07:00:00\" --device 1001 plan.json day.log
+";
+
+/// How `events` is used.
+pub(crate) const EVENTS_HELP: &[u8] =
+    b"usage: tsb_field events --from TIME --device ID [--log LOG] < ANSWERS > EXPORT
+
+Reads what `tsb run` answers, and writes what its display lines tell as a controller's event log, as CSV.
+
+--from TIME  tick 1 begins then: YYYY-MM-DD HH:MM:SS; has to be given
+--device ID  what the first column has, at most 900 bytes; has to be given
+--log LOG    the file of the log that the session ran on: events of its inputs are written too
+
+A tick is 0.1 s. Example, ten minutes:
+
+    echo \"step 6000\" | tsb run plan.json day.log \\
+        | tsb_field events --from \"2026-11-22 07:00:00\" --device 1001 --log day.log
+";
+
+/// How `diagram` is used.
+pub(crate) const DIAGRAM_HELP: &[u8] = b"usage: tsb_field diagram [OPTION ..] < ANSWERS > PICTURE
+
+Reads what `tsb run` answers, and draws it as a phase diagram, as SVG.
+
+--log LOG             the file of the log that the session ran on: its inputs are drawn below the signals
+--title TEXT          the title over the picture
+--seconds-per-line N  how many seconds a line shows, 1 to 86400 s; 300 s where it is not given
+
+A tick is 0.1 s. Example, four minutes in one line:
+
+    echo \"step 2400\" | tsb run plan.json day.log \\
+        | tsb_field diagram --log day.log --seconds-per-line 240 > picture.svg
+";
+
+/// How `review` is used.
+pub(crate) const REVIEW_HELP: &[u8] = b"usage: tsb_field review PLAN
+
+Writes what can be wrong with the plan in this file: a line for each finding, with its place. Times are in
+seconds. A plan that breaks a rule has a line for each place where it does.
+
+PLAN  the file of the plan, as of `tsb check`
+
+Example:
+
+    tsb_field review plan.json
+";
