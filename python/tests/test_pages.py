@@ -18,13 +18,13 @@ TOP = Path(__file__).resolve().parents[2]
 PAGES = sorted(
     str(it.relative_to(TOP))
     for pattern in [
-        "*.md", "docs/*.md", "examples/*.md", "cases/*.md", "tools/*/*.md",
+        "*.md", "docs/*/*.md", "examples/*.md", "cases/*.md", "tools/*/*.md",
         "crates/*/README.md",
     ]
     for it in TOP.glob(pattern)
 )  # fmt: skip
 # (git does not keep the first; it has no commands)
-PAGES = [it for it in PAGES if it != "docs/DEFINITIONS.md"]
+PAGES = [it for it in PAGES if it != "docs/trust/DEFINITIONS.md"]
 
 #: A block of a page: what stands behind its fence, its text, and of a block of
 #: commands what the page says that it writes.
@@ -69,14 +69,14 @@ FILES = {
         "plans/one.json": "examples/main_and_oak.json",
         "plans/two.json": "examples/quad.json",
     },
-    "docs/FIELD.md": {"plan.json": "examples/main_and_oak.json"},
-    "docs/LIVE.md": {
+    "docs/use/FIELD.md": {"plan.json": "examples/main_and_oak.json"},
+    "docs/use/LIVE.md": {
         "plan.json": "examples/main_and_oak.json",
         "quad.json": "examples/quad.json",
     },
 }
-#: A day for the questions of the README: an hour of traffic from midnight on, and
-#: traffic of SUMO.
+#: A day for the questions of the README: an hour of traffic from midnight on, and the
+#: first 100 s of traffic of SUMO.
 DAY = """
 mkdir -p days
 echo "step 36000" | tsb_field record --from "2026-11-22 00:00:00" --device 7 \\
@@ -84,12 +84,20 @@ echo "step 36000" | tsb_field record --from "2026-11-22 00:00:00" --device 7 \\
 cp day.csv days/2026-11-22.csv
 python3 -m tsb sumo example crossroads
 cp crossroads/* .
+grep -Ev 'depart="[0-9]{3,}' crossroads/routes.xml > routes.xml
+"""
+#: The files that the examples of help name.
+MORNING = """
+cp examples/quad.json plan.json
+cp examples/hour_of_traffic.log day.log
+echo "step 36000" | tsb_field record --from "2026-11-22 07:00:00" --device 1001 \\
+    plan.json day.log > export.csv
 """
 #: A server, and how it is run: until it is stopped, as by Ctrl-C. (One that is still
 #: beginning then ends with 130.)
 SERVER = re.compile(r"((?:\S+ -m tsb|tsb-py) panel\b.*)")
 SERVED = r"{ timeout --preserve-status --signal=INT 8 \1 || [ $? = 130 ]; }"
-#: An answer of tsb_live, as docs/LIVE.md shows it: all other lines are given.
+#: An answer of tsb_live, as docs/use/LIVE.md shows it: all other lines are given.
 ANSWER = re.compile(r"\d{7} .*|event \d{7} .*|ok")
 
 
@@ -151,7 +159,7 @@ def fill(room: Path, page: str) -> None:
     for name, source in FILES.get(page, {}).items():
         (room / name).parent.mkdir(parents=True, exist_ok=True)
         (room / name).write_bytes((TOP / source).read_bytes())
-    if page == "docs/SUMO.md":
+    if page == "docs/use/SUMO.md":
         typed(room, "python3 -m tsb sumo example given && cp given/net.xml net.xml")
         at = Intersection.of(room / "net.xml", "C", room / "given/mapping.json")
         program = nema_of(crossroads.plan(pattern=True), at, pattern=1)
@@ -200,11 +208,11 @@ def test_the_questions_of_the_readme(room: Path) -> None:
 
 
 def test_live_sessions() -> None:
-    """Those of docs/LIVE.md: each line that is no answer is given, and all answers
+    """Those of docs/use/LIVE.md: each line that is no answer is given, and all answers
     stand behind it."""
     sessions = [
         text.splitlines()
-        for _, text, _ in blocks("docs/LIVE.md")
+        for _, text, _ in blocks("docs/use/LIVE.md")
         if text.startswith("$ tsb_live ")
     ]
     assert len(sessions) >= 2
@@ -226,14 +234,14 @@ def test_versions(room: Path) -> None:
         assert typed(room, f"{name} --version") == f"{told} {version}"
 
 
-#: Commands that have help, with the section of docs/FIELD.md that has their words.
+#: Commands that have help, with the section of docs/use/FIELD.md that has their words.
 HELPED = {name: f"## `tsb_field {name}`" for name in ["record", "log", "events", "diagram"]}
 
 
 @pytest.mark.parametrize("name", HELPED)
 def test_help_names_what_the_page_does(name: str, room: Path) -> None:
     """Each word of the page's table, behind the usage."""
-    section = (TOP / "docs/FIELD.md").read_text().split(HELPED[name])[1]
+    section = (TOP / "docs/use/FIELD.md").read_text().split(HELPED[name])[1]
     table = section.split("\n|---|---|\n")[1].split("\n\n")[0]
     words = re.findall(r"--[a-z][a-z-]*", re.sub(r"(?m)^(\| [^|]*\|).*$", r"\1", table))
     told = typed(room, f"tsb_field {name} --help")
@@ -246,8 +254,7 @@ def test_help_names_what_the_page_does(name: str, room: Path) -> None:
 )
 def test_examples_of_help(words: str, room: Path) -> None:
     """Each page of help ends with an example that can be typed."""
-    fill(room, "README.md")
-    typed(room, f"{DAY}\ncp day.csv export.csv\ncp examples/main_and_oak.json plan.json")
+    typed(room, MORNING)
     told = typed(room, f"{words} --help")
     example = re.search(r"(?m)^(.*\b)?Example\b.*\n\n((?:    .*\n)+)", told)
     assert example is not None, told
