@@ -68,7 +68,7 @@ fn is_word(found: Option<&str>, right: &str) -> bool {
 /// Whether the right word is found behind a slip.
 fn slips_are_found() -> bool {
     is_word(live_near(&["tsb_live", "a.json", "--stict"]), "--strict")
-        && is_word(field_near(&["tsb_field", "dairgam"]), "diagram")
+        && is_word(field_near(&["tsb_field", "daigram"]), "diagram")
         && is_word(field_near(&["tsb_field", "log", "--zones=Z"]), "--zone")
         && is_word(
             field_near(&["tsb_field", "events", "--fron", "x"]),
