@@ -24,7 +24,7 @@ PAGES = sorted(
     for it in TOP.glob(pattern)
 )  # fmt: skip
 # (git does not keep the first; it has no commands)
-PAGES = [it for it in PAGES if it != "docs/trust/DEFINITIONS.md"]
+PAGES = [it for it in PAGES if it != "docs/work/DEFINITIONS.md"]
 
 #: A block of a page: what stands behind its fence, its text, and of a block of
 #: commands what the page says that it writes.
