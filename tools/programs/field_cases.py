@@ -18,7 +18,7 @@ USAGE = (
     b"usage: tsb_field log --from TIME [--device ID] [--time-form FORM] [--zone OFFSET] [--count] [--allow-empty]\n"
     b"          [--sort] [--sort-within SECONDS] [--as-outputs PLAN]\n"
     b"          [--vehicle CHANNEL=DETECTOR].. [--pedestrian CHANNEL=DETECTOR].. [--preempt CHANNEL=INPUT]..\n"
-    b"    or tsb_field record --from TIME --device ID [--go-on] PLAN LOG\n"
+    b"    or tsb_field record --from TIME --device ID [--go-on] [--recalls] [--outputs] PLAN LOG\n"
     b"    or tsb_field events --from TIME --device ID [--log LOG]\n"
     b"    or tsb_field diagram [--log LOG] [--title TEXT] [--seconds-per-line N]\n"
     b"    or tsb_field review PLAN\n"

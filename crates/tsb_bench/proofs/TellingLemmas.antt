@@ -14,6 +14,7 @@ use Rattle.tsb_phase.specs.declared.cause.Cause.TheVariants.{ForceOff, Gap, Maxi
 use Rattle.tsb_phase.specs.Causes.{cause}
 use Rattle.tsb_phase.specs.Pedestrian.{ended_by}
 use Rattle.tsb_step.specs.EventLaws.{EndsNoTime}
+use Rattle.tsb_step.specs.declared.log_form.Noted.{Noted}
 use Rattle.tsb_step.specs.Events.{ends_freely, events_between, events_of, is_cause, other_events, selected, view}
 use Rattle.tsb_step.specs.MonitorCells.{lamp_in, trip_in}
 use Rattle.tsb_step.specs.State.{State, Tripped, interval}
@@ -86,19 +87,19 @@ caused ForceOff false o = refl
 -- ## Events
 
 -- what an input that is no tick tells
-pub other-told : (last : Row) (s after : State) (i : Input) → ((row : Row) → i ≡ inputs.Tick row → ⊥) →
-    events_between last s i after ≡ other_events after.now (view s) (view after) (selected s) (selected after)
-other-told last s after (inputs.Tick row) none = absurd (none row refl)
-other-told last s after i none = refl
+pub other-told : (noted : Noted) (s after : State) (i : Input) → ((row : Row) → i ≡ inputs.Tick row → ⊥) →
+    events_between noted s i after ≡ other_events after.now noted (view s) (view after) (selected s) (selected after)
+other-told noted s after (inputs.Tick row) none = absurd (none row refl)
+other-told noted s after i none = refl
 
 -- a tick that is passed over, with the inputs of the tick before, tells nothing
-pub passed-tells-none : (i : Input) (tick : ℕ) (a : All) (last : Row) → AreAllBy tick a → Passes i tick a → i ≡ inputs.Tick last →
-    EndsNoTime (all_in tick a) → events_of last (all_in tick a) i ≡ []
-passed-tells-none i tick a last by passes is ends =
-    ap (events_of last (all_in tick a)) is
-    ∙ quiet-tells-none last (all_in tick a) (sym stepped ∙ rows-wait tick a by) ends
+pub passed-tells-none : (i : Input) (tick : ℕ) (a : All) (noted : Noted) → AreAllBy tick a → Passes i tick a → i ≡ inputs.Tick noted.row →
+    EndsNoTime (all_in tick a) → events_of noted (all_in tick a) i ≡ []
+passed-tells-none i tick a noted by passes is ends =
+    ap (events_of noted (all_in tick a)) is
+    ∙ quiet-tells-none noted (all_in tick a) (sym stepped ∙ rows-wait tick a by) ends
   where
-    stepped : all_in (tick + 1) a ≡ step (all_in tick a) (inputs.Tick last)
+    stepped : all_in (tick + 1) a ≡ step (all_in tick a) (inputs.Tick noted.row)
     stepped = subst (λ (j : Input). all_in (next_tick tick j) a ≡ step (all_in tick a) j) is passes.done.state
 
 -- what holds in any case holds of an answer that took the input

@@ -7,6 +7,7 @@ use Rattle.tsb_phase.specs.Causes.{cause}
 use Rattle.tsb_step.specs.declared.inputs.Input.{Input}
 use Rattle.tsb_step.specs.declared.inputs.Input.TheVariants.{Tick}
 use Rattle.tsb_step.specs.Cells.{clock_at}
+use Rattle.tsb_step.specs.declared.log_form.Noted.{Noted}
 use Rattle.tsb_step.specs.Events.{completes_minimum, ends_freely, found, selected, view}
 use Rattle.tsb_step.specs.MonitorCells.{trip_in}
 use Rattle.tsb_step.specs.State.{State}
@@ -52,5 +53,5 @@ AreEnds s row result =
     AreCausesOf (ends_freely s row (step s (Tick row))) (λ p. cause s.plan (phases_given s row) p (phase_read s p)) result
 
 -- what a tick finds that leads from a state to the next
-abbrev pub IsFound : Row → State → Row → Found → Type 0
-IsFound last s row result = AgreeInFound (found_of result) (found last s row (step s (Tick row)))
+abbrev pub IsFound : Noted → State → Row → Found → Type 0
+IsFound noted s row result = AgreeInFound (found_of result) (found noted s row (step s (Tick row)))

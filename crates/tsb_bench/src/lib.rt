@@ -31,5 +31,6 @@ pub use tsb_objects::{
     Preempt, Refusal, Row, Rule, SignalColor, Stage, Station, Watch,
 };
 pub use tsb_status::Status;
+pub use tsb_step::log_form::{LogForm, Noted};
 pub use tsb_step::{Cmd, Input};
 pub use tsb_transact::Desk;

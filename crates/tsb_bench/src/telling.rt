@@ -23,9 +23,10 @@ ghost use Rattle.tsb_bench.specs.Telling.{AreEnds, IsAllowed, IsBefore, IsFound,
 use crate::bench::Bench;
 use crate::cabinet::Cabinet;
 use tsb_controller::{Causes, Controller};
-use tsb_events::{Events, Found, Seen, Selected, other_events, tick_events};
+use tsb_events::{Change, Events, Found, Seen, Selected, other_events, tick_events};
 use tsb_objects::{NumberSet, PhaseSet, Refusal, Row};
 use tsb_step::Input;
+use tsb_step::log_form::Noted;
 
 /// What is kept of the cabinet as it was before an input.
 #[derive(Clone, Copy)]
@@ -161,12 +162,12 @@ impl Cabinet {
         before.controller.causes(yellow, tick + 1, row, &self.plan)
     }
 
-    /// What the tick after tick number `tick` found, with the inputs of `row` on, and those of `last` in the tick before
-    /// it. The cabinet is as it is after the tick.
-    fn found(&self, before: &Before, tick: u32, row: &Row, last: &Row) -> Found
+    /// What the tick after tick number `tick` found, with the inputs of `row` on, where the log has noted this before. The
+    /// cabinet is as it is after the tick.
+    fn found(&self, before: &Before, tick: u32, row: &Row, noted: &Noted) -> Found
         requires was { (a : All) × IsBefore tick a before.now × AreAllBy tick a × IsAllowed tick a (inputs.Tick row.now) × (plan_in a.plan ≡ plan_in (rows_of self.now).plan) }
         ensures { (a : All) (now : ℕ) → IsBefore tick a before.now → AreAllBy tick a → all_in now (rows_of self.now) ≡ step (all_in tick a) (inputs.Tick row.now)
-            → IsFound last.now (all_in tick a) row.now result }
+            → IsFound noted.now (all_in tick a) row.now result }
     {
         let causes = self.causes(before, tick, row);
         Found {
@@ -174,7 +175,7 @@ impl Cabinet {
             gap: causes.gap,
             maximum: causes.maximum,
             force_off: causes.force_off,
-            last: *last,
+            noted: *noted,
             row: *row,
             served: before.controller.is_served(before.clock, row, &self.plan),
         }
@@ -188,42 +189,41 @@ impl Cabinet {
         tick: u32,
         now: u32,
         input: &Input,
-        last: &Row,
+        noted: &Noted,
         events: &mut Events,
     )
         requires was { (a : All) × IsBefore tick a before.now × AreAllBy tick a × IsAllowed tick a input.now × (all_in now (rows_of self.now) ≡ step (all_in tick a) input.now) }
         requires by { AreAllBy now (rows_of self.now) }
         ensures { (a : All) → IsBefore tick a before.now → AreAllBy tick a → all_in now (rows_of self.now) ≡ step (all_in tick a) input.now
-            → events.new.items ≡ events_of last.now (all_in tick a) input.now }
+            → events.new.items ≡ events_of noted.now (all_in tick a) input.now }
     {
         let seen = self.view(now);
         match input {
             Input::Tick(row) => {
-                let found = self.found(before, tick, row, last);
+                let found = self.found(before, tick, row, noted);
                 tick_events(events, now, &before.seen, &seen, &found);
             }
-            _ => other_events(
-                events,
-                now,
-                &before.seen,
-                &seen,
-                &before.selected,
-                &self.selected(),
-            ),
+            _ => {
+                let change = Change {
+                    before: before.selected,
+                    after: self.selected(),
+                };
+                other_events(events, now, noted, &before.seen, &seen, &change);
+            }
         }
     }
 }
 
 impl Bench {
-    /// Takes an input, as `apply` does, and tells its events in `events`, in place of what was there. `last` is the inputs
-    /// that were on in the newest tick before it, and all off before the first. A refused input has no events.
+    /// Takes an input, as `apply` does, and tells its events in `events`, in place of what was there. `noted` is what the
+    /// log has noted before it: its form, and the inputs that were on in the newest tick. A refused input has no events.
     ///
     /// It takes no memory beside that of `apply`. A tick that changes nothing, with the inputs of the tick before, costs
     /// little more than there.
     pub fn apply_telling(
         &mut self,
         input: Input,
-        last: &Row,
+        noted: &Noted,
         events: &mut Events,
     ) -> Result<(), Refusal>
         ensures allowed { OnOk result (verdict (state_of self.old) input ≡ None) }
@@ -236,13 +236,13 @@ impl Bench {
         ensures wanting { result ≡ Err Memory → self.old.room < record_size (most_cells (kind_of input)) }
         ensures room { OnOk result (self.old.room
             ≤ self.new.room + record_size (length (record_of input (state_of self.old) (state_of self.new)).entries)) }
-        ensures told { OnOk result (events.new.items ≡ events_of last.now (state_of self.old) input) }
+        ensures told { OnOk result (events.new.items ≡ events_of noted.now (state_of self.old) input) }
         ensures untold { OnErr result (events.new.items ≡ []) }
     {
         events.clear();
         let tick = self.tick;
         if self.cabinet.passes(tick, &input)
-            && has_row(&input, last)
+            && has_row(&input, &noted.row)
             && self.cabinet.ends_no_time(tick)
         {
             return self.apply(input);
@@ -253,7 +253,7 @@ impl Bench {
             Err(refusal) => return Err(refusal),
         }
         self.cabinet
-            .tell(&before, tick, self.tick, &input, last, events);
+            .tell(&before, tick, self.tick, &input, noted, events);
         Ok(())
     }
 }

@@ -1,5 +1,5 @@
 //! What the log of a controller sees of the layers.
-ghost use Rattle.std.specs.Prelude.{◌≡◌, ◌==◌, ◌&&◌, ◌≤◌, ◌<◌, ℕ, Bool, true, false, not, if◌then◌else◌};
+ghost use Rattle.std.specs.Prelude.{◌≡◌, ◌==◌, ◌&&◌, ◌||◌, ◌≤◌, ◌<◌, ℕ, Bool, true, false, not, if◌then◌else◌};
 ghost use Rattle.std.specs.List.{list_any};
 ghost use Rattle.tsb_step.specs.tsb_types.declared.interval.Interval.TheVariants.{Red};
 ghost use Rattle.tsb_step.specs.tsb_types.declared.interval.PedestrianInterval.TheVariants.{DontWalk};
@@ -8,12 +8,14 @@ ghost use Rattle.tsb_step.specs.tsb_types.Lists.{run_from};
 ghost use Rattle.tsb_step.specs.tsb_types.Sets.{has, has_number};
 ghost use Rattle.tsb_step.specs.tsb_plan.Parts.{is_included};
 ghost use Rattle.tsb_step.specs.tsb_plan.Plan.{Plan};
+ghost use Rattle.tsb_step.specs.tsb_plan.Running.{is_on_maximum_recall, is_on_minimum_recall, running};
 ghost use Rattle.tsb_step.specs.Events.{is_track, serves, stage_is_green};
 ghost use Rattle.tsb_preempt.specs.Preempts.{is_dwell, is_exit};
 ghost use Rattle.tsb_preempt.specs.Service.{all_green};
 ghost use Rattle.tsb_objects.specs.Checked.{checked_plan};
 ghost use Rattle.tsb_ring.specs.Cells as rings;
 ghost use Rattle.tsb_coord.specs.Cells as coord;
+ghost use Rattle.tsb_coord.specs.Cells.{pattern_in};
 ghost use Rattle.tsb_controller.specs.Seen.{IsStanding, TellsSeen, is_off_beside};
 
 use crate::controller::Controller;
@@ -176,6 +178,17 @@ impl Controller {
         self.calls.standing(&observed, plan)
     }
 
+    /// The phases on minimum or maximum recall, their own or by the pattern that runs.
+    fn recalls(&self, plan: &Checked) -> PhaseSet
+        requires pattern_by { coord.IsBy (rows_of self.now).pattern }
+        ensures { (p : ℕ) → 1 ≤ p → p ≤ 16 → has result p
+            ≡ (is_on_minimum_recall (checked_plan plan.now) (running (checked_plan plan.now) (pattern_in (rows_of self.now).pattern)) p
+            || is_on_maximum_recall (checked_plan plan.now) (running (checked_plan plan.now) (pattern_in (rows_of self.now).pattern)) p) }
+    {
+        let least = plan.on_minimum_recall(self.coord.running(plan));
+        least.union(plan.on_maximum_recall(self.coord.running(plan)))
+    }
+
     /// What the log of a controller sees, of one that has tripped or has not. Timers are read at tick `clock`: the tick
     /// number, or that of the trip.
     pub fn view(&self, tripped: bool, clock: u32, plan: &Checked) -> Seen
@@ -209,10 +222,14 @@ impl Controller {
             clearances: numbers(walking.clearance.difference(walking.walk)),
             vehicle_calls: numbers(standing.vehicle),
             pedestrian_calls: numbers(standing.pedestrian),
+            recalls: numbers(self.recalls(plan)),
+            pedestrian_recalls: numbers(plan.on_pedestrian_recall(self.coord.running(plan))),
             overlap_greens,
             overlap_yellows,
             overlaps_off: overlaps_off(overlap_greens.union(overlap_yellows), served, plan),
+            outputs: self.detectors.outputs(),
             alarms: self.detectors.alarms(),
+            switches: self.preempts.switches(),
             preempts: stages.any,
             tracks: stages.track,
             dwells: stages.dwell,

@@ -7,7 +7,10 @@ use Rattle.tsb_types.specs.Sets.{has_number}
 use Rattle.tsb_types.specs.Events.{event, told, begins, either}
 use Rattle.tsb_types.specs.declared.event.Event.{Event}
 use Rattle.tsb_types.specs.declared.event.TheConstants as codes
+use Rattle.tsb_types.specs.declared.row.Row.{Row}
+use Rattle.tsb_step.specs.declared.log_form.LogForm.{LogForm}
 use Rattle.tsb_step.specs.Events as events
+use Rattle.tsb_step.specs.declared.log_form.Noted.{Noted}
 use Rattle.tsb_step.specs.Events.{View, Found, Selected}
 use Rattle.tsb_events.specs.Agree.{AgreeInAll, AgreeInFound, AgreeInSelected}
 
@@ -70,11 +73,19 @@ crossing-same : (tick : ℕ) (v w x y : View) → AgreeInAll v w → AgreeInAll 
 crossing-same tick v w x y was now =
     λ i. if was.crosses i && not (now.crosses i) then event tick codes.BARRIER_CROSSED (now.side i) ∷ [] else []
 
-call-same : (tick : ℕ) (v w x y : View) → AgreeInAll v w → AgreeInAll x y → events.call_events tick v x ≡ events.call_events tick w y
-call-same tick v w x y was now =
-    λ i. begun-same tick codes.CALL_COMES _ _ _ _ was.vehicle_calls now.vehicle_calls i
-    ++ begun-same tick codes.CALL_GOES _ _ _ _ now.vehicle_calls was.vehicle_calls i
-    ++ begun-same tick codes.PEDESTRIAN_CALL_COMES _ _ _ _ was.pedestrian_calls now.pedestrian_calls i
+agree-but : (form : LogForm) (f g h k : ℕ → Bool) → Agree f g → Agree h k → Agree (events.but_recalls form f h) (events.but_recalls form g k)
+agree-but form f g h k calls recalls n from to = λ i. if form.recalls then calls n from to i else calls n from to i && not (recalls n from to i)
+
+call-same : (tick : ℕ) (form : LogForm) (v w x y : View) → AgreeInAll v w → AgreeInAll x y →
+    events.call_events tick form v x ≡ events.call_events tick form w y
+call-same tick form v w x y was now =
+    let vehicle_was = agree-but form _ _ _ _ was.vehicle_calls was.recalls in
+    let vehicle = agree-but form _ _ _ _ now.vehicle_calls now.recalls in
+    let pedestrian_was = agree-but form _ _ _ _ was.pedestrian_calls was.pedestrian_recalls in
+    let pedestrian = agree-but form _ _ _ _ now.pedestrian_calls now.pedestrian_recalls in
+    λ i. begun-same tick codes.CALL_COMES _ _ _ _ vehicle_was vehicle i
+    ++ begun-same tick codes.CALL_GOES _ _ _ _ vehicle vehicle_was i
+    ++ begun-same tick codes.PEDESTRIAN_CALL_COMES _ _ _ _ pedestrian_was pedestrian i
 
 overlap-same : (tick : ℕ) (v w x y : View) → AgreeInAll v w → AgreeInAll x y → events.overlap_events tick v x ≡ events.overlap_events tick w y
 overlap-same tick v w x y was now =
@@ -84,22 +95,35 @@ overlap-same tick v w x y was now =
     (agree-either _ _ _ _ was.overlap_greens was.overlap_yellows) i
     ++ begun-same tick codes.OVERLAP_OFF _ _ _ _ was.overlaps_off now.overlaps_off i
 
-vehicle-input-same : (tick : ℕ) (f g : Found) → AgreeInFound f g → events.vehicle_input_events tick f ≡ events.vehicle_input_events tick g
-vehicle-input-same tick f g same =
-    λ i. told tick codes.VEHICLE_OFF (begins (has_number (same.row i).vehicles) (has_number (same.last i).vehicles))
-    ++ told tick codes.VEHICLE_ON (begins (has_number (same.last i).vehicles) (has_number (same.row i).vehicles))
+vehicles-agree : (form : LogForm) (row : Row) (v w : View) → AgreeInAll v w → Agree (events.vehicles_in form row v) (events.vehicles_in form row w)
+vehicles-agree form row v w same n from to = λ i. if form.outputs then same.outputs n from to i else has_number row.vehicles n
+
+vehicle-same : (tick : ℕ) (noted : Noted) (row : Row) (v w x y : View) → AgreeInAll v w → AgreeInAll x y →
+    events.vehicle_events tick noted row v x ≡ events.vehicle_events tick noted row w y
+vehicle-same tick noted row v w x y was now =
+    let on_was = vehicles-agree noted.form noted.row v w was in
+    let on = vehicles-agree noted.form row x y now in
+    λ i. begun-same tick codes.VEHICLE_OFF _ _ _ _ on on_was i ++ begun-same tick codes.VEHICLE_ON _ _ _ _ on_was on i
 
 alarm-same : (tick : ℕ) (v w x y : View) → AgreeInAll v w → AgreeInAll x y → events.alarm_events tick v x ≡ events.alarm_events tick w y
 alarm-same tick v w x y was now =
     λ i. begun-same tick codes.ALARM_GOES _ _ _ _ now.alarms was.alarms i
     ++ begun-same tick codes.ALARM_COMES _ _ _ _ was.alarms now.alarms i
 
-other-input-same : (tick : ℕ) (f g : Found) → AgreeInFound f g → events.other_input_events tick f ≡ events.other_input_events tick g
-other-input-same tick f g same =
-    λ i. told tick codes.PEDESTRIAN_OFF (begins (has_number (same.row i).pedestrians) (has_number (same.last i).pedestrians))
-    ++ told tick codes.PEDESTRIAN_ON (begins (has_number (same.last i).pedestrians) (has_number (same.row i).pedestrians))
-    ++ told tick codes.PREEMPT_ON (begins (has_number (same.last i).preempts) (has_number (same.row i).preempts))
-    ++ told tick codes.PREEMPT_OFF (begins (has_number (same.row i).preempts) (has_number (same.last i).preempts))
+button-same : (tick : ℕ) (f g : Found) → AgreeInFound f g → events.button_events tick f ≡ events.button_events tick g
+button-same tick f g same =
+    λ i. told tick codes.PEDESTRIAN_OFF (begins (has_number (same.row i).pedestrians) (has_number (same.noted i).row.pedestrians))
+    ++ told tick codes.PEDESTRIAN_ON (begins (has_number (same.noted i).row.pedestrians) (has_number (same.row i).pedestrians))
+
+requests-agree : (row : Row) (v w : View) → AgreeInAll v w → Agree (events.requests row v) (events.requests row w)
+requests-agree row v w same n from to = λ i. has_number row.preempts n || same.switches n from to i
+
+request-same : (tick : ℕ) (last row : Row) (v w x y : View) → AgreeInAll v w → AgreeInAll x y →
+    events.request_events tick last row v x ≡ events.request_events tick last row w y
+request-same tick last row v w x y was now =
+    let asked_was = requests-agree last v w was in
+    let asked = requests-agree row x y now in
+    λ i. begun-same tick codes.PREEMPT_ON _ _ _ _ asked_was asked i ++ begun-same tick codes.PREEMPT_OFF _ _ _ _ asked asked_was i
 
 green-agree : (v w : View) (f g : ℕ → Bool) → AgreeInAll v w → Agree f g → Agree (events.once_green v f) (events.once_green w g)
 green-agree v w f g same stage n from to = λ i. same.stage_is_green i && stage n from to i
@@ -154,16 +178,19 @@ pub ticks-same : (tick : ℕ) (f g : Found) (v w x y : View) → AgreeInFound f 
     events.tick_events tick f v x ≡ events.tick_events tick g w y
 ticks-same tick f g v w x y same was now =
     λ i. green-same tick v w x y was now i ++ ending-same tick f g same i ++ clearing-same tick v w x y was now i
-    ++ pedestrian-same tick v w x y was now i ++ crossing-same tick v w x y was now i ++ call-same tick v w x y was now i
-    ++ overlap-same tick v w x y was now i ++ vehicle-input-same tick f g same i ++ alarm-same tick v w x y was now i
-    ++ other-input-same tick f g same i ++ preempt-same tick v w x y was now i
+    ++ pedestrian-same tick v w x y was now i ++ crossing-same tick v w x y was now i
+    ++ call-same tick (same.noted i).form v w x y was now i
+    ++ overlap-same tick v w x y was now i ++ vehicle-same tick (same.noted i) (same.row i) v w x y was now i
+    ++ alarm-same tick v w x y was now i ++ button-same tick f g same i
+    ++ request-same tick (same.noted i).row (same.row i) v w x y was now i ++ preempt-same tick v w x y was now i
     ++ presence-same tick f g v w x y same was now i ++ exit-same tick v w x y was now i ++ flash-same tick v w x y was now i
 
-pub others-same : (tick : ℕ) (v w x y : View) (s s_too t t_too : Selected) → AgreeInAll v w → AgreeInAll x y →
+pub others-same : (tick : ℕ) (noted : Noted) (v w x y : View) (s s_too t t_too : Selected) → AgreeInAll v w → AgreeInAll x y →
     AgreeInSelected s s_too → AgreeInSelected t t_too →
-    events.other_events tick v x s t ≡ events.other_events tick w y s_too t_too
-others-same tick v w x y s s_too t t_too was now selected_was selected_now =
+    events.other_events tick noted v x s t ≡ events.other_events tick noted w y s_too t_too
+others-same tick noted v w x y s s_too t t_too was now selected_was selected_now =
     λ i. green-same tick v w x y was now i ++ clearing-same tick v w x y was now i
-    ++ pedestrian-same tick v w x y was now i ++ call-same tick v w x y was now i ++ overlap-same tick v w x y was now i
-    ++ alarm-same tick v w x y was now i ++ preempt-same tick v w x y was now i ++ exit-same tick v w x y was now i
+    ++ pedestrian-same tick v w x y was now i ++ call-same tick noted.form v w x y was now i
+    ++ overlap-same tick v w x y was now i ++ vehicle-same tick noted noted.row v w x y was now i
+    ++ alarm-same tick v w x y was now i ++ request-same tick noted.row noted.row v w x y was now i ++ preempt-same tick v w x y was now i ++ exit-same tick v w x y was now i
     ++ pattern-same tick s s_too t t_too selected_was selected_now i ++ flash-same tick v w x y was now i

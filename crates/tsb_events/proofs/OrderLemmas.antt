@@ -12,7 +12,9 @@ use Rattle.tsb_types.specs.declared.event.TheConstants as codes
 use Rattle.tsb_types.specs.declared.row.Row.{Row}
 use Rattle.tsb_step.specs.declared.inputs.Input.{Input}
 use Rattle.tsb_step.specs.declared.inputs.Input.TheVariants.{Tick}
+use Rattle.tsb_step.specs.declared.log_form.LogForm.{LogForm}
 use Rattle.tsb_step.specs.Events as events
+use Rattle.tsb_step.specs.declared.log_form.Noted.{Noted}
 use Rattle.tsb_step.specs.Events.{View, Found, Selected, events_of, found, view, selected}
 use Rattle.tsb_step.specs.State.{State}
 use Rattle.tsb_step.specs.Step.{step}
@@ -142,8 +144,8 @@ crossing-span tick v w = elim (cases_Bool (v.crosses && not w.crosses)) [
   | inr h ↦ rw h (no-event tick codes.BARRIER_CROSSED)
 ]
 
-pub call-span : (tick : ℕ) (v w : View) → Span tick 43 46 (events.call_events tick v w)
-call-span tick v w =
+pub call-span : (tick : ℕ) (form : LogForm) (v w : View) → Span tick 43 46 (events.call_events tick form v w)
+call-span tick form v w =
     joined (joined (one-code tick codes.CALL_COMES _) (one-code tick codes.CALL_GOES _) refl) (one-code tick codes.PEDESTRIAN_CALL_COMES _)
     refl
 
@@ -152,16 +154,17 @@ overlap-span tick v w =
     joined (joined (joined (one-code tick codes.OVERLAP_GREEN_BEGINS _) (one-code tick codes.OVERLAP_YELLOW_BEGINS _) refl) (one-code tick
     codes.OVERLAP_RED_BEGINS _) refl) (one-code tick codes.OVERLAP_OFF _) refl
 
-pub vehicle-input-span : (tick : ℕ) (f : Found) → Span tick 81 83 (events.vehicle_input_events tick f)
-vehicle-input-span tick f = joined (one-code tick codes.VEHICLE_OFF _) (one-code tick codes.VEHICLE_ON _) refl
+pub vehicle-span : (tick : ℕ) (noted : Noted) (row : Row) (v w : View) → Span tick 81 83 (events.vehicle_events tick noted row v w)
+vehicle-span tick noted row v w = joined (one-code tick codes.VEHICLE_OFF _) (one-code tick codes.VEHICLE_ON _) refl
 
 pub alarm-span : (tick : ℕ) (v w : View) → Span tick 83 85 (events.alarm_events tick v w)
 alarm-span tick v w = joined (one-code tick codes.ALARM_GOES _) (one-code tick codes.ALARM_COMES _) refl
 
-pub other-input-span : (tick : ℕ) (f : Found) → Span tick 89 105 (events.other_input_events tick f)
-other-input-span tick f =
-    joined (joined (joined (one-code tick codes.PEDESTRIAN_OFF _) (one-code tick codes.PEDESTRIAN_ON _) refl) (one-code tick
-    codes.PREEMPT_ON _) refl) (one-code tick codes.PREEMPT_OFF _) refl
+pub button-span : (tick : ℕ) (f : Found) → Span tick 89 91 (events.button_events tick f)
+button-span tick f = joined (one-code tick codes.PEDESTRIAN_OFF _) (one-code tick codes.PEDESTRIAN_ON _) refl
+
+pub request-span : (tick : ℕ) (last row : Row) (v w : View) → Span tick 102 105 (events.request_events tick last row v w)
+request-span tick last row v w = joined (one-code tick codes.PREEMPT_ON _) (one-code tick codes.PREEMPT_OFF _) refl
 
 pub preempt-span : (tick : ℕ) (v w : View) → Span tick 105 108 (events.preempt_events tick v w)
 preempt-span tick v w =
@@ -222,35 +225,35 @@ pattern-span tick s t =
 
 ticks-span : (tick : ℕ) (f : Found) (v w : View) → Span tick 0 174 (events.tick_events tick f v w)
 ticks-span tick f v w =
-    joined (joined (joined (joined (joined (joined (joined (joined (joined (joined (joined (joined (joined (green-span tick v w)
+    joined (joined (joined (joined (joined (joined (joined (joined (joined (joined (joined (joined (joined (joined (green-span tick v w)
     (ending-span tick f) refl) (clearing-span tick v w) refl) (pedestrian-span tick v w) refl) (crossing-span tick v w) refl) (call-span
-    tick v w) refl) (overlap-span tick v w) refl) (vehicle-input-span tick f) refl) (alarm-span tick v w) refl) (other-input-span tick f)
-    refl) (preempt-span tick v w) refl) (one-code tick codes.PRESENCE_EXCEEDED _) refl) (one-code tick codes.EXIT_BEGINS _) refl)
+    tick f.noted.form v w) refl) (overlap-span tick v w) refl) (vehicle-span tick f.noted f.row v w) refl) (alarm-span tick v w) refl)
+    (button-span tick f) refl) (request-span tick f.noted.row f.row v w) refl) (preempt-span tick v w) refl) (one-code tick codes.PRESENCE_EXCEEDED _) refl) (one-code tick codes.EXIT_BEGINS _) refl)
     (flash-span tick v w) refl
 
-others-span : (tick : ℕ) (v w : View) (s t : Selected) → Span tick 0 174 (events.other_events tick v w s t)
-others-span tick v w s t =
-    joined (joined (joined (joined (joined (joined (joined (joined (joined (green-span tick v w) (clearing-span tick v w) refl)
-    (pedestrian-span tick v w) refl) (call-span tick v w) refl) (overlap-span tick v w) refl) (alarm-span tick v w) refl) (preempt-span tick
-    v w) refl) (one-code tick codes.EXIT_BEGINS _) refl) (pattern-span tick s t) refl) (flash-span tick v w) refl
+others-span : (tick : ℕ) (noted : Noted) (v w : View) (s t : Selected) → Span tick 0 174 (events.other_events tick noted v w s t)
+others-span tick noted v w s t =
+    joined (joined (joined (joined (joined (joined (joined (joined (joined (joined (joined (green-span tick v w) (clearing-span tick v w) refl)
+    (pedestrian-span tick v w) refl) (call-span tick noted.form v w) refl) (overlap-span tick v w) refl) (vehicle-span tick noted noted.row v w)
+    refl) (alarm-span tick v w) refl) (request-span tick noted.row noted.row v w) refl) (preempt-span tick v w) refl) (one-code tick codes.EXIT_BEGINS _) refl) (pattern-span tick s t) refl) (flash-span tick v w) refl
 
 pub ticks-in-order : (tick : ℕ) (f : Found) (v w : View) → AreInOrder (events.tick_events tick f v w)
 ticks-in-order tick f v w = (ticks-span tick f v w).order
 
-pub others-in-order : (tick : ℕ) (v w : View) (s t : Selected) → AreInOrder (events.other_events tick v w s t)
-others-in-order tick v w s t = (others-span tick v w s t).order
+pub others-in-order : (tick : ℕ) (noted : Noted) (v w : View) (s t : Selected) → AreInOrder (events.other_events tick noted v w s t)
+others-in-order tick noted v w s t = (others-span tick noted v w s t).order
 
 -- ## Those of an input
 
-inputs-span : (last : Row) (s : State) (i : Input) → Span (step s i).now 0 174 (events_of last s i)
+inputs-span : (noted : Noted) (s : State) (i : Input) → Span (step s i).now 0 174 (events_of noted s i)
 unfolding events_of
-inputs-span last s (Tick row) =
-    let after : State = step s (Tick row) in ticks-span after.now (found last s row after) (view s) (view after)
-inputs-span last s i = let after : State = step s i in others-span after.now (view s) (view after) (selected s) (selected after)
+inputs-span noted s (Tick row) =
+    let after : State = step s (Tick row) in ticks-span after.now (found noted s row after) (view s) (view after)
+inputs-span noted s i = let after : State = step s i in others-span after.now noted (view s) (view after) (selected s) (selected after)
 
-pub inputs-in-order : (last : Row) (s : State) (i : Input) → AreInOrder (events_of last s i)
-inputs-in-order last s i = (inputs-span last s i).order
+pub inputs-in-order : (noted : Noted) (s : State) (i : Input) → AreInOrder (events_of noted s i)
+inputs-in-order noted s i = (inputs-span noted s i).order
 
-pub events-have-the-tick : (last : Row) (s : State) (i : Input) → All (λ e. e.tick ≡ (step s i).now) (events_of last s i)
-events-have-the-tick last s i =
-    All-weaker (IsWithin (step s i).now 0 174) (λ e. e.tick ≡ (step s i).now) (λ e h. h.0) (events_of last s i) (inputs-span last s i).within
+pub events-have-the-tick : (noted : Noted) (s : State) (i : Input) → All (λ e. e.tick ≡ (step s i).now) (events_of noted s i)
+events-have-the-tick noted s i =
+    All-weaker (IsWithin (step s i).now 0 174) (λ e. e.tick ≡ (step s i).now) (λ e h. h.0) (events_of noted s i) (inputs-span noted s i).within

@@ -2,6 +2,7 @@
 use Rattle.std.specs.Prelude.{◌≡◌, ℕ}
 use Rattle.tsb_step.specs.tsb_types.Clip.{Agree}
 use Rattle.tsb_step.specs.Events as events
+use Rattle.tsb_step.specs.declared.log_form.Noted.{Noted}
 use Rattle.tsb_step.specs.Events.{View, Found, Selected}
 
 -- two views agree
@@ -15,10 +16,14 @@ pub record AgreeInAll (v w : View) : Type 0 where
   pub clearances : Agree v.clearances w.clearances
   pub vehicle_calls : Agree v.vehicle_calls w.vehicle_calls
   pub pedestrian_calls : Agree v.pedestrian_calls w.pedestrian_calls
+  pub recalls : Agree v.recalls w.recalls
+  pub pedestrian_recalls : Agree v.pedestrian_recalls w.pedestrian_recalls
   pub overlap_greens : Agree v.overlap_greens w.overlap_greens
   pub overlap_yellows : Agree v.overlap_yellows w.overlap_yellows
   pub overlaps_off : Agree v.overlaps_off w.overlaps_off
+  pub outputs : Agree v.outputs w.outputs
   pub alarms : Agree v.alarms w.alarms
+  pub switches : Agree v.switches w.switches
   pub preempts : Agree v.preempts w.preempts
   pub tracks : Agree v.tracks w.tracks
   pub dwells : Agree v.dwells w.dwells
@@ -35,7 +40,7 @@ pub record AgreeInFound (f g : Found) : Type 0 where
   pub gap : Agree f.gap g.gap
   pub maximum : Agree f.maximum g.maximum
   pub force_off : Agree f.force_off g.force_off
-  pub last : f.last ≡ g.last
+  pub noted : f.noted ≡ g.noted
   pub row : f.row ≡ g.row
   pub served : f.served ≡ g.served
 
@@ -55,5 +60,6 @@ TicksTellByNumbers = (tick : ℕ) (f g : Found) (was was_too now now_too : View)
 
 -- and so do other inputs
 abbrev pub OthersTellByNumbers : Type 0
-OthersTellByNumbers = (tick : ℕ) (was was_too now now_too : View) (s s_too t t_too : Selected) → AgreeInAll was was_too → AgreeInAll now now_too →
-    AgreeInSelected s s_too → AgreeInSelected t t_too → events.other_events tick was now s t ≡ events.other_events tick was_too now_too s_too t_too
+OthersTellByNumbers = (tick : ℕ) (noted : Noted) (was was_too now now_too : View) (s s_too t t_too : Selected) → AgreeInAll was was_too → AgreeInAll now now_too →
+    AgreeInSelected s s_too → AgreeInSelected t t_too →
+    events.other_events tick noted was now s t ≡ events.other_events tick noted was_too now_too s_too t_too

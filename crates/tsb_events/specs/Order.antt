@@ -1,9 +1,9 @@
 -- The order in which the events of one input stand: by code, and those of one code by their parameters.
 use Rattle.std.specs.Prelude.{◌≡◌, ◌⊎◌, ℕ, ◌<◌, List, [], ◌∷◌, All}
 use Rattle.tsb_step.specs.tsb_types.declared.event.Event.{Event}
-use Rattle.tsb_step.specs.tsb_types.declared.row.Row.{Row}
 use Rattle.tsb_step.specs.declared.inputs.Input.{Input}
 use Rattle.tsb_step.specs.Events as events
+use Rattle.tsb_step.specs.declared.log_form.Noted.{Noted}
 use Rattle.tsb_step.specs.Events.{View, Found, Selected}
 use Rattle.tsb_step.specs.State.{State}
 use Rattle.tsb_step.specs.Step.{step}
@@ -26,12 +26,12 @@ TicksTellInOrder = (tick : ℕ) (f : Found) (was now : View) → AreInOrder (eve
 
 -- and those of any other input
 abbrev pub OthersTellInOrder : Type 0
-OthersTellInOrder = (tick : ℕ) (was now : View) (s t : Selected) → AreInOrder (events.other_events tick was now s t)
+OthersTellInOrder = (tick : ℕ) (noted : Noted) (was now : View) (s t : Selected) → AreInOrder (events.other_events tick noted was now s t)
 
 -- so those of an input are, at whatever state it comes
 abbrev pub InputsTellInOrder : Type 0
-InputsTellInOrder = (last : Row) (s : State) (i : Input) → AreInOrder (events.events_of last s i)
+InputsTellInOrder = (noted : Noted) (s : State) (i : Input) → AreInOrder (events.events_of noted s i)
 
 -- each event of an input has the tick number that is in force after it
 abbrev pub EventsHaveTheTick : Type 0
-EventsHaveTheTick = (last : Row) (s : State) (i : Input) → All (λ e. e.tick ≡ (step s i).now) (events.events_of last s i)
+EventsHaveTheTick = (noted : Noted) (s : State) (i : Input) → All (λ e. e.tick ≡ (step s i).now) (events.events_of noted s i)

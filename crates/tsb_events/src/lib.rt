@@ -10,5 +10,5 @@ pub mod pattern;
 pub mod seen;
 pub mod tell;
 
-pub use seen::{Found, Seen, Selected};
+pub use seen::{Change, Found, Seen, Selected};
 pub use tell::{EVENTS, Events, other_events, tick_events};

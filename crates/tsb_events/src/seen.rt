@@ -1,5 +1,6 @@
 //! What the log of a controller sees.
 
+use tsb_step::log_form::Noted;
 use tsb_types::{NumberSet, Pattern, Row, Side};
 
 /// What the log of a controller sees: sets of phases, overlaps, vehicle detectors and preempts by their numbers.
@@ -24,14 +25,22 @@ pub struct Seen {
     pub vehicle_calls: NumberSet,
     /// Phases with a pedestrian call that are not in walk.
     pub pedestrian_calls: NumberSet,
+    /// Phases on minimum or maximum recall, their own or by the pattern that runs.
+    pub recalls: NumberSet,
+    /// Phases on pedestrian recall.
+    pub pedestrian_recalls: NumberSet,
     /// Overlaps whose head is green.
     pub overlap_greens: NumberSet,
     /// Overlaps whose head is yellow.
     pub overlap_yellows: NumberSet,
     /// Overlaps whose head is neither, and of whose included phases none is in service.
     pub overlaps_off: NumberSet,
+    /// Vehicle detectors whose output is on, after delay and extension.
+    pub outputs: NumberSet,
     /// Vehicle detectors with an alarm, of whatever kind.
     pub alarms: NumberSet,
+    /// Preempts whose switch is on.
+    pub switches: NumberSet,
     /// The preempt in service, if there is one.
     pub preempts: NumberSet,
     /// The preempt in service, in its track stage.
@@ -66,6 +75,15 @@ pub struct Selected {
     pub splits: [u8; 16],
 }
 
+/// The selected pattern before an input and after it.
+#[derive(Clone, Copy)]
+pub struct Change {
+    /// Before it.
+    pub before: Selected,
+    /// After it.
+    pub after: Selected,
+}
+
 /// What a tick alone finds.
 #[derive(Clone, Copy)]
 pub struct Found {
@@ -77,8 +95,8 @@ pub struct Found {
     pub maximum: NumberSet,
     /// Phases whose green it ended by the force-off.
     pub force_off: NumberSet,
-    /// The inputs that were on in the tick before; all off before the first.
-    pub last: Row,
+    /// What the log has noted before: its form, and the inputs that were on in the tick before.
+    pub noted: Noted,
     /// The inputs that are on in the tick.
     pub row: Row,
     /// Whether the preempt in service has been served: its input is off, after its minimum duration.

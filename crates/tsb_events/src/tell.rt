@@ -3,13 +3,14 @@ ghost use Rattle.std.specs.Prelude.{◌≡◌, ◌+◌, ◌++◌, ◌≤◌, ◌
 ghost use Rattle.arrayvec.specs.ArrayVec.{array_vec_len};
 ghost use Rattle.tsb_step.specs.tsb_types.Sets.{has_number};
 ghost use Rattle.tsb_step.specs.tsb_types.Events.{begins, either, told};
-ghost use Rattle.tsb_step.specs.Events.{alarm_events, call_events, clearing_events, crossing_events, ending_events, exit_events, flash_events, green_events, leaves_dwell, once_green, other_events, other_input_events, overlap_events, pedestrian_events, preempt_events, presence_events, serving, tick_events, vehicle_input_events};
+ghost use Rattle.tsb_step.specs.Events.{alarm_events, but_recalls, button_events, call_events, clearing_events, crossing_events, ending_events, exit_events, flash_events, green_events, leaves_dwell, once_green, other_events, overlap_events, pedestrian_events, pedestrian_calls_in, preempt_events, presence_events, request_events, requests, serving, tick_events, vehicle_calls_in, vehicle_events, vehicles_in};
 ghost use Rattle.tsb_events.specs.declared.tell.TheConstants.{EVENTS};
 ghost use Rattle.tsb_events.specs.Seen.{found_of, selected_of, view_of};
 
 use crate::pattern::tell_pattern;
-use crate::seen::{Found, Seen, Selected};
+use crate::seen::{Change, Found, Seen};
 use arrayvec::ArrayVec;
+use tsb_step::log_form::{LogForm, Noted};
 use tsb_types::event::{
     ALARM_COMES, ALARM_GOES, BARRIER_CROSSED, CALL_COMES, CALL_GOES, CLEARANCE_BEGINS,
     CONFLICT_BEGINS, DONT_WALK_BEGINS, DWELL_BEGINS, EXIT_BEGINS, FLASH, FLASH_CHANGES, FORCE_OFF,
@@ -19,7 +20,7 @@ use tsb_types::event::{
     RED_CLEARANCE_BEGINS, RED_CLEARANCE_ENDS, TRACK_BEGINS, VEHICLE_OFF, VEHICLE_ON, WALK_BEGINS,
     YELLOW_BEGINS, YELLOW_ENDS, begun, joined, tell,
 };
-use tsb_types::{Event, NumberSet};
+use tsb_types::{Event, NumberSet, Row};
 
 /// The most events of one input: 16 of each of 36 codes, and two more.
 pub const EVENTS: usize = 578;
@@ -38,39 +39,42 @@ pub fn tick_events(events: &mut Events, tick: u32, was: &Seen, now: &Seen, found
     tell_clearings(events, tick, was, now);
     tell_pedestrians(events, tick, was, now);
     tell_crossing(events, tick, was, now);
-    tell_calls(events, tick, was, now);
+    tell_calls(events, tick, &found.noted.form, was, now);
     tell_overlaps(events, tick, was, now);
-    tell_vehicle_inputs(events, tick, found);
+    tell_vehicles(events, tick, &found.noted, &found.row, was, now);
     tell_alarms(events, tick, was, now);
-    tell_other_inputs(events, tick, found);
+    tell_buttons(events, tick, found);
+    tell_requests(events, tick, &found.noted.row, &found.row, was, now);
     tell_preempts(events, tick, was, now);
     tell_presence(events, tick, found, was, now);
     tell_exits(events, tick, was, now);
     tell_flash(events, tick, was, now);
 }
 
-/// The events of an input that is no tick, at tick number `tick`, from what the log saw before it and what it sees
-/// after it. They take the place of those in `events`.
+/// The events of an input that is no tick, at tick number `tick`, from what the log has noted and saw before it, and
+/// what it sees after it. They take the place of those in `events`.
 pub fn other_events(
     events: &mut Events,
     tick: u32,
+    noted: &Noted,
     was: &Seen,
     now: &Seen,
-    was_selected: &Selected,
-    selected: &Selected,
+    change: &Change,
 )
-    ensures { events.new.items ≡ other_events tick (view_of was.now) (view_of now.now) (selected_of was_selected.now) (selected_of selected.now) }
+    ensures { events.new.items ≡ other_events tick noted.now (view_of was.now) (view_of now.now) (selected_of change.now.before) (selected_of change.now.after) }
 {
     events.clear();
     tell_greens(events, tick, was, now);
     tell_clearings(events, tick, was, now);
     tell_pedestrians(events, tick, was, now);
-    tell_calls(events, tick, was, now);
+    tell_calls(events, tick, &noted.form, was, now);
     tell_overlaps(events, tick, was, now);
+    tell_vehicles(events, tick, noted, &noted.row, was, now);
     tell_alarms(events, tick, was, now);
+    tell_requests(events, tick, &noted.row, &noted.row, was, now);
     tell_preempts(events, tick, was, now);
     tell_exits(events, tick, was, now);
-    tell_pattern(events, tick, was_selected, selected);
+    tell_pattern(events, tick, &change.before, &change.after);
     tell_flash(events, tick, was, now);
 }
 
@@ -184,32 +188,49 @@ fn tell_crossing(events: &mut Events, tick: u32, was: &Seen, now: &Seen)
     }
 }
 
+/// Those of some calls that a log of this form has, where these phases are on recall.
+fn but_recalls(form: &LogForm, calls: NumberSet, recalls: NumberSet) -> NumberSet
+    ensures { has_number result ≡ but_recalls form.now (has_number calls) (has_number recalls) }
+{
+    if form.recalls {
+        calls
+    } else {
+        calls.difference(recalls)
+    }
+}
+
+/// The phases with a vehicle call that a log of this form has.
+fn vehicle_calls(form: &LogForm, seen: &Seen) -> NumberSet
+    ensures { has_number result ≡ vehicle_calls_in form.now (view_of seen.now) }
+{
+    but_recalls(form, seen.vehicle_calls, seen.recalls)
+}
+
+/// Those with a pedestrian call.
+fn pedestrian_calls(form: &LogForm, seen: &Seen) -> NumberSet
+    ensures { has_number result ≡ pedestrian_calls_in form.now (view_of seen.now) }
+{
+    but_recalls(form, seen.pedestrian_calls, seen.pedestrian_recalls)
+}
+
 /// Adds the calls that come, and the vehicle calls that go.
-fn tell_calls(events: &mut Events, tick: u32, was: &Seen, now: &Seen)
+fn tell_calls(events: &mut Events, tick: u32, form: &LogForm, was: &Seen, now: &Seen)
     requires { array_vec_len events.old + 48 ≤ EVENTS }
-    ensures told { events.new.items ≡ events.old.items ++ call_events tick (view_of was.now) (view_of now.now) }
+    ensures told { events.new.items ≡ events.old.items ++ call_events tick form.now (view_of was.now) (view_of now.now) }
     ensures few { array_vec_len events.new ≤ array_vec_len events.old + 48 }
 {
-    tell_begun(
-        events,
-        tick,
-        CALL_COMES,
-        was.vehicle_calls,
-        now.vehicle_calls,
-    );
-    tell_begun(
-        events,
-        tick,
-        CALL_GOES,
-        now.vehicle_calls,
-        was.vehicle_calls,
-    );
+    let called_was = vehicle_calls(form, was);
+    let called = vehicle_calls(form, now);
+    tell_begun(events, tick, CALL_COMES, called_was, called);
+    tell_begun(events, tick, CALL_GOES, called, called_was);
+    let pedestrians_was = pedestrian_calls(form, was);
+    let pedestrians = pedestrian_calls(form, now);
     tell_begun(
         events,
         tick,
         PEDESTRIAN_CALL_COMES,
-        was.pedestrian_calls,
-        now.pedestrian_calls,
+        pedestrians_was,
+        pedestrians,
     );
 }
 
@@ -245,16 +266,27 @@ fn tell_overlaps(events: &mut Events, tick: u32, was: &Seen, now: &Seen)
     );
 }
 
-/// Adds the vehicle inputs that go off and on in a tick.
-fn tell_vehicle_inputs(events: &mut Events, tick: u32, found: &Found)
+/// The vehicle detectors that are on in a log of this form, where these inputs are on.
+fn vehicles(form: &LogForm, row: &Row, seen: &Seen) -> NumberSet
+    ensures { has_number result ≡ vehicles_in form.now row.now (view_of seen.now) }
+{
+    if form.outputs {
+        seen.outputs
+    } else {
+        row.vehicles
+    }
+}
+
+/// Adds the vehicle detectors that go off and on. The inputs of `row` are on after the input.
+fn tell_vehicles(events: &mut Events, tick: u32, noted: &Noted, row: &Row, was: &Seen, now: &Seen)
     requires { array_vec_len events.old + 32 ≤ EVENTS }
-    ensures told { events.new.items ≡ events.old.items ++ vehicle_input_events tick (found_of found.now) }
+    ensures told { events.new.items ≡ events.old.items ++ vehicle_events tick noted.now row.now (view_of was.now) (view_of now.now) }
     ensures few { array_vec_len events.new ≤ array_vec_len events.old + 32 }
 {
-    let was = found.last.vehicles;
-    let now = found.row.vehicles;
-    tell_begun(events, tick, VEHICLE_OFF, now, was);
-    tell_begun(events, tick, VEHICLE_ON, was, now);
+    let on_was = vehicles(&noted.form, &noted.row, was);
+    let on = vehicles(&noted.form, row, now);
+    tell_begun(events, tick, VEHICLE_OFF, on, on_was);
+    tell_begun(events, tick, VEHICLE_ON, on_was, on);
 }
 
 /// Adds the alarms of vehicle detectors that go and come.
@@ -267,30 +299,36 @@ fn tell_alarms(events: &mut Events, tick: u32, was: &Seen, now: &Seen)
     tell_begun(events, tick, ALARM_COMES, was.alarms, now.alarms);
 }
 
-/// Adds the pedestrian and preempt inputs that go off and on in a tick.
-fn tell_other_inputs(events: &mut Events, tick: u32, found: &Found)
-    requires { array_vec_len events.old + 64 ≤ EVENTS }
-    ensures told { events.new.items ≡ events.old.items ++ other_input_events tick (found_of found.now) }
-    ensures few { array_vec_len events.new ≤ array_vec_len events.old + 64 }
+/// Adds the pedestrian inputs that go off and on in a tick.
+fn tell_buttons(events: &mut Events, tick: u32, found: &Found)
+    requires { array_vec_len events.old + 32 ≤ EVENTS }
+    ensures told { events.new.items ≡ events.old.items ++ button_events tick (found_of found.now) }
+    ensures few { array_vec_len events.new ≤ array_vec_len events.old + 32 }
 {
-    let was = found.last;
-    let now = found.row;
-    tell_begun(
-        events,
-        tick,
-        PEDESTRIAN_OFF,
-        now.pedestrians,
-        was.pedestrians,
-    );
-    tell_begun(
-        events,
-        tick,
-        PEDESTRIAN_ON,
-        was.pedestrians,
-        now.pedestrians,
-    );
-    tell_begun(events, tick, PREEMPT_ON, was.preempts, now.preempts);
-    tell_begun(events, tick, PREEMPT_OFF, now.preempts, was.preempts);
+    let was = found.noted.row.pedestrians;
+    let now = found.row.pedestrians;
+    tell_begun(events, tick, PEDESTRIAN_OFF, now, was);
+    tell_begun(events, tick, PEDESTRIAN_ON, was, now);
+}
+
+/// The preempts that are asked for, where these inputs are on.
+fn requests(row: &Row, seen: &Seen) -> NumberSet
+    ensures { has_number result ≡ requests row.now (view_of seen.now) }
+{
+    joined(row.preempts, seen.switches)
+}
+
+/// Adds the requests of preempts that come and go. The inputs of `last` were on before the input, and those of `row` are
+/// on after it.
+fn tell_requests(events: &mut Events, tick: u32, last: &Row, row: &Row, was: &Seen, now: &Seen)
+    requires { array_vec_len events.old + 32 ≤ EVENTS }
+    ensures told { events.new.items ≡ events.old.items ++ request_events tick last.now row.now (view_of was.now) (view_of now.now) }
+    ensures few { array_vec_len events.new ≤ array_vec_len events.old + 32 }
+{
+    let asked_was = requests(last, was);
+    let asked = requests(row, now);
+    tell_begun(events, tick, PREEMPT_ON, asked_was, asked);
+    tell_begun(events, tick, PREEMPT_OFF, asked, asked_was);
 }
 
 /// Preempts in a stage, once each phase of the stage is Green.

@@ -25,7 +25,7 @@ use Rattle.tsb_field_display.specs.Remaining.{changes_in, last_in}
 use Rattle.tsb_field_display.specs.Stream.{ReadSo, ReplayRead}
 use Rattle.tsb_field_display.specs.declared.replay.Replay.{Replay}
 use Rattle.tsb_field_display.specs.declared.shown.Shown.{Shown}
-use Rattle.tsb_text.specs.declared.faults.OnFault.{OnFault}
+use Rattle.tsb_record.specs.declared.recording.RecordOptions.{RecordOptions}
 use Rattle.tsb_field_display.specs.Merge.{session_events}
 use Rattle.tsb_field_display.specs.Texts.{IsLog, LogWritten}
 use Rattle.tsb_field_display.specs.declared.events_error.EventsError.{EventsError}
@@ -71,9 +71,9 @@ stops-there (faults.Failed why) status rows files told tells read line = inr (wh
 stops-there (faults.Refused fault) status rows files told tells read line = inl (fault, read, line)
 
 -- a record on a plan that was found
-pub recorded-on : (status : ℕ) (from : Moment) (device : List ℕ) (on_fault : OnFault) (found : Plan) (plan rows : List ℕ) (files : List ℕ → Option (List ℕ)) (input left old new told tells : Seen) → HasPlan (files plan) found
-    → RecordedOn status from device on_fault found rows files input left old new told tells → Recorded status from device on_fault plan rows files input left old new told tells
-recorded-on status from device on_fault found plan rows files input left old new told tells has recorded = elim recorded [
+pub recorded-on : (status : ℕ) (from : Moment) (device : List ℕ) (options : RecordOptions) (found : Plan) (plan rows : List ℕ) (files : List ℕ → Option (List ℕ)) (input left old new told tells : Seen) → HasPlan (files plan) found
+    → RecordedOn status from device options found rows files input left old new told tells → Recorded status from device options plan rows files input left old new told tells
+recorded-on status from device options found plan rows files input left old new told tells has recorded = elim recorded [
   | inl ran ↦ inl (record { plan = found; log = ran.0 }, has, ran.1, ran.2)
   | inr none ↦ inr (none.0, none.1, elim none.2 [ inl refused ↦ inr (inl (found, has, refused.0, refused.1, refused.2)) | inr failed ↦ inr (inr (inr (found, has, failed))) ])
 ]
@@ -120,10 +120,10 @@ drawn-read title seconds rows replay status input left old new told tells read d
   | inr memory ↦ inr (read.bytes, read.taken, memory.0, inr (read.so.0, memory.1))
 ]
 
-pub recorded-as : (status : ℕ) (from : Moment) (device : List ℕ) (other on_fault : OnFault) (plan rows : List ℕ) (files : List ℕ → Option (List ℕ)) (input left old new told tells : Seen) → other ≡ on_fault
-    → Recorded status from device other plan rows files input left old new told tells → Recorded status from device on_fault plan rows files input left old new told tells
-recorded-as status from device other on_fault plan rows files input left old new told tells same recorded =
-    subst (λ (w : OnFault). Recorded status from device w plan rows files input left old new told tells) same recorded
+pub recorded-as : (status : ℕ) (from : Moment) (device : List ℕ) (other options : RecordOptions) (plan rows : List ℕ) (files : List ℕ → Option (List ℕ)) (input left old new told tells : Seen) → other ≡ options
+    → Recorded status from device other plan rows files input left old new told tells → Recorded status from device options plan rows files input left old new told tells
+recorded-as status from device other options plan rows files input left old new told tells same recorded =
+    subst (λ (w : RecordOptions). Recorded status from device w plan rows files input left old new told tells) same recorded
 
 pub pictured-as : (status : ℕ) (title other : List ℕ) (seconds more : ℕ) (known : List ℕ → Option (List ℕ)) (path : Option (List ℕ)) (input left old new told tells : Seen) → other ≡ title → more ≡ seconds
     → Pictured status other more known path input left old new told tells → Pictured status title seconds known path input left old new told tells

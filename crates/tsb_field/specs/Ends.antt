@@ -30,6 +30,7 @@ use Rattle.tsb_field_display.specs.Ticks.{AreWritten}
 use Rattle.tsb_record.specs.Ended as recorded
 use Rattle.tsb_text.specs.declared.faults.OnFault.{OnFault}
 use Rattle.tsb_text.specs.declared.faults.OnFault.TheVariants.{GoOn, Stop}
+use Rattle.tsb_record.specs.declared.recording.RecordOptions.{RecordOptions}
 use Rattle.tsb_record.specs.declared.recording.Outcome.{Outcome}
 use Rattle.tsb_record.specs.declared.recording.Outcome.TheVariants as outcomes
 use Rattle.tsb_record.specs.tsb_types.declared.event.Event.{Event}
@@ -42,6 +43,7 @@ use Rattle.tsb_words.specs.FieldProgram.{Spells}
 use Rattle.tsb_words.specs.Near.{field_near}
 use Rattle.tsb_words.specs.FieldWords.{Wish, diagram, events, log, recording, reviewing, seen}
 use Rattle.tsb_words.specs.declared.field_files.Asked.{Asked}
+use Rattle.tsb_words.specs.declared.field_files.RecordManner.{RecordManner}
 use Rattle.tsb_words.specs.declared.error.WordsError.{WordsError}
 use Rattle.tsb_field.specs.Lines.{TellsLate, TellsWords}
 use Rattle.tsb_field.specs.LogEnds.{LoggedOn}
@@ -153,6 +155,10 @@ abbrev pub on_fault_of : Bool → OnFault
 on_fault_of true = GoOn
 on_fault_of false = Stop
 
+-- what is asked of a record, as words say
+abbrev pub options_of : RecordManner → RecordOptions
+options_of manner = record { on_fault = on_fault_of manner.goes_on; form = record { recalls = manner.recalls; outputs = manner.outputs } }
+
 -- a run ended well; or with nothing written: with 4 because a line ended it, of which no more is told, or by a fault
 abbrev pub WritesEnd : Result Outcome SessionError → ℕ → Moment → List ℕ → (old new told tells : Seen) → Type 0
 WritesEnd (Ok (outcomes.Events all)) status from device old new told tells = Writes status from device all.items old new told tells
@@ -161,21 +167,21 @@ WritesEnd (Err fault) status from device old new told tells = (new ≡ old) × T
 
 -- commands were run on a plan and a log, and told of what was refused, by a fault of a device exactly where a call of that
 -- device has failed; and then this was written
-abbrev pub RanSo : ℕ → Moment → List ℕ → OnFault → Setup → (input left old new told tells : Seen) → Type 0
-RanSo status from device on_fault given input left old new told tells =
-    (result : Result Outcome SessionError) × (mid : Seen) × recorded.Ended result on_fault given input.bytes left.bytes told.bytes mid.bytes
+abbrev pub RanSo : ℕ → Moment → List ℕ → RecordOptions → Setup → (input left old new told tells : Seen) → Type 0
+RanSo status from device options given input left old new told tells =
+    (result : Result Outcome SessionError) × (mid : Seen) × recorded.Ended result options.on_fault options.form given input.bytes left.bytes told.bytes mid.bytes
     × Blames result left.failed mid.failed mid.flushed × WritesEnd result status from device old new mid tells
 
 -- how `record` ended on this plan and the log in the file of this name: after a run, or with nothing read and nothing written
-abbrev pub RecordedOn : ℕ → Moment → List ℕ → OnFault → Plan → (rows : List ℕ) → (List ℕ → Option (List ℕ)) → (input left old new told tells : Seen) → Type 0
-RecordedOn status from device on_fault plan rows files input left old new told tells =
-    ((log : List LogRow) × HasLog (files rows) log × RanSo status from device on_fault (record { plan = plan; log = log }) input left old new told tells)
+abbrev pub RecordedOn : ℕ → Moment → List ℕ → RecordOptions → Plan → (rows : List ℕ) → (List ℕ → Option (List ℕ)) → (input left old new told tells : Seen) → Type 0
+RecordedOn status from device options plan rows files input left old new told tells =
+    ((log : List LogRow) × HasLog (files rows) log × RanSo status from device options (record { plan = plan; log = log }) input left old new told tells)
     ⊎ ((left ≡ input) × (new ≡ old) × Stops files (Some rows) status told tells)
 
 -- how `record` ended on the files of a plan and a log, of these names: after a run, or with nothing read and nothing written
-abbrev pub Recorded : ℕ → Moment → List ℕ → OnFault → (plan rows : List ℕ) → (List ℕ → Option (List ℕ)) → (input left old new told tells : Seen) → Type 0
-Recorded status from device on_fault plan rows files input left old new told tells =
-    ((given : Setup) × HasPlan (files plan) given.plan × HasLog (files rows) given.log × RanSo status from device on_fault given input left old new told tells)
+abbrev pub Recorded : ℕ → Moment → List ℕ → RecordOptions → (plan rows : List ℕ) → (List ℕ → Option (List ℕ)) → (input left old new told tells : Seen) → Type 0
+Recorded status from device options plan rows files input left old new told tells =
+    ((given : Setup) × HasPlan (files plan) given.plan × HasLog (files rows) given.log × RanSo status from device options given input left old new told tells)
     ⊎ ((left ≡ input) × (new ≡ old) × NoRun plan rows files status told tells)
 
 -- ## `diagram`
@@ -207,8 +213,8 @@ Pictured status title seconds files path input left old new told tells =
 -- what was done for a wish, where files has the known bytes of each path
 abbrev pub DidWish : Wish → ℕ → (List ℕ → Option (List ℕ)) → (input left old new told tells : Seen) → Type 0
 DidWish (log wish) status files input left old new told tells = LoggedOn wish.as_outputs status wish files input left old new told tells
-DidWish (recording from device plan file goes_on) status files input left old new told tells =
-    Recorded status from device (on_fault_of goes_on) plan file files input left old new told tells
+DidWish (recording from device plan file manner) status files input left old new told tells =
+    Recorded status from device (options_of manner) plan file files input left old new told tells
 DidWish (events from device path) status files input left old new told tells = Told status from device files path input left old new told tells
 DidWish (diagram path title seconds) status files input left old new told tells = Pictured status (title_of title) (seconds_of seconds) files path input left old new told tells
 DidWish (reviewing plan) status files input left old new told tells = (left ≡ input) × Reviewed status plan (files plan) old new told tells

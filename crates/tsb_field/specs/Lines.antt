@@ -10,7 +10,7 @@ use Rattle.tsb_program.specs.declared.failure.Failure.TheVariants.{Memory}
 -- how the program is used
 abbrev pub usage : List ℕ
 usage =
-    codes "usage: tsb_field log --from TIME [--device ID] [--time-form FORM] [--zone OFFSET] [--count] [--allow-empty]\n          [--sort] [--sort-within SECONDS] [--as-outputs PLAN]\n          [--vehicle CHANNEL=DETECTOR].. [--pedestrian CHANNEL=DETECTOR].. [--preempt CHANNEL=INPUT]..\n    or tsb_field record --from TIME --device ID [--go-on] PLAN LOG\n    or tsb_field events --from TIME --device ID [--log LOG]\n    or tsb_field diagram [--log LOG] [--title TEXT] [--seconds-per-line N]\n    or tsb_field review PLAN\n"
+    codes "usage: tsb_field log --from TIME [--device ID] [--time-form FORM] [--zone OFFSET] [--count] [--allow-empty]\n          [--sort] [--sort-within SECONDS] [--as-outputs PLAN]\n          [--vehicle CHANNEL=DETECTOR].. [--pedestrian CHANNEL=DETECTOR].. [--preempt CHANNEL=INPUT]..\n    or tsb_field record --from TIME --device ID [--go-on] [--recalls] [--outputs] PLAN LOG\n    or tsb_field events --from TIME --device ID [--log LOG]\n    or tsb_field diagram [--log LOG] [--title TEXT] [--seconds-per-line N]\n    or tsb_field review PLAN\n"
 
 -- what is told of bad words: the right word that was perhaps meant, or else how the program is used
 abbrev pub bad_line : Option (List ℕ) → List ℕ

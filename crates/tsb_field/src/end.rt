@@ -14,7 +14,7 @@ const USAGE: &[u8] =
     b"usage: tsb_field log --from TIME [--device ID] [--time-form FORM] [--zone OFFSET] [--count] [--allow-empty]
           [--sort] [--sort-within SECONDS] [--as-outputs PLAN]
           [--vehicle CHANNEL=DETECTOR].. [--pedestrian CHANNEL=DETECTOR].. [--preempt CHANNEL=INPUT]..
-    or tsb_field record --from TIME --device ID [--go-on] PLAN LOG
+    or tsb_field record --from TIME --device ID [--go-on] [--recalls] [--outputs] PLAN LOG
     or tsb_field events --from TIME --device ID [--log LOG]
     or tsb_field diagram [--log LOG] [--title TEXT] [--seconds-per-line N]
     or tsb_field review PLAN

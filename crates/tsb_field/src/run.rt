@@ -10,7 +10,7 @@ ghost use Rattle.tsb_text.specs.tsb_objects.Checked.{checked_plan};
 ghost use Rattle.tsb_program.specs.tsb_lines.Seen.{seen};
 ghost use Rattle.tsb_field_diagram.specs.Page.{diagram_text};
 ghost use Rattle.tsb_field_display.specs.Remaining.{changes_in, last_in};
-ghost use Rattle.tsb_field.specs.Ends.{Answered, Did, Drawn, Draws, IsDiagram, LogNamed, Pictured, RanSo, Recorded, RecordedOn, WritesMade, failure_by, name_of, on_fault_of, Told, ToldOn, seconds_of, title_of};
+ghost use Rattle.tsb_field.specs.Ends.{Answered, Did, Drawn, Draws, IsDiagram, LogNamed, Pictured, RanSo, Recorded, RecordedOn, WritesMade, failure_by, name_of, on_fault_of, options_of, Told, ToldOn, seconds_of, title_of};
 
 use crate::end::{tell_late, tell_words_fault, write_all};
 use crate::outputs_run::run_log;
@@ -26,9 +26,9 @@ use tsb_program::{
     Failure, Files, ReadError, Status, Watched, fail, log_of, plan_or_place, refuse_log,
     refuse_plan, tell_input_end,
 };
-use tsb_record::{OnFault, Outcome, record};
+use tsb_record::{LogForm, OnFault, Outcome, RecordOptions, record};
 use tsb_text::Checked;
-use tsb_words::field_files::{Asked, read_words};
+use tsb_words::field_files::{Asked, RecordManner, read_words};
 use tsb_words::near::field_near;
 use tsb_words::pages::field_page;
 
@@ -88,12 +88,12 @@ fn run_asked<S: AsStr, F: Files, R: Read, W: Write, E: Write>(
                 device,
                 plan,
                 log,
-                goes_on,
+                manner,
             },
         ) => {
-            let on_fault = on_fault_of(goes_on);
+            let options = options_of(manner);
             write_record(
-                alloc, from, device, plan, log, on_fault, files, input, output, errors,
+                alloc, from, device, plan, log, options, files, input, output, errors,
             )
         }
         Ok(Asked::Events { from, device, log }) => {
@@ -126,6 +126,19 @@ fn on_fault_of(goes_on: bool) -> OnFault
     }
 }
 
+/// What is asked of a record, as words say.
+fn options_of(manner: RecordManner) -> RecordOptions
+    ensures { result ≡ options_of manner }
+{
+    RecordOptions {
+        on_fault: on_fault_of(manner.goes_on),
+        form: LogForm {
+            recalls: manner.recalls,
+            outputs: manner.outputs,
+        },
+    }
+}
+
 /// Makes a controller's event log from a run of commands.
 fn write_record<F: Files, R: Read, W: Write, E: Write>(
     alloc: Global,
@@ -133,7 +146,7 @@ fn write_record<F: Files, R: Read, W: Write, E: Write>(
     device: &str,
     plan: &str,
     log: &str,
-    on_fault: OnFault,
+    options: RecordOptions,
     files: &F,
     input: &mut Watched<R>,
     output: &mut Watched<W>,
@@ -142,12 +155,12 @@ fn write_record<F: Files, R: Read, W: Write, E: Write>(
     requires reads { input.old.failed ≡ false }
     requires writes { errors.old.failed ≡ false }
     requires flushed { errors.old.flushed ≡ true }
-    ensures { Recorded result from device.now on_fault plan.now log.now (F.bytes files.now)
+    ensures { Recorded result from device.now options plan.now log.now (F.bytes files.now)
         (seen R.remaining input.old) (seen R.remaining input.new) (seen W.contents output.old) (seen W.contents output.new) (seen E.contents errors.old) (seen E.contents errors.new) }
 {
     match plan_or_place(alloc, files, plan) {
         Ok(checked) => record_plan(
-            alloc, from, device, checked, log, on_fault, files, input, output, errors,
+            alloc, from, device, checked, log, options, files, input, output, errors,
         ),
         Err(fault) => refuse_plan(alloc, errors, plan, fault),
     }
@@ -160,7 +173,7 @@ fn record_plan<F: Files, R: Read, W: Write, E: Write>(
     device: &str,
     plan: Checked,
     log: &str,
-    on_fault: OnFault,
+    options: RecordOptions,
     files: &F,
     input: &mut Watched<R>,
     output: &mut Watched<W>,
@@ -169,12 +182,12 @@ fn record_plan<F: Files, R: Read, W: Write, E: Write>(
     requires reads { input.old.failed ≡ false }
     requires writes { errors.old.failed ≡ false }
     requires flushed { errors.old.flushed ≡ true }
-    ensures { RecordedOn result from device.now on_fault (checked_plan plan) log.now (F.bytes files.now)
+    ensures { RecordedOn result from device.now options (checked_plan plan) log.now (F.bytes files.now)
         (seen R.remaining input.old) (seen R.remaining input.new) (seen W.contents output.old) (seen W.contents output.new) (seen E.contents errors.old) (seen E.contents errors.new) }
 {
     match log_of(alloc, files, log) {
         Ok(rows) => record_run(
-            alloc, from, device, plan, &rows, on_fault, input, output, errors,
+            alloc, from, device, plan, &rows, options, input, output, errors,
         ),
         Err(fault) => {
             drop(plan);
@@ -191,7 +204,7 @@ fn record_run<R: Read, W: Write, E: Write>(
     device: &str,
     plan: Checked,
     rows: &Log,
-    on_fault: OnFault,
+    options: RecordOptions,
     input: &mut Watched<R>,
     output: &mut Watched<W>,
     errors: &mut Watched<E>,
@@ -199,10 +212,10 @@ fn record_run<R: Read, W: Write, E: Write>(
     requires reads { input.old.failed ≡ false }
     requires writes { errors.old.failed ≡ false }
     requires flushed { errors.old.flushed ≡ true }
-    ensures { RanSo result from device.now on_fault (record { plan = checked_plan plan; log = rows.now })
+    ensures { RanSo result from device.now options (record { plan = checked_plan plan; log = rows.now })
         (seen R.remaining input.old) (seen R.remaining input.new) (seen W.contents output.old) (seen W.contents output.new) (seen E.contents errors.old) (seen E.contents errors.new) }
 {
-    match record(alloc, plan, rows, on_fault, input, errors) {
+    match record(alloc, plan, rows, options, input, errors) {
         Ok(Outcome::Events(events)) => {
             let made = log_text(alloc, from, device.as_bytes(), &events);
             write_made(made, output, errors)

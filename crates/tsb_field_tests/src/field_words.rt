@@ -4,7 +4,7 @@ use std::alloc::Global;
 use tsb_event_text::{TimeForm, Zone, read_moment};
 use tsb_field_log::{Kind, Wire};
 use tsb_words::WordsError;
-use tsb_words::field_files::{Asked, Manner, read_words};
+use tsb_words::field_files::{Asked, Manner, RecordManner, read_words};
 
 /// How `log` reads events where words don't say.
 const PLAIN: Manner = Manner {
@@ -128,14 +128,14 @@ fn events_words(rt: HostRuntime) {
     assert!(rt; ask_for_events(rt.alloc(), &words, time, "1001", "a.log"));
 }
 
-/// Whether the words ask for a record of this device from this time on, on this plan and log, that goes on or is strict.
+/// Whether the words ask for a record of this device from this time on, on this plan and log, in this manner.
 fn ask_for_record(
     alloc: Global,
     words: &[&str],
     time: &[u8],
     name: &str,
     files: (&str, &str),
-    is_lenient: bool,
+    wanted: RecordManner,
 ) -> bool {
     match read_words(alloc, words) {
         Ok(
@@ -144,17 +144,24 @@ fn ask_for_record(
                 device,
                 plan,
                 log,
-                goes_on,
+                manner,
             },
         ) => {
             Some(from) == read_moment(time)
                 && device == name
                 && (plan, log) == files
-                && goes_on == is_lenient
+                && manner == wanted
         }
         _ => false,
     }
 }
+
+/// How a record is made where words say nothing of it.
+const USUAL: RecordManner = RecordManner {
+    goes_on: false,
+    recalls: false,
+    outputs: false,
+};
 
 #[test]
 fn record_words(rt: HostRuntime) {
@@ -169,7 +176,7 @@ fn record_words(rt: HostRuntime) {
     ];
     let time = b"2026-11-22 07:00:00".as_slice();
     let files = ("a.json", "a.log");
-    assert!(rt; ask_for_record(rt.alloc(), &words, time, "1001", files, false));
+    assert!(rt; ask_for_record(rt.alloc(), &words, time, "1001", files, USUAL));
 }
 
 #[test]
@@ -185,7 +192,33 @@ fn record_words_that_go_on(rt: HostRuntime) {
     ];
     let time = b"2026-11-22 07:00:00".as_slice();
     let files = ("a.json", "a.log");
-    assert!(rt; ask_for_record(rt.alloc(), &words, time, "1001", files, true));
+    let wanted = RecordManner {
+        goes_on: true,
+        ..USUAL
+    };
+    assert!(rt; ask_for_record(rt.alloc(), &words, time, "1001", files, wanted));
+}
+
+#[test]
+fn record_words_of_a_form(rt: HostRuntime) {
+    let words = [
+        "tsb_field",
+        "record",
+        FROM,
+        "--device=1001",
+        "--outputs",
+        "a.json",
+        "a.log",
+        "--recalls",
+    ];
+    let time = b"2026-11-22 07:00:00".as_slice();
+    let files = ("a.json", "a.log");
+    let wanted = RecordManner {
+        goes_on: false,
+        recalls: true,
+        outputs: true,
+    };
+    assert!(rt; ask_for_record(rt.alloc(), &words, time, "1001", files, wanted));
 }
 
 /// Whether the words ask for a diagram with this log, title and width.

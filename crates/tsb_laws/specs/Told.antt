@@ -10,7 +10,9 @@ use Rattle.tsb_step.specs.tsb_heads.Monitoring as monitor
 use Rattle.tsb_step.specs.tsb_plan.Plan.{Plan}
 use Rattle.tsb_step.specs.declared.inputs.Input.{Input}
 use Rattle.tsb_step.specs.declared.inputs.Input.TheVariants.{Tick}
-use Rattle.tsb_step.specs.Events.{events_of}
+use Rattle.tsb_step.specs.declared.log_form.LogForm.{LogForm}
+use Rattle.tsb_step.specs.declared.log_form.Noted.{Noted}
+use Rattle.tsb_step.specs.Events.{events_of, requests, vehicles_in, view}
 use Rattle.tsb_step.specs.Laws.{IsConsistent}
 use Rattle.tsb_step.specs.Runs.{replay, AreTaken}
 use Rattle.tsb_step.specs.Signs.{display}
@@ -47,10 +49,10 @@ is_of_line e = among e.code (1 ∷ 7 ∷ 8 ∷ 9 ∷ 21 ∷ 22 ∷ 23 ∷ 61 ∷
 
 -- the events that come of the display lines before and after an input are those of the same codes among its events
 abbrev pub LinesTellTheSame : Type 0
-LinesTellTheSame = (plan : Plan) (is : List Input) (i : Input) (last : Row) → IsConsistent plan → plan.phase_count ≤ 16 →
+LinesTellTheSame = (plan : Plan) (is : List Input) (i : Input) (noted : Noted) → IsConsistent plan → plan.phase_count ≤ 16 →
     AreTaken plan (i ∷ is) →
     display_lines.events_of (signals (replay plan is)) (shown_in (replay plan (i ∷ is)))
-    ≡ filter is_of_line (events_of last (replay plan is) i)
+    ≡ filter is_of_line (events_of noted (replay plan is) i)
 
 -- ## Heads
 
@@ -65,10 +67,10 @@ pub record TellsHeads (lit : Lit) (s : State) : Type 0 where
   pub overlap_yellow : (o : ℕ) → 1 ≤ o → o ≤ 4 → lit.overlap_yellow o ≡ colours.is_yellow ((display s).overlap o)
   pub flash : lit.flash ≡ is_some s.trip
 
--- the events of a run tell what the heads show at its end
+-- the events of a run tell what the heads show at its end, whatever the form of the log is
 abbrev pub RunsTellTheHeads : Type 0
-RunsTellTheHeads = (plan : Plan) (is : List Input) → IsConsistent plan → plan.phase_count ≤ 16 → AreTaken plan is →
-    TellsHeads (read_back (told_along plan is)) (replay plan is)
+RunsTellTheHeads = (form : LogForm) (plan : Plan) (is : List Input) → IsConsistent plan → plan.phase_count ≤ 16 → AreTaken plan is →
+    TellsHeads (read_back (told_along form plan is)) (replay plan is)
 
 -- ## Inputs
 
@@ -96,21 +98,29 @@ says_vehicle code = if code == 82 then Some true else (if code == 81 then Some f
 abbrev pub says_pedestrian : ℕ → Option Bool
 says_pedestrian code = if code == 90 then Some true else (if code == 89 then Some false else None)
 
--- of the input of a preempt
+-- of the request of a preempt
 abbrev pub says_preempt : ℕ → Option Bool
 says_preempt code = if code == 102 then Some true else (if code == 104 then Some false else None)
 
--- of each input, whether it is on in this row, as the last of these events says that says something of it; before them
--- all are off
-pub record TellsRow (es : List Event) (row : Row) : Type 0 where
-  pub vehicles : (d : ℕ) → 1 ≤ d → d ≤ 16 → lit_after (says_at says_vehicle d) false es ≡ has_number row.vehicles d
+-- of each vehicle detector, pedestrian detector and preempt, whether it is on, as the last of these events says that says
+-- something of it, in a log of this form, with the inputs of this row at a state; before them all are off. A vehicle
+-- detector is on by its input, or by its output; a preempt by its input or its switch
+pub record TellsInputs (es : List Event) (form : LogForm) (row : Row) (s : State) : Type 0 where
+  pub vehicles : (d : ℕ) → 1 ≤ d → d ≤ 16 → lit_after (says_at says_vehicle d) false es ≡ vehicles_in form row (view s) d
   pub pedestrians : (d : ℕ) → 1 ≤ d → d ≤ 16 → lit_after (says_at says_pedestrian d) false es ≡ has_number row.pedestrians d
-  pub preempts : (n : ℕ) → 1 ≤ n → n ≤ 16 → lit_after (says_at says_preempt n) false es ≡ has_number row.preempts n
+  pub preempts : (n : ℕ) → 1 ≤ n → n ≤ 16 → lit_after (says_at says_preempt n) false es ≡ requests row (view s) n
 
 -- the events of a run tell the inputs of its newest tick
 abbrev pub RunsTellTheInputs : Type 0
-RunsTellTheInputs = (plan : Plan) (is : List Input) → TellsRow (told_along plan is) (last_row is)
+RunsTellTheInputs = (form : LogForm) (plan : Plan) (is : List Input) →
+    TellsInputs (told_along form plan is) form (last_row is) (replay plan is)
 
--- the events of inputs among those of a run are those of its log
+-- no preempt's switch is on at any state of a run
+abbrev pub AreSwitchesOff : Plan → List Input → Type 0
+AreSwitchesOff plan [] = Unit {0}
+AreSwitchesOff plan (i ∷ is) = ((n : ℕ) → (replay plan (i ∷ is)).preempts.switch n ≡ false) × AreSwitchesOff plan is
+
+-- the events of inputs among those of a run are those of its log, where these are of inputs alone
 abbrev pub InputsMakeTheLog : Type 0
-InputsMakeTheLog = (plan : Plan) (is : List Input) → filter is_of_input (told_along plan is) ≡ events_of_rows (log_of plan is)
+InputsMakeTheLog = (form : LogForm) (plan : Plan) (is : List Input) → form.outputs ≡ false → AreSwitchesOff plan is →
+    filter is_of_input (told_along form plan is) ≡ events_of_rows (log_of plan is)

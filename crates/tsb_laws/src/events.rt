@@ -38,14 +38,18 @@ pub fn runs_tell_the_heads()
 /// `log`: The events of inputs among those of a run make its log again. They are the events of the rows of its ticks, of
 /// which a log has those that change (`log_of`).
 ///
+/// Needs: a record without outputs, whose detectors go on and off before delay and extension (`by_output`); and no
+/// operator's switch of a preempt on in the run, which asks for a preempt that no row does (`switched_told`).
 /// Mistake: inputs told against all off, and not against the tick before (`goes_on`, `would_come_again`).
-/// Witness: `two_rows` and `two_told` of LineRuns.
+/// Witness: `two_rows`, `two_told` and `no_switch` of LineRuns.
 ///
-/// `row`: The events of a run tell which inputs are on in its newest tick. Of each input the last event that says
-/// something of it decides. So they tell the row of each tick, by what the run has told as far as that tick.
+/// `row`: The events of a run tell what is on at its end: of each vehicle detector its input in the newest tick, or its
+/// output where the record has outputs; of each pedestrian detector its input; of each preempt its input or switch. The
+/// last event that says something of it decides. So they tell the row of each tick, by what the run has told as far as
+/// that tick.
 ///
 /// Mistake: an input that goes off is not told, so that it stays on (`stays_on`, `is_off`).
-/// Witness: `two_told` of LineRuns.
+/// Witness: `two_told` and `switched_told` of LineRuns.
 pub fn inputs_make_the_log()
     ensures log { InputsMakeTheLog }
     ensures row { RunsTellTheInputs }

@@ -9,7 +9,7 @@ use Rattle.tsb_log_text.specs.declared.log.LogRow.{LogRow}
 use Rattle.tsb_step.specs.declared.inputs.Input.{Input}
 use Rattle.tsb_step.specs.declared.inputs.Input.TheVariants.{Tick}
 use Rattle.tsb_step.specs.tsb_plan.Plan.{Plan}
-use Rattle.tsb_step.specs.Events.{events_of}
+use Rattle.tsb_step.specs.Events.{events_of, usual_after}
 use Rattle.tsb_step.specs.Runs.{replay}
 use Rattle.tsb_step.specs.Step.{verdict}
 use Rattle.tsb_step.proofs.RefusalLemmas.{refuses}
@@ -90,9 +90,9 @@ taken given log besides row is first n old new before is_owed left k line same a
     is-same : same ≡ shows_same (line_after given.plan (Tick row ∷ s.now)) before
     is-same = alike ∙ ap (λ (l : List ℕ). shows_same l before) is-line
 
-    news : news_in new ≡ if_told besides.tells (events_of (last_row s.now) (replay given.plan s.now) (Tick row))
-    news = told-alike (tells_in new.mode) new.news (events_of (last_row s.now) (replay given.plan s.now) (Tick row)) took.2
-        ∙ ap (λ (t : Bool). if_told t (events_of (last_row s.now) (replay given.plan s.now) (Tick row))) mode
+    news : news_in new ≡ if_told besides.tells (events_of (usual_after (last_row s.now)) (replay given.plan s.now) (Tick row))
+    news = told-alike (tells_in new.mode) new.news (events_of (usual_after (last_row s.now)) (replay given.plan s.now) (Tick row)) took.2
+        ∙ ap (λ (t : Bool). if_told t (events_of (usual_after (last_row s.now)) (replay given.plan s.now) (Tick row))) mode
 
     said : news_in new ++ owed (not same) line ≡ tick_text given.plan besides row s.now before
     said = (λ j. news j ++ owed (not (is-same j)) (is-line j))

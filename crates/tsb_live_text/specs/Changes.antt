@@ -6,7 +6,7 @@ use Rattle.tsb_kept.specs.Kept.{last_row}
 use Rattle.tsb_step.specs.declared.inputs.Input.{Input}
 use Rattle.tsb_step.specs.declared.inputs.Input.TheVariants.{Tick}
 use Rattle.tsb_step.specs.tsb_plan.Plan.{Plan}
-use Rattle.tsb_step.specs.Events.{events_of}
+use Rattle.tsb_step.specs.Events.{events_of, usual_after}
 use Rattle.tsb_step.specs.Play.{IsRight}
 use Rattle.tsb_step.specs.Runs.{replay}
 use Rattle.tsb_types.specs.declared.refusal.Refusal.{Refusal}
@@ -35,7 +35,7 @@ line_after plan is = display_line (replay plan is)
 -- what a tick tells that is taken: its events, where they are told, and the display line, if it shows another head or
 -- preempt than the line before
 abbrev pub tick_text : Plan → Besides → Row → List Input → List ℕ → List ℕ
-tick_text plan besides row is before = if_told besides.tells (events_of (last_row is) (replay plan is) (Tick row))
+tick_text plan besides row is before = if_told besides.tells (events_of (usual_after (last_row is)) (replay plan is) (Tick row))
     ++ owed (not (shows_same (line_after plan (Tick row ∷ is)) before)) (line_after plan (Tick row ∷ is))
 
 -- the tick is refused: the line before it is told, if it is owed, and the refusal

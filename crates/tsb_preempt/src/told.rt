@@ -1,13 +1,13 @@
 //! Which preempts are called for and which are spent, and whether the one in service has entered: for those who tell the
 //! state of each.
 ghost use Rattle.tsb_objects.specs.Checked.{checked_plan};
-ghost use Rattle.tsb_preempt.specs.Promises.{TellsCalled, TellsEntered, TellsSpent};
+ghost use Rattle.tsb_preempt.specs.Promises.{TellsCalled, TellsEntered, TellsSpent, TellsSwitches};
 
 use crate::cells::{SPENT, SWITCHES};
 use crate::preempts::Preempts;
 use crate::serving::has_entered;
 use tsb_cells::lists::list;
-use tsb_objects::{Checked, Intervals, Preempt};
+use tsb_objects::{Checked, Intervals, NumberSet, Preempt};
 
 impl Preempts {
     ghost use Rattle.tsb_preempt.specs.Layer.{cells_of};
@@ -19,6 +19,14 @@ impl Preempts {
     {
         n.known();
         self.delay(n.number()) != 0 || list(&self.bank, SWITCHES).contains(n.number())
+    }
+
+    /// The preempts whose switch is on.
+    #[tactic(auto, unfolding(crate::specs::Cells::preempts_in))]
+    pub fn switches(&self) -> NumberSet
+        ensures { TellsSwitches (cells_of self.now) result }
+    {
+        list(&self.bank, SWITCHES)
     }
 
     /// Whether a preempt is spent: its dwell ended while its input was on, which has not been off since.

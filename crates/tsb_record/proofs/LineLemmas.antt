@@ -14,7 +14,7 @@ use Rattle.tsb_record.specs.Lines.{Course, says}
 
 -- what a record has come to after a line
 abbrev pub after_line : Course → List Input → Option FaultyLine → Course
-after_line now left stop = record { given = now.given; on_fault = now.on_fault; end = record { inputs = left; stop = stop } }
+after_line now left stop = record { given = now.given; on_fault = now.on_fault; form = now.form; end = record { inputs = left; stop = stop } }
 
 -- a line that was carried out is told of
 pub says-line : (now : Course) (n : ℕ) (line : List ℕ) (r : Reading) (fault : Option LineFault) (left : List Input) → r ≡ reading line → Does now.given now.end.inputs r fault left
@@ -22,7 +22,7 @@ pub says-line : (now : Course) (n : ℕ) (line : List ℕ) (r : Reading) (fault 
 says-line now n line r fault left reads does =
     let flow : Flow = flow_after (quits r) (stop_at now.on_fault n fault) in
     let same : flow ≡ flow_after (quits (reading line)) (stop_at now.on_fault n fault) = subst (λ (x : Reading). flow_after (quits r) (stop_at now.on_fault n fault) ≡ flow_after (quits x) (stop_at now.on_fault n fault)) reads refl in
-    ((fault, subst (λ (x : Reading). Does now.given now.end.inputs x fault left) reads does, refl, refl, same), refl, refl)
+    ((fault, subst (λ (x : Reading). Does now.given now.end.inputs x fault left) reads does, refl, refl, same), refl, refl, refl)
 
 -- and so in the words of what found it
 pub says-found : (now : Course) (n : ℕ) (line : List ℕ) (r : Reading) (fault : Option LineFault) (left : List Input) (is_quit : Bool) (stop : Option FaultyLine) (flow : Flow) → r ≡ reading line → is_quit ≡ quits r

@@ -22,6 +22,8 @@ use Rattle.tsb_bench.specs.Held.{Held, state_of, whole}
 use Rattle.tsb_bench.specs.declared.bench.Nothing.{Nothing as NothingLeft}
 use Rattle.tsb_step.specs.declared.inputs.Input.{Input}
 use Rattle.tsb_step.specs.declared.inputs.Input.TheVariants.{Tick}
+use Rattle.tsb_step.specs.declared.log_form.LogForm.{LogForm}
+use Rattle.tsb_step.specs.declared.log_form.Noted.{Noted}
 use Rattle.tsb_step.specs.Events.{events_of}
 use Rattle.tsb_step.specs.Past.{Whole, controller, earlier, record_of}
 use Rattle.tsb_step.specs.Play.{Cmd, Follows, IsRight, back_to, remaining_after}
@@ -34,11 +36,11 @@ use Rattle.tsb_log_text.specs.declared.log.LogRow.{LogRow}
 use Rattle.tsb_log_text.specs.Logs.{row_at}
 use Rattle.tsb_text.specs.Answers.{Setup, next_tick}
 use Rattle.tsb_record.specs.declared.told.Mark.{Mark}
-use Rattle.tsb_record.specs.Along.{Wants, last_row, telling, with_input}
+use Rattle.tsb_record.specs.Along.{Wants, last_row, noted_after, telling, with_input}
 use Rattle.tsb_record.specs.Leaves.{Asked, Steps}
-use Rattle.tsb_record.specs.Recording.{AreOfLog, Done, GoesBack, IsNoTick, Stands, Took, row_in_force}
+use Rattle.tsb_record.specs.Recording.{AreOfLog, Done, GoesBack, IsNoTick, Stands, Took, noted_at, row_in_force}
 use Rattle.tsb_record.specs.Told.{Kept, Telling, gone_back}
-use Rattle.tsb_record.proofs.AlongLemmas.{HasMark, gone-back, input-undone, reached, same-now, tick-undone}
+use Rattle.tsb_record.proofs.AlongLemmas.{HasMark, gone-back, input-undone, own, reached, same-form, same-now, tick-undone}
 
 -- ## The row before
 
@@ -69,29 +71,30 @@ of-log-back given t (i ∷ is) h = go ((replay given.plan (i ∷ is)).now == t) 
 state-there : (given : Setup) (log : List LogRow) (bench : Held) (told : Telling) (is : List Input) → Stands given log (whole bench) told is → state_of bench ≡ replay given.plan is
 state-there given log bench told is stands = past.follows-state controller (start given.plan) (whole bench) is stands.follows
 
-pub took : (given : Setup) (log : List LogRow) (is : List Input) (old new : Held) (told next : Telling) (news : List Event) (last : Row) (tick : ℕ) (i : Input)
-    → Stands given log (whole old) told is → AreOfLog given (i ∷ is) → tick ≡ old.tick → last ≡ row_in_force log tick
+pub took : (given : Setup) (log : List LogRow) (is : List Input) (old new : Held) (told next : Telling) (news : List Event) (noted : Noted) (tick : ℕ) (i : Input)
+    → Stands given log (whole old) told is → AreOfLog given (i ∷ is) → tick ≡ old.tick → noted.form ≡ told.form → noted.row ≡ row_in_force log tick
     → verdict (state_of old) i ≡ None → state_of new ≡ step (state_of old) i → new.records ≡ record_of i (state_of old) (state_of new) ∷ old.records → earlier (whole new) 1 ≡ whole old
-    → news ≡ events_of last (state_of old) i → next ≡ with_input i tick news told → Took (Ok tt) given log (whole new) next is i
-took given log is old new told next news last tick i stands of_log at row allowed steps records back tells keeps =
+    → news ≡ events_of noted (state_of old) i → next ≡ with_input i tick news told → Took (Ok tt) given log (whole new) next is i
+took given log is old new told next news noted tick i stands of_log at form row allowed steps records back tells keeps =
     let both : IsRight given.plan is (Apply i) answers.Took × Follows given.plan (whole new) (i ∷ is) = past.answers-took controller (start given.plan) watched (whole old) (whole new) i allowed steps records back is stands.follows in
     let state : state_of old ≡ replay given.plan is = state-there given log old told is stands in
     let tick_is : tick ≡ (replay given.plan is).now = at ∙ ap (λ (s : State). s.now) state in
-    let last_is : last ≡ last_row is =
+    let last_is : noted.row ≡ last_row is =
     row ∙ ap (λ (l : List LogRow). row_in_force l tick) (sym stands.same) ∙ ap (row_in_force given.log) tick_is ∙ sym (row-there given is (of-log-before given i is of_log)) in
-    let news_is : news ≡ events_of (last_row is) (replay given.plan is) i = tells ∙ (λ j. events_of (last_is j) (state j) i) in
-    let told_is : next ≡ with_input i (replay given.plan is).now (events_of (last_row is) (replay given.plan is) i) (telling given.plan is) =
+    let noted_is : noted ≡ noted_after told.form is = λ j. record { form = form j; row = last_is j } in
+    let news_is : news ≡ events_of (noted_after told.form is) (replay given.plan is) i = tells ∙ (λ j. events_of (noted_is j) (state j) i) in
+    let told_is : next ≡ with_input i (replay given.plan is).now (events_of (noted_after told.form is) (replay given.plan is) i) (telling told.form given.plan is) =
     keeps ∙ (λ j. with_input i (tick_is j) (news_is j) (stands.tells j)) in
-    (both.0, record { same = stands.same; follows = both.1; of_log = of_log; tells = told_is ∙ same-telling i })
+    (both.0, record { same = stands.same; follows = both.1; of_log = of_log; tells = own told.form given.plan (i ∷ is) next (told_is ∙ same-telling i) })
   where
-    same-telling : (i : Input) → with_input i (replay given.plan is).now (events_of (last_row is) (replay given.plan is) i) (telling given.plan is) ≡ telling given.plan (i ∷ is)
+    same-telling : (i : Input) → with_input i (replay given.plan is).now (events_of (noted_after told.form is) (replay given.plan is) i) (telling told.form given.plan is) ≡ telling told.form given.plan (i ∷ is)
     same-telling i = refl
 
 pub not-taken : (given : Setup) (log : List LogRow) (is : List Input) (old new : Held) (told next : Telling) (i : Input) (e : Refusal)
     → Stands given log (whole old) told is → IsRefusal (verdict (state_of old) i) e → new ≡ old → next ≡ told → Took (Err e) given log (whole new) next is i
 not-taken given log is old new told next i e stands refused same keeps =
     let both : IsRight given.plan is (Apply i) (answers.Refused e) × Follows given.plan (whole new) is = past.answers-refused controller (start given.plan) watched (whole old) (whole new) i e refused (ap whole same) is stands.follows in
-    (both.0, record { same = stands.same; follows = both.1; of_log = stands.of_log; tells = keeps ∙ stands.tells })
+    (both.0, record { same = stands.same; follows = both.1; of_log = stands.of_log; tells = own told.form given.plan is next (keeps ∙ stands.tells) })
 
 was-undone : (r : Result Kind NothingLeft) (mid new : Held) (x : Change) (xs : List Change) → mid.records ≡ x ∷ xs → OnOk r (whole new ≡ earlier (whole mid) 1) → OnErr r (mid.records ≡ [])
     → whole new ≡ earlier (whole mid) 1
@@ -110,17 +113,23 @@ forgotten given log is old mid new told next i r stands allowed records back ok 
         same = stands.same;
         follows = subst (λ (w : Whole). Follows given.plan w is) (sym same) stands.follows;
         of_log = stands.of_log;
-        tells = keeps ∙ stands.tells;
+        tells = own told.form given.plan is next (keeps ∙ stands.tells);
       },
     )
 
 -- there was no room for what the input told
-pub not-kept : {E : Type 0} (r : Result (Unit {0}) E) (log : List LogRow) (bench : Held) (kept : Kept) (i : Input) (tick : ℕ) (last : Row) (news : List Event)
-    → tick ≡ bench.tick → last ≡ row_in_force log tick → news ≡ events_of last (state_of bench) i → OnErr r (Wants i news kept) → is_err r ≡ true
-    → Wants i (events_of (row_in_force log bench.tick) (state_of bench) i) kept
-not-kept (Ok u) log bench kept i tick last news at row tells wants is = absurd (let never : false ≡ true = is in cc)
-not-kept (Err e) log bench kept i tick last news at row tells wants is =
-    subst (λ (es : List Event). Wants i es kept) (tells ∙ ap (λ (r : Row). events_of r (state_of bench) i) (row ∙ ap (row_in_force log) at)) wants
+pub not-kept : {E : Type 0} (r : Result (Unit {0}) E) (log : List LogRow) (bench : Held) (kept : Kept) (i : Input) (tick : ℕ) (noted : Noted) (news : List Event)
+    → tick ≡ bench.tick → noted.form ≡ kept.told.form → noted.row ≡ row_in_force log tick → news ≡ events_of noted (state_of bench) i → OnErr r (Wants i news kept) → is_err r ≡ true
+    → Wants i (events_of (noted_at kept.told log bench.tick) (state_of bench) i) kept
+not-kept (Ok u) log bench kept i tick noted news at form row tells wants is = absurd (let never : false ≡ true = is in cc)
+not-kept (Err e) log bench kept i tick noted news at form row tells wants is =
+    subst (λ (es : List Event). Wants i es kept) (tells ∙ (λ j. events_of (there j) (state_of bench) i)) wants
+  where
+    last : noted.row ≡ row_in_force log bench.tick
+    last = row ∙ ap (row_in_force log) at
+
+    there : noted ≡ noted_at kept.told log bench.tick
+    there = λ j. record { form = form j; row = last j }
 
 of-log-other : (given : Setup) (i : Input) (is : List Input) → IsNoTick i → AreOfLog given is → AreOfLog given (i ∷ is)
 of-log-other given (Tick row) is none h = absurd none
@@ -156,7 +165,8 @@ back-there given log is t tick old new told next stands le follows at keeps =
       same = stands.same;
       follows = follows;
       of_log = of-log-back given t is stands.of_log;
-      tells = keeps ∙ (λ j. gone_back (tick_is j) (stands.tells j)) ∙ sym (gone-back given.plan t is le);
+      tells = own told.form given.plan (back_to given.plan t is) next
+          (keeps ∙ (λ j. gone_back (tick_is j) (stands.tells j)) ∙ sym (gone-back told.form given.plan t is le));
     }
 
 pub moved : (given : Setup) (log : List LogRow) (is : List Input) (c : Cmd) (tick : ℕ) (old new : Held) (told next : Telling) (result : Answer) → GoesBack c → Stands given log (whole old) told is
@@ -178,25 +188,28 @@ moved given log is c tick old new told next result goes stands answers same at k
 -- what an undo of the newest input makes of what was told
 Untold : Kind → ℕ → Telling → Telling → Type 0
 Untold k tick told next = (k ≡ kinds.Tick → next ≡ gone_back tick told)
-    × ((k ≡ kinds.Tick → ⊥) → (marks : List Mark) (m : Mark) → told.marks ≡ marks ++ m ∷ [] → next ≡ record { events = take m.events told.events; marks = marks })
+    × ((k ≡ kinds.Tick → ⊥) → (marks : List Mark) (m : Mark) → told.marks ≡ marks ++ m ∷ [] → next ≡ record { form = told.form; events = take m.events told.events; marks = marks })
 
 no-tick-kind : (i : Input) → IsNoTick i → kind_of i ≡ kinds.Tick → ⊥
 no-tick-kind (Tick row) none e = none
 no-tick-kind i none e = cc
 
-untold-input : (plan : Plan) (i : Input) (is : List Input) (k : Kind) (told next : Telling) → IsNoTick i → k ≡ kind_of i → told ≡ telling plan (i ∷ is) → Untold k (replay plan is).now told next → next ≡ telling plan is
+untold-input : (form : LogForm) (plan : Plan) (i : Input) (is : List Input) (k : Kind) (told next : Telling) → IsNoTick i → k ≡ kind_of i → told ≡ telling form plan (i ∷ is) → Untold k (replay plan is).now told next
+    → next ≡ telling form plan is
 unfolding Untold
-untold-input plan i is k told next none kind told_is untold =
-    let m : HasMark plan i is = input-undone plan i is none in
-    let made : next ≡ record { events = take m.mark.events told.events; marks = (telling plan is).marks } =
-    untold.1 (λ e. no-tick-kind i none (sym kind ∙ e)) (telling plan is).marks m.mark (ap (λ (t : Telling). t.marks) told_is ∙ m.last) in
-    let events : take m.mark.events told.events ≡ (telling plan is).events = ap (λ (t : Telling). take m.mark.events t.events) told_is ∙ m.before in
-    made ∙ (λ j. let there : Telling = record { events = events j; marks = (telling plan is).marks } in there)
+untold-input form plan i is k told next none kind told_is untold =
+    let m : HasMark form plan i is = input-undone form plan i is none in
+    let made : next ≡ record { form = told.form; events = take m.mark.events told.events; marks = (telling form plan is).marks } =
+    untold.1 (λ e. no-tick-kind i none (sym kind ∙ e)) (telling form plan is).marks m.mark (ap (λ (t : Telling). t.marks) told_is ∙ m.last) in
+    let events : take m.mark.events told.events ≡ (telling form plan is).events = ap (λ (t : Telling). take m.mark.events t.events) told_is ∙ m.before in
+    let forms : told.form ≡ (telling form plan is).form = ap (λ (t : Telling). t.form) told_is ∙ same-form i _ _ (telling form plan is) in
+    made ∙ (λ j. let there : Telling = record { form = forms j; events = events j; marks = (telling form plan is).marks } in there)
 
-untold-there : (plan : Plan) (i : Input) (is : List Input) (k : Kind) (told next : Telling) → k ≡ kind_of i → told ≡ telling plan (i ∷ is) → Untold k (replay plan is).now told next → next ≡ telling plan is
+untold-there : (form : LogForm) (plan : Plan) (i : Input) (is : List Input) (k : Kind) (told next : Telling) → k ≡ kind_of i → told ≡ telling form plan (i ∷ is) → Untold k (replay plan is).now told next
+    → next ≡ telling form plan is
 unfolding Untold
-untold-there plan (Tick row) is k told next kind told_is untold = untold.0 kind ∙ ap (gone_back (replay plan is).now) told_is ∙ tick-undone plan row is
-untold-there plan i is k told next kind told_is untold = untold-input plan i is k told next tt kind told_is untold
+untold-there form plan (Tick row) is k told next kind told_is untold = untold.0 kind ∙ ap (gone_back (replay plan is).now) told_is ∙ tick-undone form plan row is
+untold-there form plan i is k told next kind told_is untold = untold-input form plan i is k told next tt kind told_is untold
 
 undone-to : (given : Setup) (log : List LogRow) (is : List Input) (k : Kind) (tick : ℕ) (old new : Held) (told next : Telling) → Stands given log (whole old) told is → Right given is Undo (Undone k) new
     → tick ≡ new.tick → Untold k tick told next → Stands given log (whole new) next (without_newest is)
@@ -209,13 +222,14 @@ undone-to given log (i ∷ is) k tick old new told next stands both at untold =
       same = stands.same;
       follows = both.1;
       of_log = of-log-before given i is stands.of_log;
-      tells = untold-there given.plan i is k told next both.0 stands.tells (subst (λ (n : ℕ). Untold k n told next) tick_is untold);
+      tells = own told.form given.plan is next
+          (untold-there told.form given.plan i is k told next both.0 stands.tells (subst (λ (n : ℕ). Untold k n told next) tick_is untold));
     }
 
 pub undone : (given : Setup) (log : List LogRow) (is : List Input) (c : Cmd) (k : Kind) (tick : ℕ) (old new : Held) (told next : Telling) (result : Answer) → GoesBack c → Stands given log (whole old) told is
     → ((plan : Plan) → play.Answers controller (start plan) watched (whole old) c result (whole new)) → result ≡ Undone k → tick ≡ new.tick
     → (k ≡ kinds.Tick → next ≡ gone_back tick told)
-    → ((k ≡ kinds.Tick → ⊥) → (marks : List Mark) (m : Mark) → told.marks ≡ marks ++ m ∷ [] → next ≡ record { events = take m.events told.events; marks = marks })
+    → ((k ≡ kinds.Tick → ⊥) → (marks : List Mark) (m : Mark) → told.marks ≡ marks ++ m ∷ [] → next ≡ record { form = told.form; events = take m.events told.events; marks = marks })
     → Done None given log (whole new) next (Asked given is c)
 unfolding Right Untold
 undone given log is Undo k tick old new told next result goes stands answers same at by_tick by_mark =

@@ -6,9 +6,9 @@ use Rattle.std.proofs.lemmas.List.Elements.{All-nil, All-cons}
 use Rattle.tsb_types.specs.Events.{event, numbers_with, told}
 use Rattle.tsb_types.specs.declared.event.Event.{Event}
 use Rattle.tsb_types.specs.declared.event.TheConstants as codes
-use Rattle.tsb_types.specs.declared.row.Row.{Row}
 use Rattle.tsb_step.specs.declared.inputs.Input.{Input}
 use Rattle.tsb_step.specs.declared.inputs.Input.TheVariants.{Tick}
+use Rattle.tsb_step.specs.declared.log_form.Noted.{Noted}
 use Rattle.tsb_step.specs.Events.{Found, Selected, View, events_between, events_of, found, if_differs, other_events, pattern_events, selection_events, selected, split_events, tick_events, view}
 use Rattle.tsb_step.specs.State.{State}
 use Rattle.tsb_step.specs.Step.{step}
@@ -59,22 +59,22 @@ at-pattern n was is =
         at-none (at-one n codes.PATTERN_CHANGES (or_number is.pattern codes.FREE))
 
 at-tick : (n : ℕ) (f : Found) (was now : View) → AreAt n (tick_events n f was now)
-at-tick n f was now = search (at-append, at-told, at-if, at-one, at-none) depth 40
+at-tick n f was now = search (at-append, at-told, at-if, at-one, at-none) depth 60
 
-at-other : (n : ℕ) (was now : View) (was_selected now_selected : Selected) → AreAt n (other_events n was now was_selected now_selected)
-at-other n was now was_selected now_selected = search (at-append, at-told, at-if, at-one, at-none, at-pattern) depth 40
+at-other : (n : ℕ) (noted : Noted) (was now : View) (was_selected now_selected : Selected) → AreAt n (other_events n noted was now was_selected now_selected)
+at-other n noted was now was_selected now_selected = search (at-append, at-told, at-if, at-one, at-none, at-pattern) depth 60
 
-at-between : (last : Row) (s : State) (i : Input) (after : State) → AreAt after.now (events_between last s i after)
-at-between last s (Tick row) after = at-tick after.now (found last s row after) (view s) (view after)
-at-between last s i after = at-other after.now (view s) (view after) (selected s) (selected after)
+at-between : (noted : Noted) (s : State) (i : Input) (after : State) → AreAt after.now (events_between noted s i after)
+at-between noted s (Tick row) after = at-tick after.now (found noted s row after) (view s) (view after)
+at-between noted s i after = at-other after.now noted (view s) (view after) (selected s) (selected after)
 
-pub at-of : (last : Row) (s : State) (i : Input) → AreAt (step s i).now (events_of last s i)
+pub at-of : (noted : Noted) (s : State) (i : Input) → AreAt (step s i).now (events_of noted s i)
 unfolding events_of
-at-of last s i = at-between last s i (step s i)
+at-of noted s i = at-between noted s i (step s i)
 
 all-at : (n : ℕ) (es : List Event) → AreAt n es → All (λ (e : Event). e.tick ≡ n) es
 all-at n [] at-none = All-nil (λ (e : Event). e.tick ≡ n)
 all-at n (x ∷ xs) (at-more e es is more) = All-cons (λ (e : Event). e.tick ≡ n) x xs is (all-at n xs more)
 
-pub events_have_their_tick : (last : Row) (s : State) (i : Input) → All (λ (e : Event). e.tick ≡ (step s i).now) (events_of last s i)
-events_have_their_tick last s i = all-at (step s i).now (events_of last s i) (at-of last s i)
+pub events_have_their_tick : (noted : Noted) (s : State) (i : Input) → All (λ (e : Event). e.tick ≡ (step s i).now) (events_of noted s i)
+events_have_their_tick noted s i = all-at (step s i).now (events_of noted s i) (at-of noted s i)

@@ -6,6 +6,8 @@ use Rattle.tsb_types.specs.declared.row.Row.{Row}
 use Rattle.tsb_step.specs.tsb_plan.Plan.{Plan}
 use Rattle.tsb_step.specs.declared.inputs.Input.{Input}
 use Rattle.tsb_step.specs.declared.inputs.Input.TheVariants.{Tick}
+use Rattle.tsb_step.specs.declared.log_form.LogForm.{LogForm}
+use Rattle.tsb_step.specs.declared.log_form.Noted.{Noted}
 use Rattle.tsb_step.specs.Events.{events_of}
 use Rattle.tsb_step.specs.Runs.{replay}
 use Rattle.tsb_record.specs.Told.{Kept, Telling, nothing_told, with_events, with_mark}
@@ -16,10 +18,14 @@ last_row [] = all_off
 last_row (Tick row ∷ is) = row
 last_row (i ∷ is) = last_row is
 
+-- what a log of this form has noted after these inputs
+abbrev pub noted_after : LogForm → List Input → Noted
+noted_after form is = record { form = form; row = last_row is }
+
 -- the events of all inputs from power-up, each told where it came
-abbrev pub told_along : Plan → List Input → List Event
-told_along plan [] = []
-told_along plan (i ∷ is) = told_along plan is ++ events_of (last_row is) (replay plan is) i
+abbrev pub told_along : LogForm → Plan → List Input → List Event
+told_along form plan [] = []
+told_along form plan (i ∷ is) = told_along form plan is ++ events_of (noted_after form is) (replay plan is) i
 
 -- ## What is kept of them
 
@@ -34,6 +40,7 @@ Wants (Tick row) news kept = kept.event_room < length news
 Wants i news kept = (kept.event_room < length news) ⊎ (kept.mark_room ≡ 0)
 
 -- the events and the marks of all inputs from power-up
-abbrev pub telling : Plan → List Input → Telling
-telling plan [] = nothing_told
-telling plan (i ∷ is) = with_input i (replay plan is).now (events_of (last_row is) (replay plan is) i) (telling plan is)
+abbrev pub telling : LogForm → Plan → List Input → Telling
+telling form plan [] = nothing_told form
+telling form plan (i ∷ is) =
+    with_input i (replay plan is).now (events_of (noted_after form is) (replay plan is) i) (telling form plan is)

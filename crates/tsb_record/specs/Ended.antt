@@ -2,6 +2,7 @@
 use Rattle.std.specs.Prelude.{◌≡◌, ◌⊎◌, ◌↔◌, ◌<◌, ◌≤◌, ℕ, List, [], ◌++◌, length, take, Option, Some, None, Result, Ok, Err}
 use Rattle.std.specs.Io.KnownBytes.{Appends, Consumes, IsAtEnd}
 use Rattle.tsb_step.specs.declared.inputs.Input.{Input}
+use Rattle.tsb_step.specs.declared.log_form.LogForm.{LogForm}
 use Rattle.tsb_lines.specs.Lines.{HasNoFeed, lines_of}
 use Rattle.tsb_text.specs.Answers.{Setup}
 use Rattle.tsb_text.specs.declared.error.SessionError.{SessionError}
@@ -61,13 +62,13 @@ Begins on_fault given left read told = (IsAtEnd left × BeginsLast on_fault give
 -- the events are those of the inputs that remain, no line ended the record, and all was told; or a line ended it, and this
 -- was told; or after a fault a prefix of what is to be told of the bytes that were read. With no memory to begin with
 -- nothing was read or told.
-abbrev pub EndedSo : Result Outcome SessionError → OnFault → Setup → Option (List ℕ) → List ℕ → List ℕ → Type 0
-EndedSo (Ok (Events events)) on_fault given left read told =
-    (is : List Input) × Remain on_fault given left read (record { inputs = is; stop = None }) told × (events.items ≡ told_along given.plan is)
-EndedSo (Ok (Stopped line)) on_fault given left read told =
+abbrev pub EndedSo : Result Outcome SessionError → OnFault → LogForm → Setup → Option (List ℕ) → List ℕ → List ℕ → Type 0
+EndedSo (Ok (Events events)) on_fault form given left read told =
+    (is : List Input) × Remain on_fault given left read (record { inputs = is; stop = None }) told × (events.items ≡ told_along form given.plan is)
+EndedSo (Ok (Stopped line)) on_fault form given left read told =
     (is : List Input) × Remain on_fault given left read (record { inputs = is; stop = Some line }) told
-EndedSo (Err Memory) on_fault given left read told = (read ≡ []) × (told ≡ [])
-EndedSo (Err e) on_fault given left read told = Begins on_fault given left read told
+EndedSo (Err Memory) on_fault form given left read told = (read ≡ []) × (told ≡ [])
+EndedSo (Err e) on_fault form given left read told = Begins on_fault given left read told
 
 -- it is too large
 abbrev pub IsTooLarge : {T : Type 0} → Result T SessionError → Type 0
@@ -81,12 +82,12 @@ IsOfReading (Err TooLarge) = Unit {0}
 IsOfReading r = ⊥
 
 -- the bytes that it read, and those that it told of lines that are no command or that were refused
-pub record Ended (result : Result Outcome SessionError) (on_fault : OnFault) (given : Setup) (input left old new : Option (List ℕ)) : Type 0 where
+pub record Ended (result : Result Outcome SessionError) (on_fault : OnFault) (form : LogForm) (given : Setup) (input left old new : Option (List ℕ)) : Type 0 where
   pub read : List ℕ
   pub taken : Consumes input left read
   pub told : List ℕ
   pub grown : Appends old new told
-  pub so : EndedSo result on_fault given left read told
+  pub so : EndedSo result on_fault form given left read told
   -- too large is answered where more than 16 MiB were read, and only there; of more no second byte is read
   pub large : IsTooLarge result ↔ (16777216 < length read)
   pub most : length read ≤ 16777217

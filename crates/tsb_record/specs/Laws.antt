@@ -2,9 +2,9 @@
 -- there.
 use Rattle.std.specs.Prelude.{◌≡◌, ◌+◌, ℕ, false, List, [], ◌∷◌, ◌++◌, length, Option, Some, None}
 use Rattle.std.specs.List.{All}
-use Rattle.tsb_types.specs.declared.row.Row.{Row}
 use Rattle.tsb_bench.specs.tsb_machine.declared.commands.Answer.{Answer}
 use Rattle.tsb_step.specs.declared.inputs.Input.{Input}
+use Rattle.tsb_step.specs.declared.log_form.Noted.{Noted}
 use Rattle.tsb_step.specs.Events.{events_of}
 use Rattle.tsb_step.specs.Play.{AreRight, Cmd, remaining}
 use Rattle.tsb_step.specs.State.{State}
@@ -19,7 +19,7 @@ use Rattle.tsb_record.specs.Leaves.{Come, Does, End, quits}
 
 -- an event has the number of the tick in force after its input
 abbrev pub EventsHaveTheirTick : Type 0
-EventsHaveTheirTick = (last : Row) (s : State) (i : Input) → All (λ e. e.tick ≡ (step s i).now) (events_of last s i)
+EventsHaveTheirTick = (noted : Noted) (s : State) (i : Input) → All (λ e. e.tick ≡ (step s i).now) (events_of noted s i)
 
 -- what lines leave are the inputs that remain of some commands with right answers
 abbrev pub LinesLeaveWhatRemains : Type 0

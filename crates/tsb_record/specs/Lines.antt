@@ -1,6 +1,7 @@
 -- What is told of a line, and how far a record has come with it.
 use Rattle.std.specs.Prelude.{◌≡◌, ℕ, List, Option}
 use Rattle.tsb_step.specs.declared.inputs.Input.{Input}
+use Rattle.tsb_step.specs.declared.log_form.LogForm.{LogForm}
 use Rattle.tsb_command_text.specs.Readings.{reading}
 use Rattle.tsb_dialog.specs.declared.answers.Flow.{Flow}
 use Rattle.tsb_dialog.specs.Says.{Saying}
@@ -10,10 +11,11 @@ use Rattle.tsb_text.specs.declared.faults.LineFault.{LineFault}
 use Rattle.tsb_record.specs.Faults.{fault_text}
 use Rattle.tsb_record.specs.Leaves.{Does, End, flow_after, quits, stop_at}
 
--- what was given, whether the record is strict, and what it has come to
+-- what was given, whether the record is strict, its form, and what it has come to
 pub record Course : Type 0 where
   pub given : Setup
   pub on_fault : OnFault
+  pub form : LogForm
   pub end : End
 
 -- this is told of line `number`, and the record comes to this, where these inputs remain before it
@@ -25,4 +27,5 @@ TellsLine on_fault given is number line text flow end =
 -- this is told of a line with this number
 abbrev pub says : Saying Course
 says now number line text flow new =
-    TellsLine now.on_fault now.given now.end.inputs number line text flow new.end × (new.given ≡ now.given) × (new.on_fault ≡ now.on_fault)
+    TellsLine now.on_fault now.given now.end.inputs number line text flow new.end × (new.given ≡ now.given)
+    × (new.on_fault ≡ now.on_fault) × (new.form ≡ now.form)

@@ -14,6 +14,7 @@ use Rattle.tsb_step.specs.tsb_history.History.{record_size}
 use Rattle.tsb_step.specs.declared.inputs.Input.{Input}
 use Rattle.tsb_step.specs.declared.inputs.Input.TheVariants as inputs
 use Rattle.tsb_step.specs.declared.inputs.Input.TheVariants.{Tick}
+use Rattle.tsb_step.specs.declared.log_form.Noted.{Noted}
 use Rattle.tsb_step.specs.Events.{events_of}
 use Rattle.tsb_step.specs.Past.{Whole}
 use Rattle.tsb_step.specs.Play.{Cmd, Follows, IsRight}
@@ -49,7 +50,7 @@ pub record Stands (given : Setup) (log : List LogRow) (bench : Whole) (told : Te
   pub same : given.log ≡ log
   pub follows : Follows given.plan bench is
   pub of_log : AreOfLog given is
-  pub tells : told ≡ telling given.plan is
+  pub tells : told ≡ telling told.form given.plan is
 
 -- an input that is no tick
 abbrev pub IsNoTick : Input → Type 0
@@ -61,10 +62,14 @@ abbrev pub Took : Result (Unit {0}) Refusal → Setup → List LogRow → Whole 
 Took (Ok u) given log bench told is i = IsRight given.plan is (asks.Apply i) answers.Took × Stands given log bench told (i ∷ is)
 Took (Err e) given log bench told is i = IsRight given.plan is (asks.Apply i) (answers.Refused e) × Stands given log bench told is
 
+-- what a log has noted before the tick after this one
+abbrev pub noted_at : Telling → List LogRow → ℕ → Noted
+noted_at told log tick = record { form = told.form; row = row_in_force log tick }
+
 -- there is no memory for an input: the bench has no room for its record, or there is none for what it tells
 abbrev pub IsWanting : List LogRow → Held → Kept → Input → Type 0
 IsWanting log bench kept i = (bench.room < record_size (most_cells (kind_of i)))
-    ⊎ Wants i (events_of (row_in_force log bench.tick) (state_of bench) i) kept
+    ⊎ Wants i (events_of (noted_at kept.told log bench.tick) (state_of bench) i) kept
 
 -- a command that goes back
 abbrev pub GoesBack : Cmd → Type 0

@@ -2,10 +2,12 @@
 -- without the inputs: the events of a tick have its number, and a mark says how many events came before its input.
 use Rattle.std.specs.Prelude.{ℕ, nat_lt, List, [], ◌∷◌, ◌++◌, length, if◌then◌else◌}
 use Rattle.tsb_types.specs.declared.event.Event.{Event}
+use Rattle.tsb_step.specs.declared.log_form.LogForm.{LogForm}
 use Rattle.tsb_record.specs.declared.told.Mark.{Mark}
 
--- the events and the marks
+-- the form of the log, the events and the marks
 pub record Telling : Type 0 where
+  pub form : LogForm
   pub events : List Event
   pub marks : List Mark
 
@@ -15,17 +17,18 @@ pub record Kept : Type 0 where
   pub event_room : ℕ
   pub mark_room : ℕ
 
--- no input has told anything
-abbrev pub nothing_told : Telling
-nothing_told = record { events = []; marks = [] }
+-- no input has told anything, in a log of this form
+abbrev pub nothing_told : LogForm → Telling
+nothing_told form = record { form = form; events = []; marks = [] }
 
 -- a tick has told these events
 abbrev pub with_events : List Event → Telling → Telling
-with_events news told = record { events = told.events ++ news; marks = told.marks }
+with_events news told = record told { events = told.events ++ news }
 
 -- an input that is no tick has told these events, with this tick in force
 abbrev pub with_mark : ℕ → List Event → Telling → Telling
 with_mark tick news told = record {
+  form = told.form;
   events = told.events ++ news;
   marks = told.marks ++ record { tick = tick; events = length told.events } ∷ [];
 }
@@ -52,4 +55,5 @@ without_later tick t (x ∷ xs) = unless_later tick t x (without_later tick t xs
 
 -- what was told up to a tick
 abbrev pub gone_back : ℕ → Telling → Telling
-gone_back t told = record { events = without_later event_tick t told.events; marks = without_later mark_tick t told.marks }
+gone_back t told =
+    record told { events = without_later event_tick t told.events; marks = without_later mark_tick t told.marks }

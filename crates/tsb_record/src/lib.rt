@@ -8,6 +8,7 @@ mod recording;
 mod told;
 
 pub use faults::FaultyLine;
-pub use recording::{Outcome, record};
+pub use recording::{Outcome, RecordOptions, record};
 pub use told::{Mark, Told};
+pub use tsb_step::log_form::LogForm;
 pub use tsb_text::{LineFault, OnFault};

@@ -19,6 +19,7 @@ use tsb_bench::{Answer, Bench, Kind, answer};
 use tsb_command_text::{Command, Reading};
 use tsb_events::Events;
 use tsb_log_text::Log;
+use tsb_step::log_form::{LogForm, Noted};
 use tsb_step::{Cmd, Input};
 use tsb_text::LineFault;
 use tsb_types::{Event, Refusal, Row};
@@ -35,14 +36,14 @@ pub(crate) struct Recorder {
 }
 
 impl Recorder {
-    /// A bench that no input has reached.
-    pub(crate) fn new(alloc: Global, bench: Bench) -> Recorder
+    /// A bench that no input has reached, and a log of this form.
+    pub(crate) fn new(alloc: Global, bench: Bench, form: LogForm) -> Recorder
         ensures bench { result.bench ≡ bench }
-        ensures told { result.told.told ≡ nothing_told }
+        ensures told { result.told.told ≡ nothing_told form }
     {
         Recorder {
             bench,
-            told: Told::new(alloc),
+            told: Told::new(alloc, form),
             news: Events::new(),
             place: 0,
         }
@@ -60,8 +61,9 @@ impl Recorder {
     /// Carries out a line that reads so, and says what is wrong with it, if anything. It takes the rows of ticks from
     /// `log`.
     pub(crate) fn carry_out(&mut self, log: &Log, reading: Reading) -> Option<LineFault>
-        ensures { (given : Setup) (inputs : List InputValue) → Stands given log.now (whole self.old.bench) self.old.told.told inputs
+        ensures done { (given : Setup) (inputs : List InputValue) → Stands given log.now (whole self.old.bench) self.old.told.told inputs
             → Done result given log.now (whole self.new.bench) self.new.told.told (Does given inputs reading) }
+        ensures form { self.new.told.told.form ≡ self.old.told.told.form }
     {
         match reading {
             Reading::Skip => None,
@@ -75,8 +77,9 @@ impl Recorder {
 
     /// Carries out a command, and says why it was refused, where it was. It takes the rows of ticks from `log`.
     fn obey(&mut self, log: &Log, command: Command) -> Option<Refusal>
-        ensures { (given : Setup) (inputs : List InputValue) → Stands given log.now (whole self.old.bench) self.old.told.told inputs
+        ensures done { (given : Setup) (inputs : List InputValue) → Stands given log.now (whole self.old.bench) self.old.told.told inputs
             → Done result given log.now (whole self.new.bench) self.new.told.told (Leaves given inputs command) }
+        ensures form { self.new.told.told.form ≡ self.old.told.told.form }
     {
         if let Command::Step(ticks) = command {
             return self.step(log, ticks);
@@ -89,8 +92,9 @@ impl Recorder {
 
     /// Applies an input that is no tick, or goes back, and says why the input was refused, where it was.
     fn change(&mut self, log: &Log, change: Cmd) -> Option<Refusal>
-        ensures { (given : Setup) (inputs : List InputValue) → IsChange change → Stands given log.now (whole self.old.bench) self.old.told.told inputs
+        ensures done { (given : Setup) (inputs : List InputValue) → IsChange change → Stands given log.now (whole self.old.bench) self.old.told.told inputs
             → Done result given log.now (whole self.new.bench) self.new.told.told (Asked given inputs change) }
+        ensures form { self.new.told.told.form ≡ self.old.told.told.form }
     {
         match change {
             Cmd::Apply(input) => self.apply(log, input),
@@ -100,8 +104,9 @@ impl Recorder {
 
     /// So many ticks, with the rows of the log, up to one that is refused.
     fn step(&mut self, log: &Log, ticks: u32) -> Option<Refusal>
-        ensures { (given : Setup) (inputs : List InputValue) → Stands given log.now (whole self.old.bench) self.old.told.told inputs
+        ensures done { (given : Setup) (inputs : List InputValue) → Stands given log.now (whole self.old.bench) self.old.told.told inputs
             → Done result given log.now (whole self.new.bench) self.new.told.told (Steps given inputs ticks) }
+        ensures form { self.new.told.told.form ≡ self.old.told.told.form }
     {
         for _i in 0..ticks {
             let row = next_row(&self.bench, log, &mut self.place);
@@ -115,8 +120,9 @@ impl Recorder {
 
     /// Applies an input that is no tick.
     fn apply(&mut self, log: &Log, input: Input) -> Option<Refusal>
-        ensures { (given : Setup) (inputs : List InputValue) → IsNoTick input → Stands given log.now (whole self.old.bench) self.old.told.told inputs
+        ensures done { (given : Setup) (inputs : List InputValue) → IsNoTick input → Stands given log.now (whole self.old.bench) self.old.told.told inputs
             → Done result given log.now (whole self.new.bench) self.new.told.told (Asked given inputs (Apply input)) }
+        ensures form { self.new.told.told.form ≡ self.old.told.told.form }
     {
         match self.take(log, input) {
             Ok(()) => None,
@@ -130,10 +136,14 @@ impl Recorder {
         ensures took { (given : Setup) (inputs : List InputValue) → Stands given log.now (whole self.old.bench) self.old.told.told inputs
             → AreOfLog given (input ∷ inputs) → Took result given log.now (whole self.new.bench) self.new.told.told inputs input }
         ensures wanting { result ≡ Err Memory → IsWanting log.now self.old.bench self.old.told input }
+        ensures form { self.new.told.told.form ≡ self.old.told.told.form }
     {
         let tick = self.bench.now();
-        let last = row_in_force(tick, log, &mut self.place);
-        match self.bench.apply_telling(input, &last, &mut self.news) {
+        let noted = Noted {
+            form: self.told.form(),
+            row: row_in_force(tick, log, &mut self.place),
+        };
+        match self.bench.apply_telling(input, &noted, &mut self.news) {
             Ok(()) => {}
             Err(refusal) => return Err(refusal),
         }
@@ -146,8 +156,9 @@ impl Recorder {
 
     /// Goes back as the command says, and takes back what was told since.
     fn go_back(&mut self, command: Cmd) -> Option<Refusal>
-        ensures { (given : Setup) (log : List LogRow) (inputs : List InputValue) → GoesBack command → Stands given log (whole self.old.bench) self.old.told.told inputs
+        ensures done { (given : Setup) (log : List LogRow) (inputs : List InputValue) → GoesBack command → Stands given log (whole self.old.bench) self.old.told.told inputs
             → Done result given log (whole self.new.bench) self.new.told.told (Asked given inputs command) }
+        ensures form { self.new.told.told.form ≡ self.old.told.told.form }
     {
         match answer(&mut self.bench, command) {
             Answer::Moved => {
@@ -192,7 +203,8 @@ fn change_of(command: Command) -> Option<Cmd>
 fn untell(told: &mut Told, tick: u32, kind: Kind)
     ensures tick { kind ≡ Tick → told.new.told ≡ gone_back tick told.old.told }
     ensures other { (kind ≡ Tick → ⊥) → (marks : List Mark) (mark : Mark) → told.old.told.marks ≡ marks ++ mark ∷ []
-        → told.new.told ≡ record { events = take mark.events told.old.told.events; marks = marks } }
+        → told.new.told ≡ record { form = told.old.told.form; events = take mark.events told.old.told.events; marks = marks } }
+    ensures form { told.new.told.form ≡ told.old.told.form }
 {
     match kind {
         Kind::Tick => told.go_back(tick),

@@ -18,8 +18,18 @@ use tsb_command_text::{Command, Reading, reading_of};
 use tsb_dialog::{Answers, DialogError, Flow, Pending, Watched, WriteError, converse};
 use tsb_log_text::Log;
 use tsb_objects::Checked;
+use tsb_step::log_form::LogForm;
 use tsb_text::{COMMANDS, LineFault, OnFault, SessionError};
 use tsb_types::Event;
+
+/// What is asked of a record.
+#[derive(Clone, Copy)]
+pub struct RecordOptions {
+    /// What becomes of it at a line that is no command, or that is refused.
+    pub on_fault: OnFault,
+    /// Its form.
+    pub form: LogForm,
+}
 
 /// What came of the commands of a record.
 #[derive(Drop)]
@@ -49,7 +59,7 @@ impl Answers for Recording<'_> {
 
     ghost State = { Course };
 
-    ghost stands = { λ r s. Stands s.given r.log.now (whole r.recorder.bench) r.recorder.told.told s.end.inputs × (r.on_fault ≡ s.on_fault) × (r.stop ≡ s.end.stop) };
+    ghost stands = { λ r s. Stands s.given r.log.now (whole r.recorder.bench) r.recorder.told.told s.end.inputs × (r.on_fault ≡ s.on_fault) × (r.recorder.told.told.form ≡ s.form) × (r.stop ≡ s.end.stop) };
 
     ghost says = { says };
 
@@ -139,7 +149,8 @@ fn outcome_of(recorder: Recorder, stop: Option<FaultyLine>) -> Outcome
 /// NoSuchPattern` or `command 12: patern 1: bad command`: the number is that of its line, from 1, and lines that are
 /// skipped count too. Of its own text at most 200 bytes are told, with `?` for each that is no printable ASCII. What is
 /// told goes out before the next read. The first such line ends a strict record (`OnFault::Stop`), which has no events
-/// then, and nothing more is read. What a command only asks is not answered.
+/// then, and nothing more is read. What a command only asks is not answered. The events are those of a log of the form
+/// that is asked for (`LogForm`).
 ///
 /// A fault ends the record; what was told until then is a prefix of what is to be told. `Read` comes exactly where a read
 /// has failed, and `Write` exactly where a write or a flush has. `TooLarge` comes where there is a byte after the first 16 MiB, once the whole lines within them were carried out, and `Memory` where there is none for
@@ -148,14 +159,14 @@ pub fn record<R: Read, E: Write>(
     alloc: Global,
     plan: Checked,
     log: &Log,
-    on_fault: OnFault,
+    options: RecordOptions,
     reader: &mut Watched<R>,
     errors: &mut Watched<E>,
 ) -> Result<Outcome, SessionError>
     requires reads { reader.old.failed ≡ false }
     requires writes { errors.old.failed ≡ false }
     requires flushed { errors.old.flushed ≡ true }
-    ensures ended { Ended result on_fault (record { plan = checked_plan plan; log = log.now })
+    ensures ended { Ended result options.on_fault options.form (record { plan = checked_plan plan; log = log.now })
         (R.remaining reader.old.device) (R.remaining reader.new.device) (E.contents errors.old.device) (E.contents errors.new.device) }
     ensures blame { Blames result reader.new.failed errors.new.failed errors.new.flushed }
 {
@@ -163,9 +174,9 @@ pub fn record<R: Read, E: Write>(
         return Err(SessionError::Memory);
     };
     let mut recording = Recording {
-        recorder: Recorder::new(alloc, bench),
+        recorder: Recorder::new(alloc, bench, options.form),
         log,
-        on_fault,
+        on_fault: options.on_fault,
         stop: None,
     };
     match converse(&mut recording, COMMANDS, reader, errors) {

@@ -7,6 +7,7 @@ ghost use Rattle.tsb_record.specs.declared.told.Mark.{Mark};
 use std::alloc::{AllocError, Global};
 use std::marker::Model;
 use tsb_step::Input;
+use tsb_step::log_form::LogForm;
 use tsb_types::Event;
 
 /// Where an input came that is no tick.
@@ -18,10 +19,11 @@ pub struct Mark {
     pub events: usize,
 }
 
-/// What the inputs that remain have told, the oldest first. A contract sees the events and the marks, one for each
-/// input that is no tick, and for how many more of them there is memory.
+/// What the inputs that remain have told, the oldest first. A contract sees the form of the log, the events and the marks,
+/// one for each input that is no tick, and for how many more of them there is memory.
 #[derive(Drop)]
 pub struct Told {
+    form: LogForm,
     events: Vec<Event>,
     marks: Vec<Mark>,
 }
@@ -33,28 +35,36 @@ impl Model for Told {
     ghost Value = { Kept };
 
     ghost view = { λ a. record {
-      told = record { events = a.events.items; marks = a.marks.items };
+      told = record { form = a.form; events = a.events.items; marks = a.marks.items };
       event_room = vec_capacity a.events - vec_len a.events;
       mark_room = vec_capacity a.marks - vec_len a.marks;
     } };
 }
 
 impl Told {
-    /// Nothing, which takes no memory.
-    pub fn new(alloc: Global) -> Told
-        ensures { result.told ≡ nothing_told }
+    /// Nothing, in a log of this form. It takes no memory.
+    pub fn new(alloc: Global, form: LogForm) -> Told
+        ensures { result.told ≡ nothing_told form }
     {
         Told {
+            form,
             events: Vec::new(alloc),
             marks: Vec::new(alloc),
         }
+    }
+
+    /// The form of the log.
+    pub fn form(&self) -> LogForm
+        ensures { result ≡ self.now.told.form }
+    {
+        self.form
     }
 
     /// All events, the oldest first.
     pub fn into_events(self) -> Vec<Event>
         ensures { result.items ≡ self.told.events }
     {
-        let Told { events, marks } = self;
+        let Told { events, marks, .. } = self;
         drop(marks);
         events
     }
@@ -65,6 +75,7 @@ impl Told {
         ensures ok { OnOk result (self.new.told ≡ with_input input.now tick news.now self.old.told) }
         ensures err { OnErr result (self.new.told ≡ self.old.told) }
         ensures wanting { OnErr result (Wants input.now news.now self.old) }
+        ensures form { self.new.told.form ≡ self.old.told.form }
     {
         match input {
             Input::Tick(_) => self.add_tick(news),
@@ -77,6 +88,7 @@ impl Told {
         ensures ok { OnOk result (self.new.told ≡ with_events news.now self.old.told) }
         ensures err { OnErr result (self.new.told ≡ self.old.told) }
         ensures wanting { OnErr result (self.old.event_room < length news.now) }
+        ensures form { self.new.told.form ≡ self.old.told.form }
     {
         self.events.extend_from_slice(news)
     }
@@ -87,6 +99,7 @@ impl Told {
         ensures ok { OnOk result (self.new.told ≡ with_mark tick news.now self.old.told) }
         ensures err { OnErr result (self.new.told ≡ self.old.told) }
         ensures wanting { OnErr result ((self.old.event_room < length news.now) ⊎ (self.old.mark_room ≡ 0)) }
+        ensures form { self.new.told.form ≡ self.old.told.form }
     {
         let events = self.events.len();
         self.marks.reserve(1)?;
@@ -97,8 +110,9 @@ impl Told {
 
     /// Takes back what the newest input has told, which is no tick.
     pub fn undo_input(&mut self)
-        ensures { (marks : List Mark) (mark : Mark) → self.old.told.marks ≡ marks ++ mark ∷ []
-            → self.new.told ≡ record { events = take mark.events self.old.told.events; marks = marks } }
+        ensures undone { (marks : List Mark) (mark : Mark) → self.old.told.marks ≡ marks ++ mark ∷ []
+            → self.new.told ≡ record { form = self.old.told.form; events = take mark.events self.old.told.events; marks = marks } }
+        ensures form { self.new.told.form ≡ self.old.told.form }
     {
         if let Some(mark) = self.marks.pop() {
             self.events.truncate(mark.events);

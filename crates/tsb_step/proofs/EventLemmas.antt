@@ -13,6 +13,7 @@ use Rattle.tsb_phase.proofs.CauseLemmas.{ready-has-cause}
 use Rattle.tsb_ring.specs.Moves.{is_ended, is_started}
 use Rattle.tsb_step.specs.declared.inputs.Input.TheVariants.{Tick}
 use Rattle.tsb_step.specs.EventLaws.{one_if, causes_told, found_next}
+use Rattle.tsb_step.specs.declared.log_form.Noted.{Noted}
 use Rattle.tsb_step.specs.Events.{ends_freely, is_cause}
 use Rattle.tsb_step.specs.State.{State, interval}
 use Rattle.tsb_step.specs.Step.{step}
@@ -48,9 +49,9 @@ none-of : (o : Option ℕ) → is_none o ≡ true → o ≡ None
 none-of None h = refl
 none-of (Some n) h = absurd cc
 
-pub one-cause : (last : Row) (s : State) (row : Row) (p : ℕ) → s.trip ≡ None → ends_freely s row (step s (Tick row)) p ≡ true →
-    causes_told (found_next last s row) p ≡ 1
-one-cause last s row p dark free =
+pub one-cause : (noted : Noted) (s : State) (row : Row) (p : ℕ) → s.trip ≡ None → ends_freely s row (step s (Tick row)) p ≡ true →
+    causes_told (found_next noted s row) p ≡ 1
+one-cause noted s row p dark free =
     let after : State = step s (Tick row) in
     let parts = and_parts (is_green (interval s p)) (is_yellow (interval after p) && is_none (ended_by (phases_given s row) p)) free in
     let others = and_parts (is_yellow (interval after p)) (is_none (ended_by (phases_given s row) p)) parts.1 in
@@ -60,7 +61,7 @@ one-cause last s row p dark free =
     ap told_by (ap (λ (b : Bool). if b then causes.cause s.plan (phases_given s row) p (phase_read s p) else None) free)
     ∙ one-told (causes.cause s.plan (phases_given s row) p (phase_read s p)) has_cause
 
-pub no-cause : (last : Row) (s : State) (row : Row) (p : ℕ) → ends_freely s row (step s (Tick row)) p ≡ false →
-    causes_told (found_next last s row) p ≡ 0
-no-cause last s row p bound =
+pub no-cause : (noted : Noted) (s : State) (row : Row) (p : ℕ) → ends_freely s row (step s (Tick row)) p ≡ false →
+    causes_told (found_next noted s row) p ≡ 0
+no-cause noted s row p bound =
     ap told_by (ap (λ (b : Bool). if b then causes.cause s.plan (phases_given s row) p (phase_read s p) else None) bound)

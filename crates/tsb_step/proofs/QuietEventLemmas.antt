@@ -15,6 +15,7 @@ use Rattle.tsb_types.specs.declared.stage.Stage.{Stage}
 use Rattle.tsb_types.specs.declared.stage.Stage.TheVariants.{Track, Dwell, Exit}
 use Rattle.tsb_types.proofs.EventLemmas.{none-told}
 use Rattle.tsb_types.proofs.NumberLemmas.{filter-none}
+use Rattle.tsb_calls.specs.Callable.{is_recalled}
 use Rattle.tsb_calls.specs.Standing as standing
 use Rattle.tsb_detect.specs.Detector as detector
 use Rattle.tsb_detect.specs.Detector.{Detector}
@@ -30,6 +31,7 @@ use Rattle.tsb_preempt.specs.Service.{Service, service_as_read}
 use Rattle.tsb_step.specs.declared.inputs.Input.TheVariants.{Tick}
 use Rattle.tsb_step.specs.EventLaws.{EndsNoTime}
 use Rattle.tsb_step.specs.Events as events
+use Rattle.tsb_step.specs.declared.log_form.Noted.{Noted}
 use Rattle.tsb_step.specs.Events.{View, Found, calls_now, events_between, events_of, found, is_cause, is_track, leaves_dwell, serves, shown_interval, completes_minimum, tick_events, times_red, view}
 use Rattle.tsb_step.specs.Quiet.{IsQuiet, detectors_waited, waited}
 use Rattle.tsb_step.specs.Signs.{display, stage}
@@ -53,17 +55,17 @@ times-on false true u none = refl
 times-on false false u none = refl
 
 -- a tick that found this: no cause, and the inputs of the tick before
-abbrev same_inputs : (ℕ → Bool) → (ℕ → Bool) → (ℕ → Bool) → (ℕ → Bool) → Row → Bool → Found
-same_inputs minimum gap maximum force_off row served =
-    record { minimum = minimum; gap = gap; maximum = maximum; force_off = force_off; last = row; row = row; served = served }
+abbrev same_inputs : (ℕ → Bool) → (ℕ → Bool) → (ℕ → Bool) → (ℕ → Bool) → Noted → Bool → Found
+same_inputs minimum gap maximum force_off noted served =
+    record { minimum = minimum; gap = gap; maximum = maximum; force_off = force_off; noted = noted; row = noted.row; served = served }
 
 -- of views that differ in what times of red clearances alone, none of which ends its time of phases 1 to 16
-none-between : (tick : ℕ) (minimum gap maximum force_off timing : ℕ → Bool) (row : Row) (served : Bool) (v : View) →
+none-between : (tick : ℕ) (minimum gap maximum force_off timing : ℕ → Bool) (noted : Noted) (served : Bool) (v : View) →
     ((n : ℕ) → 1 ≤ n → n ≤ 16 → minimum n ≡ false) → ((n : ℕ) → gap n ≡ false) →
     ((n : ℕ) → maximum n ≡ false) → ((n : ℕ) → force_off n ≡ false) → ((n : ℕ) → leaves_dwell v v n ≡ false) →
     ((n : ℕ) → 1 ≤ n → n ≤ 16 → (v.red_timings n && not (timing n)) ≡ false) →
-    tick_events tick (same_inputs minimum gap maximum force_off row served) v (record v { red_timings = timing }) ≡ []
-none-between tick minimum gap maximum force_off timing row served v no_minimum no_gap no_maximum no_force_off stays none =
+    tick_events tick (same_inputs minimum gap maximum force_off noted served) v (record v { red_timings = timing }) ≡ []
+none-between tick minimum gap maximum force_off timing noted served v no_minimum no_gap no_maximum no_force_off stays none =
     λ i. (none-told tick codes.PHASE_ON v.greens i ++ none-told tick codes.GREEN_BEGINS v.greens i ++ none-told tick codes.CONFLICT_BEGINS v.conflicts i)
     ++ (told-within tick codes.MINIMUM_COMPLETE minimum no_minimum i ++ told-none tick codes.GAP_OUT gap no_gap i ++ told-none tick codes.MAX_OUT maximum no_maximum i
     ++ told-none tick codes.FORCE_OFF force_off no_force_off i)
@@ -75,15 +77,15 @@ none-between tick minimum gap maximum force_off timing row served v no_minimum n
     ++ (none-told tick codes.WALK_BEGINS v.walks i ++ none-told tick codes.CLEARANCE_BEGINS v.clearances i
     ++ none-told tick codes.DONT_WALK_BEGINS (λ n. v.walks n || v.clearances n) i)
     ++ (if and-not_self v.crosses i then event tick codes.BARRIER_CROSSED v.side ∷ [] else [])
-    ++ (none-told tick codes.CALL_COMES v.vehicle_calls i ++ none-told tick codes.CALL_GOES v.vehicle_calls i
-    ++ none-told tick codes.PEDESTRIAN_CALL_COMES v.pedestrian_calls i)
+    ++ (none-told tick codes.CALL_COMES (events.vehicle_calls_in noted.form v) i ++ none-told tick codes.CALL_GOES (events.vehicle_calls_in noted.form v) i
+    ++ none-told tick codes.PEDESTRIAN_CALL_COMES (events.pedestrian_calls_in noted.form v) i)
     ++ (none-told tick codes.OVERLAP_GREEN_BEGINS v.overlap_greens i ++ none-told tick codes.OVERLAP_YELLOW_BEGINS v.overlap_yellows i
     ++ none-told tick codes.OVERLAP_RED_BEGINS (λ n. v.overlap_greens n || v.overlap_yellows n) i
     ++ none-told tick codes.OVERLAP_OFF v.overlaps_off i)
-    ++ (none-told tick codes.VEHICLE_OFF (has_number row.vehicles) i ++ none-told tick codes.VEHICLE_ON (has_number row.vehicles) i)
+    ++ (none-told tick codes.VEHICLE_OFF (events.vehicles_in noted.form noted.row v) i ++ none-told tick codes.VEHICLE_ON (events.vehicles_in noted.form noted.row v) i)
     ++ (none-told tick codes.ALARM_GOES v.alarms i ++ none-told tick codes.ALARM_COMES v.alarms i)
-    ++ (none-told tick codes.PEDESTRIAN_OFF (has_number row.pedestrians) i ++ none-told tick codes.PEDESTRIAN_ON (has_number row.pedestrians) i
-    ++ none-told tick codes.PREEMPT_ON (has_number row.preempts) i ++ none-told tick codes.PREEMPT_OFF (has_number row.preempts) i)
+    ++ (none-told tick codes.PEDESTRIAN_OFF (has_number noted.row.pedestrians) i ++ none-told tick codes.PEDESTRIAN_ON (has_number noted.row.pedestrians) i)
+    ++ (none-told tick codes.PREEMPT_ON (events.requests noted.row v) i ++ none-told tick codes.PREEMPT_OFF (events.requests noted.row v) i)
     ++ (none-told tick codes.PREEMPT_ENTERS v.preempts i ++ none-told tick codes.TRACK_BEGINS (events.once_green v v.tracks) i
     ++ none-told tick codes.DWELL_BEGINS (events.once_green v v.dwells) i)
     ++ told-none tick codes.PRESENCE_EXCEEDED (λ n. leaves_dwell v v n && not served) (λ n j. stays n j && not served) i
@@ -139,6 +141,8 @@ view-ran s =
       conflicts = λ p. is_green (shown_interval s p) && same-on (s.phases p).conflict i;
       vehicle_calls = standing.vehicle_call s.plan (given i) s.memories;
       pedestrian_calls = standing.pedestrian_call s.plan (given i) s.memories;
+      recalls = is_recalled s.plan (given i);
+      outputs = λ d. same-output s.detectors d i;
       alarms = λ d. is_some (same-alarm s.detectors d i);
       preempts = serves (λ k. true) (same-stage s.preempts.service i);
       tracks = serves is_track (same-stage s.preempts.service i);
@@ -184,9 +188,12 @@ timed : (s : State) (p : ℕ) → (view s).red_timings p ≡ times_red s p
 unfolding view
 timed s p = refl
 
-waited-none : (row : Row) (s : State) → EndsNoTime s → events_between row s (Tick row) (waited s) ≡ []
-waited-none row s none = go s.trip none
+waited-none : (noted : Noted) (s : State) → EndsNoTime s → events_between noted s (Tick noted.row) (waited s) ≡ []
+waited-none noted s none = go s.trip none
   where
+    row : Row
+    row = noted.row
+
     no_cause : (s t : State) (c : Cause) → ((o : Option Cause) → o ≡ None → is_cause c o ≡ false) → (p : ℕ) → interval t p ≡ interval s p →
         is_cause c (events.cause_of s row t p) ≡ false
     no_cause s t c none p same =
@@ -207,18 +214,18 @@ waited-none row s none = go s.trip none
 
     none_of : (s t : State) → interval t ≡ interval s → view t ≡ record (view s) { red_timings = times_red t } →
         ((p : ℕ) → 1 ≤ p → p ≤ 16 → completes_minimum s p ≡ false) → ((p : ℕ) → 1 ≤ p → p ≤ 16 → (times_red s p && not (times_red t p)) ≡ false) →
-        events_between row s (Tick row) t ≡ []
+        events_between noted s (Tick row) t ≡ []
     none_of s t same seen completes ends =
-        ap (λ (v : View). tick_events t.now (found row s row t) (view s) v) seen
-        ∙ none-between t.now _ _ _ _ (times_red t) row _ (view s) completes (λ p. no_cause s t Gap of_gap p (λ i. same i p))
+        ap (λ (v : View). tick_events t.now (found noted s row t) (view s) v) seen
+        ∙ none-between t.now _ _ _ _ (times_red t) noted _ (view s) completes (λ p. no_cause s t Gap of_gap p (λ i. same i p))
         (λ p. no_cause s t Maximum of_maximum p (λ i. same i p)) (λ p. no_cause s t ForceOff of_force_off p (λ i. same i p)) (dwells-on s)
         (λ p from to. ap (λ (b : Bool). b && not (times_red t p)) (timed s p) ∙ ends p from to)
 
     go : (trip : Option Tripped) → EndsNoTime (record s { trip = trip }) →
-        events_between row (record s { trip = trip }) (Tick row) (waited (record s { trip = trip })) ≡ []
+        events_between noted (record s { trip = trip }) (Tick row) (waited (record s { trip = trip })) ≡ []
     go (Some trip) ends = none_of (record s { trip = Some trip }) (record s { trip = Some trip; now = s.now + 1 }) refl (view-later (record s { trip = Some trip })) ends.minimum ends.red
     go None ends = none_of (record s { trip = None }) (ran (record s { trip = None })) refl (view-ran (record s { trip = None })) ends.minimum ends.red
 
-pub quiet-tells-none : (row : Row) (s : State) → IsQuiet s (step s (Tick row)) → EndsNoTime s → events_of row s (Tick row) ≡ []
+pub quiet-tells-none : (noted : Noted) (s : State) → IsQuiet s (step s (Tick noted.row)) → EndsNoTime s → events_of noted s (Tick noted.row) ≡ []
 unfolding events_of
-quiet-tells-none row s quiet ends = ap (λ (after : State). events_between row s (Tick row) after) quiet ∙ waited-none row s ends
+quiet-tells-none noted s quiet ends = ap (λ (after : State). events_between noted s (Tick noted.row) after) quiet ∙ waited-none noted s ends

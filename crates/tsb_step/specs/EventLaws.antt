@@ -2,6 +2,7 @@
 use Rattle.std.specs.Prelude.{◌≡◌, ℕ, ◌+◌, ◌≤◌, Bool, true, false, if◌then◌else◌, [], None}
 use Rattle.tsb_types.specs.declared.row.Row.{Row}
 use Rattle.tsb_step.specs.declared.inputs.Input.TheVariants.{Tick}
+use Rattle.tsb_step.specs.declared.log_form.Noted.{Noted}
 use Rattle.tsb_step.specs.Events.{Found, completes_minimum, completes_red, ends_freely, events_of, found}
 use Rattle.tsb_step.specs.Quiet.{IsQuiet}
 use Rattle.tsb_step.specs.State.{State}
@@ -16,18 +17,18 @@ abbrev pub causes_told : Found → ℕ → ℕ
 causes_told f p = one_if (f.gap p) + one_if (f.maximum p) + one_if (f.force_off p)
 
 -- what a tick finds that is the next input of a state
-abbrev pub found_next : Row → State → Row → Found
-found_next last s row = found last s row (step s (Tick row))
+abbrev pub found_next : Noted → State → Row → Found
+found_next noted s row = found noted s row (step s (Tick row))
 
 -- a green that a tick ends, and that no preempt asked to end, has exactly one of the three causes
 abbrev pub GreensEndWithOneCause : Type 0
-GreensEndWithOneCause = (last : Row) (s : State) (row : Row) (p : ℕ) → s.trip ≡ None →
-    ends_freely s row (step s (Tick row)) p ≡ true → causes_told (found_next last s row) p ≡ 1
+GreensEndWithOneCause = (noted : Noted) (s : State) (row : Row) (p : ℕ) → s.trip ≡ None →
+    ends_freely s row (step s (Tick row)) p ≡ true → causes_told (found_next noted s row) p ≡ 1
 
 -- any other phase has none
 abbrev pub OthersHaveNoCause : Type 0
-OthersHaveNoCause = (last : Row) (s : State) (row : Row) (p : ℕ) →
-    ends_freely s row (step s (Tick row)) p ≡ false → causes_told (found_next last s row) p ≡ 0
+OthersHaveNoCause = (noted : Noted) (s : State) (row : Row) (p : ℕ) →
+    ends_freely s row (step s (Tick row)) p ≡ false → causes_told (found_next noted s row) p ≡ 0
 
 -- the next tick ends no minimum green and no time of a red clearance
 pub record EndsNoTime (s : State) : Type 0 where
@@ -36,4 +37,5 @@ pub record EndsNoTime (s : State) : Type 0 where
 
 -- a quiet tick with the inputs of the tick before it tells nothing, where it ends no such time
 abbrev pub QuietTicksTellNothing : Type 0
-QuietTicksTellNothing = (row : Row) (s : State) → IsQuiet s (step s (Tick row)) → EndsNoTime s → events_of row s (Tick row) ≡ []
+QuietTicksTellNothing = (noted : Noted) (s : State) → IsQuiet s (step s (Tick noted.row)) → EndsNoTime s →
+    events_of noted s (Tick noted.row) ≡ []

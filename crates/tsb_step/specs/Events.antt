@@ -1,10 +1,14 @@
 -- What an input tells: its events, by the Indiana Traffic Signal Hi Resolution Data Logger Enumerations, found from the
--- state before it, from the inputs that were on in the tick before, and from the input itself. The code of an event
+-- state before it, from what the log has noted before, and from the input itself. The code of an event
 -- says what happened, its parameter to which phase, overlap, detector or preempt.
 --
 -- Where the enumerations are silent the choice is the profile's own: a controller in flash serves no phase and shows no
 -- walk, so that a trip ends all of them; a vehicle call is that of a phase that is not Green. A stage of a preempt is
--- told once all of its phases are Green, which stay so as long as the stage does.
+-- told once all of its phases are Green, which stay so as long as the stage does. The operator's switch of a preempt
+-- counts as its input.
+--
+-- A log has a form: with `recalls` the calls of phases on recall come and go in it too, and with `outputs` vehicle
+-- detectors go on and off as their outputs do, after delay and extension.
 use Rattle.std.specs.Prelude.{ℕ, ◌+◌, ◌-◌, ◌==◌, Bool, true, false, not, ◌&&◌, ◌||◌, if◌then◌else◌, List, [], ◌∷◌, ◌++◌, flat_map, nat_eq, nat_le, Option, Some, None, is_some, is_none}
 use Rattle.std.specs.List.{list_any}
 use Rattle.std.specs.Option.{option_eq}
@@ -26,8 +30,9 @@ use Rattle.tsb_types.specs.declared.stage.Stage.TheVariants.{Track, Dwell, Exit}
 use Rattle.tsb_objects.specs.tsb_plan.declared.object.Object.TheVariants.{PatternCycleTime, PatternOffsetTime, SplitTime}
 use Rattle.tsb_objects.specs.tsb_plan.Parts.{is_included, split_index}
 use Rattle.tsb_objects.specs.tsb_plan.Plan.{Plan, minimum_green, phases, red_clear}
-use Rattle.tsb_objects.specs.tsb_plan.Running.{split_in_effect}
+use Rattle.tsb_objects.specs.tsb_plan.Running.{is_on_pedestrian_recall, split_in_effect}
 use Rattle.tsb_calls.specs.Memories as calls
+use Rattle.tsb_calls.specs.Callable.{is_recalled}
 use Rattle.tsb_calls.specs.Standing as standing
 use Rattle.tsb_phase.specs.declared.cause.Cause.{Cause}
 use Rattle.tsb_phase.specs.declared.cause.Cause.TheVariants.{Gap, Maximum, ForceOff}
@@ -39,12 +44,24 @@ use Rattle.tsb_preempt.specs.Service.{all_green, stage_phases}
 use Rattle.tsb_heads.specs.Monitoring as heads
 use Rattle.tsb_heads.specs.Colours as colours
 use Rattle.tsb_step.specs.declared.inputs.Input.{Input}
+use Rattle.tsb_step.specs.declared.log_form.LogForm.{LogForm}
+use Rattle.tsb_step.specs.declared.log_form.Noted.{Noted}
 use Rattle.tsb_step.specs.declared.inputs.Input.TheVariants.{Tick}
 use Rattle.tsb_step.specs.Quiet.{waited}
 use Rattle.tsb_step.specs.State.{State, interval, pedestrian_part}
 use Rattle.tsb_step.specs.Signs.{display, stage}
 use Rattle.tsb_step.specs.Step.{step}
 use Rattle.tsb_step.specs.Tick.{runs, phases_given, phase_read, preempts_given, preempts_read}
+
+-- ## What a log has noted
+
+-- the usual form: a log has neither calls of recalls nor outputs
+abbrev pub usual : LogForm
+usual = record { recalls = false; outputs = false }
+
+-- in this form, where these inputs were on in the newest tick
+abbrev pub usual_after : Row → Noted
+usual_after row = record { form = usual; row = row }
 
 -- ## What a log sees of a state
 
@@ -62,12 +79,18 @@ pub record View : Type 0 where
   -- phases with a vehicle call that are not Green, with a pedestrian call that are not in Walk
   pub vehicle_calls : ℕ → Bool
   pub pedestrian_calls : ℕ → Bool
+  -- phases on minimum or maximum recall, on pedestrian recall
+  pub recalls : ℕ → Bool
+  pub pedestrian_recalls : ℕ → Bool
   -- overlaps: green, yellow; neither, with no phase in service that they include
   pub overlap_greens : ℕ → Bool
   pub overlap_yellows : ℕ → Bool
   pub overlaps_off : ℕ → Bool
-  -- vehicle detectors with an alarm
+  -- vehicle detectors whose output is on, with an alarm
+  pub outputs : ℕ → Bool
   pub alarms : ℕ → Bool
+  -- preempts whose switch is on
+  pub switches : ℕ → Bool
   -- preempts in service; in their track stage, in their dwell, in their exit; whether there is one in service, and
   -- whether each phase of its stage is Green
   pub preempts : ℕ → Bool
@@ -159,10 +182,14 @@ view s = record {
   clearances = λ p. is_clearance (shown_part s p);
   vehicle_calls = standing.vehicle_call s.plan (calls_now s) s.memories;
   pedestrian_calls = standing.pedestrian_call s.plan (calls_now s) s.memories;
+  recalls = is_recalled s.plan (calls_now s);
+  pedestrian_recalls = is_on_pedestrian_recall s.plan (runs s);
   overlap_greens = λ o. is_overlap o && heads.is_green ((display s).overlap o);
   overlap_yellows = λ o. is_overlap o && colours.is_yellow ((display s).overlap o);
   overlaps_off = λ o. is_overlap o && is_off ((display s).overlap o) (includes_service s o);
+  outputs = λ d. (s.detectors d).output;
   alarms = λ d. is_some (s.detectors d).alarm;
+  switches = s.preempts.switch;
   preempts = serves (λ k. true) (stage s);
   tracks = serves is_track (stage s);
   dwells = serves is_dwell (stage s);
@@ -185,14 +212,14 @@ selected s = record {
 
 -- ## What a tick alone tells
 
--- the greens whose minimum green a tick completed; those that it ended by gap, by maximum, by force-off; the inputs that
--- were on in the tick before and in this one; and whether the preempt in service has been served
+-- the greens whose minimum green a tick completed; those that it ended by gap, by maximum, by force-off; what the log has
+-- noted before; the inputs that are on in this tick; and whether the preempt in service has been served
 pub record Found : Type 0 where
   pub minimum : ℕ → Bool
   pub gap : ℕ → Bool
   pub maximum : ℕ → Bool
   pub force_off : ℕ → Bool
-  pub last : Row
+  pub noted : Noted
   pub row : Row
   pub served : Bool
 
@@ -226,14 +253,14 @@ is_cause Maximum (Some Maximum) = true
 is_cause ForceOff (Some ForceOff) = true
 is_cause c (Some d) = false
 
--- what a tick finds that leads from a state to this one; `last` is the row of the tick before
-abbrev pub found : Row → State → Row → State → Found
-found last s row after = record {
+-- what a tick finds that leads from a state to this one
+abbrev pub found : Noted → State → Row → State → Found
+found noted s row after = record {
   minimum = completes_minimum s;
   gap = λ p. is_cause Gap (cause_of s row after p);
   maximum = λ p. is_cause Maximum (cause_of s row after p);
   force_off = λ p. is_cause ForceOff (cause_of s row after p);
-  last = last;
+  noted = noted;
   row = row;
   served = preempts.has_been_served s.plan (preempts_given s row) (preempts_read s);
 }
@@ -282,12 +309,24 @@ abbrev pub crossing_events : ℕ → View → View → List Event
 crossing_events tick was now =
     if was.crosses && not now.crosses then event tick BARRIER_CROSSED now.side ∷ [] else []
 
+-- the calls that a log has in this form: those of phases on recall only where it has recalls
+abbrev pub but_recalls : LogForm → (ℕ → Bool) → (ℕ → Bool) → ℕ → Bool
+but_recalls form calls recalls p = if form.recalls then calls p else calls p && not (recalls p)
+
+-- of vehicles
+abbrev pub vehicle_calls_in : LogForm → View → ℕ → Bool
+vehicle_calls_in form v = but_recalls form v.vehicle_calls v.recalls
+
+-- of pedestrians
+abbrev pub pedestrian_calls_in : LogForm → View → ℕ → Bool
+pedestrian_calls_in form v = but_recalls form v.pedestrian_calls v.pedestrian_recalls
+
 -- a vehicle call comes, or goes; a pedestrian call comes
-abbrev pub call_events : ℕ → View → View → List Event
-call_events tick was now =
-    told tick CALL_COMES (begins was.vehicle_calls now.vehicle_calls)
-    ++ told tick CALL_GOES (ends was.vehicle_calls now.vehicle_calls)
-    ++ told tick PEDESTRIAN_CALL_COMES (begins was.pedestrian_calls now.pedestrian_calls)
+abbrev pub call_events : ℕ → LogForm → View → View → List Event
+call_events tick form was now =
+    told tick CALL_COMES (begins (vehicle_calls_in form was) (vehicle_calls_in form now))
+    ++ told tick CALL_GOES (ends (vehicle_calls_in form was) (vehicle_calls_in form now))
+    ++ told tick PEDESTRIAN_CALL_COMES (begins (pedestrian_calls_in form was) (pedestrian_calls_in form now))
 
 -- green begins, yellow begins, neither is any more, no included phase is in service either
 abbrev pub overlap_events : ℕ → View → View → List Event
@@ -298,24 +337,36 @@ overlap_events tick was now =
     (either now.overlap_greens now.overlap_yellows))
     ++ told tick OVERLAP_OFF (begins was.overlaps_off now.overlaps_off)
 
--- vehicle inputs of the row go off, and on
-abbrev pub vehicle_input_events : ℕ → Found → List Event
-vehicle_input_events tick f =
-    told tick VEHICLE_OFF (ends (has_number f.last.vehicles) (has_number f.row.vehicles))
-    ++ told tick VEHICLE_ON (begins (has_number f.last.vehicles) (has_number f.row.vehicles))
+-- the vehicle detectors that are on in a log of this form: by their outputs, or by the inputs of a row
+abbrev pub vehicles_in : LogForm → Row → View → ℕ → Bool
+vehicles_in form row v d = if form.outputs then v.outputs d else has_number row.vehicles d
+
+-- vehicle detectors go off, and on; the row is the newest after the input
+abbrev pub vehicle_events : ℕ → Noted → Row → View → View → List Event
+vehicle_events tick noted row was now =
+    told tick VEHICLE_OFF (ends (vehicles_in noted.form noted.row was) (vehicles_in noted.form row now))
+    ++ told tick VEHICLE_ON (begins (vehicles_in noted.form noted.row was) (vehicles_in noted.form row now))
 
 -- an alarm goes, or comes
 abbrev pub alarm_events : ℕ → View → View → List Event
 alarm_events tick was now =
     told tick ALARM_GOES (ends was.alarms now.alarms) ++ told tick ALARM_COMES (begins was.alarms now.alarms)
 
--- pedestrian inputs of the row go off, and on; preempt inputs go on, and off
-abbrev pub other_input_events : ℕ → Found → List Event
-other_input_events tick f =
-    told tick PEDESTRIAN_OFF (ends (has_number f.last.pedestrians) (has_number f.row.pedestrians))
-    ++ told tick PEDESTRIAN_ON (begins (has_number f.last.pedestrians) (has_number f.row.pedestrians))
-    ++ told tick PREEMPT_ON (begins (has_number f.last.preempts) (has_number f.row.preempts))
-    ++ told tick PREEMPT_OFF (ends (has_number f.last.preempts) (has_number f.row.preempts))
+-- pedestrian inputs of the row go off, and on
+abbrev pub button_events : ℕ → Found → List Event
+button_events tick f =
+    told tick PEDESTRIAN_OFF (ends (has_number f.noted.row.pedestrians) (has_number f.row.pedestrians))
+    ++ told tick PEDESTRIAN_ON (begins (has_number f.noted.row.pedestrians) (has_number f.row.pedestrians))
+
+-- the preempts that are asked for: by the inputs of a row, or by a switch
+abbrev pub requests : Row → View → ℕ → Bool
+requests row v n = has_number row.preempts n || v.switches n
+
+-- requests come, and go; the row is the newest after the input
+abbrev pub request_events : ℕ → Row → Row → View → View → List Event
+request_events tick last row was now =
+    told tick PREEMPT_ON (begins (requests last was) (requests row now))
+    ++ told tick PREEMPT_OFF (ends (requests last was) (requests row now))
 
 -- preempts in a stage, once each phase of the stage is Green
 abbrev pub once_green : View → (ℕ → Bool) → ℕ → Bool
@@ -370,24 +421,25 @@ flash_events tick was now =
 abbrev pub tick_events : ℕ → Found → View → View → List Event
 tick_events tick f was now =
     green_events tick was now ++ ending_events tick f ++ clearing_events tick was now ++ pedestrian_events tick was now
-    ++ crossing_events tick was now ++ call_events tick was now ++ overlap_events tick was now
-    ++ vehicle_input_events tick f ++ alarm_events tick was now ++ other_input_events tick f
-    ++ preempt_events tick was now ++ presence_events tick f was now ++ exit_events tick was now
+    ++ crossing_events tick was now ++ call_events tick f.noted.form was now ++ overlap_events tick was now
+    ++ vehicle_events tick f.noted f.row was now ++ alarm_events tick was now ++ button_events tick f
+    ++ request_events tick f.noted.row f.row was now ++ preempt_events tick was now ++ presence_events tick f was now ++ exit_events tick was now
     ++ flash_events tick was now
 
 -- and those of any other input
-abbrev pub other_events : ℕ → View → View → Selected → Selected → List Event
-other_events tick was now was_selected now_selected =
+abbrev pub other_events : ℕ → Noted → View → View → Selected → Selected → List Event
+other_events tick noted was now was_selected now_selected =
     green_events tick was now ++ clearing_events tick was now ++ pedestrian_events tick was now
-    ++ call_events tick was now ++ overlap_events tick was now ++ alarm_events tick was now
-    ++ preempt_events tick was now ++ exit_events tick was now
+    ++ call_events tick noted.form was now ++ overlap_events tick was now
+    ++ vehicle_events tick noted noted.row was now ++ alarm_events tick was now
+    ++ request_events tick noted.row noted.row was now ++ preempt_events tick was now ++ exit_events tick was now
     ++ pattern_events tick was_selected now_selected ++ flash_events tick was now
 
 -- of an input that leads from a state to another
-abbrev pub events_between : Row → State → Input → State → List Event
-events_between last s (Tick row) after = tick_events after.now (found last s row after) (view s) (view after)
-events_between last s i after = other_events after.now (view s) (view after) (selected s) (selected after)
+abbrev pub events_between : Noted → State → Input → State → List Event
+events_between noted s (Tick row) after = tick_events after.now (found noted s row after) (view s) (view after)
+events_between noted s i after = other_events after.now noted (view s) (view after) (selected s) (selected after)
 
--- the events of an input at a state; `last` is the row of the newest tick before it, with all off before the first
-unfoldable pub events_of : Row → State → Input → List Event
-events_of last s i = events_between last s i (step s i)
+-- the events of an input at a state, in a log that has noted this before it
+unfoldable pub events_of : Noted → State → Input → List Event
+events_of noted s i = events_between noted s i (step s i)

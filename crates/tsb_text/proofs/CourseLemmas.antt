@@ -17,7 +17,7 @@ use Rattle.tsb_bench.specs.tsb_machine.Play.{IsRefusal}
 use Rattle.tsb_bench.proofs.tsb_machine.PlayLemmas as past
 use Rattle.tsb_bench.specs.tsb_step.declared.inputs.Input.{Input}
 use Rattle.tsb_bench.specs.tsb_step.declared.inputs.Input.TheVariants as inputs
-use Rattle.tsb_bench.specs.tsb_step.Events.{events_of}
+use Rattle.tsb_bench.specs.tsb_step.Events.{events_of, usual_after}
 use Rattle.tsb_bench.specs.tsb_step.State.{State, start}
 use Rattle.tsb_bench.specs.tsb_step.Past.{Whole, controller, record_of, earlier}
 use Rattle.tsb_bench.specs.tsb_step.Play.{Cmd, IsRight, back_to, remaining_after, Follows}
@@ -89,7 +89,7 @@ tick-there plan is bench f = ap (λ (s : State). s.now) (follows-state plan (who
 -- an input was taken and kept; it has told its events, where they are told
 pub kept-took : (given : Setup) (log : List LogRow) (is : List Input) (old new : OnCourse) (tick : ℕ) (i : Input) → Stands given log old is → Keeps old.mode → new.mode ≡ old.mode → tick ≡ old.bench.tick
     → BenchTook (Ok tt) given.plan new.bench is i → new.kept ≡ with_input i tick old.kept
-    → (tells_in new.mode ≡ true → new.news ≡ events_of (last_row is) (replay given.plan is) i) → Took (Ok tt) given log new is i
+    → (tells_in new.mode ≡ true → new.news ≡ events_of (usual_after (last_row is)) (replay given.plan is) i) → Took (Ok tt) given log new is i
 kept-took given log is old new tick i s keeps mode at took kept told =
     let was : old.kept ≡ kept_of given.plan is = is-kept old.mode old.kept given.plan is keeps s.keeps in
     let there : tick ≡ (replay given.plan is).now = at ∙ tick-there given.plan is old.bench s.follows in
@@ -109,17 +109,17 @@ kept-refused e given log is old new i s mode kept took = (
 
 -- the events that an input told, told from the row that is kept
 pub kept-news : (given : Setup) (log : List LogRow) (is : List Input) (old : OnCourse) (i : Input) (last : Row) (news : List Event) → Stands given log old is → Keeps old.mode → last ≡ row_kept old.kept
-    → news ≡ events_of last (state_of old.bench) i → news ≡ events_of (last_row is) (replay given.plan is) i
+    → news ≡ events_of (usual_after last) (state_of old.bench) i → news ≡ events_of (usual_after (last_row is)) (replay given.plan is) i
 kept-news given log is old i last news s keeps row tells =
     let was : old.kept ≡ kept_of given.plan is = is-kept old.mode old.kept given.plan is keeps s.keeps in
     let there : last ≡ last_row is = row ∙ ap row_kept was ∙ kept-row given.plan is in
     let state : state_of old.bench ≡ replay given.plan is = follows-state given.plan (whole old.bench) is s.follows in
-    tells ∙ (λ j. events_of (there j) (state j) i)
+    tells ∙ (λ j. events_of (usual_after (there j)) (state j) i)
 
 -- what became of an input that the bench took, once it was to be kept
 pub kept-so : (r : Result (Unit {0}) Refusal) (given : Setup) (log : List LogRow) (is : List Input) (old new : OnCourse) (mid : Held) (tick : ℕ) (i : Input) → Stands given log old is → Keeps old.mode → new.mode ≡ old.mode
     → tick ≡ old.bench.tick → verdict (state_of old.bench) i ≡ None → state_of mid ≡ step (state_of old.bench) i → mid.records ≡ record_of i (state_of old.bench) (state_of mid) ∷ old.bench.records
-    → earlier (whole mid) 1 ≡ whole old.bench → (tells_in new.mode ≡ true → new.news ≡ events_of (last_row is) (replay given.plan is) i)
+    → earlier (whole mid) 1 ≡ whole old.bench → (tells_in new.mode ≡ true → new.news ≡ events_of (usual_after (last_row is)) (replay given.plan is) i)
     → OnOk r (new.bench ≡ mid) → OnOk r (new.kept ≡ with_input i tick old.kept)
     → OnErr r ((newest : Change) (others : List Change) → mid.records ≡ newest ∷ others → whole new.bench ≡ earlier (whole mid) 1) → OnErr r (new.kept ≡ old.kept) → IfErr r (λ e. e ≡ Memory)
     → Took r given log new is i
@@ -144,7 +144,7 @@ pub answered-took : (given : Setup) (log : List LogRow) (course : OnCourse) (is 
 answered-took given log course is i t = record {
   right = t.0;
   stands = t.1;
-  tells = λ taken. told-alike (tells_in course.mode) course.news (events_of (last_row is) (replay given.plan is) i) t.2;
+  tells = λ taken. told-alike (tells_in course.mode) course.news (events_of (usual_after (last_row is)) (replay given.plan is) i) t.2;
 }
 
 pub answered-refused : (given : Setup) (log : List LogRow) (course : OnCourse) (is : List Input) (i : Input) (e : Refusal) → Took (Err e) given log course is i → Answered given log course is (Apply i) (Refused e)

@@ -5,7 +5,7 @@ use Rattle.tsb_bench.specs.tsb_machine.declared.commands.Answer.{Answer}
 use Rattle.tsb_bench.specs.tsb_machine.declared.commands.Answer.TheVariants as answers
 use Rattle.tsb_bench.specs.tsb_machine.declared.commands.Command.TheVariants.{Apply}
 use Rattle.tsb_bench.specs.tsb_step.declared.inputs.Input.{Input}
-use Rattle.tsb_bench.specs.tsb_step.Events.{events_of}
+use Rattle.tsb_bench.specs.tsb_step.Events.{events_of, usual_after}
 use Rattle.tsb_bench.specs.tsb_step.Play.{Cmd, Follows, IsRight, remaining_after}
 use Rattle.tsb_bench.specs.tsb_step.Runs.{replay}
 use Rattle.tsb_dialog.specs.Said.{Wrote}
@@ -72,7 +72,7 @@ StandsPlain given log course inputs = Stands given log course inputs × (course.
 -- an input was taken, and has told its events where they are told; or it was refused, and nothing has changed
 abbrev pub Took : Result (Unit {0}) Refusal → Setup → List LogRow → OnCourse → List Input → Input → Type 0
 Took (Ok u) given log course is i = IsRight given.plan is (Apply i) answers.Took × Stands given log course (i ∷ is)
-    × (tells_in course.mode ≡ true → course.news ≡ events_of (last_row is) (replay given.plan is) i)
+    × (tells_in course.mode ≡ true → course.news ≡ events_of (usual_after (last_row is)) (replay given.plan is) i)
 Took (Err e) given log course is i = IsRight given.plan is (Apply i) (answers.Refused e) × Stands given log course is
 
 -- the bench was asked, and answered right; an input that was taken has told its events

@@ -5,7 +5,7 @@ use Rattle.tsb_bench.specs.tsb_machine.declared.commands.Command.TheVariants as 
 use Rattle.tsb_bench.specs.tsb_machine.declared.commands.Answer.{Answer}
 use Rattle.tsb_bench.specs.tsb_machine.declared.commands.Answer.TheVariants.{Took, Refused, Moved}
 use Rattle.tsb_bench.specs.tsb_step.declared.inputs.Input.{Input}
-use Rattle.tsb_bench.specs.tsb_step.Events.{events_of}
+use Rattle.tsb_bench.specs.tsb_step.Events.{events_of, usual_after}
 use Rattle.tsb_bench.specs.tsb_step.Play.{Cmd, IsRight, remaining_after}
 use Rattle.tsb_bench.specs.tsb_step.Runs.{replay}
 use Rattle.tsb_display_text.specs.Line.{tick_field}
@@ -43,7 +43,7 @@ if_told tells es = if tells then events_text es else []
 
 -- what an input tells that is taken
 abbrev pub news : Bool → Setup → List Input → Input → List ℕ
-news tells given is i = if_told tells (events_of (last_row is) (replay given.plan is) i)
+news tells given is i = if_told tells (events_of (usual_after (last_row is)) (replay given.plan is) i)
 
 -- ## Commands
 -- Inputs are piled up, the newest first, and the state is that of their replay.

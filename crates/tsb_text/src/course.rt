@@ -20,7 +20,7 @@ use crate::lines::shown_line;
 use std::alloc::Global;
 use std::io::Write;
 use std::marker::Model;
-use tsb_bench::{Answer, Bench, Cmd, Input, Kind, answer};
+use tsb_bench::{Answer, Bench, Cmd, Input, Kind, Noted, answer};
 use tsb_dialog::{Pending, Watched, WriteError};
 use tsb_display_text::{LineBytes, LineMaker};
 use tsb_events::Events;
@@ -141,7 +141,8 @@ impl Course {
     {
         let tick = self.bench.now();
         let last = self.kept.last_row();
-        self.bench.apply_telling(input, &last, &mut self.news)?;
+        let noted = Noted::usual_after(last);
+        self.bench.apply_telling(input, &noted, &mut self.news)?;
         self.keep(&input, tick)
     }
 

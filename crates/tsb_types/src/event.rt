@@ -52,7 +52,8 @@ pub const CLEARANCE_BEGINS: u8 = 22;
 pub const DONT_WALK_BEGINS: u8 = 23;
 /// Barrier termination: a crossing is completed. The parameter is the side that is served from now on (profile).
 pub const BARRIER_CROSSED: u8 = 31;
-/// Phase call registered: the vehicle call of a phase that is not Green comes, a recall's as well (profile).
+/// Phase call registered: the vehicle call of a phase that is not Green comes. None comes of a recall, but in the form of
+/// a log that has recalls.
 pub const CALL_COMES: u8 = 43;
 /// Phase call dropped: it is served, or goes.
 pub const CALL_GOES: u8 = 44;
@@ -66,7 +67,8 @@ pub const OVERLAP_YELLOW_BEGINS: u8 = 63;
 pub const OVERLAP_RED_BEGINS: u8 = 64;
 /// Overlap off: it is neither green nor yellow, and no phase that it includes is in service (profile).
 pub const OVERLAP_OFF: u8 = 65;
-/// Vehicle detector off, before the plan's delay and extension.
+/// Vehicle detector off: its input, before the plan's delay and extension; in the form of a log that has outputs, what it
+/// gives after them.
 pub const VEHICLE_OFF: u8 = 81;
 /// Vehicle detector on.
 pub const VEHICLE_ON: u8 = 82;
@@ -78,7 +80,7 @@ pub const ALARM_COMES: u8 = 84;
 pub const PEDESTRIAN_OFF: u8 = 89;
 /// Pedestrian detector on.
 pub const PEDESTRIAN_ON: u8 = 90;
-/// Preempt call input on.
+/// Preempt call input on, or the operator's switch in place of it.
 pub const PREEMPT_ON: u8 = 102;
 /// Preempt call input off.
 pub const PREEMPT_OFF: u8 = 104;
@@ -100,11 +102,27 @@ pub const CYCLE_CHANGES: u8 = 132;
 pub const OFFSET_CHANGES: u8 = 133;
 /// Split change of phase 1, in seconds; those of phases 2 to 16 follow it.
 pub const SPLIT_CHANGES: u8 = 134;
+/// Coord cycle state change: how the local counter of the pattern that runs goes, by the parameters below.
+pub const CYCLE_STATE_CHANGES: u8 = 150;
+/// Coordinated phase yield point: the local counter is at the force-off instant of a coordinated phase.
+pub const YIELD_POINT: u8 = 151;
 /// Unit flash status change: `FLASH` or `NO_FLASH`.
 pub const FLASH_CHANGES: u8 = 173;
 
 /// The parameter of `PATTERN_CHANGES` in free operation, as NTCIP 1202's coordPatternStatus has it.
 pub const FREE: u8 = 254;
+/// The parameter of `CYCLE_STATE_CHANGES` in free operation.
+pub const CYCLE_FREE: u8 = 0;
+/// That of a local counter that is in step.
+pub const CYCLE_IN_STEP: u8 = 1;
+/// That of one that comes into step by longer cycles: it loses ticks.
+pub const CYCLE_ADDS: u8 = 2;
+/// That of one that comes into step by shorter cycles: it gains ticks.
+pub const CYCLE_SUBTRACTS: u8 = 3;
+/// That of one that comes into step by waiting at one place of the cycle.
+pub const CYCLE_DWELLS: u8 = 4;
+/// That of one that is at local zero, where a cycle begins.
+pub const CYCLE_ZERO: u8 = 5;
 /// The parameter of `FLASH_CHANGES` where a flash begins: by the monitor, as in NTCIP 1202's unitFlashStatus.
 pub const FLASH: u8 = 6;
 /// The parameter of `FLASH_CHANGES` where a flash ends.

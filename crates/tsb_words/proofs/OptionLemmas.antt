@@ -9,7 +9,8 @@ use Rattle.tsb_event_text.specs.declared.time_forms.TimeForm.{TimeForm}
 use Rattle.tsb_event_text.specs.declared.times.Moment.{Moment}
 use Rattle.tsb_event_text.specs.declared.zones.Zone.{Zone}
 use Rattle.tsb_words.specs.declared.field_files.Manner.{Manner}
-use Rattle.tsb_words.specs.FieldProgram.{diagram_in, diagram_with, events_in, events_with, form_said, is_set, log_in, log_with, manner_in, manner_with, moment_in, record_in, record_with, review_in, review_with, seconds_said, texts_in, window_in, window_said, wires_in, zone_said}
+use Rattle.tsb_words.specs.declared.field_files.RecordManner.{RecordManner}
+use Rattle.tsb_words.specs.FieldProgram.{diagram_in, diagram_with, events_in, events_with, form_said, is_set, log_in, log_with, manner_in, manner_with, moment_in, record_in, record_manner_in, record_with, review_in, review_with, seconds_said, texts_in, window_in, window_said, wires_in, zone_said}
 use Rattle.tsb_field_log.specs.declared.inputs.Wire.{Wire}
 use Rattle.tsb_words.specs.FieldWords.{Wish, log}
 
@@ -24,15 +25,18 @@ pub moment_some : (f : Found) (text : Text) → Some text ≡ first_value f (cod
 moment_some f text e = ap (option_and_then moment_of) (first_is f (codes "from") (Some text) e)
 
 -- what `record` asks for, by what the getters answer
-pub getters_record : (f : Found) (asked : Option Wish) (from : Option Moment) (device plan file flag : Option Text) (goes_on : Bool)
+pub getters_record : (f : Found) (asked : Option Wish) (from : Option Moment) (device plan file : Option Text) (manner : RecordManner)
     → from ≡ moment_in (rows_of f) → device ≡ first_value f (codes "device") → plan ≡ first_value f (codes "PLAN") → file ≡ first_value f (codes "LOG")
-    → flag ≡ first_value f (codes "go-on") → goes_on ≡ is_set flag → asked ≡ record_with from device plan file goes_on → asked ≡ record_in (rows_of f)
-getters_record f asked from device plan file flag goes_on from-is device-is plan-is file-is flag-is set-is is =
+    → manner ≡ record_manner_in (rows_of f) → asked ≡ record_with from device plan file manner → asked ≡ record_in (rows_of f)
+getters_record f asked from device plan file manner from-is device-is plan-is file-is manner-is is =
     let device-there : device ≡ first_of (codes "device") (rows_of f) = sym (first_is f (codes "device") device device-is) in
     let plan-there : plan ≡ first_of (codes "PLAN") (rows_of f) = sym (first_is f (codes "PLAN") plan plan-is) in
     let file-there : file ≡ first_of (codes "LOG") (rows_of f) = sym (first_is f (codes "LOG") file file-is) in
-    let goes-there : goes_on ≡ is_set (first_of (codes "go-on") (rows_of f)) = set-is ∙ ap is_set (sym (first_is f (codes "go-on") flag flag-is)) in
-    is ∙ (λ j. record_with (from-is j) (device-there j) (plan-there j) (file-there j) (goes-there j))
+    is ∙ (λ j. record_with (from-is j) (device-there j) (plan-there j) (file-there j) (manner-is j))
+
+-- a flag, as a getter answers it
+pub flag_is : (f : Found) (id : Text) (o : Option Text) (b : Bool) → o ≡ first_value f id → b ≡ is_set o → b ≡ is_set (first_of id (rows_of f))
+flag_is f id o b e set = set ∙ ap is_set (sym (first_is f id o e))
 
 -- what `events` asks for
 pub getters_events : (f : Found) (asked : Option Wish) (from : Option Moment) (device file : Option Text)

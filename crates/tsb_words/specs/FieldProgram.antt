@@ -13,6 +13,7 @@ use Rattle.tsb_field_log.specs.declared.inputs.Wire.{Wire}
 use Rattle.tsb_words.specs.declared.field_files.options.TheConstants.{USUAL_WINDOW}
 use Rattle.tsb_words.specs.declared.field_files.Asked.{Asked}
 use Rattle.tsb_words.specs.declared.field_files.Manner.{Manner}
+use Rattle.tsb_words.specs.declared.field_files.RecordManner.{RecordManner}
 use Rattle.tsb_words.specs.declared.error.WordsError.{WordsError}
 use Rattle.tsb_words.specs.Commands.{file_rule, flag_rule, option_rule, repeated_rule, required_rule}
 use Rattle.tsb_words.specs.FieldWords.{Wish, diagram, events, log, recording, reviewing, seconds_of, seen, window_of}
@@ -48,7 +49,8 @@ source_rules = required_rule (codes "from") ∷ required_rule (codes "device") �
 -- those of `record`
 abbrev pub record_shape : Shape
 record_shape = shape_with (codes "record")
-    (file_rule (codes "PLAN") ∷ file_rule (codes "LOG") ∷ flag_rule (codes "go-on") ∷ source_rules)
+    (file_rule (codes "PLAN") ∷ file_rule (codes "LOG") ∷ flag_rule (codes "go-on") ∷ flag_rule (codes "recalls")
+    ∷ flag_rule (codes "outputs") ∷ source_rules)
 
 -- those of `events`
 abbrev pub events_shape : Shape
@@ -145,16 +147,24 @@ log_in rows =
     log_with (moment_in rows) (first_of (codes "device") rows) (manner_in rows) (wires_in rows) (first_of (codes "as-outputs") rows)
 
 -- a record, where it is said from when, of which device and of which files, and a line can name that device
-abbrev pub record_with : Option Moment → Option Text → Option Text → Option Text → Bool → Option Wish
-record_with (Some from) (Some device) (Some plan) (Some file) goes_on =
-    if can_be_written device then Some (recording from device plan file goes_on) else None
-record_with from device plan file goes_on = None
+abbrev pub record_with : Option Moment → Option Text → Option Text → Option Text → RecordManner → Option Wish
+record_with (Some from) (Some device) (Some plan) (Some file) manner =
+    if can_be_written device then Some (recording from device plan file manner) else None
+record_with from device plan file manner = None
+
+-- how it runs commands, and what its events are, by these options
+abbrev pub record_manner_in : List Row → RecordManner
+record_manner_in rows = record {
+  goes_on = is_set (first_of (codes "go-on") rows);
+  recalls = is_set (first_of (codes "recalls") rows);
+  outputs = is_set (first_of (codes "outputs") rows);
+}
 
 -- what `record` asks for, with these options and files
 abbrev pub record_in : List Row → Option Wish
 record_in rows =
     record_with (moment_in rows) (first_of (codes "device") rows) (first_of (codes "PLAN") rows) (first_of (codes "LOG") rows)
-    (is_set (first_of (codes "go-on") rows))
+    (record_manner_in rows)
 
 -- events, where it is said from when and of which device, and a line can name that
 abbrev pub events_with : Option Moment → Option Text → Option Text → Option Wish

@@ -1,5 +1,5 @@
 -- What words of `tsb_field` may ask for.
-use Rattle.std.specs.Prelude.{ℕ, Bool, ◌&&◌, nat_le, List, Option, Some, None, option_map, if◌then◌else◌}
+use Rattle.std.specs.Prelude.{ℕ, ◌&&◌, nat_le, List, Option, Some, None, option_map, if◌then◌else◌}
 use Rattle.tsb_lines.specs.Words.{number_of}
 use Rattle.tsb_event_text.specs.declared.times.Moment.{Moment}
 use Rattle.tsb_field_log.specs.declared.inputs.Wire.{Wire}
@@ -7,6 +7,7 @@ use Rattle.tsb_words.specs.declared.field_files.options.TheConstants.{MOST_SECON
 use Rattle.tsb_words.specs.declared.field_files.Asked.{Asked}
 use Rattle.tsb_words.specs.declared.field_files.LogAsked.{LogAsked}
 use Rattle.tsb_words.specs.declared.field_files.Manner.{Manner}
+use Rattle.tsb_words.specs.declared.field_files.RecordManner.{RecordManner}
 use Rattle.tsb_words.specs.declared.field_files.Asked.TheVariants as asks
 
 -- what words of `log` ask for, by the text of the device's name
@@ -22,9 +23,8 @@ pub record LogWish : Type 0 where
 pub data Wish : Type 0 where
   -- a log from a moment on, of a device or of each, on some wires, read in some manner; of outputs, where a plan is named
   log : LogWish → Wish
-  -- a record from this moment on, of this device, with the plan and the log in these files; whether it goes on after a
-  -- line that is refused or is no command
-  recording : Moment → List ℕ → List ℕ → List ℕ → Bool → Wish
+  -- a record from this moment on, of this device, with the plan and the log in these files, in this manner
+  recording : Moment → List ℕ → List ℕ → List ℕ → RecordManner → Wish
   -- events from this moment on, of this device, with the log in this file
   events : Moment → List ℕ → Option (List ℕ) → Wish
   -- a diagram with the log in this file, with this title and so many seconds a line
@@ -63,7 +63,7 @@ seen_log asked = record {
 -- what was answered, by the text of each name
 abbrev pub seen : Asked → Wish
 seen (asks.Log asked) = log (seen_log asked)
-seen (asks.Record from device plan file goes_on) = recording from device.now plan.now file.now goes_on
+seen (asks.Record from device plan file manner) = recording from device.now plan.now file.now manner
 seen (asks.Events from device file) = events from device.now (option_map (λ name. name.now) file)
 seen (asks.Diagram file title seconds) = diagram (option_map (λ name. name.now) file) (option_map (λ name. name.now) title) seconds
 seen (asks.Review plan) = reviewing plan.now

@@ -2,7 +2,7 @@
 ghost use Rattle.std.specs.Prelude.{◌≡◌, map, option_map};
 ghost use Rattle.clap.specs.Words.{found_of, rows_of};
 ghost use Rattle.clap.specs.Simple.{subcommand_rows_of};
-ghost use Rattle.tsb_words.specs.FieldProgram.{Spells, asked_by, diagram_in, diagram_with, events_in, events_with, is_set, log_in, manner_in, manner_with, other_in, record_in, record_with, review_in, review_with, seconds_said, wires_in};
+ghost use Rattle.tsb_words.specs.FieldProgram.{Spells, asked_by, diagram_in, diagram_with, events_in, events_with, is_set, log_in, manner_in, manner_with, other_in, record_in, record_manner_in, record_with, review_in, review_with, seconds_said, wires_in};
 ghost use Rattle.tsb_words.specs.FieldWords.{seen};
 ghost use Rattle.tsb_words.specs.Wires.{AreSpelled};
 ghost use Rattle.tsb_words.specs.Words.{SpelledBy};
@@ -54,6 +54,17 @@ pub struct Manner {
     pub may_be_empty: bool,
 }
 
+/// How `record` runs commands, and what its events are.
+#[derive(Clone, Copy, PartialEq, Eq)]
+pub struct RecordManner {
+    /// Whether the run goes on after a line that is refused or is no command.
+    pub goes_on: bool,
+    /// Whether calls of phases on recall have events too.
+    pub recalls: bool,
+    /// Whether vehicle detectors have events of their outputs, and not of their inputs.
+    pub outputs: bool,
+}
+
 /// What the words ask for.
 #[derive(Drop)]
 pub enum Asked<'a> {
@@ -69,8 +80,7 @@ pub enum Asked<'a> {
         plan: &'a str,
         /// The file of the log of inputs.
         log: &'a str,
-        /// Whether the run goes on after a line that is refused or is no command.
-        goes_on: bool,
+        manner: RecordManner,
     },
     /// Events of a controller's log, made from display lines.
     Events {
@@ -102,7 +112,7 @@ pub enum Asked<'a> {
 /// `log` has `--from TIME`, and may have `--device ID`, `--as-outputs PLAN`, `--time-form FORM`, `--zone OFFSET`, `--count`,
 /// `--allow-empty`, `--sort`, `--sort-within SECONDS` and any number of `--vehicle CHANNEL=DETECTOR`, `--pedestrian
 /// CHANNEL=DETECTOR` and `--preempt CHANNEL=INPUT`; `record` has `--from TIME`, `--device ID`, and the files of a plan and a
-/// log, and may have `--go-on`; `events` has `--from TIME` and `--device ID`, and may have `--log LOG`; `diagram` may have
+/// log, and may have `--go-on`, `--recalls` and `--outputs`; `events` has `--from TIME` and `--device ID`, and may have `--log LOG`; `diagram` may have
 /// `--log LOG`, `--title TEXT` and `--seconds-per-line N`; `review` has the file of a plan. Options come in any order, and
 /// `--NAME=VALUE` is `--NAME VALUE`. A value that begins with a hyphen comes after `=`. All else is `Bad`, and so are a
 /// request for help and a device of `record` or `events` with a double quote, an end of a line or over 900 bytes. `Memory`
@@ -223,8 +233,19 @@ fn record_asked<'a>(options: &ArgMatches<'a>) -> Option<Asked<'a>>
     let device = options.get_str("device");
     let plan = options.get_str("PLAN");
     let log = options.get_str("LOG");
-    let goes_on = is_set(options.get_str("go-on"));
-    record_with(from, device, plan, log, goes_on)
+    let manner = record_manner(options);
+    record_with(from, device, plan, log, manner)
+}
+
+/// How `record` runs commands, and what its events are, by these options.
+fn record_manner(options: &ArgMatches<'_>) -> RecordManner
+    ensures { result ≡ record_manner_in (rows_of (found_of options.now)) }
+{
+    RecordManner {
+        goes_on: is_set(options.get_str("go-on")),
+        recalls: is_set(options.get_str("recalls")),
+        outputs: is_set(options.get_str("outputs")),
+    }
 }
 
 /// Whether a flag was set, which `clap` writes as its value.
@@ -243,10 +264,10 @@ fn record_with<'a>(
     device: Option<&'a str>,
     plan: Option<&'a str>,
     log: Option<&'a str>,
-    goes_on: bool,
+    manner: RecordManner,
 ) -> Option<Asked<'a>>
     ensures { option_map seen result
-        ≡ record_with from (option_map (λ text. text.now) device.entry) (option_map (λ text. text.now) plan.entry) (option_map (λ text. text.now) log.entry) goes_on }
+        ≡ record_with from (option_map (λ text. text.now) device.entry) (option_map (λ text. text.now) plan.entry) (option_map (λ text. text.now) log.entry) manner }
 {
     let from = from?;
     let device = device?;
@@ -258,7 +279,7 @@ fn record_with<'a>(
             device,
             plan,
             log,
-            goes_on,
+            manner,
         });
     }
     None

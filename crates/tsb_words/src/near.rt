@@ -44,7 +44,14 @@ const LOG: [&str; 13] = [
 ];
 
 /// The options of `record`.
-const RECORD: [&str; 4] = ["--go-on", "--from", "--device", "--help"];
+const RECORD: [&str; 6] = [
+    "--go-on",
+    "--recalls",
+    "--outputs",
+    "--from",
+    "--device",
+    "--help",
+];
 
 /// The options of `events`.
 const EVENTS: [&str; 4] = ["--log", "--from", "--device", "--help"];

@@ -4,6 +4,7 @@ use Rattle.tsb_types.specs.Events.{event}
 use Rattle.tsb_types.specs.Lists.{run_from}
 use Rattle.tsb_types.specs.Sets.{all_off, set_of_list}
 use Rattle.tsb_types.specs.declared.row.Row.{Row}
+use Rattle.tsb_step.specs.declared.log_form.Noted.{Noted}
 use Rattle.tsb_step.specs.Events as events
 
 -- what a computed line opens
@@ -34,10 +35,14 @@ dark = record {
   clearances = none;
   vehicle_calls = none;
   pedestrian_calls = none;
+  recalls = none;
+  pedestrian_recalls = none;
   overlap_greens = none;
   overlap_yellows = none;
   overlaps_off = none;
+  outputs = none;
   alarms = none;
+  switches = none;
   preempts = none;
   tracks = none;
   dwells = none;
@@ -49,9 +54,20 @@ dark = record {
   flashes = false;
 }
 
+-- a log of the usual form, after a tick with no input on
+abbrev pub usual : Noted
+usual = record { form = record { recalls = false; outputs = false }; row = all_off }
+
+-- one that has recalls, and one that has outputs
+abbrev with_recalls : Noted
+with_recalls = record { form = record { recalls = true; outputs = false }; row = all_off }
+
+abbrev with_outputs : Noted
+with_outputs = record { form = record { recalls = false; outputs = true }; row = all_off }
+
 -- a tick that finds nothing
 abbrev pub quiet : events.Found
-quiet = record { minimum = none; gap = none; maximum = none; force_off = none; last = all_off; row = all_off; served = false }
+quiet = record { minimum = none; gap = none; maximum = none; force_off = none; noted = usual; row = all_off; served = false }
 
 -- free operation, and a pattern of 90 seconds with splits for phases 1 and 16
 abbrev pub free : events.Selected
@@ -161,6 +177,23 @@ calls : events.tick_events 9 quiet (record dark { vehicle_calls = only 3 }) (rec
 unfolding opened
 calls = refl
 
+-- those of phases on recall do not, but in a log that has recalls
+abbrev recalled : events.View
+recalled = record dark { vehicle_calls = only 4; pedestrian_calls = only 8; recalls = only 4; pedestrian_recalls = only 8 }
+
+recalls : events.tick_events 9 quiet dark recalled ≡ []
+unfolding opened
+recalls = refl
+
+with_recalls_too : events.tick_events 9 (record quiet { noted = with_recalls }) dark recalled ≡ event 9 43 4 ∷ event 9 45 8 ∷ []
+unfolding opened
+with_recalls_too = refl
+
+-- a call that stands comes where its phase is recalled no more
+recalled_no_more : events.other_events 9 usual recalled (record recalled { recalls = none }) free free ≡ event 9 43 4 ∷ []
+unfolding opened
+recalled_no_more = refl
+
 -- overlap 1: green, yellow, red; off where no phase serves it
 overlap_green : events.tick_events 9 quiet dark (record dark { overlap_greens = only 1 }) ≡ event 9 61 1 ∷ []
 unfolding opened
@@ -179,9 +212,32 @@ unfolding opened
 overlap_off = refl
 
 -- inputs of the row go off and on
-inputs_change : events.tick_events 9 (record quiet { last = inputs 1 2 1; row = inputs 32768 128 8 }) dark dark ≡ event 9 81 1 ∷ event 9 82 16 ∷ event 9 89 2 ∷ event 9 90 8 ∷ event 9 102 4 ∷ event 9 104 1 ∷ []
+inputs_change : events.tick_events 9 (record quiet { noted = record usual { row = inputs 1 2 1 }; row = inputs 32768 128 8 }) dark dark ≡ event 9 81 1 ∷ event 9 82 16 ∷ event 9 89 2 ∷ event 9 90 8 ∷ event 9 102 4 ∷ event 9 104 1 ∷ []
 unfolding opened
 inputs_change = refl
+
+-- in a log that has outputs vehicle detectors go off and on by these, in a reset as well
+outputs_change : events.tick_events 9 (record quiet { noted = with_outputs; row = inputs 1 2 1 }) (record dark { outputs = only 3 }) (record dark { outputs = only 5 })
+    ≡ event 9 81 3 ∷ event 9 82 5 ∷ event 9 90 2 ∷ event 9 102 1 ∷ []
+unfolding opened
+outputs_change = refl
+
+outputs_go : events.other_events 9 with_outputs (record dark { outputs = only 3 }) dark free free ≡ event 9 81 3 ∷ []
+unfolding opened
+outputs_go = refl
+
+-- a switch asks for a preempt, unless its input does already; so it does as long as one of them is on
+switch : events.other_events 9 usual dark (record dark { switches = only 2 }) free free ≡ event 9 102 2 ∷ []
+unfolding opened
+switch = refl
+
+switch_too : events.other_events 9 (record usual { row = inputs 0 0 2 }) dark (record dark { switches = only 2 }) free free ≡ []
+unfolding opened
+switch_too = refl
+
+input_goes : events.tick_events 9 (record quiet { noted = record usual { row = inputs 0 0 2 } }) (record dark { switches = only 2 }) (record dark { switches = only 2 }) ≡ []
+unfolding opened
+input_goes = refl
 
 -- alarms go and come
 alarms : events.tick_events 9 quiet (record dark { alarms = only 5 }) (record dark { alarms = only 16 }) ≡ event 9 83 5 ∷ event 9 84 16 ∷ []
@@ -257,21 +313,21 @@ unfolding opened
 flash = refl
 
 -- a reset ends it
-reset : events.other_events 9 (record dark { flashes = true }) dark free free ≡ event 9 173 2 ∷ []
+reset : events.other_events 9 usual (record dark { flashes = true }) dark free free ≡ event 9 173 2 ∷ []
 unfolding opened
 reset = refl
 
 -- a pattern is selected, and free operation again
-pattern : events.other_events 9 dark dark free pattern_2 ≡ event 9 131 2 ∷ event 9 132 90 ∷ event 9 133 10 ∷ event 9 134 30 ∷ event 9 149 25 ∷ []
+pattern : events.other_events 9 usual dark dark free pattern_2 ≡ event 9 131 2 ∷ event 9 132 90 ∷ event 9 133 10 ∷ event 9 134 30 ∷ event 9 149 25 ∷ []
 unfolding opened
 pattern = refl
 
-free_again : events.other_events 9 dark dark pattern_2 free ≡ event 9 131 254 ∷ event 9 132 0 ∷ event 9 133 0 ∷ event 9 134 0 ∷ event 9 149 0 ∷ []
+free_again : events.other_events 9 usual dark dark pattern_2 free ≡ event 9 131 254 ∷ event 9 132 0 ∷ event 9 133 0 ∷ event 9 134 0 ∷ event 9 149 0 ∷ []
 unfolding opened
 free_again = refl
 
 -- the same pattern with other values tells these alone
-same_pattern : events.other_events 9 dark dark (record pattern_2 { cycle = 80; offset = 10 }) pattern_2 ≡ event 9 132 90 ∷ []
+same_pattern : events.other_events 9 usual dark dark (record pattern_2 { cycle = 80; offset = 10 }) pattern_2 ≡ event 9 132 90 ∷ []
 unfolding opened
 same_pattern = refl
 

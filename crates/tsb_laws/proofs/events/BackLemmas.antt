@@ -19,6 +19,7 @@ use Rattle.tsb_step.specs.tsb_plan.declared.object.Object.TheVariants.{OverlapIn
 use Rattle.tsb_step.specs.tsb_plan.Parts.{is_included, is_minus_green_yellow}
 use Rattle.tsb_step.specs.tsb_plan.Plan.{Plan, phases}
 use Rattle.tsb_step.specs.declared.inputs.Input.{Input}
+use Rattle.tsb_step.specs.declared.log_form.LogForm.{LogForm}
 use Rattle.tsb_step.specs.Events.{View, events_of, is_overlap, view}
 use Rattle.tsb_step.specs.Laws.{IsConsistent}
 use Rattle.tsb_step.specs.Runs.{replay, AreTaken}
@@ -37,7 +38,7 @@ use Rattle.tsb_field_display.specs.Shows.{AreApart, nothing_lit}
 use Rattle.tsb_field_display.proofs.HeadLemmas.{Shows, line-shows}
 use Rattle.tsb_field_display.proofs.LawLemmas.{tell-the-heads}
 use Rattle.tsb_field_display.proofs.LetterLemmas.{apart-overlaps, apart-pedestrians}
-use Rattle.tsb_record.specs.Along.{last_row, told_along}
+use Rattle.tsb_record.specs.Along.{noted_after, told_along}
 use Rattle.tsb_laws.specs.Told.{RunsTellTheHeads, is_of_line, shown_in, signals}
 use Rattle.tsb_laws.proofs.events.LineLemmas.{Sees, by_line, lines-same, lines_of}
 use Rattle.tsb_laws.proofs.events.SayLemmas.{at-head, differs, silent}
@@ -122,12 +123,12 @@ then-next before (l ∷ ls) line next =
     ap (λ (es : List Event). lines.events_of before l ++ es) (then-next l.signals ls line next)
     ∙ sym (append_assoc (lines.events_of before l) (events_after l.signals (ls ++ line ∷ [])) (lines.events_of line.signals next))
 
-lines-told : (plan : Plan) (is : List Input) → IsConsistent plan → plan.phase_count ≤ 16 → AreTaken plan is →
-    filter is_of_line (told_along plan is) ≡ events_of_lines (all_lines plan is)
-lines-told plan [] ok few taken = sym (append-nil (lines.events_of nothing_lit (shown_in (start plan))) ∙ first-line plan ok few)
-lines-told plan (i ∷ is) ok few taken =
-    filter-append is_of_line (told_along plan is) (events_of (last_row is) (replay plan is) i)
-    ∙ (λ j. lines-told plan is ok few taken.0 j ++ sym (tell-the-same plan is i (last_row is) ok few taken) j)
+lines-told : (form : LogForm) (plan : Plan) (is : List Input) → IsConsistent plan → plan.phase_count ≤ 16 → AreTaken plan is →
+    filter is_of_line (told_along form plan is) ≡ events_of_lines (all_lines plan is)
+lines-told form plan [] ok few taken = sym (append-nil (lines.events_of nothing_lit (shown_in (start plan))) ∙ first-line plan ok few)
+lines-told form plan (i ∷ is) ok few taken =
+    filter-append is_of_line (told_along form plan is) (events_of (noted_after form is) (replay plan is) i)
+    ∙ (λ j. lines-told form plan is ok few taken.0 j ++ sym (tell-the-same plan is i (noted_after form is) ok few taken) j)
     ∙ sym (then-next nothing_lit (earlier plan is) (shown_in (replay plan is)) (shown_in (replay plan (i ∷ is))))
 
 line-apart : (s : State) → AreApart (signals s)
@@ -174,7 +175,7 @@ unfolding view
 flash-is-a-trip s = refl
 
 pub heads-told-back : RunsTellTheHeads
-heads-told-back plan is ok few taken = record {
+heads-told-back form plan is ok few taken = record {
   green = λ p from within. by says_green p none-green ∙ lit.green p from within ∙ shows.greens p from within;
   yellow = λ p from within. by says_yellow p none-yellow ∙ lit.yellow p from within ∙ shows.yellows p from within;
   walk = λ p from within. by says_walk p none-walk ∙ lit.walk p from within ∙ shows.walks p from within;
@@ -197,11 +198,11 @@ heads-told-back plan is ok few taken = record {
     shows = line-shows s.now (display s) (preempt_in_service s) (local s) (preempt-known s (good_run plan is ok taken))
 
     all : (says : Event → Option Bool) → ((e : Event) → by_line e.code ≡ false → says e ≡ None) →
-        lit_after says false (told_along plan is) ≡ lit_after says false told
-    all says none = sym (silent by_line says false (told_along plan is) none) ∙ ap (lit_after says false) (lines-told plan is ok few taken)
+        lit_after says false (told_along form plan is) ≡ lit_after says false told
+    all says none = sym (silent by_line says false (told_along form plan is) none) ∙ ap (lit_after says false) (lines-told form plan is ok few taken)
 
     by : (by_code : ℕ → Option Bool) (n : ℕ) → ((c : ℕ) → by_line c ≡ false → by_code c ≡ None) →
-        lit_after (says_at by_code n) false (told_along plan is) ≡ lit_after (says_at by_code n) false told
+        lit_after (says_at by_code n) false (told_along form plan is) ≡ lit_after (says_at by_code n) false told
     by by_code n none = all (says_at by_code n) (at-head by_line by_code n none)
 
     flash : lines.is_in_flash (signals s) ≡ is_some s.trip

@@ -9,9 +9,10 @@ use Rattle.tsb_step.specs.tsb_types.declared.event.TheConstants as codes
 use Rattle.tsb_step.specs.tsb_types.declared.stage.Stage.{Stage}
 use Rattle.tsb_step.proofs.tsb_types.NumberLemmas.{filter-none, numbers-least}
 use Rattle.tsb_step.specs.Events as events
+use Rattle.tsb_step.specs.declared.log_form.Noted.{Noted}
 use Rattle.tsb_step.specs.Events.{View, Found, Selected, serves}
 use Rattle.tsb_events.proofs.AgreeLemmas.{begun-same, agree-either}
-use Rattle.tsb_events.proofs.OrderLemmas.{alarm-span, call-span, crossing-span, ending-span, other-input-span, pattern-span, vehicle-input-span}
+use Rattle.tsb_events.proofs.OrderLemmas.{alarm-span, button-span, call-span, crossing-span, ending-span, pattern-span, request-span, vehicle-span}
 use Rattle.tsb_field_display.specs.declared.shown.Shown.{Shown}
 use Rattle.tsb_field_display.specs.declared.shown.Signals.{Signals}
 use Rattle.tsb_field_display.specs.Events as lines
@@ -113,26 +114,29 @@ ticks-kept tick f v w = all.kept ∙ whole tick v w
   where
     to_overlaps : Kept by_line
         (events.green_events tick v w ++ events.ending_events tick f ++ events.clearing_events tick v w ++ events.pedestrian_events tick v w
-        ++ events.crossing_events tick v w ++ events.call_events tick v w ++ events.overlap_events tick v w)
+        ++ events.crossing_events tick v w ++ events.call_events tick f.noted.form v w ++ events.overlap_events tick v w)
         (of_greens tick v w ++ of_clearings tick v w ++ pedestrians_of tick v w ++ overlaps_of tick v w)
     to_overlaps =
         both (first-alone (first-alone (both (both (first-alone (kept-green tick v w) (none-of (ending-span tick f) (not-among 3 7 line_codes refl))) (kept-clearing tick v w))
         (kept-pedestrian tick v w)) (none-of (crossing-span tick v w) (not-among 31 32 line_codes refl)))
-        (none-of (call-span tick v w) (not-among 43 46 line_codes refl))) (kept-overlap tick v w)
+        (none-of (call-span tick f.noted.form v w) (not-among 43 46 line_codes refl))) (kept-overlap tick v w)
 
     all : Kept by_line (events.tick_events tick f v w) (parted tick v w)
     all =
-        both (first-alone (first-alone (both (first-alone (first-alone (first-alone to_overlaps (none-of (vehicle-input-span tick f) (not-among 81 83 line_codes refl))) (none-of (alarm-span tick v w) (not-among 83 85 line_codes refl)))
-        (none-of (other-input-span tick f) (not-among 89 105 line_codes refl))) (kept-preempt tick v w)) (none-told by_line tick codes.PRESENCE_EXCEEDED _ refl))
+        both (first-alone (first-alone (both (first-alone (first-alone (first-alone (first-alone to_overlaps
+        (none-of (vehicle-span tick f.noted f.row v w) (not-among 81 83 line_codes refl))) (none-of (alarm-span tick v w) (not-among 83 85 line_codes refl)))
+        (none-of (button-span tick f) (not-among 89 91 line_codes refl))) (none-of (request-span tick f.noted.row f.row v w) (not-among 102 105 line_codes refl))) (kept-preempt tick v w)) (none-told by_line tick codes.PRESENCE_EXCEEDED _ refl))
         (none-told by_line tick codes.EXIT_BEGINS _ refl)) (kept-flash tick v w)
 
-pub others-kept : (tick : ℕ) (v w : View) (s t : Selected) → filter (λ e. by_line e.code) (events.other_events tick v w s t) ≡ lines_of tick v w
-others-kept tick v w s t = all.kept ∙ whole tick v w
+pub others-kept : (tick : ℕ) (noted : Noted) (v w : View) (s t : Selected) → filter (λ e. by_line e.code) (events.other_events tick noted v w s t) ≡ lines_of tick v w
+others-kept tick noted v w s t = all.kept ∙ whole tick v w
   where
-    all : Kept by_line (events.other_events tick v w s t) (parted tick v w)
+    all : Kept by_line (events.other_events tick noted v w s t) (parted tick v w)
     all =
-        both (first-alone (first-alone (both (first-alone (both (first-alone (both (both (kept-green tick v w) (kept-clearing tick v w))
-        (kept-pedestrian tick v w)) (none-of (call-span tick v w) (not-among 43 46 line_codes refl))) (kept-overlap tick v w)) (none-of (alarm-span tick v w) (not-among 83 85 line_codes refl))) (kept-preempt tick v w))
+        both (first-alone (first-alone (both (first-alone (first-alone (first-alone (both (first-alone (both (both (kept-green tick v w) (kept-clearing tick v w))
+        (kept-pedestrian tick v w)) (none-of (call-span tick noted.form v w) (not-among 43 46 line_codes refl))) (kept-overlap tick v w))
+        (none-of (vehicle-span tick noted noted.row v w) (not-among 81 83 line_codes refl))) (none-of (alarm-span tick v w) (not-among 83 85 line_codes refl)))
+        (none-of (request-span tick noted.row noted.row v w) (not-among 102 105 line_codes refl))) (kept-preempt tick v w))
         (none-told by_line tick codes.EXIT_BEGINS _ refl))
         (none-of (pattern-span tick s t) (not-among 131 150 line_codes refl)))
         (kept-flash tick v w)

@@ -1,6 +1,6 @@
--- The events of a run tell which inputs are on in its newest tick.
-use Rattle.std.proofs.Common.{◌≡◌, ◌∙◌, ℕ, ◌≤◌, Bool, true, false, not, ◌&&◌, List, [], ◌∷◌, filter, Option, None, if◌then◌else◌, refl, sym, ap}
-use Rattle.tsb_step.specs.tsb_types.Events.{begins, ends}
+-- The events of a run tell which detectors and requests of preempts are on at its end.
+use Rattle.std.proofs.Common.{◌≡◌, ◌∙◌, ℕ, ◌≤◌, Bool, true, false, not, ◌&&◌, ◌||◌, List, [], ◌∷◌, ◌++◌, filter, Option, None, if◌then◌else◌, refl, sym, ap}
+use Rattle.tsb_step.specs.tsb_types.Events.{begins, ends, told}
 use Rattle.tsb_step.specs.tsb_types.Sets.{all_off, has_number}
 use Rattle.tsb_step.specs.tsb_types.declared.event.Event.{Event}
 use Rattle.tsb_step.specs.tsb_types.declared.row.Row.{Row}
@@ -8,42 +8,68 @@ use Rattle.tsb_step.proofs.tsb_types.SetLemmas.{names-zero}
 use Rattle.tsb_step.specs.tsb_plan.Plan.{Plan}
 use Rattle.tsb_step.specs.declared.inputs.Input.{Input}
 use Rattle.tsb_step.specs.declared.inputs.Input.TheVariants as inputs
-use Rattle.tsb_step.specs.Events.{events_of, found, selected, view}
+use Rattle.tsb_step.specs.declared.log_form.LogForm.{LogForm}
+use Rattle.tsb_step.specs.Events as events
+use Rattle.tsb_step.specs.declared.log_form.Noted.{Noted}
+use Rattle.tsb_step.specs.Events.{View, events_of, found, requests, selected, vehicles_in, view}
 use Rattle.tsb_step.specs.Runs.{replay}
-use Rattle.tsb_step.specs.State.{State}
+use Rattle.tsb_step.specs.State.{State, start}
 use Rattle.tsb_step.specs.Step.{step}
-use Rattle.tsb_log_text.specs.declared.log.LogRow.{LogRow}
 use Rattle.tsb_field_display.specs.ReadBack.{lit_after, says_at}
 use Rattle.tsb_field_display.proofs.LawLemmas.{after, begun-or-ended, effect, is_lit_of, leads-told, lit-append}
-use Rattle.tsb_field_display.specs.Inputs.{events_of_row}
-use Rattle.tsb_field_display.specs.SessionLaws.{is_of_input}
-use Rattle.tsb_record.specs.Along.{last_row, told_along}
+use Rattle.tsb_record.specs.Along.{last_row, noted_after, told_along}
 use Rattle.tsb_laws.specs.Told.{RunsTellTheInputs, says_pedestrian, says_preempt, says_vehicle}
-use Rattle.tsb_laws.proofs.events.InputLemmas.{by_input, others-kept, row-told, ticks-kept}
+use Rattle.tsb_laws.proofs.events.InputLemmas.{by_input, others-kept, ticks-kept}
 use Rattle.tsb_laws.proofs.events.SayLemmas.{at-head, differs, silent}
 
--- ## What the events of a row say
+-- ## What the events of inputs say
 
--- what its codes make of it, those of vehicles first
-abbrev by_row : (ℕ → Option Bool) → ℕ → Row → Row → Bool → Bool
-by_row by_code d was now lit =
-    effect (by_code 104) (ends (has_number was.preempts) (has_number now.preempts) d)
-    (effect (by_code 102) (begins (has_number was.preempts) (has_number now.preempts) d)
-    (effect (by_code 90) (begins (has_number was.pedestrians) (has_number now.pedestrians) d)
-    (effect (by_code 89) (ends (has_number was.pedestrians) (has_number now.pedestrians) d)
-    (effect (by_code 82) (begins (has_number was.vehicles) (has_number now.vehicles) d)
-    (effect (by_code 81) (ends (has_number was.vehicles) (has_number now.vehicles) d) lit)))))
+-- of vehicles, of requests of preempts
+abbrev vehicle_part : ℕ → Noted → Row → View → View → List Event
+vehicle_part = events.vehicle_events
 
-row-says : (by_code : ℕ → Option Bool) (d : ℕ) (was : Row) (now : LogRow) (lit : Bool) → 1 ≤ d → d ≤ 16 →
-    lit_after (says_at by_code d) lit (events_of_row was now) ≡ by_row by_code d was now.row lit
-unfolding events_of_row
-row-says by_code d was now lit from within = is_lit_of (
-    after (after (after (leads-told by_code d lit now.tick 81 (ends (has_number was.vehicles) (has_number now.row.vehicles)) from within)
-    (leads-told by_code d _ now.tick 82 (begins (has_number was.vehicles) (has_number now.row.vehicles)) from within))
-    (after (leads-told by_code d _ now.tick 89 (ends (has_number was.pedestrians) (has_number now.row.pedestrians)) from within)
-    (leads-told by_code d _ now.tick 90 (begins (has_number was.pedestrians) (has_number now.row.pedestrians)) from within)))
-    (after (leads-told by_code d _ now.tick 102 (begins (has_number was.preempts) (has_number now.row.preempts)) from within)
-    (leads-told by_code d _ now.tick 104 (ends (has_number was.preempts) (has_number now.row.preempts)) from within)))
+abbrev request_part : ℕ → Row → Row → View → View → List Event
+request_part = events.request_events
+
+-- of buttons, by the rows of two ticks
+abbrev button_part : ℕ → Row → Row → List Event
+button_part tick last row =
+    told tick 89 (ends (has_number last.pedestrians) (has_number row.pedestrians)) ++ told tick 90 (begins (has_number last.pedestrians) (has_number row.pedestrians))
+
+-- what codes make of it, those of vehicles first
+abbrev by_vehicles : (ℕ → Option Bool) → ℕ → Noted → Row → View → View → Bool → Bool
+by_vehicles by_code d noted row v w lit =
+    effect (by_code 82) (begins (vehicles_in noted.form noted.row v) (vehicles_in noted.form row w) d)
+    (effect (by_code 81) (ends (vehicles_in noted.form noted.row v) (vehicles_in noted.form row w) d) lit)
+
+abbrev by_buttons : (ℕ → Option Bool) → ℕ → Row → Row → Bool → Bool
+by_buttons by_code d last row lit =
+    effect (by_code 90) (begins (has_number last.pedestrians) (has_number row.pedestrians) d)
+    (effect (by_code 89) (ends (has_number last.pedestrians) (has_number row.pedestrians) d) lit)
+
+abbrev by_requests : (ℕ → Option Bool) → ℕ → Row → Row → View → View → Bool → Bool
+by_requests by_code d last row v w lit =
+    effect (by_code 104) (ends (requests last v) (requests row w) d) (effect (by_code 102) (begins (requests last v) (requests row w) d) lit)
+
+ticks-say : (by_code : ℕ → Option Bool) (d tick : ℕ) (noted : Noted) (row : Row) (v w : View) (lit : Bool) → 1 ≤ d → d ≤ 16 →
+    lit_after (says_at by_code d) lit (vehicle_part tick noted row v w ++ button_part tick noted.row row ++ request_part tick noted.row row v w)
+    ≡ by_requests by_code d noted.row row v w (by_buttons by_code d noted.row row (by_vehicles by_code d noted row v w lit))
+ticks-say by_code d tick noted row v w lit from within = is_lit_of (
+    after (after (after (leads-told by_code d lit tick 81 (ends (vehicles_in noted.form noted.row v) (vehicles_in noted.form row w)) from within)
+    (leads-told by_code d _ tick 82 (begins (vehicles_in noted.form noted.row v) (vehicles_in noted.form row w)) from within))
+    (after (leads-told by_code d _ tick 89 (ends (has_number noted.row.pedestrians) (has_number row.pedestrians)) from within)
+    (leads-told by_code d _ tick 90 (begins (has_number noted.row.pedestrians) (has_number row.pedestrians)) from within)))
+    (after (leads-told by_code d _ tick 102 (begins (requests noted.row v) (requests row w)) from within)
+    (leads-told by_code d _ tick 104 (ends (requests noted.row v) (requests row w)) from within)))
+
+others-say : (by_code : ℕ → Option Bool) (d tick : ℕ) (noted : Noted) (v w : View) (lit : Bool) → 1 ≤ d → d ≤ 16 →
+    lit_after (says_at by_code d) lit (vehicle_part tick noted noted.row v w ++ request_part tick noted.row noted.row v w)
+    ≡ by_requests by_code d noted.row noted.row v w (by_vehicles by_code d noted noted.row v w lit)
+others-say by_code d tick noted v w lit from within = is_lit_of (
+    after (after (leads-told by_code d lit tick 81 (ends (vehicles_in noted.form noted.row v) (vehicles_in noted.form noted.row w)) from within)
+    (leads-told by_code d _ tick 82 (begins (vehicles_in noted.form noted.row v) (vehicles_in noted.form noted.row w)) from within))
+    (after (leads-told by_code d _ tick 102 (begins (requests noted.row v) (requests noted.row w)) from within)
+    (leads-told by_code d _ tick 104 (ends (requests noted.row v) (requests noted.row w)) from within)))
 
 ended-or-begun : (was now : Bool) → (if now && not was then true else (if was && not now then false else was)) ≡ now
 ended-or-begun true true = refl
@@ -62,65 +88,91 @@ none-preempt c h = rw (differs by_input c 102 h refl, differs by_input c 104 h r
 
 -- ## Runs
 
--- what holds of an input that these codes speak of, and that is on in the rows that this tells
-record Follows (by_code : ℕ → Option Bool) (d : ℕ) (is_on : Row → Bool) : Type 0 where
+-- what holds of something that these codes speak of, and that is on with a row at a state as this tells, in a log of this
+-- form
+record Follows (form : LogForm) (by_code : ℕ → Option Bool) (d : ℕ) (is_on : Row → State → Bool) : Type 0 where
   others : (c : ℕ) → by_input c ≡ false → by_code c ≡ None
-  off : is_on all_off ≡ false
-  follows : (was : Row) (now : LogRow) → lit_after (says_at by_code d) (is_on was) (events_of_row was now) ≡ is_on now.row
+  off : (plan : Plan) → is_on all_off (start plan) ≡ false
+  tick : (n : ℕ) (last row : Row) (s t : State) →
+      lit_after (says_at by_code d) (is_on last s)
+      (vehicle_part n (record { form = form; row = last }) row (view s) (view t) ++ button_part n last row ++ request_part n last row (view s) (view t))
+      ≡ is_on row t
+  other : (n : ℕ) (row : Row) (s t : State) →
+      lit_after (says_at by_code d) (is_on row s) (vehicle_part n (record { form = form; row = row }) row (view s) (view t) ++ request_part n row row (view s) (view t))
+      ≡ is_on row t
 
 -- the events of one input
-tick-says : (by_code : ℕ → Option Bool) (d : ℕ) (is_on : Row → Bool) → Follows by_code d is_on → (last row : Row) (s : State) →
-    lit_after (says_at by_code d) (is_on last) (events_of last s (inputs.Tick row)) ≡ is_on row
+tick-says : (form : LogForm) (by_code : ℕ → Option Bool) (d : ℕ) (is_on : Row → State → Bool) → Follows form by_code d is_on → (last row : Row) (s : State) →
+    lit_after (says_at by_code d) (is_on last s) (events_of (record { form = form; row = last }) s (inputs.Tick row)) ≡ is_on row (step s (inputs.Tick row))
 unfolding events_of
-tick-says by_code d is_on f last row s =
+tick-says form by_code d is_on f last row s =
     let new : State = step s (inputs.Tick row) in
-    sym (silent by_input (says_at by_code d) (is_on last) (events_of last s (inputs.Tick row)) (at-head by_input by_code d f.others))
-    ∙ ap (lit_after (says_at by_code d) (is_on last))
-    ((ticks-kept new.now (found last s row new) (view s) (view new)).kept ∙ row-told new.now (found last s row new))
-    ∙ f.follows last (record { tick = new.now; row = row })
+    let noted : Noted = record { form = form; row = last } in
+    sym (silent by_input (says_at by_code d) (is_on last s) (events_of noted s (inputs.Tick row)) (at-head by_input by_code d f.others))
+    ∙ ap (lit_after (says_at by_code d) (is_on last s)) (ticks-kept new.now (found noted s row new) (view s) (view new)).kept
+    ∙ f.tick new.now last row s new
 
-other-says : (by_code : ℕ → Option Bool) (d : ℕ) (is_on : Row → Bool) → Follows by_code d is_on → (lit : Bool) (es : List Event) →
-    filter is_of_input es ≡ [] → lit_after (says_at by_code d) lit es ≡ lit
-other-says by_code d is_on f lit es none =
-    sym (silent by_input (says_at by_code d) lit es (at-head by_input by_code d f.others)) ∙ ap (lit_after (says_at by_code d) lit) none
-
-run-says : (by_code : ℕ → Option Bool) (d : ℕ) (is_on : Row → Bool) → Follows by_code d is_on → (plan : Plan) (is : List Input) →
-    lit_after (says_at by_code d) false (told_along plan is) ≡ is_on (last_row is)
+run-says : (form : LogForm) (by_code : ℕ → Option Bool) (d : ℕ) (is_on : Row → State → Bool) → Follows form by_code d is_on → (plan : Plan) (is : List Input) →
+    lit_after (says_at by_code d) false (told_along form plan is) ≡ is_on (last_row is) (replay plan is)
 unfolding events_of
-run-says by_code d is_on f plan [] = sym f.off
-run-says by_code d is_on f plan (inputs.Tick row ∷ is) =
-    lit-append (says_at by_code d) false (told_along plan is) (events_of (last_row is) (replay plan is) (inputs.Tick row))
-    ∙ ap (λ (b : Bool). lit_after (says_at by_code d) b (events_of (last_row is) (replay plan is) (inputs.Tick row))) (run-says by_code d is_on f plan is)
-    ∙ tick-says by_code d is_on f (last_row is) row (replay plan is)
-run-says by_code d is_on f plan (i ∷ is) =
-    lit-append (says_at by_code d) false (told_along plan is) (events_of (last_row is) (replay plan is) i)
-    ∙ ap (λ (b : Bool). lit_after (says_at by_code d) b (events_of (last_row is) (replay plan is) i)) (run-says by_code d is_on f plan is)
-    ∙ other-says by_code d is_on f (is_on (last_row is)) (events_of (last_row is) (replay plan is) i) none
+run-says form by_code d is_on f plan [] = sym (f.off plan)
+run-says form by_code d is_on f plan (inputs.Tick row ∷ is) =
+    lit-append (says_at by_code d) false (told_along form plan is) (events_of (noted_after form is) (replay plan is) (inputs.Tick row))
+    ∙ ap (λ (b : Bool). lit_after (says_at by_code d) b (events_of (noted_after form is) (replay plan is) (inputs.Tick row))) (run-says form by_code d is_on f plan is)
+    ∙ tick-says form by_code d is_on f (last_row is) row (replay plan is)
+run-says form by_code d is_on f plan (i ∷ is) =
+    lit-append (says_at by_code d) false (told_along form plan is) (events_of (noted_after form is) (replay plan is) i)
+    ∙ ap (λ (b : Bool). lit_after (says_at by_code d) b (events_of (noted_after form is) (replay plan is) i)) (run-says form by_code d is_on f plan is)
+    ∙ sym (silent by_input (says_at by_code d) (is_on (last_row is) s) (events_of (noted_after form is) s i) (at-head by_input by_code d f.others))
+    ∙ ap (lit_after (says_at by_code d) (is_on (last_row is) s)) kept
+    ∙ f.other (step s i).now (last_row is) s (step s i)
   where
     s : State
     s = replay plan is
 
-    none : filter is_of_input (events_of (last_row is) s i) ≡ []
-    none = (others-kept (step s i).now (view s) (view (step s i)) (selected s) (selected (step s i))).kept
+    kept : filter (λ e. by_input e.code) (events_of (noted_after form is) s i)
+        ≡ vehicle_part (step s i).now (noted_after form is) (last_row is) (view s) (view (step s i)) ++ request_part (step s i).now (last_row is) (last_row is) (view s) (view (step s i))
+    kept = (others-kept (step s i).now (noted_after form is) (view s) (view (step s i)) (selected s) (selected (step s i))).kept
+
+-- ## At power-up
+
+none-or : (b : Bool) (a : Bool) → a ≡ false → (if b then false else a) ≡ false
+none-or true a off = refl
+none-or false a off = off
+
+vehicles-off : (form : LogForm) (d : ℕ) (plan : Plan) → vehicles_in form all_off (view (start plan)) d ≡ false
+unfolding view
+vehicles-off form d plan = none-or form.outputs (has_number all_off.vehicles d) (names-zero d)
+
+requests-off : (n : ℕ) (plan : Plan) → requests all_off (view (start plan)) n ≡ false
+unfolding view
+requests-off n plan = ap (λ (b : Bool). b || false) (names-zero n)
+
+-- ## What runs tell
 
 pub tell-the-inputs : RunsTellTheInputs
-tell-the-inputs plan is = record {
-  vehicles = λ d from within. run-says says_vehicle d (λ row. has_number row.vehicles d) (record {
+tell-the-inputs form plan is = record {
+  vehicles = λ d from within. run-says form says_vehicle d (λ row s. vehicles_in form row (view s) d) (record {
     others = none-vehicle;
-    off = names-zero d;
-    follows = λ was now. row-says says_vehicle d was now (has_number was.vehicles d) from within
-        ∙ ended-or-begun (has_number was.vehicles d) (has_number now.row.vehicles d);
+    off = vehicles-off form d;
+    tick = λ n last row s t. ticks-say says_vehicle d n (record { form = form; row = last }) row (view s) (view t) (vehicles_in form last (view s) d) from within
+        ∙ ended-or-begun (vehicles_in form last (view s) d) (vehicles_in form row (view t) d);
+    other = λ n row s t. others-say says_vehicle d n (record { form = form; row = row }) (view s) (view t) (vehicles_in form row (view s) d) from within
+        ∙ ended-or-begun (vehicles_in form row (view s) d) (vehicles_in form row (view t) d);
   }) plan is;
-  pedestrians = λ d from within. run-says says_pedestrian d (λ row. has_number row.pedestrians d) (record {
+  pedestrians = λ d from within. run-says form says_pedestrian d (λ row s. has_number row.pedestrians d) (record {
     others = none-pedestrian;
-    off = names-zero d;
-    follows = λ was now. row-says says_pedestrian d was now (has_number was.pedestrians d) from within
-        ∙ ended-or-begun (has_number was.pedestrians d) (has_number now.row.pedestrians d);
+    off = λ plan. names-zero d;
+    tick = λ n last row s t. ticks-say says_pedestrian d n (record { form = form; row = last }) row (view s) (view t) (has_number last.pedestrians d) from within
+        ∙ ended-or-begun (has_number last.pedestrians d) (has_number row.pedestrians d);
+    other = λ n row s t. others-say says_pedestrian d n (record { form = form; row = row }) (view s) (view t) (has_number row.pedestrians d) from within;
   }) plan is;
-  preempts = λ n from within. run-says says_preempt n (λ row. has_number row.preempts n) (record {
+  preempts = λ n from within. run-says form says_preempt n (λ row s. requests row (view s) n) (record {
     others = none-preempt;
-    off = names-zero n;
-    follows = λ was now. row-says says_preempt n was now (has_number was.preempts n) from within
-        ∙ begun-or-ended (has_number was.preempts n) (has_number now.row.preempts n);
+    off = requests-off n;
+    tick = λ k last row s t. ticks-say says_preempt n k (record { form = form; row = last }) row (view s) (view t) (requests last (view s) n) from within
+        ∙ begun-or-ended (requests last (view s) n) (requests row (view t) n);
+    other = λ k row s t. others-say says_preempt n k (record { form = form; row = row }) (view s) (view t) (requests row (view s) n) from within
+        ∙ begun-or-ended (requests row (view s) n) (requests row (view t) n);
   }) plan is;
 }

@@ -39,13 +39,13 @@ lines-read plan is ok taken =
 
 pub tell-the-same : LinesTellTheSame
 unfolding events_of
-tell-the-same plan is i last ok few taken =
+tell-the-same plan is i noted ok few taken =
     lines-same (signals s) (shown_in (step s i)) (view s) (view (step s i)) (stage s) (stage (step s i)) (run-sees plan is ok few taken.0)
     (run-sees plan (i ∷ is) ok few taken) ∙ sym (kept i)
   where
     s : State
     s = replay plan is
 
-    kept : (j : Input) → filter is_of_line (events_between last s j (step s j)) ≡ lines_of (step s j).now (view s) (view (step s j))
-    kept (inputs.Tick row) = ticks-kept (step s (inputs.Tick row)).now (found last s row (step s (inputs.Tick row))) (view s) (view (step s (inputs.Tick row)))
-    kept j = others-kept (step s j).now (view s) (view (step s j)) (selected s) (selected (step s j))
+    kept : (j : Input) → filter is_of_line (events_between noted s j (step s j)) ≡ lines_of (step s j).now (view s) (view (step s j))
+    kept (inputs.Tick row) = ticks-kept (step s (inputs.Tick row)).now (found noted s row (step s (inputs.Tick row))) (view s) (view (step s (inputs.Tick row)))
+    kept j = others-kept (step s j).now noted (view s) (view (step s j)) (selected s) (selected (step s j))

@@ -3,6 +3,7 @@ use Rattle.std.proofs.Common.{suc, ◌≡◌, ℕ, ◌+◌, List, [], ◌∷◌,
 use Rattle.std.specs.Fmt.{digits}
 use Rattle.tsb_types.specs.Events.{event}
 use Rattle.tsb_step.specs.tsb_history.declared.kinds.Kind.TheVariants as kinds
+use Rattle.tsb_step.specs.Events.{usual}
 use Rattle.tsb_step.specs.Step.{verdict}
 use Rattle.tsb_bench.specs.tsb_machine.declared.commands.Answer.TheVariants.{Undone}
 use Rattle.tsb_command_text.specs.declared.command.Command.TheVariants.{Step, Undo}
@@ -29,34 +30,37 @@ use Rattle.tsb_record.specs.Told.{Telling, gone_back, nothing_told, with_events,
 abbrev mark : ℕ → ℕ → Mark
 mark tick events = record { tick = tick; events = events }
 
-abbrev told : Telling
-told = with_events (event 2 8 2 ∷ []) (with_mark 1 (event 1 131 3 ∷ []) (with_events (event 1 0 2 ∷ event 1 1 2 ∷ []) nothing_told))
+abbrev none : Telling
+none = nothing_told usual
 
-kept : told ≡ record { events = event 1 0 2 ∷ event 1 1 2 ∷ event 1 131 3 ∷ event 2 8 2 ∷ []; marks = mark 1 2 ∷ [] }
+abbrev told : Telling
+told = with_events (event 2 8 2 ∷ []) (with_mark 1 (event 1 131 3 ∷ []) (with_events (event 1 0 2 ∷ event 1 1 2 ∷ []) none))
+
+kept : told ≡ record { form = usual; events = event 1 0 2 ∷ event 1 1 2 ∷ event 1 131 3 ∷ event 2 8 2 ∷ []; marks = mark 1 2 ∷ [] }
 kept = refl
 
 -- back at tick 1 the pattern stays, as it came at that tick
-back : gone_back 1 told ≡ record { events = event 1 0 2 ∷ event 1 1 2 ∷ event 1 131 3 ∷ []; marks = mark 1 2 ∷ [] }
+back : gone_back 1 told ≡ record { form = usual; events = event 1 0 2 ∷ event 1 1 2 ∷ event 1 131 3 ∷ []; marks = mark 1 2 ∷ [] }
 back = refl
 
 -- at tick 0 nothing does
-all_back : gone_back 0 told ≡ nothing_told
+all_back : gone_back 0 told ≡ none
 all_back = refl
 
 -- ## Mistakes
 
 -- with the number of the tick before it, the events of the second tick would stay when the bench goes back to the first
 abbrev tick_before : Telling
-tick_before = with_events (event 1 8 2 ∷ []) (with_events (event 0 0 2 ∷ []) nothing_told)
+tick_before = with_events (event 1 8 2 ∷ []) (with_events (event 0 0 2 ∷ []) none)
 
 stays : (gone_back 1 tick_before).events ≡ event 0 0 2 ∷ event 1 8 2 ∷ []
 stays = refl
 
 -- back at the tick itself, and not at the one before it, what it told would stay where it is undone
-goes_back_too_little : (gone_back 1 (with_events (event 1 0 2 ∷ []) nothing_told)).events ≡ event 1 0 2 ∷ []
+goes_back_too_little : (gone_back 1 (with_events (event 1 0 2 ∷ []) none)).events ≡ event 1 0 2 ∷ []
 goes_back_too_little = refl
 
-goes_back : (gone_back 0 (with_events (event 1 0 2 ∷ []) nothing_told)).events ≡ []
+goes_back : (gone_back 0 (with_events (event 1 0 2 ∷ []) none)).events ≡ []
 goes_back = refl
 
 -- ## What lines leave

@@ -7,15 +7,28 @@ use Rattle.tsb_types.specs.Sets.{all_off}
 use Rattle.tsb_objects.specs.tsb_plan.Quad.{quad}
 use Rattle.tsb_heads.specs.declared.monitor.Trip.TheVariants.{GreenToRed}
 use Rattle.tsb_phase.specs.Causes.{cause}
-use Rattle.tsb_step.specs.declared.inputs.Input.TheVariants.{Tick, Pattern}
+use Rattle.tsb_step.specs.declared.inputs.Input.TheVariants.{Tick, Pattern, Switch}
 use Rattle.tsb_step.specs.EventLaws.{EndsNoTime}
-use Rattle.tsb_step.specs.Events.{ends_freely, events_of, selected, view}
+use Rattle.tsb_step.specs.declared.log_form.Noted.{Noted}
+use Rattle.tsb_step.specs.Events.{ends_freely, events_of, selected, usual_after, view}
 use Rattle.tsb_step.specs.Quiet.{IsQuiet}
 use Rattle.tsb_step.specs.State.{State, interval, start}
+use Rattle.tsb_step.specs.Step.{step}
 use Rattle.tsb_step.specs.Tick.{phases_given, phase_read}
 use Rattle.tsb_ring.proofs.Examples.Scenes.{both}
 use Rattle.tsb_step.proofs.Examples.Scenes as scenes
 use Rattle.tsb_step.proofs.Examples.Scenes.{after, all_red, button, called, clearing, green, preempt, red, resting, short, these, vehicle}
+
+-- a log of the usual form, with no input on in the newest tick
+abbrev pub usual : Noted
+usual = usual_after all_off
+
+-- one that has recalls, and one that has outputs
+abbrev pub with_recalls : Noted
+with_recalls = record { form = record { recalls = true; outputs = false }; row = all_off }
+
+abbrev pub with_outputs : Noted
+with_outputs = record { form = record { recalls = false; outputs = true }; row = all_off }
 
 -- what a computed line opens
 unfoldable pub opened : Unit {0}
@@ -23,25 +36,43 @@ unfolding scenes.opened events_of selected view
 opened = scenes.opened
 
 -- from power-up phases 2 and 6 start, as they are recalled, and overlap 1 turns green
-power_up : events_of all_off (start quad) (Tick all_off) ≡
-    event 1 0 2 ∷ event 1 0 6 ∷ event 1 1 2 ∷ event 1 1 6 ∷ event 1 44 2 ∷ event 1 44 6 ∷ event 1 61 1 ∷ []
+power_up : events_of usual (start quad) (Tick all_off) ≡
+    event 1 0 2 ∷ event 1 0 6 ∷ event 1 1 2 ∷ event 1 1 6 ∷ event 1 61 1 ∷ []
 unfolding opened
 power_up = refl
 
--- a vehicle for phase 3 ends the greens of 2 and 6 by their gaps; recalled, these have calls as soon as they are not Green
-arrives : events_of all_off resting (Tick (vehicle 3)) ≡
-    event 61 4 2 ∷ event 61 4 6 ∷ event 61 7 2 ∷ event 61 7 6 ∷ event 61 8 2 ∷ event 61 8 6 ∷ event 61 43 2 ∷ event 61 43 3
-    ∷ event 61 43 6 ∷ event 61 63 1 ∷ event 61 82 3 ∷ []
+-- a log with recalls has that their calls go
+power_up_with_recalls : events_of with_recalls (start quad) (Tick all_off) ≡
+    event 1 0 2 ∷ event 1 0 6 ∷ event 1 1 2 ∷ event 1 1 6 ∷ event 1 44 2 ∷ event 1 44 6 ∷ event 1 61 1 ∷ []
+unfolding opened
+power_up_with_recalls = refl
+
+-- a vehicle for phase 3 ends the greens of 2 and 6 by their gaps
+arrives : events_of usual resting (Tick (vehicle 3)) ≡
+    event 61 4 2 ∷ event 61 4 6 ∷ event 61 7 2 ∷ event 61 7 6 ∷ event 61 8 2 ∷ event 61 8 6 ∷ event 61 43 3
+    ∷ event 61 63 1 ∷ event 61 82 3 ∷ []
 unfolding opened
 arrives = refl
 
+-- recalled, these have calls as soon as they are not Green, which a log with recalls has
+arrives_with_recalls : events_of with_recalls resting (Tick (vehicle 3)) ≡
+    event 61 4 2 ∷ event 61 4 6 ∷ event 61 7 2 ∷ event 61 7 6 ∷ event 61 8 2 ∷ event 61 8 6 ∷ event 61 43 2 ∷ event 61 43 3
+    ∷ event 61 43 6 ∷ event 61 63 1 ∷ event 61 82 3 ∷ []
+unfolding opened
+arrives_with_recalls = refl
+
 -- where their greens are too short to end, a conflict begins
-too_short : events_of all_off short (Tick (vehicle 3)) ≡ event 61 2 2 ∷ event 61 2 6 ∷ event 61 43 3 ∷ event 61 82 3 ∷ []
+too_short : events_of usual short (Tick (vehicle 3)) ≡ event 61 2 2 ∷ event 61 2 6 ∷ event 61 43 3 ∷ event 61 82 3 ∷ []
 unfolding opened
 too_short = refl
 
+-- by its output detector 3 was on before, whatever its input was
+on_before : events_of with_outputs (after short (vehicle 3)) (Tick (vehicle 3)) ≡ []
+unfolding opened
+on_before = refl
+
 -- a tick in which nothing changes tells nothing, and the same row again tells no input
-quiet : events_of all_off resting (Tick all_off) ≡ []
+quiet : events_of usual resting (Tick all_off) ≡ []
 unfolding opened
 quiet = refl
 
@@ -49,7 +80,7 @@ quiet = refl
 abbrev standing : State
 standing = record short { memories = called (3 ∷ []); phases = these (2 ∷ 6 ∷ []) (record (green 9) { conflict = On 5 }) all_red }
 
-quiet_too : events_of all_off standing (Tick all_off) ≡ []
+quiet_too : events_of usual standing (Tick all_off) ≡ []
 unfolding opened
 quiet_too = refl
 
@@ -65,7 +96,7 @@ is_quiet : IsQuiet tripped (after tripped all_off)
 unfolding opened
 is_quiet = refl
 
-quiet_as_it_flashes : events_of all_off tripped (Tick all_off) ≡ []
+quiet_as_it_flashes : events_of usual tripped (Tick all_off) ≡ []
 unfolding opened
 quiet_as_it_flashes = refl
 
@@ -76,14 +107,14 @@ no_time_ends = record { minimum = λ p from to. refl; red = λ p from to. refl }
 abbrev completing : State
 completing = record red { phases = these (2 ∷ 6 ∷ []) (green 49) all_red }
 
-completed : events_of all_off completing (Tick all_off) ≡ event 61 3 2 ∷ event 61 3 6 ∷ []
+completed : events_of usual completing (Tick all_off) ≡ event 61 3 2 ∷ event 61 3 6 ∷ []
 unfolding opened
 completed = refl
 
 -- it may also end in that tick, by its gap
-completed_and_ended : events_of all_off (record completing { memories = called (3 ∷ []) }) (Tick all_off) ≡
+completed_and_ended : events_of usual (record completing { memories = called (3 ∷ []) }) (Tick all_off) ≡
     event 61 3 2 ∷ event 61 3 6 ∷ event 61 4 2 ∷ event 61 4 6 ∷ event 61 7 2 ∷ event 61 7 6 ∷ event 61 8 2 ∷ event 61 8 6
-    ∷ event 61 43 2 ∷ event 61 43 6 ∷ event 61 63 1 ∷ []
+    ∷ event 61 63 1 ∷ []
 unfolding opened
 completed_and_ended = refl
 
@@ -95,7 +126,7 @@ waiting = record red {
   rings = record { last = both (Some 2) (Some 6); commitment = both (Some 3) (Some 8); side = 1; crossing = Some 2 };
 }
 
-told_as_it_waits : events_of all_off waiting (Tick all_off) ≡ event 61 11 2 ∷ []
+told_as_it_waits : events_of usual waiting (Tick all_off) ≡ event 61 11 2 ∷ []
 unfolding opened
 told_as_it_waits = refl
 
@@ -104,16 +135,29 @@ unfolding opened
 waits_on = refl
 
 -- and no more in the tick after it
-told_once : events_of all_off (after waiting all_off) (Tick all_off) ≡ []
+told_once : events_of usual (after waiting all_off) (Tick all_off) ≡ []
 unfolding opened
 told_once = refl
 
 -- pattern 1 is selected: a cycle of 80 seconds, no offset, and eight splits
-pattern : events_of all_off resting (Pattern 1) ≡
+pattern : events_of usual resting (Pattern 1) ≡
     event 60 131 1 ∷ event 60 132 80 ∷ event 60 134 15 ∷ event 60 135 25 ∷ event 60 136 15 ∷ event 60 137 25 ∷ event 60 138 15
     ∷ event 60 139 25 ∷ event 60 140 15 ∷ event 60 141 25 ∷ []
 unfolding opened
 pattern = refl
+
+-- ## Requests of preempts
+
+-- the operator's switch of preempt 1 asks for it as its input does
+switched : events_of usual resting (Switch 1 true) ≡ event 60 102 1 ∷ []
+unfolding opened
+switched = refl
+
+-- its input in the next tick asks for nothing new, and preempt 1 enters service
+asked_twice : events_of usual (step resting (Switch 1 true)) (Tick (preempt 1)) ≡
+    event 61 7 2 ∷ event 61 7 6 ∷ event 61 8 2 ∷ event 61 8 6 ∷ event 61 63 1 ∷ event 61 105 1 ∷ []
+unfolding opened
+asked_twice = refl
 
 -- ## A walk within a green
 
@@ -121,17 +165,17 @@ pattern = refl
 abbrev recycling : ℕ → State
 recycling n = record (scenes.recycling n) { memories = called [] }
 
-walks_again : events_of all_off (recycling 99) (Tick (button 2)) ≡ event 100 21 2 ∷ event 100 90 2 ∷ []
+walks_again : events_of usual (recycling 99) (Tick (button 2)) ≡ event 100 21 2 ∷ event 100 90 2 ∷ []
 unfolding opened
 walks_again = refl
 
 -- where no time is left for a walk the call comes
-comes : events_of all_off (recycling 660) (Tick (button 2)) ≡ event 661 45 2 ∷ event 661 90 2 ∷ []
+comes : events_of usual (recycling 660) (Tick (button 2)) ≡ event 661 45 2 ∷ event 661 90 2 ∷ []
 unfolding opened
 comes = refl
 
 -- one that stood is served
-serves : events_of all_off (record (recycling 99) { memories = record (called []) { pedestrian = λ p. p == 2 } }) (Tick all_off)
+serves : events_of usual (record (recycling 99) { memories = record (called []) { pedestrian = λ p. p == 2 } }) (Tick all_off)
     ≡ event 100 21 2 ∷ []
 unfolding opened
 serves = refl

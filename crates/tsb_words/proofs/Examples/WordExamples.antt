@@ -4,6 +4,7 @@ use Rattle.clap.specs.Walk.{Text}
 use Rattle.clap.proofs.OnLiterals.{clap_on_literals}
 use Rattle.tsb_words.specs.FieldProgram.{wish_of}
 use Rattle.tsb_event_text.specs.Times.{moment_of}
+use Rattle.tsb_words.specs.declared.field_files.RecordManner.{RecordManner}
 use Rattle.tsb_words.specs.FieldWords.{Wish, diagram, recording, reviewing}
 
 -- these words after the program's name
@@ -56,16 +57,28 @@ no-log = refl
 abbrev record_of : List Text → Option Wish
 record_of more = wish_of (given (codes "record" ∷ codes "--from=2026-11-22T07:00:00" ∷ codes "--device=7" ∷ codes "a.plan" ∷ codes "a.log" ∷ more))
 
-abbrev record_wished : Bool → Option Wish
-record_wished goes_on = option_map (λ from. recording from (codes "7") (codes "a.plan") (codes "a.log") goes_on) (moment_of (codes "2026-11-22T07:00:00"))
+abbrev record_wished : RecordManner → Option Wish
+record_wished manner = option_map (λ from. recording from (codes "7") (codes "a.plan") (codes "a.log") manner) (moment_of (codes "2026-11-22T07:00:00"))
 
-strict : record_of [] ≡ record_wished false
+abbrev usual : RecordManner
+usual = record { goes_on = false; recalls = false; outputs = false }
+
+strict : record_of [] ≡ record_wished usual
 unfolding clap_on_literals moment_of
 strict = refl
 
-goes-on : record_of (codes "--go-on" ∷ []) ≡ record_wished true
+goes-on : record_of (codes "--go-on" ∷ []) ≡ record_wished (record usual { goes_on = true })
 unfolding clap_on_literals moment_of
 goes-on = refl
+
+-- two flags more say what its events are
+of-recalls : record_of (codes "--recalls" ∷ []) ≡ record_wished (record usual { recalls = true })
+unfolding clap_on_literals moment_of
+of-recalls = refl
+
+of-outputs : record_of (codes "--outputs" ∷ []) ≡ record_wished (record usual { outputs = true })
+unfolding clap_on_literals moment_of
+of-outputs = refl
 
 -- it has no value, and comes once
 with-value : record_of (codes "--go-on=true" ∷ []) ≡ None

@@ -48,10 +48,12 @@ const LOG: [Argument; 12] = [
 ];
 
 /// The files and options of `record`.
-const RECORD: [Argument; 5] = [
+const RECORD: [Argument; 7] = [
     Argument::File("PLAN"),
     Argument::File("LOG"),
     Argument::Flag("go-on"),
+    Argument::Flag("recalls"),
+    Argument::Flag("outputs"),
     Argument::Required("from"),
     Argument::Required("device"),
 ];

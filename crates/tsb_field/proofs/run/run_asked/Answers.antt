@@ -8,12 +8,12 @@ use Rattle.tsb_field.proofs.run.run_asked.Goals as goal
 
 pub returns-in-Ok-Record : goal.returns-in-Ok-Record
 returns-in-Ok-Record g c = (
-  Ok (asks.Record c.in-Ok-Record.from c.in-Ok-Record.device c.in-Ok-Record.plan c.in-Ok-Record.log c.in-Ok-Record.goes_on),
+  Ok (asks.Record c.in-Ok-Record.from c.in-Ok-Record.device c.in-Ok-Record.plan c.in-Ok-Record.log c.in-Ok-Record.manner),
   c.in-Ok-Record.ensures ∙ ap (λ (asked : Asked). Some (seen asked)) c.in-Ok-Record.field-0-is,
-  recorded-as c.write_record.result c.in-Ok-Record.from _ c.on_fault_of-on_fault.result _ c.in-Ok-Record.plan.now c.in-Ok-Record.log.now (g.F.Files.bytes c.args.files.now)
+  recorded-as c.write_record.result c.in-Ok-Record.from _ c.options_of-options.result _ c.in-Ok-Record.plan.now c.in-Ok-Record.log.now (g.F.Files.bytes c.args.files.now)
       (seen_of g.R.Read.remaining c.args.input.now) (seen_of g.R.Read.remaining c.write_record.new.input) (seen_of g.W.Write.contents c.args.output.now)
       (seen_of g.W.Write.contents c.write_record.new.output) (seen_of g.E.Write.contents c.args.errors.now) (seen_of g.E.Write.contents c.write_record.new.errors)
-      c.on_fault_of-on_fault.ensures c.write_record.ensures,
+      c.options_of-options.ensures c.write_record.ensures,
 )
 
 pub returns-in-Ok-Events : goal.returns-in-Ok-Events

@@ -7,29 +7,36 @@ use Rattle.tsb_step.specs.tsb_types.Sets.{all_off, has_number}
 use Rattle.tsb_step.specs.tsb_types.declared.event.Event.{Event}
 use Rattle.tsb_step.specs.tsb_types.declared.lamp.Lamp.TheVariants as lamps
 use Rattle.tsb_step.specs.tsb_types.declared.lamp.SignalColor.TheVariants as colours
-use Rattle.tsb_step.specs.tsb_plan.declared.object.Object.TheVariants.{PhaseEnabled}
+use Rattle.tsb_step.specs.tsb_plan.declared.object.Object.TheVariants.{PhaseEnabled, VehicleDetectorDelay}
 use Rattle.tsb_step.specs.tsb_plan.Plan.{Plan, empty, with_values}
 use Rattle.tsb_step.specs.declared.inputs.Input.{Input}
-use Rattle.tsb_step.specs.declared.inputs.Input.TheVariants.{Fault, Tick}
-use Rattle.tsb_step.specs.Events.{events_of, selected, view}
+use Rattle.tsb_step.specs.declared.inputs.Input.TheVariants.{Fault, Switch, Tick}
+use Rattle.tsb_step.specs.declared.log_form.LogForm.{LogForm}
+use Rattle.tsb_step.specs.Events as events
+use Rattle.tsb_step.specs.declared.log_form.Noted.{Noted}
+use Rattle.tsb_step.specs.Events.{events_of, selected, usual_after, view}
 use Rattle.tsb_step.specs.Laws.{IsConsistent}
 use Rattle.tsb_step.specs.Runs.{replay, AreTaken}
 use Rattle.tsb_step.specs.State.{State, interval, start}
 use Rattle.tsb_step.proofs.Examples.Scenes as scenes
-use Rattle.tsb_step.proofs.Examples.Scenes.{vehicle}
+use Rattle.tsb_step.proofs.Examples.Scenes.{preempt, vehicle}
 use Rattle.tsb_text.specs.tsb_display_text.Line.{line_of}
 use Rattle.tsb_field_display.specs.Events as lines
 use Rattle.tsb_field_display.specs.ReadBack.{Lit, lit_after, read_back, says_at}
 use Rattle.tsb_field_display.specs.Inputs.{events_of_row}
 use Rattle.tsb_field_display.specs.SessionLaws.{is_of_input}
 use Rattle.tsb_record.specs.Along.{last_row, told_along}
-use Rattle.tsb_laws.specs.Told.{is_of_line, log_of, says_vehicle, shown_in, signals}
+use Rattle.tsb_laws.specs.Told.{AreSwitchesOff, is_of_line, log_of, says_vehicle, shown_in, signals}
 use Rattle.tsb_laws.proofs.safety.Examples.CrossingRuns.{known, quick, walked}
 
 -- what a computed line opens
 unfoldable pub opened : Unit {0}
 unfolding scenes.opened events_of selected view quick line_of lines.events_of events_of_row
 opened = scenes.opened
+
+-- a log of the usual form, with no input on in the newest tick
+abbrev usual : Noted
+usual = usual_after all_off
 
 -- ## From power-up to the first tick, and to a fault that trips the controller
 
@@ -40,7 +47,7 @@ power_up_lines : lines.events_of (signals (start quick)) (shown_in (replay quick
 unfolding opened
 power_up_lines = refl
 
-power_up_told : filter is_of_line (events_of all_off (start quick) (Tick all_off)) ≡ at_power_up
+power_up_told : filter is_of_line (events_of usual (start quick) (Tick all_off)) ≡ at_power_up
 unfolding opened
 power_up_told = refl
 
@@ -71,7 +78,7 @@ trip_lines : lines.events_of (signals (replay quick walked)) (shown_in tripped) 
 unfolding opened
 trip_lines = refl
 
-trip_told : filter is_of_line (events_of all_off (replay quick walked) fault) ≡ at_trip
+trip_told : filter is_of_line (events_of usual (replay quick walked) fault) ≡ at_trip
 unfolding opened
 trip_told = refl
 
@@ -111,7 +118,7 @@ out_of_sight = refl
 -- ## Heads told back
 
 abbrev lit : Lit
-lit = read_back (told_along quick walked)
+lit = read_back (told_along events.usual quick walked)
 
 pub record ToldBack : Type 0 where
   pub green : lit.green 2 ≡ true
@@ -133,21 +140,45 @@ two_rows : log_of quick passed ≡ record { tick = 1; row = vehicle 3 } ∷ reco
 unfolding opened
 two_rows = refl
 
-two_told : filter is_of_input (told_along quick passed) ≡ event 1 82 3 ∷ event 3 81 3 ∷ []
+two_told : filter is_of_input (told_along events.usual quick passed) ≡ event 1 82 3 ∷ event 3 81 3 ∷ []
 unfolding opened
 two_told = refl
 
+-- no switch of a preempt is on in it
+no_switch : AreSwitchesOff quick passed
+unfolding opened
+no_switch = ((λ n. refl), ((λ n. refl), ((λ n. refl), tt)))
+
+-- where preempt 1 is switched on, and its input comes after, it is asked for once; no row of the log asks for it at first
+abbrev switched : List Input
+switched = Tick (preempt 1) ∷ Switch 1 true ∷ Tick all_off ∷ []
+
+switched_told : filter is_of_input (told_along events.usual quick switched) ≡ event 1 102 1 ∷ []
+unfolding opened
+switched_told = refl
+
+-- a detector with a delay: in a log of outputs it has not come on when its input goes off
+abbrev outputs : LogForm
+outputs = record { recalls = false; outputs = true }
+
+abbrev delaying : Plan
+delaying = with_values quick ((VehicleDetectorDelay, 3, 50) ∷ [])
+
+by_output : filter is_of_input (told_along outputs delaying passed) ≡ []
+unfolding opened
+by_output = refl
+
 -- inputs told against all off
-goes_on : filter is_of_input (events_of (vehicle 3) (replay quick (Tick (vehicle 3) ∷ [])) (Tick (vehicle 3))) ≡ []
+goes_on : filter is_of_input (events_of (usual_after (vehicle 3)) (replay quick (Tick (vehicle 3) ∷ [])) (Tick (vehicle 3))) ≡ []
 unfolding opened
 goes_on = refl
 
-would_come_again : filter is_of_input (events_of all_off (replay quick (Tick (vehicle 3) ∷ [])) (Tick (vehicle 3))) ≡ event 2 82 3 ∷ []
+would_come_again : filter is_of_input (events_of usual (replay quick (Tick (vehicle 3) ∷ [])) (Tick (vehicle 3))) ≡ event 2 82 3 ∷ []
 unfolding opened
 would_come_again = refl
 
 -- an input that goes off is told by nothing
-stays_on : lit_after (says_at says_vehicle 3) false (filter (λ e. not (e.code == 81)) (told_along quick passed)) ≡ true
+stays_on : lit_after (says_at says_vehicle 3) false (filter (λ e. not (e.code == 81)) (told_along events.usual quick passed)) ≡ true
 unfolding opened
 stays_on = refl
 

@@ -17,8 +17,8 @@ pub returns-then-ends_no_time-clause-told : goal.returns-then-ends_no_time-claus
 returns-then-ends_no_time-clause-told c =
     always c.apply.result
     (c.clear.ensures
-    ∙ sym (passed-tells-none c.args.input c.self.inside.tick (rows_of c.self.inside.cabinet) c.args.last.now (sound-held _ _ _ c.self.invariant.1).by (c.passes.ensures.passes c.if-passes.true) (c.has_row.ensures c.if-has_row.true) (c.ends_no_time.ensures c.if-ends_no_time.true))
-    ∙ ap (λ (h : Held). events_of c.args.last.now (state_of h) c.args.input) c.self.view_is)
+    ∙ sym (passed-tells-none c.args.input c.self.inside.tick (rows_of c.self.inside.cabinet) c.args.noted.now (sound-held _ _ _ c.self.invariant.1).by (c.passes.ensures.passes c.if-passes.true) (c.has_row.ensures c.if-has_row.true) (c.ends_no_time.ensures c.if-ends_no_time.true))
+    ∙ ap (λ (h : Held). events_of c.args.noted.now (state_of h) c.args.input) c.self.view_is)
 
 pub before-before-requires-clause-limit : goal.before-before-requires-clause-limit
 before-before-requires-clause-limit c = (sound-held _ _ _ c.self.invariant.1).limit
@@ -39,4 +39,4 @@ pub returns-clause-told : goal.returns-clause-told
 returns-clause-told c =
     c.tell.ensures (rows_of c.self.inside.cabinet) c.before-before.ensures (sound-held _ _ _ c.self.invariant.1).by
     (ap (λ (h : Held). state_of h) c.self-2.view_is ∙ c.in-Ok.ensures.state ∙ ap (λ (h : Held). step (state_of h) c.args.input) (sym c.self.view_is))
-    ∙ ap (λ (h : Held). events_of c.args.last.now (state_of h) c.args.input) c.self.view_is
+    ∙ ap (λ (h : Held). events_of c.args.noted.now (state_of h) c.args.input) c.self.view_is

@@ -41,7 +41,7 @@ returns c a now before by stepped =
       gap = λ p from to. causes.gap p from to ∙ caused Gap (ends p) (cause s.plan (phases_given s c.args.row.now) p (phase_read s p));
       maximum = λ p from to. causes.maximum p from to ∙ caused Maximum (ends p) (cause s.plan (phases_given s c.args.row.now) p (phase_read s p));
       force_off = λ p from to. causes.force_off p from to ∙ caused ForceOff (ends p) (cause s.plan (phases_given s c.args.row.now) p (phase_read s p));
-      last = refl;
+      noted = refl;
       row = refl;
       served = served c.args.tick (beside a) (sym plan) (sym before.clock)
           ∙ ap (λ (x : Plan). has_been_served x (preempts_given s c.args.row.now) (preempts_read s)) plan;

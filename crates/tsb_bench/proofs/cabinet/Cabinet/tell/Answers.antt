@@ -36,13 +36,13 @@ returns-in-Tick c a before by stepped =
     ∙ ticks-same c.args.now (found_of c.found-found.result) f (view_of c.args.before.now.seen) (view s) (view_of c.view-seen.result) (view (all_in c.args.now (rows_of c.args.self.now)))
     (c.found-found.ensures a c.args.now before by ticked) before.seen c.view-seen.ensures.sees
     ∙ ap (λ (after : State). tick_events after.now f (view s) (view after)) ticked
-    ∙ ap (λ (i : Input). events_of c.args.last.now s i) (sym c.in-Tick.is)
+    ∙ ap (λ (i : Input). events_of c.args.noted.now s i) (sym c.in-Tick.is)
   where
     s : State
     s = all_in c.args.tick a
 
     f : Found
-    f = found c.args.last.now s c.in-Tick.row (step s (inputs.Tick c.in-Tick.row))
+    f = found c.args.noted.now s c.in-Tick.row (step s (inputs.Tick c.in-Tick.row))
 
     ticked : all_in c.args.now (rows_of c.args.self.now) ≡ step s (inputs.Tick c.in-Tick.row)
     ticked = stepped ∙ ap (step s) c.in-Tick.is
@@ -51,11 +51,11 @@ pub returns-in_default : goal.returns-in_default
 unfolding events_of
 returns-in_default c a before by stepped =
     c.other_events.ensures
-    ∙ others-same c.args.now (view_of c.args.before.now.seen) (view s) (view_of c.view-seen.result) (view after)
+    ∙ others-same c.args.now c.args.noted.now (view_of c.args.before.now.seen) (view s) (view_of c.view-seen.result) (view after)
     (selected_of c.args.before.now.selected) (selected s) (selected_of c.selected.result) (selected after)
     before.seen c.view-seen.ensures.sees (before.selected c.args.tick) (c.selected.ensures c.args.now)
-    ∙ sym (other-told c.args.last.now s after c.args.input.now c.in_default.not-Tick)
-    ∙ ap (events_between c.args.last.now s c.args.input.now) stepped
+    ∙ sym (other-told c.args.noted.now s after c.args.input.now c.in_default.not-Tick)
+    ∙ ap (events_between c.args.noted.now s c.args.input.now) stepped
   where
     s : State
     s = all_in c.args.tick a

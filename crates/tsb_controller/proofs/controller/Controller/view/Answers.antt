@@ -11,6 +11,7 @@ use Rattle.tsb_ring.proofs.BoolLemmas.{served}
 use Rattle.tsb_step.specs.Cells.{clock_at}
 use Rattle.tsb_step.specs.tsb_types.Flow.{interval_of}
 use Rattle.tsb_step.specs.tsb_plan.Plan.{Plan}
+use Rattle.tsb_step.specs.tsb_plan.Running.{is_on_maximum_recall, is_on_minimum_recall, is_on_pedestrian_recall, running}
 use Rattle.tsb_step.specs.Events.{is_track, serves, shown_interval, stage_is_green, view}
 use Rattle.tsb_preempt.specs.Preempts.{is_dwell, is_exit}
 use Rattle.tsb_step.specs.Signs.{display}
@@ -54,13 +55,20 @@ returns c now b same trips clock =
           ∙ vehicle-calls plan few rows c.intervals-intervals.result c.pedestrians-pedestrians.result c.standing-standing.result c.intervals-intervals.ensures c.pedestrians-pedestrians.ensures c.standing-standing.ensures now b same p from to;
       pedestrian_calls = λ p from to. c.numbers-9.ensures p
           ∙ pedestrian-calls plan few rows c.intervals-intervals.result c.pedestrians-pedestrians.result c.standing-standing.result c.intervals-intervals.ensures c.pedestrians-pedestrians.ensures c.standing-standing.ensures now b same p from to;
+      recalls = λ p from to. c.numbers-10.ensures p ∙ c.recalls.ensures p from to
+          ∙ ap (λ (x : Plan). is_on_minimum_recall x (running x s.pattern) p || is_on_maximum_recall x (running x s.pattern) p) (sym same);
+      pedestrian_recalls = λ p from to. c.numbers-11.ensures p ∙ c.on_pedestrian_recall.ensures p from to
+          ∙ ap (λ (o : Option ℕ). is_on_pedestrian_recall plan o p) c.running.ensures.runs
+          ∙ ap (λ (x : Plan). is_on_pedestrian_recall x (running x s.pattern) p) (sym same);
       overlap_greens = λ o from to. greens o from;
       overlap_yellows = λ o from to. yellows o from;
       overlaps_off = λ o from to.
           off-told plan c.union-2.result c.overlaps_off.result c.union-served.result s (display s) c.overlaps_off.ensures.off c.overlaps_off.ensures.few
           (λ n low. c.union-2.ensures n ∙ ap₂ (λ (x y : Bool). x || y) (greens n low) (yellows n low))
           (λ n. served-told c.args.plan.now n c.union-served.result s same in_serving) o from;
+      outputs = λ n from to. c.outputs.ensures (clock_at now b.trip) n from to;
       alarms = λ n from to. c.alarms.ensures (clock_at now b.trip) n from to;
+      switches = λ n from to. c.switches.ensures (clock_at now b.trip) n;
       preempts = λ n from to. c.stages_of-stages.ensures.any n ∙ ap (λ (o : Option (ℕ × Stage)). serves (λ k. true) o n) at_stage;
       tracks = λ n from to. c.stages_of-stages.ensures.track n ∙ ap (λ (o : Option (ℕ × Stage)). serves is_track o n) at_stage;
       dwells = λ n from to. c.stages_of-stages.ensures.dwell n ∙ ap (λ (o : Option (ℕ × Stage)). serves is_dwell o n) at_stage;

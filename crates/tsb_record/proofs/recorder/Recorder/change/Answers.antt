@@ -3,8 +3,8 @@ use Rattle.tsb_record.specs.Recording.{IsChange}
 use Rattle.tsb_record.proofs.ChangeLemmas.{goes-back}
 use Rattle.tsb_record.proofs.recorder.Recorder.change.Goals as goal
 
-pub returns-in-Apply : goal.returns-in-Apply
-returns-in-Apply c given is changes s = rw c.in-Apply.is (c.apply.ensures given is (subst IsChange c.in-Apply.is changes) s)
+pub returns-in-Apply-clause-done : goal.returns-in-Apply-clause-done
+returns-in-Apply-clause-done c given is changes s = rw c.in-Apply.is (c.apply.ensures.done given is (subst IsChange c.in-Apply.is changes) s)
 
-pub returns-in_default : goal.returns-in_default
-returns-in_default c given is changes s = c.go_back.ensures given c.args.log.now is (goes-back c.args.change changes c.in_default.not-Apply) s
+pub returns-in_default-clause-done : goal.returns-in_default-clause-done
+returns-in_default-clause-done c given is changes s = c.go_back.ensures.done given c.args.log.now is (goes-back c.args.change changes c.in_default.not-Apply) s

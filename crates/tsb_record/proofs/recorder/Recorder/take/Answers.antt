@@ -13,8 +13,8 @@ returns-then-is_err-clause-took c given is s of_log =
 
 pub returns-clause-took : goal.returns-clause-took
 returns-clause-took c given is s of_log =
-    took given c.args.log.now is c.args.self.now.bench c.apply_telling.new.self c.args.self.now.told.told c.add.new.self.told c.deref.result.now c.row_in_force-last.result c.now-tick.result c.args.input s of_log
-    c.now-tick.ensures.now c.row_in_force-last.ensures c.in-Ok.ensures.allowed c.in-Ok.ensures.state c.in-Ok.ensures.records c.in-Ok.ensures.back
+    took given c.args.log.now is c.args.self.now.bench c.apply_telling.new.self c.args.self.now.told.told c.add.new.self.told c.deref.result.now (record { form = c.form.result; row = c.row_in_force.result }) c.now-tick.result c.args.input s of_log
+    c.now-tick.ensures.now c.form.ensures c.row_in_force.ensures c.in-Ok.ensures.allowed c.in-Ok.ensures.state c.in-Ok.ensures.records c.in-Ok.ensures.back
     (c.deref.ensures.0 ∙ c.in-Ok.ensures.told) (search (rules, c.add.ensures.ok, c.is_err.ensures, c.if-is_err.false))
 
 pub returns-in-Err-clause-wanting : goal.returns-in-Err-clause-wanting
@@ -22,5 +22,5 @@ returns-in-Err-clause-wanting c memory = inl (c.in-Err.ensures.wanting memory)
 
 pub returns-then-is_err-clause-wanting : goal.returns-then-is_err-clause-wanting
 returns-then-is_err-clause-wanting c memory =
-    inr (not-kept c.add.result c.args.log.now c.args.self.now.bench c.args.self.now.told c.args.input c.now-tick.result c.row_in_force-last.result c.deref.result.now
-    c.now-tick.ensures.now c.row_in_force-last.ensures (c.deref.ensures.0 ∙ c.in-Ok.ensures.told) c.add.ensures.wanting (sym c.is_err.ensures.value ∙ c.if-is_err.true))
+    inr (not-kept c.add.result c.args.log.now c.args.self.now.bench c.args.self.now.told c.args.input c.now-tick.result (record { form = c.form.result; row = c.row_in_force.result }) c.deref.result.now
+    c.now-tick.ensures.now c.form.ensures c.row_in_force.ensures (c.deref.ensures.0 ∙ c.in-Ok.ensures.told) c.add.ensures.wanting (sym c.is_err.ensures.value ∙ c.if-is_err.true))

@@ -1,0 +1,12 @@
+use Rattle.std.proofs.Common.{codes}
+use Rattle.clap.specs.Matches.{found_of}
+use Rattle.tsb_words.specs.declared.field_files.RecordManner.{RecordManner}
+use Rattle.tsb_words.proofs.OptionLemmas.{flag_is}
+use Rattle.tsb_words.proofs.field_files.record_manner.Goals as goal
+
+pub returns : goal.returns
+returns c j = record {
+  goes_on = flag_is (found_of c.args.options.now) (codes "go-on") _ _ c.get_str.ensures c.is_set.ensures j;
+  recalls = flag_is (found_of c.args.options.now) (codes "recalls") _ _ c.get_str-2.ensures c.is_set-2.ensures j;
+  outputs = flag_is (found_of c.args.options.now) (codes "outputs") _ _ c.get_str-3.ensures c.is_set-3.ensures j;
+}
