@@ -15,6 +15,7 @@ ghost use Rattle.tsb_step.specs.Events.{completes_minimum, completes_red, events
 ghost use Rattle.tsb_step.specs.MonitorCells.{trip_in};
 ghost use Rattle.tsb_step.specs.Past.{earlier, record_of};
 ghost use Rattle.tsb_step.specs.Step.{kind_of, last_tick, step, verdict};
+ghost use Rattle.tsb_controller.specs.Seen.{KeepsCycle};
 ghost use Rattle.tsb_controller.specs.Whole.{All, AreAllBy, all_in};
 ghost use Rattle.tsb_bench.specs.Cabinet.{rows_of, IsShut, most_cells};
 ghost use Rattle.tsb_bench.specs.Held.{state_of, whole};
@@ -24,6 +25,7 @@ use crate::bench::Bench;
 use crate::cabinet::Cabinet;
 use tsb_controller::{Causes, Controller};
 use tsb_events::{Change, Events, Found, Seen, Selected, other_events, tick_events};
+use tsb_objects::limits::TICKS;
 use tsb_objects::{NumberSet, PhaseSet, Refusal, Row};
 use tsb_step::Input;
 use tsb_step::log_form::Noted;
@@ -56,12 +58,14 @@ fn has_row(input: &Input, row: &Row) -> bool
 impl Cabinet {
     /// What the log of a controller sees at tick number `tick`.
     fn view(&self, tick: u32) -> Seen
+        requires limit { tick ≤ last_tick }
         requires by { (now : ℕ) × AreAllBy now (rows_of self.now) }
         ensures sees { Sees tick (rows_of self.now) result }
         ensures flashes { result.flashes ≡ is_some (trip_in (rows_of self.now).monitor) }
     {
         let tripped = self.monitor.is_tripped();
-        self.controller.view(tripped, self.clock(tick), &self.plan)
+        self.controller
+            .view(tripped, self.clock(tick), tick, &self.plan)
     }
 
     /// What it sees of the selected pattern.
@@ -122,12 +126,28 @@ impl Cabinet {
             .difference(self.red_timings(tick + 1))
     }
 
-    /// Whether the tick after tick number `tick` ends no minimum green and no time of a red clearance.
+    /// Whether the local counter goes on as it did in the tick after tick number `tick`, and comes to no place that is told.
+    fn keeps_cycle(&self, tick: u32) -> bool
+        requires limit { tick ≤ last_tick }
+        requires by { AreAllBy tick (rows_of self.now) }
+        ensures { result ≡ true → KeepsCycle tick (plan_in (rows_of self.now).plan) (rows_of self.now).layers.pattern }
+    {
+        if tick == TICKS {
+            return false;
+        }
+        self.controller.keeps_cycle(tick, &self.plan)
+    }
+
+    /// Whether the tick after tick number `tick` ends no minimum green and no time of a red clearance, and the local counter
+    /// goes on as it did in it and comes to no place that is told.
     fn ends_no_time(&self, tick: u32) -> bool
         requires limit { tick ≤ last_tick }
         requires by { AreAllBy tick (rows_of self.now) }
         ensures { result ≡ true → EndsNoTime (all_in tick (rows_of self.now)) }
     {
+        if !self.keeps_cycle(tick) {
+            return false;
+        }
         let ends = self.completed(tick).union(self.cleared(tick));
         ends.is_empty()
     }
@@ -177,6 +197,8 @@ impl Cabinet {
             force_off: causes.force_off,
             noted: *noted,
             row: *row,
+            zero: before.controller.comes_to_zero(tick, &self.plan),
+            yields: NumberSet::from_list(before.controller.yields(tick, &self.plan).list()),
             served: before.controller.is_served(before.clock, row, &self.plan),
         }
     }
@@ -193,6 +215,7 @@ impl Cabinet {
         events: &mut Events,
     )
         requires was { (a : All) × IsBefore tick a before.now × AreAllBy tick a × IsAllowed tick a input.now × (all_in now (rows_of self.now) ≡ step (all_in tick a) input.now) }
+        requires limit { now ≤ last_tick }
         requires by { AreAllBy now (rows_of self.now) }
         ensures { (a : All) → IsBefore tick a before.now → AreAllBy tick a → all_in now (rows_of self.now) ≡ step (all_in tick a) input.now
             → events.new.items ≡ events_of noted.now (all_in tick a) input.now }

@@ -1,5 +1,5 @@
 -- What the log of a controller sees of the layers, over the controller's rows.
-use Rattle.std.specs.Prelude.{◌≡◌, ℕ, Bool, false, not, ◌&&◌, is_some}
+use Rattle.std.specs.Prelude.{◌≡◌, ℕ, ◌+◌, ◌≤◌, Bool, false, not, ◌&&◌, is_some, List}
 use Rattle.std.specs.List.{list_any}
 use Rattle.tsb_step.specs.tsb_types.declared.flow.Intervals.{Intervals}
 use Rattle.tsb_step.specs.tsb_types.declared.flow.Pedestrians.{Pedestrians}
@@ -15,7 +15,8 @@ use Rattle.tsb_detect.specs.Promises.{TellsActuations, TellsOutputs}
 use Rattle.tsb_calls.specs.declared.observed.Observed.{Observed}
 use Rattle.tsb_calls.specs.declared.standing.Standing.{Standing}
 use Rattle.tsb_calls.specs.Promises.{TellsStanding}
-use Rattle.tsb_coord.specs.Cells.{pattern_in}
+use Rattle.tsb_coord.specs.Cells.{correction_in, pattern_in}
+use Rattle.tsb_coord.specs.Cycle.{comes_to_zero, cycle_state, yields}
 use Rattle.tsb_step.specs.Cells.{clock_at}
 use Rattle.tsb_step.specs.Events.{selected, times_minimum, times_red, view}
 use Rattle.tsb_events.specs.declared.seen.Seen.{Seen}
@@ -42,11 +43,11 @@ pub record IsStanding (intervals : Intervals) (pedestrians : Pedestrians) (plan 
   pub none_ended : observed.service_ended ≡ false
   pub stands : TellsStanding observed plan rows.calls result
 
--- `view(tripped, clock, plan)`: what a log sees of the state, where timers are read at `clock`, whatever stands beside
--- the rows
-abbrev pub TellsSeen : ℕ → Plan → Bool → Rows → Seen → Type 0
-TellsSeen clock plan tripped rows result = (now : ℕ) (b : Beside) → b.plan ≡ plan → is_some b.trip ≡ tripped → clock_at now b.trip ≡ clock →
-    AgreeInAll (view_of result) (view (state_of now b rows))
+-- `view(tripped, clock, tick, plan)`: what a log sees of the state at tick number `tick`, where timers are read at
+-- `clock`, whatever stands beside the rows
+abbrev pub TellsSeen : ℕ → ℕ → Plan → Bool → Rows → Seen → Type 0
+TellsSeen clock tick plan tripped rows result = (b : Beside) → b.plan ≡ plan → is_some b.trip ≡ tripped → clock_at tick b.trip ≡ clock →
+    AgreeInAll (view_of result) (view (state_of tick b rows))
 
 -- `red_timings(tripped, clock, plan)`: likewise the phases in red clearance whose time has not passed
 abbrev pub TellsRedTimings : ℕ → Plan → Bool → Rows → PhaseSet → Type 0
@@ -62,3 +63,9 @@ TellsMinimums clock plan tripped rows result = (now : ℕ) (b : Beside) → b.pl
 abbrev pub TellsSelected : Plan → Rows → Selected → Type 0
 TellsSelected plan rows result = (now : ℕ) (b : Beside) → b.plan ≡ plan →
     AgreeInSelected (selected_of result) (selected (state_of now b rows))
+
+-- `keeps_cycle(now, plan)`: in the next tick the local counter goes on as it did, and comes to no place that is told
+pub record KeepsCycle (now : ℕ) (plan : Plan) (row : List ℕ) : Type 0 where
+  pub cycle : cycle_state plan (pattern_in row) (correction_in row) (now + 1) ≡ cycle_state plan (pattern_in row) (correction_in row) now
+  pub zero : comes_to_zero plan (pattern_in row) (correction_in row) (now + 1) ≡ false
+  pub yields : (p : ℕ) → 1 ≤ p → p ≤ 16 → yields plan (pattern_in row) (correction_in row) (now + 1) p ≡ false

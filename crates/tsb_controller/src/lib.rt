@@ -9,6 +9,7 @@
 mod carry;
 pub mod causes;
 pub mod controller;
+mod cycle;
 mod found;
 mod inputs;
 pub mod laws;

@@ -9,6 +9,7 @@ ghost use Rattle.tsb_step.specs.tsb_types.Sets.{has, has_number};
 ghost use Rattle.tsb_step.specs.tsb_plan.Parts.{is_included};
 ghost use Rattle.tsb_step.specs.tsb_plan.Plan.{Plan};
 ghost use Rattle.tsb_step.specs.tsb_plan.Running.{is_on_maximum_recall, is_on_minimum_recall, running};
+ghost use Rattle.tsb_step.specs.Step.{last_tick};
 ghost use Rattle.tsb_step.specs.Events.{is_track, serves, stage_is_green};
 ghost use Rattle.tsb_preempt.specs.Preempts.{is_dwell, is_exit};
 ghost use Rattle.tsb_preempt.specs.Service.{all_green};
@@ -189,12 +190,13 @@ impl Controller {
         least.union(plan.on_maximum_recall(self.coord.running(plan)))
     }
 
-    /// What the log of a controller sees, of one that has tripped or has not. Timers are read at tick `clock`: the tick
-    /// number, or that of the trip.
-    pub fn view(&self, tripped: bool, clock: u32, plan: &Checked) -> Seen
+    /// What the log of a controller sees at tick number `tick`, of one that has tripped or has not. Timers are read at tick
+    /// `clock`: the tick number, or that of the trip.
+    pub fn view(&self, tripped: bool, clock: u32, tick: u32, plan: &Checked) -> Seen
+        requires in_time { tick ≤ last_tick }
         requires rings_by { rings.IsBy (rows_of self.now).rings }
         requires pattern_by { coord.IsBy (rows_of self.now).pattern }
-        ensures { TellsSeen clock (checked_plan plan.now) tripped (rows_of self.now) result }
+        ensures { TellsSeen clock tick (checked_plan plan.now) tripped (rows_of self.now) result }
     {
         let intervals = self.phases.intervals();
         let pedestrians = self.phases.pedestrians();
@@ -236,6 +238,7 @@ impl Controller {
             exits: stages.exit,
             is_preempted: stage.is_some(),
             stage_is_green: stage_is_green(&stage, &shown, plan),
+            cycle: self.coord.cycle_state(tick, plan),
             crosses: self.rings.crossing().is_some(),
             side: self.rings.side(),
             flashes: tripped,

@@ -280,7 +280,7 @@ impl Controller {
         requires in_time { beside.now.tick ≤ last_tick }
         ensures { TellsStatus beside.now (checked_plan plan.now) (rows_of self.now) result }
     {
-        let seen = self.view(beside.tripped, beside.clock, plan);
+        let seen = self.view(beside.tripped, beside.clock, beside.tick, plan);
         let sets = self.sets(&seen, plan);
         let rings = self.rings_told(beside.clock, plan);
         let pattern = self.pattern_told(beside.tick, plan);

@@ -2,6 +2,8 @@
 pub mod Coordinated
 -- how the local counter comes into step once a pattern is selected
 pub mod Correction
+-- how it goes, for event logs
+pub mod Cycle
 -- the cells, read and written, and the rows that can be
 pub mod Cells
 -- the clauses of the public calls of `Coord`

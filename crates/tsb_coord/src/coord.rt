@@ -144,7 +144,7 @@ impl Coord {
 
     /// How the local counter comes into step.
     #[inline(always)]
-    fn correction(&self) -> Correction
+    pub(crate) fn correction(&self) -> Correction
         requires by { IsBy (cells_of self.now) }
         ensures value { result ≡ correction_in (cells_of self.now) }
         ensures since { result.since ≤ TICKS }

@@ -15,12 +15,14 @@ pub mod coord;
 pub mod coordination;
 pub mod correction;
 mod counting;
+pub mod cycle;
 pub mod laws;
 mod waiting;
 
 pub use coord::Coord;
 pub use coordination::Coordination;
 pub use correction::Correction;
+pub use cycle::CycleState;
 
 /// The cells of coordination.
 pub const CELLS: usize = 3;

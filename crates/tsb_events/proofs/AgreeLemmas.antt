@@ -9,6 +9,7 @@ use Rattle.tsb_types.specs.declared.event.Event.{Event}
 use Rattle.tsb_types.specs.declared.event.TheConstants as codes
 use Rattle.tsb_types.specs.declared.row.Row.{Row}
 use Rattle.tsb_step.specs.declared.log_form.LogForm.{LogForm}
+use Rattle.tsb_step.specs.tsb_coord.Cycle.{number_of}
 use Rattle.tsb_step.specs.Events as events
 use Rattle.tsb_step.specs.declared.log_form.Noted.{Noted}
 use Rattle.tsb_step.specs.Events.{View, Found, Selected}
@@ -144,6 +145,15 @@ exit-same : (tick : ℕ) (v w x y : View) → AgreeInAll v w → AgreeInAll x y 
 exit-same tick v w x y was now =
     begun-same tick codes.EXIT_BEGINS _ _ _ _ (green-agree _ _ _ _ was was.exits) (green-agree _ _ _ _ now now.exits)
 
+cycle-same : (tick : ℕ) (v w x y : View) → AgreeInAll v w → AgreeInAll x y → events.cycle_events tick v x ≡ events.cycle_events tick w y
+cycle-same tick v w x y was now = λ i. events.if_differs tick codes.CYCLE_STATE_CHANGES (number_of (was.cycle i)) (number_of (now.cycle i))
+
+zero-same : (tick : ℕ) (f g : Found) → AgreeInFound f g → events.zero_events tick f ≡ events.zero_events tick g
+zero-same tick f g same = λ i. if same.zero i then event tick codes.CYCLE_STATE_CHANGES codes.CYCLE_ZERO ∷ [] else []
+
+yield-same : (tick : ℕ) (f g : Found) → AgreeInFound f g → events.yield_events tick f ≡ events.yield_events tick g
+yield-same tick f g same = told-same tick codes.YIELD_POINT _ _ same.yields
+
 flash-same : (tick : ℕ) (v w x y : View) → AgreeInAll v w → AgreeInAll x y → events.flash_events tick v x ≡ events.flash_events tick w y
 flash-same tick v w x y was now =
     λ i. if now.flashes i && not (was.flashes i) then event tick codes.FLASH_CHANGES codes.FLASH ∷ []
@@ -183,7 +193,8 @@ ticks-same tick f g v w x y same was now =
     ++ overlap-same tick v w x y was now i ++ vehicle-same tick (same.noted i) (same.row i) v w x y was now i
     ++ alarm-same tick v w x y was now i ++ button-same tick f g same i
     ++ request-same tick (same.noted i).row (same.row i) v w x y was now i ++ preempt-same tick v w x y was now i
-    ++ presence-same tick f g v w x y same was now i ++ exit-same tick v w x y was now i ++ flash-same tick v w x y was now i
+    ++ presence-same tick f g v w x y same was now i ++ exit-same tick v w x y was now i
+    ++ (cycle-same tick v w x y was now i ++ zero-same tick f g same i) ++ yield-same tick f g same i ++ flash-same tick v w x y was now i
 
 pub others-same : (tick : ℕ) (noted : Noted) (v w x y : View) (s s_too t t_too : Selected) → AgreeInAll v w → AgreeInAll x y →
     AgreeInSelected s s_too → AgreeInSelected t t_too →
@@ -193,4 +204,4 @@ others-same tick noted v w x y s s_too t t_too was now selected_was selected_now
     ++ pedestrian-same tick v w x y was now i ++ call-same tick noted.form v w x y was now i
     ++ overlap-same tick v w x y was now i ++ vehicle-same tick noted noted.row v w x y was now i
     ++ alarm-same tick v w x y was now i ++ request-same tick noted.row noted.row v w x y was now i ++ preempt-same tick v w x y was now i ++ exit-same tick v w x y was now i
-    ++ pattern-same tick s s_too t t_too selected_was selected_now i ++ flash-same tick v w x y was now i
+    ++ pattern-same tick s s_too t t_too selected_was selected_now i ++ cycle-same tick v w x y was now i ++ flash-same tick v w x y was now i

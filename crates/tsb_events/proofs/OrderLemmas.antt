@@ -13,6 +13,9 @@ use Rattle.tsb_types.specs.declared.row.Row.{Row}
 use Rattle.tsb_step.specs.declared.inputs.Input.{Input}
 use Rattle.tsb_step.specs.declared.inputs.Input.TheVariants.{Tick}
 use Rattle.tsb_step.specs.declared.log_form.LogForm.{LogForm}
+use Rattle.tsb_step.specs.tsb_coord.declared.cycle.CycleState.{CycleState}
+use Rattle.tsb_step.specs.tsb_coord.declared.cycle.CycleState.TheVariants as cycles
+use Rattle.tsb_step.specs.tsb_coord.Cycle.{number_of}
 use Rattle.tsb_step.specs.Events as events
 use Rattle.tsb_step.specs.declared.log_form.Noted.{Noted}
 use Rattle.tsb_step.specs.Events.{View, Found, Selected, events_of, found, view, selected}
@@ -221,21 +224,61 @@ pattern-span tick s t =
     joined (joined (joined (selection-span tick s t) (differs-span tick codes.CYCLE_CHANGES s.cycle t.cycle) refl)
     (differs-span tick codes.OFFSET_CHANGES s.offset t.offset) refl) (split-span tick s t) refl
 
+-- ## How the local counter goes
+
+below-zero : (c : CycleState) → number_of c < codes.CYCLE_ZERO
+below-zero cycles.Free = omega arith
+below-zero cycles.InStep = omega arith
+below-zero cycles.Adds = omega arith
+below-zero cycles.Subtracts = omega arith
+below-zero cycles.Dwells = omega arith
+
+-- a state, and then local zero
+state-and-zero : (tick n : ℕ) → n < codes.CYCLE_ZERO → Span tick codes.CYCLE_STATE_CHANGES (suc codes.CYCLE_STATE_CHANGES)
+    (event tick codes.CYCLE_STATE_CHANGES n ∷ event tick codes.CYCLE_STATE_CHANGES codes.CYCLE_ZERO ∷ [])
+state-and-zero tick n below = record {
+  rises = omega arith;
+  order = (
+    All-cons (StandsBefore (event tick codes.CYCLE_STATE_CHANGES n)) (event tick codes.CYCLE_STATE_CHANGES codes.CYCLE_ZERO) [] (refl, inr (refl, below))
+        (All-nil (StandsBefore (event tick codes.CYCLE_STATE_CHANGES n))),
+    (All-nil (StandsBefore (event tick codes.CYCLE_STATE_CHANGES codes.CYCLE_ZERO)), tt),
+  );
+  within = All-cons (IsWithin tick codes.CYCLE_STATE_CHANGES (suc codes.CYCLE_STATE_CHANGES)) (event tick codes.CYCLE_STATE_CHANGES n)
+      (event tick codes.CYCLE_STATE_CHANGES codes.CYCLE_ZERO ∷ []) (refl, omega arith, omega arith)
+      (All-cons (IsWithin tick codes.CYCLE_STATE_CHANGES (suc codes.CYCLE_STATE_CHANGES)) (event tick codes.CYCLE_STATE_CHANGES codes.CYCLE_ZERO) [] (refl, omega arith, omega arith)
+      (All-nil (IsWithin tick codes.CYCLE_STATE_CHANGES (suc codes.CYCLE_STATE_CHANGES))));
+}
+
+pub cycle-span : (tick : ℕ) (v w : View) → Span tick 150 151 (events.cycle_events tick v w)
+cycle-span tick v w = differs-span tick codes.CYCLE_STATE_CHANGES (number_of v.cycle) (number_of w.cycle)
+
+pub zero-span : (tick : ℕ) (f : Found) (v w : View) → Span tick 150 151 (events.cycle_events tick v w ++ events.zero_events tick f)
+zero-span tick f v w = elim (cases_Bool f.zero) [
+  | inl z ↦ elim (cases_Bool (number_of v.cycle == number_of w.cycle)) [
+    | inl h ↦ rw (z, h) (one-event tick codes.CYCLE_STATE_CHANGES codes.CYCLE_ZERO)
+    | inr h ↦ rw (z, h) (state-and-zero tick (number_of w.cycle) (below-zero w.cycle))
+  ]
+  | inr z ↦ elim (cases_Bool (number_of v.cycle == number_of w.cycle)) [
+    | inl h ↦ rw (z, h) (no-event tick codes.CYCLE_STATE_CHANGES)
+    | inr h ↦ rw (z, h) (one-event tick codes.CYCLE_STATE_CHANGES (number_of w.cycle))
+  ]
+]
+
 -- ## All groups
 
 ticks-span : (tick : ℕ) (f : Found) (v w : View) → Span tick 0 174 (events.tick_events tick f v w)
 ticks-span tick f v w =
-    joined (joined (joined (joined (joined (joined (joined (joined (joined (joined (joined (joined (joined (joined (green-span tick v w)
+    joined (joined (joined (joined (joined (joined (joined (joined (joined (joined (joined (joined (joined (joined (joined (joined (green-span tick v w)
     (ending-span tick f) refl) (clearing-span tick v w) refl) (pedestrian-span tick v w) refl) (crossing-span tick v w) refl) (call-span
     tick f.noted.form v w) refl) (overlap-span tick v w) refl) (vehicle-span tick f.noted f.row v w) refl) (alarm-span tick v w) refl)
     (button-span tick f) refl) (request-span tick f.noted.row f.row v w) refl) (preempt-span tick v w) refl) (one-code tick codes.PRESENCE_EXCEEDED _) refl) (one-code tick codes.EXIT_BEGINS _) refl)
-    (flash-span tick v w) refl
+    (zero-span tick f v w) refl) (one-code tick codes.YIELD_POINT _) refl) (flash-span tick v w) refl
 
 others-span : (tick : ℕ) (noted : Noted) (v w : View) (s t : Selected) → Span tick 0 174 (events.other_events tick noted v w s t)
 others-span tick noted v w s t =
-    joined (joined (joined (joined (joined (joined (joined (joined (joined (joined (joined (green-span tick v w) (clearing-span tick v w) refl)
+    joined (joined (joined (joined (joined (joined (joined (joined (joined (joined (joined (joined (green-span tick v w) (clearing-span tick v w) refl)
     (pedestrian-span tick v w) refl) (call-span tick noted.form v w) refl) (overlap-span tick v w) refl) (vehicle-span tick noted noted.row v w)
-    refl) (alarm-span tick v w) refl) (request-span tick noted.row noted.row v w) refl) (preempt-span tick v w) refl) (one-code tick codes.EXIT_BEGINS _) refl) (pattern-span tick s t) refl) (flash-span tick v w) refl
+    refl) (alarm-span tick v w) refl) (request-span tick noted.row noted.row v w) refl) (preempt-span tick v w) refl) (one-code tick codes.EXIT_BEGINS _) refl) (pattern-span tick s t) refl) (cycle-span tick v w) refl) (flash-span tick v w) refl
 
 pub ticks-in-order : (tick : ℕ) (f : Found) (v w : View) → AreInOrder (events.tick_events tick f v w)
 ticks-in-order tick f v w = (ticks-span tick f v w).order

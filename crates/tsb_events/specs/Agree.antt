@@ -30,6 +30,7 @@ pub record AgreeInAll (v w : View) : Type 0 where
   pub exits : Agree v.exits w.exits
   pub is_preempted : v.is_preempted ≡ w.is_preempted
   pub stage_is_green : v.stage_is_green ≡ w.stage_is_green
+  pub cycle : v.cycle ≡ w.cycle
   pub crosses : v.crosses ≡ w.crosses
   pub side : v.side ≡ w.side
   pub flashes : v.flashes ≡ w.flashes
@@ -42,6 +43,8 @@ pub record AgreeInFound (f g : Found) : Type 0 where
   pub force_off : Agree f.force_off g.force_off
   pub noted : f.noted ≡ g.noted
   pub row : f.row ≡ g.row
+  pub zero : f.zero ≡ g.zero
+  pub yields : Agree f.yields g.yields
   pub served : f.served ≡ g.served
 
 -- what is seen of the selected pattern agrees

@@ -32,6 +32,7 @@ view_of seen = record {
   exits = has_number seen.exits;
   is_preempted = seen.is_preempted;
   stage_is_green = seen.stage_is_green;
+  cycle = seen.cycle;
   crosses = seen.crosses;
   side = seen.side;
   flashes = seen.flashes;
@@ -55,5 +56,7 @@ found_of f = record {
   force_off = has_number f.force_off;
   noted = f.noted;
   row = f.row;
+  zero = f.zero;
+  yields = has_number f.yields;
   served = f.served;
 }

@@ -55,7 +55,7 @@ fn tell_splits(events: &mut Events, tick: u32, was: &Selected, now: &Selected)
 }
 
 /// Adds an event with a value that differs from the one before.
-fn tell_value(events: &mut Events, tick: u32, code: u8, before: u8, value: u8)
+pub(crate) fn tell_value(events: &mut Events, tick: u32, code: u8, before: u8, value: u8)
     requires { array_vec_len events.old + 1 ≤ EVENTS }
     ensures told { events.new.items ≡ events.old.items ++ if_differs tick code before value }
     ensures few { array_vec_len events.new ≤ array_vec_len events.old + 1 }

@@ -1,5 +1,6 @@
 //! What the log of a controller sees.
 
+use tsb_step::CycleState;
 use tsb_step::log_form::Noted;
 use tsb_types::{NumberSet, Pattern, Row, Side};
 
@@ -53,6 +54,8 @@ pub struct Seen {
     pub is_preempted: bool,
     /// Whether each phase of its stage is Green; `false` where none is in service.
     pub stage_is_green: bool,
+    /// How the local counter of the pattern that runs goes.
+    pub cycle: CycleState,
     /// Whether a crossing of the barrier is under way.
     pub crosses: bool,
     /// The side that is served.
@@ -99,6 +102,10 @@ pub struct Found {
     pub noted: Noted,
     /// The inputs that are on in the tick.
     pub row: Row,
+    /// Whether the local counter comes to 0 in the tick, where a cycle begins.
+    pub zero: bool,
+    /// The coordinated phases to whose force-off instant it comes, their yield point.
+    pub yields: NumberSet,
     /// Whether the preempt in service has been served: its input is off, after its minimum duration.
     pub served: bool,
 }

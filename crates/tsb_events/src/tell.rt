@@ -3,27 +3,28 @@ ghost use Rattle.std.specs.Prelude.{◌≡◌, ◌+◌, ◌++◌, ◌≤◌, ◌
 ghost use Rattle.arrayvec.specs.ArrayVec.{array_vec_len};
 ghost use Rattle.tsb_step.specs.tsb_types.Sets.{has_number};
 ghost use Rattle.tsb_step.specs.tsb_types.Events.{begins, either, told};
-ghost use Rattle.tsb_step.specs.Events.{alarm_events, but_recalls, button_events, call_events, clearing_events, crossing_events, ending_events, exit_events, flash_events, green_events, leaves_dwell, once_green, other_events, overlap_events, pedestrian_events, pedestrian_calls_in, preempt_events, presence_events, request_events, requests, serving, tick_events, vehicle_calls_in, vehicle_events, vehicles_in};
+ghost use Rattle.tsb_step.specs.Events.{alarm_events, but_recalls, button_events, call_events, clearing_events, crossing_events, cycle_events, ending_events, exit_events, flash_events, green_events, leaves_dwell, once_green, other_events, overlap_events, pedestrian_events, pedestrian_calls_in, preempt_events, presence_events, request_events, requests, serving, tick_events, vehicle_calls_in, vehicle_events, vehicles_in, zero_events};
 ghost use Rattle.tsb_events.specs.declared.tell.TheConstants.{EVENTS};
 ghost use Rattle.tsb_events.specs.Seen.{found_of, selected_of, view_of};
 
-use crate::pattern::tell_pattern;
+use crate::pattern::{tell_pattern, tell_value};
 use crate::seen::{Change, Found, Seen};
 use arrayvec::ArrayVec;
 use tsb_step::log_form::{LogForm, Noted};
 use tsb_types::event::{
     ALARM_COMES, ALARM_GOES, BARRIER_CROSSED, CALL_COMES, CALL_GOES, CLEARANCE_BEGINS,
-    CONFLICT_BEGINS, DONT_WALK_BEGINS, DWELL_BEGINS, EXIT_BEGINS, FLASH, FLASH_CHANGES, FORCE_OFF,
-    GAP_OUT, GREEN_BEGINS, GREEN_ENDS, MAX_OUT, MINIMUM_COMPLETE, NO_FLASH, OVERLAP_GREEN_BEGINS,
-    OVERLAP_OFF, OVERLAP_RED_BEGINS, OVERLAP_YELLOW_BEGINS, PEDESTRIAN_CALL_COMES, PEDESTRIAN_OFF,
-    PEDESTRIAN_ON, PHASE_OFF, PHASE_ON, PREEMPT_ENTERS, PREEMPT_OFF, PREEMPT_ON, PRESENCE_EXCEEDED,
-    RED_CLEARANCE_BEGINS, RED_CLEARANCE_ENDS, TRACK_BEGINS, VEHICLE_OFF, VEHICLE_ON, WALK_BEGINS,
-    YELLOW_BEGINS, YELLOW_ENDS, begun, joined, tell,
+    CONFLICT_BEGINS, CYCLE_STATE_CHANGES, CYCLE_ZERO, DONT_WALK_BEGINS, DWELL_BEGINS, EXIT_BEGINS,
+    FLASH, FLASH_CHANGES, FORCE_OFF, GAP_OUT, GREEN_BEGINS, GREEN_ENDS, MAX_OUT, MINIMUM_COMPLETE,
+    NO_FLASH, OVERLAP_GREEN_BEGINS, OVERLAP_OFF, OVERLAP_RED_BEGINS, OVERLAP_YELLOW_BEGINS,
+    PEDESTRIAN_CALL_COMES, PEDESTRIAN_OFF, PEDESTRIAN_ON, PHASE_OFF, PHASE_ON, PREEMPT_ENTERS,
+    PREEMPT_OFF, PREEMPT_ON, PRESENCE_EXCEEDED, RED_CLEARANCE_BEGINS, RED_CLEARANCE_ENDS,
+    TRACK_BEGINS, VEHICLE_OFF, VEHICLE_ON, WALK_BEGINS, YELLOW_BEGINS, YELLOW_ENDS, YIELD_POINT,
+    begun, joined, tell,
 };
 use tsb_types::{Event, NumberSet, Row};
 
-/// The most events of one input: 16 of each of 36 codes, and two more.
-pub const EVENTS: usize = 578;
+/// The most events of one input: 16 of each of 37 codes, and four more.
+pub const EVENTS: usize = 596;
 
 /// The events of one input.
 pub type Events = ArrayVec<Event, EVENTS>;
@@ -48,6 +49,9 @@ pub fn tick_events(events: &mut Events, tick: u32, was: &Seen, now: &Seen, found
     tell_preempts(events, tick, was, now);
     tell_presence(events, tick, found, was, now);
     tell_exits(events, tick, was, now);
+    tell_cycle(events, tick, was, now);
+    tell_zero(events, tick, found);
+    tell(events, tick, YIELD_POINT, found.yields);
     tell_flash(events, tick, was, now);
 }
 
@@ -75,6 +79,7 @@ pub fn other_events(
     tell_preempts(events, tick, was, now);
     tell_exits(events, tick, was, now);
     tell_pattern(events, tick, &change.before, &change.after);
+    tell_cycle(events, tick, was, now);
     tell_flash(events, tick, was, now);
 }
 
@@ -388,6 +393,32 @@ fn tell_exits(events: &mut Events, tick: u32, was: &Seen, now: &Seen)
     let exits_was = once_green(was, was.exits);
     let exits = once_green(now, now.exits);
     tell_begun(events, tick, EXIT_BEGINS, exits_was, exits);
+}
+
+/// Adds how the local counter goes, where it goes otherwise than before.
+fn tell_cycle(events: &mut Events, tick: u32, was: &Seen, now: &Seen)
+    requires { array_vec_len events.old + 1 ≤ EVENTS }
+    ensures told { events.new.items ≡ events.old.items ++ cycle_events tick (view_of was.now) (view_of now.now) }
+    ensures few { array_vec_len events.new ≤ array_vec_len events.old + 1 }
+{
+    let before = was.cycle.number();
+    let after = now.cycle.number();
+    tell_value(events, tick, CYCLE_STATE_CHANGES, before, after);
+}
+
+/// Adds local zero, where a tick comes to it.
+fn tell_zero(events: &mut Events, tick: u32, found: &Found)
+    requires { array_vec_len events.old + 1 ≤ EVENTS }
+    ensures told { events.new.items ≡ events.old.items ++ zero_events tick (found_of found.now) }
+    ensures few { array_vec_len events.new ≤ array_vec_len events.old + 1 }
+{
+    if found.zero {
+        events.push(Event {
+            tick,
+            code: CYCLE_STATE_CHANGES,
+            parameter: CYCLE_ZERO,
+        });
+    }
 }
 
 /// Adds a flash by the monitor that begins or ends.

@@ -59,10 +59,10 @@ at-pattern n was is =
         at-none (at-one n codes.PATTERN_CHANGES (or_number is.pattern codes.FREE))
 
 at-tick : (n : ℕ) (f : Found) (was now : View) → AreAt n (tick_events n f was now)
-at-tick n f was now = search (at-append, at-told, at-if, at-one, at-none) depth 60
+at-tick n f was now = search (at-append, at-told, at-if, at-one, at-none, at-differs) depth 70
 
 at-other : (n : ℕ) (noted : Noted) (was now : View) (was_selected now_selected : Selected) → AreAt n (other_events n noted was now was_selected now_selected)
-at-other n noted was now was_selected now_selected = search (at-append, at-told, at-if, at-one, at-none, at-pattern) depth 60
+at-other n noted was now was_selected now_selected = search (at-append, at-told, at-if, at-one, at-none, at-pattern, at-differs) depth 70
 
 at-between : (noted : Noted) (s : State) (i : Input) (after : State) → AreAt after.now (events_between noted s i after)
 at-between noted s (Tick row) after = at-tick after.now (found noted s row after) (view s) (view after)

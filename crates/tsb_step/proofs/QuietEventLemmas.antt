@@ -1,5 +1,5 @@
 -- A quiet tick with the inputs of the tick before tells nothing.
-use Rattle.std.proofs.Common.{◌≡◌, ◌∙◌, ℕ, ◌+◌, ◌≤◌, ◌==◌, Bool, true, false, not, ◌&&◌, ◌||◌, List, [], ◌∷◌, ◌++◌, map, Option, Some, None, is_some, is_none, if◌then◌else◌, refl, ap, arith}
+use Rattle.std.proofs.Common.{◌≡◌, ◌∙◌, ℕ, ◌+◌, ◌≤◌, ◌==◌, Bool, true, false, not, ◌&&◌, ◌||◌, List, [], ◌∷◌, ◌++◌, map, Option, Some, None, is_some, is_none, if◌then◌else◌, refl, ap, sym, arith}
 use Rattle.std.proofs.Math.Bool.{and-not_self}
 use Rattle.tsb_cells.specs.declared.timer.Timer.{Timer}
 use Rattle.tsb_cells.specs.declared.timer.Timer.TheVariants.{Off, On}
@@ -15,6 +15,9 @@ use Rattle.tsb_types.specs.declared.stage.Stage.{Stage}
 use Rattle.tsb_types.specs.declared.stage.Stage.TheVariants.{Track, Dwell, Exit}
 use Rattle.tsb_types.proofs.EventLemmas.{none-told}
 use Rattle.tsb_types.proofs.NumberLemmas.{filter-none}
+use Rattle.tsb_coord.specs.declared.cycle.CycleState.{CycleState}
+use Rattle.tsb_coord.specs.declared.cycle.CycleState.TheVariants as cycles
+use Rattle.tsb_coord.specs.Cycle.{comes_to_zero, cycle_state, number_of, yields}
 use Rattle.tsb_calls.specs.Callable.{is_recalled}
 use Rattle.tsb_calls.specs.Standing as standing
 use Rattle.tsb_detect.specs.Detector as detector
@@ -54,24 +57,33 @@ times-on true r u none = none
 times-on false true u none = refl
 times-on false false u none = refl
 
+-- the cycle goes on as it did
+same-state : (tick : ℕ) (c : CycleState) → events.if_differs tick codes.CYCLE_STATE_CHANGES (number_of c) (number_of c) ≡ []
+same-state tick cycles.Free = refl
+same-state tick cycles.InStep = refl
+same-state tick cycles.Adds = refl
+same-state tick cycles.Subtracts = refl
+same-state tick cycles.Dwells = refl
+
 -- a tick that found this: no cause, and the inputs of the tick before
-abbrev same_inputs : (ℕ → Bool) → (ℕ → Bool) → (ℕ → Bool) → (ℕ → Bool) → Noted → Bool → Found
-same_inputs minimum gap maximum force_off noted served =
-    record { minimum = minimum; gap = gap; maximum = maximum; force_off = force_off; noted = noted; row = noted.row; served = served }
+abbrev same_inputs : (ℕ → Bool) → (ℕ → Bool) → (ℕ → Bool) → (ℕ → Bool) → Noted → Bool → (ℕ → Bool) → Bool → Found
+same_inputs minimum gap maximum force_off noted zero yields served =
+    record { minimum = minimum; gap = gap; maximum = maximum; force_off = force_off; noted = noted; row = noted.row; zero = zero; yields = yields; served = served }
 
 -- of views that differ in what times of red clearances alone, none of which ends its time of phases 1 to 16
-none-between : (tick : ℕ) (minimum gap maximum force_off timing : ℕ → Bool) (noted : Noted) (served : Bool) (v : View) →
+none-between : (tick : ℕ) (minimum gap maximum force_off timing : ℕ → Bool) (noted : Noted) (zero : Bool) (yields : ℕ → Bool) (state : CycleState) (served : Bool) (v : View) →
     ((n : ℕ) → 1 ≤ n → n ≤ 16 → minimum n ≡ false) → ((n : ℕ) → gap n ≡ false) →
     ((n : ℕ) → maximum n ≡ false) → ((n : ℕ) → force_off n ≡ false) → ((n : ℕ) → leaves_dwell v v n ≡ false) →
     ((n : ℕ) → 1 ≤ n → n ≤ 16 → (v.red_timings n && not (timing n)) ≡ false) →
-    tick_events tick (same_inputs minimum gap maximum force_off noted served) v (record v { red_timings = timing }) ≡ []
-none-between tick minimum gap maximum force_off timing noted served v no_minimum no_gap no_maximum no_force_off stays none =
+    state ≡ v.cycle → zero ≡ false → ((n : ℕ) → 1 ≤ n → n ≤ 16 → yields n ≡ false) →
+    tick_events tick (same_inputs minimum gap maximum force_off noted zero yields served) v (record v { red_timings = timing; cycle = state }) ≡ []
+none-between tick minimum gap maximum force_off timing noted zero yields state served v no_minimum no_gap no_maximum no_force_off stays none same no_zero no_yield =
     λ i. (none-told tick codes.PHASE_ON v.greens i ++ none-told tick codes.GREEN_BEGINS v.greens i ++ none-told tick codes.CONFLICT_BEGINS v.conflicts i)
     ++ (told-within tick codes.MINIMUM_COMPLETE minimum no_minimum i ++ told-none tick codes.GAP_OUT gap no_gap i ++ told-none tick codes.MAX_OUT maximum no_maximum i
     ++ told-none tick codes.FORCE_OFF force_off no_force_off i)
     ++ (none-told tick codes.GREEN_ENDS v.greens i ++ none-told tick codes.YELLOW_BEGINS v.yellows i ++ none-told tick codes.YELLOW_ENDS v.yellows i
     ++ none-told tick codes.RED_CLEARANCE_BEGINS v.red_clearances i
-    ++ told-within tick codes.RED_CLEARANCE_ENDS (events.ends_red_timing v (record v { red_timings = timing }))
+    ++ told-within tick codes.RED_CLEARANCE_ENDS (events.ends_red_timing v (record v { red_timings = timing; cycle = state }))
     (λ n from to. times-on (v.red_timings n) (v.red_clearances n) (timing n) (none n from to)) i
     ++ none-told tick codes.PHASE_OFF (events.serving v) i)
     ++ (none-told tick codes.WALK_BEGINS v.walks i ++ none-told tick codes.CLEARANCE_BEGINS v.clearances i
@@ -90,8 +102,13 @@ none-between tick minimum gap maximum force_off timing noted served v no_minimum
     ++ none-told tick codes.DWELL_BEGINS (events.once_green v v.dwells) i)
     ++ told-none tick codes.PRESENCE_EXCEEDED (λ n. leaves_dwell v v n && not served) (λ n j. stays n j && not served) i
     ++ none-told tick codes.EXIT_BEGINS (events.once_green v v.exits) i
+    ++ (goes_on i ++ (if no_zero i then event tick codes.CYCLE_STATE_CHANGES codes.CYCLE_ZERO ∷ [] else []))
+    ++ told-within tick codes.YIELD_POINT yields no_yield i
     ++ (if and-not_self v.flashes i then event tick codes.FLASH_CHANGES codes.FLASH ∷ []
     else (if and-not_self v.flashes i then event tick codes.FLASH_CHANGES codes.NO_FLASH ∷ [] else []))
+  where
+    goes_on : events.if_differs tick codes.CYCLE_STATE_CHANGES (number_of v.cycle) (number_of state) ≡ []
+    goes_on = ap (λ (c : CycleState). events.if_differs tick codes.CYCLE_STATE_CHANGES (number_of v.cycle) (number_of c)) same ∙ same-state tick v.cycle
 
 -- ## What a log sees once timers have run on
 
@@ -133,11 +150,16 @@ ran s = record s {
   preempts = preempts.as_read s.preempts;
 }
 
-view-ran : (s : State) → view (ran s) ≡ record (view s) { red_timings = times_red (ran s) }
+-- how the cycle goes in the next tick
+abbrev next_cycle : State → CycleState
+next_cycle s = cycle_state s.plan s.pattern s.correction (s.now + 1)
+
+view-ran : (s : State) → view (ran s) ≡ record (view s) { red_timings = times_red (ran s); cycle = next_cycle s }
 unfolding view display
 view-ran s =
     λ i. record (view s) {
       red_timings = times_red (ran s);
+      cycle = next_cycle s;
       conflicts = λ p. is_green (shown_interval s p) && same-on (s.phases p).conflict i;
       vehicle_calls = standing.vehicle_call s.plan (given i) s.memories;
       pedestrian_calls = standing.pedestrian_call s.plan (given i) s.memories;
@@ -156,7 +178,7 @@ view-ran s =
     given = λ i. record (calls_now s) { output = λ d. same-output s.detectors d i; actuated = λ d. same-actuated s.detectors d i }
 
 -- the tick number is not seen
-view-later : (s : State) → view (record s { now = s.now + 1 }) ≡ record (view s) { red_timings = times_red (record s { now = s.now + 1 }) }
+view-later : (s : State) → view (record s { now = s.now + 1 }) ≡ record (view s) { red_timings = times_red (record s { now = s.now + 1 }); cycle = next_cycle s }
 unfolding view display
 view-later s = refl
 
@@ -183,6 +205,10 @@ in-dwell (Some x) n = go (x.0 == n) x.1
 dwells-on : (s : State) (n : ℕ) → leaves_dwell (view s) (view s) n ≡ false
 unfolding view
 dwells-on s n = in-dwell (stage s) n
+
+cycle-seen : (s : State) → (view s).cycle ≡ cycle_state s.plan s.pattern s.correction s.now
+unfolding view
+cycle-seen s = refl
 
 timed : (s : State) (p : ℕ) → (view s).red_timings p ≡ times_red s p
 unfolding view
@@ -212,19 +238,20 @@ waited-none noted s none = go s.trip none
     of_force_off : (o : Option Cause) → o ≡ None → is_cause ForceOff o ≡ false
     of_force_off o e = ap (is_cause ForceOff) e
 
-    none_of : (s t : State) → interval t ≡ interval s → view t ≡ record (view s) { red_timings = times_red t } →
+    none_of : (s t : State) → interval t ≡ interval s → view t ≡ record (view s) { red_timings = times_red t; cycle = next_cycle s } → EndsNoTime s →
         ((p : ℕ) → 1 ≤ p → p ≤ 16 → completes_minimum s p ≡ false) → ((p : ℕ) → 1 ≤ p → p ≤ 16 → (times_red s p && not (times_red t p)) ≡ false) →
         events_between noted s (Tick row) t ≡ []
-    none_of s t same seen completes ends =
+    none_of s t same seen no_time completes ends =
         ap (λ (v : View). tick_events t.now (found noted s row t) (view s) v) seen
-        ∙ none-between t.now _ _ _ _ (times_red t) noted _ (view s) completes (λ p. no_cause s t Gap of_gap p (λ i. same i p))
+        ∙ none-between t.now _ _ _ _ (times_red t) noted _ _ (next_cycle s) _ (view s) completes (λ p. no_cause s t Gap of_gap p (λ i. same i p))
         (λ p. no_cause s t Maximum of_maximum p (λ i. same i p)) (λ p. no_cause s t ForceOff of_force_off p (λ i. same i p)) (dwells-on s)
         (λ p from to. ap (λ (b : Bool). b && not (times_red t p)) (timed s p) ∙ ends p from to)
+        (no_time.cycle ∙ sym (cycle-seen s)) no_time.zero no_time.yields
 
     go : (trip : Option Tripped) → EndsNoTime (record s { trip = trip }) →
         events_between noted (record s { trip = trip }) (Tick row) (waited (record s { trip = trip })) ≡ []
-    go (Some trip) ends = none_of (record s { trip = Some trip }) (record s { trip = Some trip; now = s.now + 1 }) refl (view-later (record s { trip = Some trip })) ends.minimum ends.red
-    go None ends = none_of (record s { trip = None }) (ran (record s { trip = None })) refl (view-ran (record s { trip = None })) ends.minimum ends.red
+    go (Some trip) ends = none_of (record s { trip = Some trip }) (record s { trip = Some trip; now = s.now + 1 }) refl (view-later (record s { trip = Some trip })) ends ends.minimum ends.red
+    go None ends = none_of (record s { trip = None }) (ran (record s { trip = None })) refl (view-ran (record s { trip = None })) ends ends.minimum ends.red
 
 pub quiet-tells-none : (noted : Noted) (s : State) → IsQuiet s (step s (Tick noted.row)) → EndsNoTime s → events_of noted s (Tick noted.row) ≡ []
 unfolding events_of

@@ -1,6 +1,7 @@
 -- What holds of the events of ticks. Each law here is the contract of a function in src/event_laws.rt, and proved there.
 use Rattle.std.specs.Prelude.{◌≡◌, ℕ, ◌+◌, ◌≤◌, Bool, true, false, if◌then◌else◌, [], None}
 use Rattle.tsb_types.specs.declared.row.Row.{Row}
+use Rattle.tsb_coord.specs.Cycle.{comes_to_zero, cycle_state, yields}
 use Rattle.tsb_step.specs.declared.inputs.Input.TheVariants.{Tick}
 use Rattle.tsb_step.specs.declared.log_form.Noted.{Noted}
 use Rattle.tsb_step.specs.Events.{Found, completes_minimum, completes_red, ends_freely, events_of, found}
@@ -30,10 +31,14 @@ abbrev pub OthersHaveNoCause : Type 0
 OthersHaveNoCause = (noted : Noted) (s : State) (row : Row) (p : ℕ) →
     ends_freely s row (step s (Tick row)) p ≡ false → causes_told (found_next noted s row) p ≡ 0
 
--- the next tick ends no minimum green and no time of a red clearance
+-- the next tick ends no minimum green and no time of a red clearance, and the local counter comes to no place in it that is
+-- told, and goes on as it did
 pub record EndsNoTime (s : State) : Type 0 where
   pub minimum : (p : ℕ) → 1 ≤ p → p ≤ 16 → completes_minimum s p ≡ false
   pub red : (p : ℕ) → 1 ≤ p → p ≤ 16 → completes_red s p ≡ false
+  pub cycle : cycle_state s.plan s.pattern s.correction (s.now + 1) ≡ cycle_state s.plan s.pattern s.correction s.now
+  pub zero : comes_to_zero s.plan s.pattern s.correction (s.now + 1) ≡ false
+  pub yields : (p : ℕ) → 1 ≤ p → p ≤ 16 → yields s.plan s.pattern s.correction (s.now + 1) p ≡ false
 
 -- a quiet tick with the inputs of the tick before it tells nothing, where it ends no such time
 abbrev pub QuietTicksTellNothing : Type 0

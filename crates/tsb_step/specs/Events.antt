@@ -18,7 +18,7 @@ use Rattle.tsb_types.specs.Intervals.{in_service, is_green, is_yellow, is_red_cl
 use Rattle.tsb_types.specs.Lists.{or_number, run_from}
 use Rattle.tsb_types.specs.Sets.{has_number}
 use Rattle.tsb_types.specs.declared.event.Event.{Event}
-use Rattle.tsb_types.specs.declared.event.TheConstants.{PHASE_ON, GREEN_BEGINS, CONFLICT_BEGINS, MINIMUM_COMPLETE, GAP_OUT, MAX_OUT, FORCE_OFF, GREEN_ENDS, YELLOW_BEGINS, YELLOW_ENDS, RED_CLEARANCE_BEGINS, RED_CLEARANCE_ENDS, PHASE_OFF, WALK_BEGINS, CLEARANCE_BEGINS, DONT_WALK_BEGINS, BARRIER_CROSSED, CALL_COMES, CALL_GOES, PEDESTRIAN_CALL_COMES, OVERLAP_GREEN_BEGINS, OVERLAP_YELLOW_BEGINS, OVERLAP_RED_BEGINS, OVERLAP_OFF, VEHICLE_OFF, VEHICLE_ON, ALARM_GOES, ALARM_COMES, PEDESTRIAN_OFF, PEDESTRIAN_ON, PREEMPT_ON, PREEMPT_OFF, PREEMPT_ENTERS, TRACK_BEGINS, DWELL_BEGINS, PRESENCE_EXCEEDED, EXIT_BEGINS, PATTERN_CHANGES, CYCLE_CHANGES, OFFSET_CHANGES, SPLIT_CHANGES, FLASH_CHANGES, FREE, FLASH, NO_FLASH}
+use Rattle.tsb_types.specs.declared.event.TheConstants.{PHASE_ON, GREEN_BEGINS, CONFLICT_BEGINS, MINIMUM_COMPLETE, GAP_OUT, MAX_OUT, FORCE_OFF, GREEN_ENDS, YELLOW_BEGINS, YELLOW_ENDS, RED_CLEARANCE_BEGINS, RED_CLEARANCE_ENDS, PHASE_OFF, WALK_BEGINS, CLEARANCE_BEGINS, DONT_WALK_BEGINS, BARRIER_CROSSED, CALL_COMES, CALL_GOES, PEDESTRIAN_CALL_COMES, OVERLAP_GREEN_BEGINS, OVERLAP_YELLOW_BEGINS, OVERLAP_RED_BEGINS, OVERLAP_OFF, VEHICLE_OFF, VEHICLE_ON, ALARM_GOES, ALARM_COMES, PEDESTRIAN_OFF, PEDESTRIAN_ON, PREEMPT_ON, PREEMPT_OFF, PREEMPT_ENTERS, TRACK_BEGINS, DWELL_BEGINS, PRESENCE_EXCEEDED, EXIT_BEGINS, PATTERN_CHANGES, CYCLE_CHANGES, OFFSET_CHANGES, SPLIT_CHANGES, FLASH_CHANGES, FREE, FLASH, NO_FLASH, CYCLE_STATE_CHANGES, CYCLE_ZERO, YIELD_POINT}
 use Rattle.tsb_types.specs.declared.interval.Interval.{Interval}
 use Rattle.tsb_types.specs.declared.interval.Interval.TheVariants.{Red}
 use Rattle.tsb_types.specs.declared.interval.PedestrianInterval.{PedestrianInterval}
@@ -31,6 +31,9 @@ use Rattle.tsb_objects.specs.tsb_plan.declared.object.Object.TheVariants.{Patter
 use Rattle.tsb_objects.specs.tsb_plan.Parts.{is_included, split_index}
 use Rattle.tsb_objects.specs.tsb_plan.Plan.{Plan, minimum_green, phases, red_clear}
 use Rattle.tsb_objects.specs.tsb_plan.Running.{is_on_pedestrian_recall, split_in_effect}
+use Rattle.tsb_coord.specs.declared.cycle.CycleState.{CycleState}
+use Rattle.tsb_coord.specs.Cycle as coordination
+use Rattle.tsb_coord.specs.Cycle.{number_of}
 use Rattle.tsb_calls.specs.Memories as calls
 use Rattle.tsb_calls.specs.Callable.{is_recalled}
 use Rattle.tsb_calls.specs.Standing as standing
@@ -99,6 +102,8 @@ pub record View : Type 0 where
   pub exits : ℕ → Bool
   pub is_preempted : Bool
   pub stage_is_green : Bool
+  -- how the local counter of the pattern that runs goes
+  pub cycle : CycleState
   -- a crossing is under way; the side that is served
   pub crosses : Bool
   pub side : ℕ
@@ -196,6 +201,7 @@ view s = record {
   exits = serves is_exit (stage s);
   is_preempted = is_some (stage s);
   stage_is_green = stage_is_green s.plan (shown_interval s) (stage s);
+  cycle = coordination.cycle_state s.plan s.pattern s.correction s.now;
   crosses = is_some s.rings.crossing;
   side = s.rings.side;
   flashes = is_some s.trip;
@@ -213,7 +219,8 @@ selected s = record {
 -- ## What a tick alone tells
 
 -- the greens whose minimum green a tick completed; those that it ended by gap, by maximum, by force-off; what the log has
--- noted before; the inputs that are on in this tick; and whether the preempt in service has been served
+-- noted before; the inputs that are on in this tick; whether the local counter comes to 0 in it, and the coordinated
+-- phases to whose force-off instant it comes; and whether the preempt in service has been served
 pub record Found : Type 0 where
   pub minimum : ℕ → Bool
   pub gap : ℕ → Bool
@@ -221,6 +228,8 @@ pub record Found : Type 0 where
   pub force_off : ℕ → Bool
   pub noted : Noted
   pub row : Row
+  pub zero : Bool
+  pub yields : ℕ → Bool
   pub served : Bool
 
 -- it is Green, and its minimum green has not passed
@@ -262,6 +271,8 @@ found noted s row after = record {
   force_off = λ p. is_cause ForceOff (cause_of s row after p);
   noted = noted;
   row = row;
+  zero = coordination.comes_to_zero s.plan s.pattern s.correction (s.now + 1);
+  yields = coordination.yields s.plan s.pattern s.correction (s.now + 1);
   served = preempts.has_been_served s.plan (preempts_given s row) (preempts_read s);
 }
 
@@ -411,6 +422,18 @@ pattern_events tick was now =
     selection_events tick was now ++ if_differs tick CYCLE_CHANGES was.cycle now.cycle
     ++ if_differs tick OFFSET_CHANGES was.offset now.offset ++ split_events tick was now
 
+-- the state of the cycle, where it is another than before
+abbrev pub cycle_events : ℕ → View → View → List Event
+cycle_events tick was now = if_differs tick CYCLE_STATE_CHANGES (number_of was.cycle) (number_of now.cycle)
+
+-- local zero
+abbrev pub zero_events : ℕ → Found → List Event
+zero_events tick f = if f.zero then event tick CYCLE_STATE_CHANGES CYCLE_ZERO ∷ [] else []
+
+-- yield points
+abbrev pub yield_events : ℕ → Found → List Event
+yield_events tick f = told tick YIELD_POINT f.yields
+
 -- a flash by the monitor begins, or ends
 abbrev pub flash_events : ℕ → View → View → List Event
 flash_events tick was now =
@@ -424,7 +447,7 @@ tick_events tick f was now =
     ++ crossing_events tick was now ++ call_events tick f.noted.form was now ++ overlap_events tick was now
     ++ vehicle_events tick f.noted f.row was now ++ alarm_events tick was now ++ button_events tick f
     ++ request_events tick f.noted.row f.row was now ++ preempt_events tick was now ++ presence_events tick f was now ++ exit_events tick was now
-    ++ flash_events tick was now
+    ++ (cycle_events tick was now ++ zero_events tick f) ++ yield_events tick f ++ flash_events tick was now
 
 -- and those of any other input
 abbrev pub other_events : ℕ → Noted → View → View → Selected → Selected → List Event
@@ -433,7 +456,7 @@ other_events tick noted was now was_selected now_selected =
     ++ call_events tick noted.form was now ++ overlap_events tick was now
     ++ vehicle_events tick noted noted.row was now ++ alarm_events tick was now
     ++ request_events tick noted.row noted.row was now ++ preempt_events tick was now ++ exit_events tick was now
-    ++ pattern_events tick was_selected now_selected ++ flash_events tick was now
+    ++ pattern_events tick was_selected now_selected ++ cycle_events tick was now ++ flash_events tick was now
 
 -- of an input that leads from a state to another
 abbrev pub events_between : Noted → State → Input → State → List Event

@@ -5,6 +5,7 @@ use Rattle.tsb_types.specs.Lists.{run_from}
 use Rattle.tsb_types.specs.Sets.{all_off, set_of_list}
 use Rattle.tsb_types.specs.declared.row.Row.{Row}
 use Rattle.tsb_step.specs.declared.log_form.Noted.{Noted}
+use Rattle.tsb_step.specs.tsb_coord.declared.cycle.CycleState.TheVariants as cycles
 use Rattle.tsb_step.specs.Events as events
 
 -- what a computed line opens
@@ -49,6 +50,7 @@ dark = record {
   exits = none;
   is_preempted = false;
   stage_is_green = false;
+  cycle = cycles.Free;
   crosses = false;
   side = 1;
   flashes = false;
@@ -67,7 +69,7 @@ with_outputs = record { form = record { recalls = false; outputs = true }; row =
 
 -- a tick that finds nothing
 abbrev pub quiet : events.Found
-quiet = record { minimum = none; gap = none; maximum = none; force_off = none; noted = usual; row = all_off; served = false }
+quiet = record { minimum = none; gap = none; maximum = none; force_off = none; noted = usual; row = all_off; zero = false; yields = none; served = false }
 
 -- free operation, and a pattern of 90 seconds with splits for phases 1 and 16
 abbrev pub free : events.Selected
@@ -330,6 +332,16 @@ free_again = refl
 same_pattern : events.other_events 9 usual dark dark (record pattern_2 { cycle = 80; offset = 10 }) pattern_2 ≡ event 9 132 90 ∷ []
 unfolding opened
 same_pattern = refl
+
+-- the local counter comes into step, and is at local zero in that tick; a coordinated phase may yield
+cycle : events.tick_events 9 (record quiet { zero = true; yields = only 2 }) (record dark { cycle = cycles.Dwells }) (record dark { cycle = cycles.InStep })
+    ≡ event 9 150 1 ∷ event 9 150 5 ∷ event 9 151 2 ∷ []
+unfolding opened
+cycle = refl
+
+cycle_selected : events.other_events 9 usual dark (record dark { cycle = cycles.Adds }) free free ≡ event 9 150 2 ∷ []
+unfolding opened
+cycle_selected = refl
 
 -- phases 1 to 16 are told, and no number beyond
 sixteen_is_told : events.tick_events 9 quiet dark (record dark { greens = only 16 }) ≡ event 9 0 16 ∷ event 9 1 16 ∷ []

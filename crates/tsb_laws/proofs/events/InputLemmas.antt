@@ -20,7 +20,7 @@ use Rattle.tsb_step.specs.Events.{View, Found, Selected, events_of, found, reque
 use Rattle.tsb_step.specs.Runs.{replay}
 use Rattle.tsb_step.specs.State.{State}
 use Rattle.tsb_step.specs.Step.{step}
-use Rattle.tsb_events.proofs.OrderLemmas.{alarm-span, call-span, clearing-span, crossing-span, ending-span, flash-span, green-span, one-code, overlap-span, pattern-span, pedestrian-span, preempt-span}
+use Rattle.tsb_events.proofs.OrderLemmas.{alarm-span, call-span, clearing-span, crossing-span, ending-span, cycle-span, flash-span, green-span, one-code, overlap-span, pattern-span, pedestrian-span, preempt-span, zero-span}
 use Rattle.tsb_log_text.specs.declared.log.LogRow.{LogRow}
 use Rattle.tsb_field_display.specs.Inputs.{events_behind, events_of_row, events_of_rows}
 use Rattle.tsb_field_display.specs.SessionLaws.{is_of_input}
@@ -49,11 +49,13 @@ kept-request tick last row v w = both (all-told by_input tick codes.PREEMPT_ON _
 pub ticks-kept : (tick : ℕ) (f : Found) (v w : View) → Kept by_input (events.tick_events tick f v w)
     (events.vehicle_events tick f.noted f.row v w ++ events.button_events tick f ++ events.request_events tick f.noted.row f.row v w)
 ticks-kept tick f v w =
-    first-alone (first-alone (first-alone (first-alone (both (both (first-alone (second-alone before (kept-vehicle tick f.noted f.row v w))
+    first-alone (first-alone (first-alone (first-alone (first-alone (first-alone (both (both (first-alone (second-alone before (kept-vehicle tick f.noted f.row v w))
     (none-of (alarm-span tick v w) (not-among 83 85 input_codes refl))) (kept-button tick f)) (kept-request tick f.noted.row f.row v w))
     (none-of (preempt-span tick v w) (not-among 105 108 input_codes refl)))
     (none-of (one-code tick codes.PRESENCE_EXCEEDED _) (not-among 110 111 input_codes refl)))
     (none-of (one-code tick codes.EXIT_BEGINS _) (not-among 111 112 input_codes refl)))
+    (none-of (zero-span tick f v w) (not-among 150 151 input_codes refl)))
+    (none-of (one-code tick codes.YIELD_POINT _) (not-among 151 152 input_codes refl)))
     (none-of (flash-span tick v w) (not-among 173 174 input_codes refl))
   where
     before : Kept by_input
@@ -72,11 +74,12 @@ ticks-kept tick f v w =
 pub others-kept : (tick : ℕ) (noted : Noted) (v w : View) (s t : Selected) → Kept by_input (events.other_events tick noted v w s t)
     (events.vehicle_events tick noted noted.row v w ++ events.request_events tick noted.row noted.row v w)
 others-kept tick noted v w s t =
-    first-alone (first-alone (first-alone (first-alone (both (first-alone (second-alone before (kept-vehicle tick noted noted.row v w))
+    first-alone (first-alone (first-alone (first-alone (first-alone (both (first-alone (second-alone before (kept-vehicle tick noted noted.row v w))
     (none-of (alarm-span tick v w) (not-among 83 85 input_codes refl))) (kept-request tick noted.row noted.row v w))
     (none-of (preempt-span tick v w) (not-among 105 108 input_codes refl)))
     (none-of (one-code tick codes.EXIT_BEGINS _) (not-among 111 112 input_codes refl)))
     (none-of (pattern-span tick s t) (not-among 131 150 input_codes refl)))
+    (none-of (cycle-span tick v w) (not-among 150 151 input_codes refl)))
     (none-of (flash-span tick v w) (not-among 173 174 input_codes refl))
   where
     before : Kept by_input

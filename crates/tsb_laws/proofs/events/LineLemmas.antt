@@ -12,7 +12,7 @@ use Rattle.tsb_step.specs.Events as events
 use Rattle.tsb_step.specs.declared.log_form.Noted.{Noted}
 use Rattle.tsb_step.specs.Events.{View, Found, Selected, serves}
 use Rattle.tsb_events.proofs.AgreeLemmas.{begun-same, agree-either}
-use Rattle.tsb_events.proofs.OrderLemmas.{alarm-span, button-span, call-span, crossing-span, ending-span, pattern-span, request-span, vehicle-span}
+use Rattle.tsb_events.proofs.OrderLemmas.{alarm-span, button-span, call-span, crossing-span, cycle-span, ending-span, one-code, pattern-span, request-span, vehicle-span, zero-span}
 use Rattle.tsb_field_display.specs.declared.shown.Shown.{Shown}
 use Rattle.tsb_field_display.specs.declared.shown.Signals.{Signals}
 use Rattle.tsb_field_display.specs.Events as lines
@@ -123,22 +123,24 @@ ticks-kept tick f v w = all.kept ∙ whole tick v w
 
     all : Kept by_line (events.tick_events tick f v w) (parted tick v w)
     all =
-        both (first-alone (first-alone (both (first-alone (first-alone (first-alone (first-alone to_overlaps
+        both (first-alone (first-alone (first-alone (first-alone (both (first-alone (first-alone (first-alone (first-alone to_overlaps
         (none-of (vehicle-span tick f.noted f.row v w) (not-among 81 83 line_codes refl))) (none-of (alarm-span tick v w) (not-among 83 85 line_codes refl)))
         (none-of (button-span tick f) (not-among 89 91 line_codes refl))) (none-of (request-span tick f.noted.row f.row v w) (not-among 102 105 line_codes refl))) (kept-preempt tick v w)) (none-told by_line tick codes.PRESENCE_EXCEEDED _ refl))
-        (none-told by_line tick codes.EXIT_BEGINS _ refl)) (kept-flash tick v w)
+        (none-told by_line tick codes.EXIT_BEGINS _ refl)) (none-of (zero-span tick f v w) (not-among 150 151 line_codes refl)))
+        (none-told by_line tick codes.YIELD_POINT _ refl)) (kept-flash tick v w)
 
 pub others-kept : (tick : ℕ) (noted : Noted) (v w : View) (s t : Selected) → filter (λ e. by_line e.code) (events.other_events tick noted v w s t) ≡ lines_of tick v w
 others-kept tick noted v w s t = all.kept ∙ whole tick v w
   where
     all : Kept by_line (events.other_events tick noted v w s t) (parted tick v w)
     all =
-        both (first-alone (first-alone (both (first-alone (first-alone (first-alone (both (first-alone (both (both (kept-green tick v w) (kept-clearing tick v w))
+        both (first-alone (first-alone (first-alone (both (first-alone (first-alone (first-alone (both (first-alone (both (both (kept-green tick v w) (kept-clearing tick v w))
         (kept-pedestrian tick v w)) (none-of (call-span tick noted.form v w) (not-among 43 46 line_codes refl))) (kept-overlap tick v w))
         (none-of (vehicle-span tick noted noted.row v w) (not-among 81 83 line_codes refl))) (none-of (alarm-span tick v w) (not-among 83 85 line_codes refl)))
         (none-of (request-span tick noted.row noted.row v w) (not-among 102 105 line_codes refl))) (kept-preempt tick v w))
         (none-told by_line tick codes.EXIT_BEGINS _ refl))
         (none-of (pattern-span tick s t) (not-among 131 150 line_codes refl)))
+        (none-of (cycle-span tick v w) (not-among 150 151 line_codes refl)))
         (kept-flash tick v w)
 
 -- ## What lines show is what a log sees

@@ -101,7 +101,7 @@ unfolding opened
 quiet_as_it_flashes = refl
 
 no_time_ends : EndsNoTime tripped
-no_time_ends = record { minimum = λ p from to. refl; red = λ p from to. refl }
+no_time_ends = record { minimum = λ p from to. refl; red = λ p from to. refl; cycle = refl; zero = refl; yields = λ p from to. refl }
 
 -- a green of 50 ticks completes its minimum, and rests
 abbrev completing : State
@@ -142,7 +142,7 @@ told_once = refl
 -- pattern 1 is selected: a cycle of 80 seconds, no offset, and eight splits
 pattern : events_of usual resting (Pattern 1) ≡
     event 60 131 1 ∷ event 60 132 80 ∷ event 60 134 15 ∷ event 60 135 25 ∷ event 60 136 15 ∷ event 60 137 25 ∷ event 60 138 15
-    ∷ event 60 139 25 ∷ event 60 140 15 ∷ event 60 141 25 ∷ []
+    ∷ event 60 139 25 ∷ event 60 140 15 ∷ event 60 141 25 ∷ event 60 150 1 ∷ []
 unfolding opened
 pattern = refl
 

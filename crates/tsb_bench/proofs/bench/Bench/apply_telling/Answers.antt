@@ -26,6 +26,9 @@ before-before-requires-clause-limit c = (sound-held _ _ _ c.self.invariant.1).li
 pub before-before-requires-clause-by : goal.before-before-requires-clause-by
 before-before-requires-clause-by c = (sound-held _ _ _ c.self.invariant.1).by
 
+pub tell-requires-clause-limit : goal.tell-requires-clause-limit
+tell-requires-clause-limit c = (sound-held _ _ _ c.self-2.invariant.1).limit
+
 pub tell-requires-clause-was : goal.tell-requires-clause-was
 tell-requires-clause-was c = (
   rows_of c.self.inside.cabinet,

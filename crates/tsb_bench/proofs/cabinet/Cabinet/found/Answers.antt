@@ -5,6 +5,8 @@ use Rattle.tsb_plan.specs.PlanOf.{plan_of}
 use Rattle.tsb_phase.specs.declared.cause.Cause.TheVariants.{ForceOff, Gap, Maximum}
 use Rattle.tsb_phase.specs.Causes.{cause}
 use Rattle.tsb_preempt.specs.Preempts.{has_been_served}
+use Rattle.tsb_coord.specs.Cells.{IsBy}
+use Rattle.tsb_coord.specs.Cycle.{TellsYields, TellsZero, comes_to_zero, yields}
 use Rattle.tsb_step.specs.Cells.{clock_at}
 use Rattle.tsb_step.specs.Events.{ends_freely}
 use Rattle.tsb_step.specs.MonitorCells.{trip_in}
@@ -28,6 +30,22 @@ is_served-requires-clause-in_time c =
     let below = tick-below c.args.tick was.0 c.args.row.now was.3 in
     omega (arith, clock, most, below)
 
+pub comes_to_zero-requires-clause-in_time : goal.comes_to_zero-requires-clause-in_time
+comes_to_zero-requires-clause-in_time c =
+    let was = c.requires.was in tick-below c.args.tick was.0 c.args.row.now was.3
+
+pub comes_to_zero-requires-clause-pattern_by : goal.comes_to_zero-requires-clause-pattern_by
+comes_to_zero-requires-clause-pattern_by c =
+    let was = c.requires.was in subst (λ (r : Rows). IsBy r.pattern) (sym was.1.layers) was.2.layers.pattern
+
+pub yields-requires-clause-in_time : goal.yields-requires-clause-in_time
+yields-requires-clause-in_time c =
+    let was = c.requires.was in tick-below c.args.tick was.0 c.args.row.now was.3
+
+pub yields-requires-clause-pattern_by : goal.yields-requires-clause-pattern_by
+yields-requires-clause-pattern_by c =
+    let was = c.requires.was in subst (λ (r : Rows). IsBy r.pattern) (sym was.1.layers) was.2.layers.pattern
+
 pub returns : goal.returns
 unfolding checked_plan plan_of
 returns c a now before by stepped =
@@ -43,6 +61,11 @@ returns c a now before by stepped =
       force_off = λ p from to. causes.force_off p from to ∙ caused ForceOff (ends p) (cause s.plan (phases_given s c.args.row.now) p (phase_read s p));
       noted = refl;
       row = refl;
+      zero = subst (λ (r : Rows). TellsZero (c.args.tick + 1) (checked_plan c.args.self.now.plan) r.pattern c.comes_to_zero.result) before.layers c.comes_to_zero.ensures
+          ∙ ap (λ (x : Plan). comes_to_zero x s.pattern s.correction (c.args.tick + 1)) plan;
+      yields = λ p from to. c.from_list-2.ensures.named p ∙ c.list-2.ensures p
+          ∙ subst (λ (r : Rows). TellsYields (c.args.tick + 1) (checked_plan c.args.self.now.plan) r.pattern c.yields.result) before.layers c.yields.ensures p from to
+          ∙ ap (λ (x : Plan). yields x s.pattern s.correction (c.args.tick + 1) p) plan;
       served = served c.args.tick (beside a) (sym plan) (sym before.clock)
           ∙ ap (λ (x : Plan). has_been_served x (preempts_given s c.args.row.now) (preempts_read s)) plan;
     }

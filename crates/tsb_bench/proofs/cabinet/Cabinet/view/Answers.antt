@@ -8,7 +8,7 @@ use Rattle.tsb_bench.proofs.cabinet.Cabinet.view.Goals as goal
 
 pub returns-clause-sees : goal.returns-clause-sees
 unfolding checked_plan plan_of
-returns-clause-sees c = c.view.ensures c.args.tick (beside (rows_of c.args.self.now)) refl (sym c.is_tripped-tripped.ensures) (sym c.clock.ensures)
+returns-clause-sees c = c.view.ensures (beside (rows_of c.args.self.now)) refl (sym c.is_tripped-tripped.ensures) (sym c.clock.ensures)
 
 pub returns-clause-flashes : goal.returns-clause-flashes
 unfolding view

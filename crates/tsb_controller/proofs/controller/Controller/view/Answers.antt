@@ -12,6 +12,7 @@ use Rattle.tsb_step.specs.Cells.{clock_at}
 use Rattle.tsb_step.specs.tsb_types.Flow.{interval_of}
 use Rattle.tsb_step.specs.tsb_plan.Plan.{Plan}
 use Rattle.tsb_step.specs.tsb_plan.Running.{is_on_maximum_recall, is_on_minimum_recall, is_on_pedestrian_recall, running}
+use Rattle.tsb_coord.specs.Cycle.{cycle_state}
 use Rattle.tsb_step.specs.Events.{is_track, serves, shown_interval, stage_is_green, view}
 use Rattle.tsb_preempt.specs.Preempts.{is_dwell, is_exit}
 use Rattle.tsb_step.specs.Signs.{display}
@@ -26,7 +27,8 @@ use Rattle.tsb_controller.proofs.controller.Controller.view.Goals as goal
 
 pub returns : goal.returns
 unfolding view
-returns c now b same trips clock =
+returns c b same trips clock =
+    let now : ℕ = c.args.tick in
     let rows = rows_of c.args.self.now in
     let plan = checked_plan c.args.plan.now in
     let few = (placed c.args.plan.now).count in
@@ -77,6 +79,7 @@ returns c now b same trips clock =
       stage_is_green = c.stage_is_green.ensures
           ∙ stage-green-same plan (interval_of i) (shown_interval s) c.stage-stage.result few shown
           ∙ ap₂ (λ (x : Plan) (o : Option (ℕ × Stage)). stage_is_green x (shown_interval s) o) (sym same) at_stage;
+      cycle = c.cycle_state.ensures ∙ ap (λ (x : Plan). cycle_state x s.pattern s.correction now) (sym same);
       crosses = c.is_some-2.ensures ∙ ap is_some c.crossing.ensures;
       side = c.side.ensures;
       flashes = sym trips;
