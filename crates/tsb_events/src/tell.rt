@@ -49,8 +49,7 @@ pub fn tick_events(events: &mut Events, tick: u32, was: &Seen, now: &Seen, found
     tell_preempts(events, tick, was, now);
     tell_presence(events, tick, found, was, now);
     tell_exits(events, tick, was, now);
-    tell_cycle(events, tick, was, now);
-    tell_zero(events, tick, found);
+    tell_counter(events, tick, found, was, now);
     tell(events, tick, YIELD_POINT, found.yields);
     tell_flash(events, tick, was, now);
 }
@@ -419,6 +418,16 @@ fn tell_zero(events: &mut Events, tick: u32, found: &Found)
             parameter: CYCLE_ZERO,
         });
     }
+}
+
+/// Adds how the local counter goes in a tick, where it goes otherwise than before, and local zero.
+fn tell_counter(events: &mut Events, tick: u32, found: &Found, was: &Seen, now: &Seen)
+    requires { array_vec_len events.old + 2 ≤ EVENTS }
+    ensures told { events.new.items ≡ events.old.items ++ (cycle_events tick (view_of was.now) (view_of now.now) ++ zero_events tick (found_of found.now)) }
+    ensures few { array_vec_len events.new ≤ array_vec_len events.old + 2 }
+{
+    tell_cycle(events, tick, was, now);
+    tell_zero(events, tick, found);
 }
 
 /// Adds a flash by the monitor that begins or ends.
