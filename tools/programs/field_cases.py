@@ -753,7 +753,9 @@ def record(*events):
 
 
 # From power-up phases 2 and 6 of quad turn green, as they are recalled, and overlap 1, which includes phase 2.
-FIRST = [(1, 0, 2), (1, 0, 6), (1, 1, 2), (1, 1, 6), (1, 44, 2), (1, 44, 6), (1, 61, 1)]
+FIRST = [(1, 0, 2), (1, 0, 6), (1, 1, 2), (1, 1, 6), (1, 61, 1)]
+# In a record with recalls their calls go as they are served.
+SERVED = [(1, 44, 2), (1, 44, 6)]
 # Pattern 1 has a cycle of 80 seconds, no offset, and eight splits.
 PATTERN = [(1, 131, 1), (1, 132, 80), *((1, 133 + p, (25, 15)[p % 2]) for p in range(1, 9))]
 
@@ -788,6 +790,57 @@ def record_runs():
     yield Run(late, 2, b"", b"events: past the year 9999\n", b"step 1\n")
     yield Run(late, 4, b"", b"command 1: x: bad command\n", b"x\n")
     yield Run([*late, "--go-on"], 2, b"", b"command 1: x: bad command\nevents: past the year 9999\n", b"x\n")
+
+
+# A car on detector 2 in ticks 3 to 5, whose phase is green: with an extension of 0.5 s its output is on up to tick 10.
+# One on detector 4 from tick 11 on, with a delay of 1.0 s: its output comes at 21, calls phase 4, which no recall does,
+# and so the greens of 2 and 6 have a conflict.
+FORM_LOG = row(3, [2]) + row(6) + row(11, [4]) + row(41)
+CALLED = [(21, 2, 2), (21, 2, 6), (21, 43, 4)]
+INPUTS = [(3, 82, 2), (6, 81, 2), (11, 82, 4)]
+OUTPUTS = [(3, 82, 2), (11, 81, 2), (21, 82, 4)]
+# A green lamp of phase 4 beside those of 2 and 6 trips the monitor: all is in flash, also the overlap.
+TRIPS = [(30, code, phase) for code in (7, 12) for phase in (2, 6)] + [(30, 64, 1), (30, 65, 1), (30, 173, 6)]
+# The reset forgets the call of phase 4, and its detector's output. Phases 2 and 6 are red then, so their recalls call,
+# and they turn green in the next tick as after power-up. Detector 4 is on all the while, and its delay begins anew.
+FORGETS, AGAIN = [(30, 44, 4), (30, 173, 2)], [(31, code, number) for _, code, number in FIRST]
+FORMS = [
+    ([], FIRST, INPUTS, FORGETS, AGAIN),
+    (["--outputs"], FIRST, OUTPUTS, [*FORGETS, (30, 81, 4)], AGAIN),
+    (["--recalls"], [*FIRST, *SERVED], INPUTS, [*FORGETS, (30, 43, 2), (30, 43, 6)],
+     [*AGAIN, (31, 44, 2), (31, 44, 6)]),
+    (["--recalls", "--outputs"], [*FIRST, *SERVED], OUTPUTS, [*FORGETS, (30, 43, 2), (30, 43, 6), (30, 81, 4)],
+     [*AGAIN, (31, 44, 2), (31, 44, 6)]),
+]
+
+# The input of preempt 1 is on in ticks 2 and 3, and its switch from tick 1 to 3, so that it is asked for up to tick 3.
+# Then the switch alone goes on and off, and off once more.
+SWITCHES = (b"step 1\npreempt 1 on\nstep 2\npreempt 1 off\nstep 1\npreempt 1 on\npreempt 1 off\npreempt 1 off\n"
+            b"preempt 1 on\nundo\n")
+ASKED = [(1, 102, 1), (2, 105, 1), (4, 104, 1), (4, 102, 1), (4, 104, 1)]
+
+
+def form_of_record_runs():
+    """Records with calls of recalls, with outputs of detectors and with both; requests of preempts by switches."""
+    for options, first, detectors, forgets, again in FORMS:
+        begun = [*sorted(first), *sorted([*detectors, *CALLED])]
+        whole = [*begun, *sorted(TRIPS), *sorted(forgets), *sorted(again)]
+        words = ["record", *FROM, "--device", "1001", "delayed.json", "forms.log", *options]
+        yield Run(words, 0, record(*begun), b"", b"step 30\n")
+        yield Run(words, 0, record(*whole), b"", b"step 30\nfault P4 G\nreset\nstep 1\n")
+        yield Run(words, 0, record(*sorted(first)), b"", b"step 30\nfault P4 G\nreset\nstep 1\nback 29\n")
+        asked = [RECORD[0], *options, *RECORD[1:], "asked.log"]
+        yield Run(asked, 0, record(*sorted(first), *ASKED), b"", SWITCHES)
+        yield Run([*asked, "--go-on"], 0, record(*sorted(first)), b"command 1: x: bad command\n", b"x\nstep 1\n")
+        for option in options:
+            yield Run([*asked, option], 2, b"", USAGE, b"step 1\n")
+            yield Run([*asked[:1], option, *RECORD[1:], "asked.log", f"{option}=1"], 2, b"", USAGE, b"step 1\n")
+    turned = ["record", "--outputs", "delayed.json", *FROM, "--recalls", "forms.log", "--device=1001"]
+    yield Run(turned, 0, record(*sorted([*FIRST, *SERVED])), b"", b"step 1\n")
+    for words in [[*LOG, "--recalls"], [*LOG, "--outputs"], [*EVENTS, "--recalls"], [*EVENTS, "--outputs"],
+                  [*RECORD, "empty.log", "--recall"], [*RECORD, "empty.log", "--output"],
+                  [*RECORD, "empty.log", "--as-outputs"]]:
+        yield Run(words, 2, b"", USAGE, b"step 1\n")
 
 
 def plan_faults():
@@ -865,6 +918,10 @@ def fill(folder):
     (folder / "car.log").write_bytes(CAR_LOG)
     quad = json.loads((EXAMPLES / "quad.json").read_text())
     (folder / "twice.json").write_text(json.dumps({**quad, "vehicleDetectorDelay": DELAYS, "vehicleDetectorExtend": EXTENSIONS}))
+    delayed = {**quad, "vehicleDetectorDelay": {"4": 10}, "vehicleDetectorExtend": {"2": 5}}
+    (folder / "delayed.json").write_text(json.dumps(delayed))
+    (folder / "forms.log").write_bytes(FORM_LOG)
+    (folder / "asked.log").write_bytes(row(2, preempt=[1]) + row(4))
     (folder / "return.log").write_bytes(CAR_LOG[:-1] + b"\r")
     (folder / "all.log").write_bytes(b"# All inputs.\n" + row(1, range(17), range(9), range(5)) + row(2))
     (folder / "with_all.log").write_bytes(

@@ -48,6 +48,7 @@ OTHERS = [
     (["log", *FROM, "--as-outputs", "none.json"], EVENTS),
     ([*RECORD, LOG], COMMANDS),
     ([*RECORD, LOG, "--go-on"], COMMANDS),
+    ([*RECORD, LOG, "--recalls", "--outputs"], COMMANDS),
     ([*RECORD, "none.log"], b"step 3\n"),
     (["events", *FROM, "--device", "7", "--log", LOG], ALL_LINES),
     (["events", "--from", "9999-12-31 00:00:00", "--device", "7"], ALL_LINES),

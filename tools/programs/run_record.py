@@ -3,10 +3,12 @@
     python3 -m tools.programs.run_record PROGRAM [SUMS CASES..]
 
 PROGRAM is that of tsb_field. Without SUMS they are cases/records.sums, of the sessions that lie beside it;
-tools/reference/make_events.py writes such a file. Of a session whose plan or log has a fault, the record has nothing,
-and the status is 1. The sums are of records that go on: each line on standard error is of a command that was refused or
-is none, and tells its number and its text. A strict record of the same session is the same where there is no such line;
-else it tells the first alone, has nothing, and the status is 4.
+tools/reference/make_events.py writes such a file, which has sums of three records of each session: without options, with
+`--recalls`, and with `--outputs`. Of a session whose plan or log has a fault, a record has nothing, and the status is 1.
+The sums are of records that go on: each line on standard error is of a command that was refused or is none, and tells
+its number and its text. Each record of a session tells the same lines. A strict record is the same where there is no
+such line, so that the others of the session are strict; else it tells the first alone, has nothing, and the status is 4.
+In place of this strict record the session has one less in the other forms, where a form has the sum of the first.
 """
 import datetime
 import pathlib
@@ -18,6 +20,8 @@ from tools.programs import stored_cases, stored_sums
 
 # When tick 1 begins, and which controller it is.
 FROM, DEVICE = datetime.datetime(2026, 11, 22, 7), "1001"
+# The options of the records of a session that have sums, in their order.
+FORMS: list[list[str]] = [[], ["--recalls"], ["--outputs"]]
 USAGE = "python3 -m tools.programs.run_record PROGRAM [SUMS CASES..]"
 FILES = ["records.sums", "even.cases", "late.cases", "aimed.cases", "tripped.cases", "options.cases", "worked.cases",
          "mangled.cases"]
@@ -50,22 +54,39 @@ def ran(program: pathlib.Path, case: stored_cases.Case, *more: str) -> subproces
     return stored_sums.ran([program, "record", "--from", f"{FROM}", "--device", DEVICE, *more], case)
 
 
+def wanted_of(wanted: str) -> list[str]:
+    """What is wanted of each record of a session."""
+    if wanted == "fault":
+        return [wanted, wanted]  # (one that goes on, and a strict one)
+    numbers = wanted.split()
+    return [" ".join(pair) for pair in zip(numbers[::2], numbers[1::2], strict=True)]
+
+
+def strict_difference(strict: subprocess.CompletedProcess[bytes], case: stored_cases.Case, first: bytes) -> str | None:
+    """What a strict record has otherwise than it should, of a session in which this is told first."""
+    if (strict.returncode, strict.stdout, strict.stderr) == (4, b"", first):
+        return None
+    return f"{case.name}: strict {strict.returncode}, {strict.stdout[:80]!r}, {strict.stderr[:200]!r}"
+
+
 def difference(program: pathlib.Path, case: stored_cases.Case, wanted: str) -> str | None:
-    """What a record has otherwise than it should."""
-    done, strict = ran(program, case, "--go-on"), ran(program, case)
-    found = stored_sums.difference(done, case, wanted, stored_cases.checksum)
-    if found is not None:
-        return found
-    if wanted != "fault" and not is_told(done.stderr, case.commands):
-        return f"{case.name}: told {done.stderr[:200]!r}"
-    first = done.stderr.splitlines(True)[:1]
-    stops = wanted != "fault" and first
-    expected = (4, b"", first[0]) if stops else (done.returncode, done.stdout, done.stderr)
-    if (strict.returncode, strict.stdout, strict.stderr) != expected:
-        return f"{case.name}: strict {strict.returncode}, {strict.stdout[:80]!r}, {strict.stderr[:200]!r}"
-    return None
+    """What the records of a session have otherwise than they should."""
+    told, stops, all_wanted = b"", False, wanted_of(wanted)
+    for options, wanted_here in zip(FORMS, all_wanted):
+        if options and stops and wanted_here == all_wanted[0]:
+            continue
+        goes_on = not options or stops
+        done = ran(program, case, *options, *["--go-on"] * goes_on)
+        found = stored_sums.difference(done, case, wanted_here, stored_cases.checksum)
+        if found is not None:
+            return " ".join([found, *options])
+        if not options:
+            told, stops = done.stderr, wanted != "fault" and done.stderr != b""
+        if wanted != "fault" and not is_told(done.stderr, case.commands) or done.stderr != told:
+            return " ".join([f"{case.name}: told {done.stderr[:200]!r}", *options])
+    return strict_difference(ran(program, case), case, told.splitlines(True)[0]) if stops else None
 
 
 if __name__ == "__main__":
-    WELL = "records: {count} sessions have the events of the reference"
+    WELL = "records: {count} sessions have the events of the reference, in three forms"
     sys.exit(stored_sums.compare(sys.argv[1:], USAGE, FILES, difference, WELL))

@@ -42,13 +42,13 @@ def states_of(bench: Any, session: Any, commands: bytes) -> Iterator[State]:
         yield from session.states[known if command[0] == "step" else -1:]
 
 
-def statuses_of(reference: Reference, case: stored_cases.Case) -> bytes | None:
+def statuses_of(reference: Reference, case: stored_cases.Case) -> list[bytes] | None:
     """The lines of status of a session: none where its plan or its log has a fault."""
     session = opened(reference.bench, case.plan, case.log)
     if session is None:
         return None
     states = states_of(reference.bench, session, case.commands)
-    return b"".join(line_of(status_of(reference, state)).encode() + b"\n" for state in states)
+    return [b"".join(line_of(status_of(reference, state)).encode() + b"\n" for state in states)]
 
 
 if __name__ == "__main__":

@@ -12,7 +12,8 @@ from tools.programs import stored_cases
 from tools.programs.stored_sums import SumOf, told
 from tools.reference.make_sessions import Reference
 
-TextOf = Callable[[Reference, stored_cases.Case], bytes | None]  # what a reference finds, and none at a fault
+# What texts a reference finds of a session, and none at a fault.
+TextsOf = Callable[[Reference, stored_cases.Case], list[bytes] | None]
 
 
 @functools.cache
@@ -21,13 +22,13 @@ def reference_of(folder: str) -> Reference:
     return Reference(folder)
 
 
-def line_of(text_of: TextOf, sum_of: SumOf, folder: str, case: stored_cases.Case) -> str:
+def line_of(texts_of: TextsOf, sum_of: SumOf, folder: str, case: stored_cases.Case) -> str:
     """The line of a session."""
-    text = text_of(reference_of(folder), case)
-    return f"{case.name} {'fault' if text is None else told(text, sum_of)}\n"
+    texts = texts_of(reference_of(folder), case)
+    return f"{case.name} {'fault' if texts is None else ' '.join(told(text, sum_of) for text in texts)}\n"
 
 
-def make(title: str, head: str, text_of: TextOf, sum_of: SumOf) -> None:
+def make(title: str, head: str, texts_of: TextsOf, sum_of: SumOf) -> None:
     """Reads the words of a program that makes such a file, and writes it."""
     parser = argparse.ArgumentParser(description=title)
     parser.add_argument("--reference", required=True, help="the folder of the reference")
@@ -36,7 +37,7 @@ def make(title: str, head: str, text_of: TextOf, sum_of: SumOf) -> None:
     parser.add_argument("files", nargs="+", metavar="CASES")
     words = parser.parse_args()
     cases = [case for path in words.files for case in stored_cases.read(path)]
-    found = functools.partial(line_of, text_of, sum_of, words.reference)
+    found = functools.partial(line_of, texts_of, sum_of, words.reference)
     with open(words.out, "w", encoding="utf-8") as file:
         file.write(head.format(files=", ".join(pathlib.Path(path).name for path in words.files)))
         with concurrent.futures.ProcessPoolExecutor(words.processes) as pool:

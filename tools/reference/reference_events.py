@@ -1,14 +1,15 @@
 """The events that an input of the bench tells, found in plain Python from the states of an independent reference.
 
 An event has a tick number, a code and a parameter. The codes are those of the Indiana enumerations. `events_of` finds
-the events of one input, from the states before and after it. `record` writes those of a session, as CSV. What a tick
-works with and does not keep, as whether a gap had expired, is found once more here: as chapter 8 of docs/use/MANUAL.md
-says it, from the state before the tick, its row, and what the state after it has of detectors and preempts.
+the events of one input, from the states before and after it. `records` writes those of a session, as CSV, in several
+forms: docs/use/FIELD.md says what `--recalls` and `--outputs` of `tsb_field record` change. What a tick works with and
+does not keep, as whether a gap had expired, is found once more here: as chapter 8 of docs/use/MANUAL.md says it, from
+the state before the tick, its row, and what the state after it has of detectors and preempts.
 
 Nothing here is fast, and nothing of it comes from the program. `reference` is that of make_sessions.py.
 """
 import datetime
-from collections.abc import Iterator
+from collections.abc import Iterator, Sequence
 from typing import Any, NamedTuple
 
 from tools.reference.make_sessions import Reference
@@ -18,6 +19,17 @@ Given = tuple[Any, ...]  # an input of the reference: its kind, and what it has 
 Row = tuple[tuple[bool, ...], ...]  # vehicle detectors, pedestrian detectors and preempt inputs, whether they are on
 Told = tuple[int, int]  # code and parameter
 Event = tuple[int, int, int]  # tick number, code and parameter
+
+
+class Form(NamedTuple):
+    """The form of a record: whether calls of phases on recall have events, and whether vehicle detectors have those of
+    their outputs in place of those of their inputs."""
+
+    recalls: bool = False
+    outputs: bool = False
+
+
+USUAL, RECALLS, OUTPUTS = Form(), Form(recalls=True), Form(outputs=True)
 
 HEADER = b"SignalID,Timestamp,EventCode,EventParam\n"
 TENTH = datetime.timedelta(milliseconds=100)
@@ -36,8 +48,6 @@ OVERLAP_ENDS = {64: "GY"}
 # Stages of preempts, told once all of their phases are green, with the lists of these phases.
 STAGE_BEGINS = {106: "Track", 107: "Dwell", 111: "Exit"}
 STAGE_LISTS = {"Track": "preemptTrackPhase", "Dwell": "preemptDwellPhase", "Exit": "preemptExitPhase"}
-# The codes of inputs that go on and off, for each field of a row.
-INPUT_CODES = [(82, 81), (90, 89), (102, 104)]
 # What is told of a pattern where none is selected.
 FREE = 254
 # The force modes in which phases are forced off behind their instants, and in which by the length of their greens too.
@@ -214,6 +224,32 @@ def pedestrian_calls(bench: Any, state: State) -> set[int]:
 
     crossed = {phase for phase in bench.enabled(state.plan, state.lim) if state.plan["phaseWalk"][phase] != 0}
     return {phase for phase in crossed if state.ped[phase] != "W" and is_called(phase)}
+
+
+def recalled(bench: Any, state: State) -> set[int]:
+    """The phases that have minimum or maximum recall, so that no vehicle has to call them."""
+    return {phase for phase in bench.enabled(state.plan, state.lim)
+            if has_minimum_recall(state, phase) or has_maximum_recall(state, phase)}
+
+
+def recalled_pedestrians(bench: Any, state: State) -> set[int]:
+    """The phases that have pedestrian recall, so that no pedestrian has to call them."""
+    return {phase for phase in bench.enabled(state.plan, state.lim) if has_pedestrian_recall(state, phase)}
+
+
+def outputs_on(state: State) -> set[int]:
+    """The vehicle detectors whose output is on: what their delay and extension make of the input."""
+    return {detector for detector in DETECTORS if state.out[detector]}
+
+
+def inputs_on(row: Row, field: int) -> set[int]:
+    """The inputs of a field of a row that are on."""
+    return {number for number, is_on in enumerate(row[field], 1) if is_on}
+
+
+def asking_preempts(row: Row, state: State) -> set[int]:
+    """The preempts that are asked for, by an input of the row or by the operator's switch."""
+    return inputs_on(row, 2) | {preempt for preempt in PREEMPTS if state.switches[preempt]}
 
 
 def pattern_values(state: State) -> dict[int, int]:
@@ -431,13 +467,25 @@ def overlap_events(bench: Any, before: State, after: State) -> list[Told]:
     return shown_events(OVERLAP_BEGINS, OVERLAP_ENDS, heads, new_heads) + begun(65, off, are_off)
 
 
-def call_events(bench: Any, before: State, after: State) -> list[Told]:
-    """The events of calls, and of detectors that fail."""
-    calls, are_called = vehicle_calls(bench, before), vehicle_calls(bench, after)
-    walks, are_walking = pedestrian_calls(bench, before), pedestrian_calls(bench, after)
-    failed, have_failed = failed_detectors(before), failed_detectors(after)
-    told = begun(43, calls, are_called) + begun(44, are_called, calls) + begun(45, walks, are_walking)
-    return told + begun(83, have_failed, failed) + begun(84, failed, have_failed)
+def switched(on_code: int, off_code: int, before: set[int], after: set[int]) -> list[Told]:
+    """The events of numbers that come into a set, and that leave it."""
+    return begun(on_code, before, after) + begun(off_code, after, before)
+
+
+def failure_events(before: State, after: State) -> list[Told]:
+    """The events of detectors that fail, and of those that are well again."""
+    return switched(84, 83, failed_detectors(before), failed_detectors(after))
+
+
+def call_events(bench: Any, before: State, after: State, form: Form) -> list[Told]:
+    """The events of calls: those of phases on recall only where the form has them."""
+    def vehicles(state: State) -> set[int]:
+        return vehicle_calls(bench, state) - (set() if form.recalls else recalled(bench, state))
+
+    def pedestrians(state: State) -> set[int]:
+        return pedestrian_calls(bench, state) - (set() if form.recalls else recalled_pedestrians(bench, state))
+
+    return switched(43, 44, vehicles(before), vehicles(after)) + begun(45, pedestrians(before), pedestrians(after))
 
 
 def preempt_events(bench: Any, before: State, after: State) -> list[Told]:
@@ -462,11 +510,17 @@ def flash_events(before: State, after: State) -> list[Told]:
     return [(173, 6 if after.trip is not None else 2)]
 
 
-def input_events(row_before: Row, row: Row) -> list[Told]:
-    """The events of inputs of a row that are others than in the row before it."""
-    return [(on_code if is_on else off_code, number)
-            for (on_code, off_code), was, now in zip(INPUT_CODES, row_before, row)
-            for number, (was_on, is_on) in enumerate(zip(was, now), 1) if was_on != is_on]
+def vehicle_events(before: State, after: State, row_before: Row, row: Row, form: Form) -> list[Told]:
+    """The events of vehicle detectors: of their outputs where the form has these, and of their inputs otherwise."""
+    if form.outputs:
+        return switched(82, 81, outputs_on(before), outputs_on(after))
+    return switched(82, 81, inputs_on(row_before, 0), inputs_on(row, 0))
+
+
+def asking_events(before: State, after: State, row_before: Row, row: Row) -> list[Told]:
+    """The events of walk buttons, and of preempts that are asked for."""
+    buttons = switched(90, 89, inputs_on(row_before, 1), inputs_on(row, 1))
+    return buttons + switched(102, 104, asking_preempts(row_before, before), asking_preempts(row, after))
 
 
 def crossing_events(tick: Tick) -> list[Told]:
@@ -508,18 +562,28 @@ def tick_events(tick: Tick) -> list[Told]:
     return crossing_events(tick) + minimum_events(tick) + ending_events(tick) + presence_events(tick)
 
 
-def events_of(reference: Reference, before: State, given: Given, after: State, row_before: Row) -> list[Event]:
-    """The events of an input that was taken, by code and parameter.
+def common_events(bench: Any, before: State, given: Given, after: State) -> list[Told]:
+    """The events of an input that a record has in each form, but for those of rows."""
+    told = phase_events(before, after) + overlap_events(bench, before, after) + failure_events(before, after)
+    told += preempt_events(bench, before, after) + pattern_events(before, after) + flash_events(before, after)
+    return told + (tick_events(Tick(bench, before, after, given[1])) if given[0] == "tick" else [])
+
+
+def events_of(reference: Reference, before: State, given: Given, after: State, row_before: Row,
+              forms: Sequence[Form]) -> list[list[Event]]:
+    """The events of an input that was taken, by code and parameter, in each of these forms.
 
     `before` and `after` are the states before and after it, and `row_before` is the row of the newest tick before it:
-    one with all inputs off where there is none.
+    one with all inputs off where there is none. Where the input is no tick, that row stays.
     """
-    bench = reference.bench
-    told = phase_events(before, after) + overlap_events(bench, before, after) + call_events(bench, before, after)
-    told += preempt_events(bench, before, after) + pattern_events(before, after) + flash_events(before, after)
-    if given[0] == "tick":
-        told += input_events(row_before, given[1]) + tick_events(Tick(bench, before, after, given[1]))
-    return [(after.now, code, parameter) for code, parameter in sorted(told)]
+    bench, row = reference.bench, given[1] if given[0] == "tick" else row_before
+    common = common_events(bench, before, given, after) + asking_events(before, after, row_before, row)
+
+    def of_form(form: Form) -> list[Event]:
+        told = call_events(bench, before, after, form) + vehicle_events(before, after, row_before, row, form)
+        return [(after.now, code, parameter) for code, parameter in sorted(common + told)]
+
+    return [of_form(form) for form in forms]
 
 
 # --- the record of a session ---
@@ -543,11 +607,11 @@ def commands_of(bench: Any, text: bytes) -> Iterator[Given]:
             yield command
 
 
-def replayed(reference: Reference, session: Any) -> Iterator[Event]:
-    """The events of the inputs that remain of a session, one input after the other."""
+def replayed(reference: Reference, session: Any, forms: Sequence[Form]) -> Iterator[list[list[Event]]]:
+    """The events of the inputs that remain of a session, one input after the other, in each of these forms."""
     row = reference.bench.OFF
     for before, given, after in zip(session.states, session.inputs, session.states[1:]):
-        yield from events_of(reference, before, given, after, row)
+        yield events_of(reference, before, given, after, row, forms)
         if given[0] == "tick":
             row = given[1]
 
@@ -559,9 +623,9 @@ def spelled(event: Event, from_time: datetime.datetime, device: str) -> bytes:
     return f"{device},{at:%Y-%m-%d %H:%M:%S}.{at.microsecond // 100_000},{code},{parameter}\n".encode()
 
 
-def record(reference: Reference, plan: bytes, log: bytes, commands: bytes, from_time: datetime.datetime,
-           device: str) -> bytes | None:
-    """The record of a session, as CSV: none where its plan or its log has a fault.
+def records(reference: Reference, plan: bytes, log: bytes, commands: bytes, from_time: datetime.datetime,
+            device: str, forms: Sequence[Form]) -> list[bytes] | None:
+    """The record of a session in each of these forms, as CSV: none where its plan or its log has a fault.
 
     It has the events of the inputs that remain when the commands end. What was refused or taken back tells nothing.
     """
@@ -570,4 +634,6 @@ def record(reference: Reference, plan: bytes, log: bytes, commands: bytes, from_
         return None
     for command in commands_of(reference.bench, commands):
         session.answer(command, [])
-    return HEADER + b"".join(spelled(event, from_time, device) for event in replayed(reference, session))
+    told = list(replayed(reference, session, forms))
+    return [HEADER + b"".join(spelled(event, from_time, device) for it in told for event in it[place])
+            for place in range(len(forms))]

@@ -11,7 +11,7 @@ from collections.abc import Iterator
 from typing import Any
 
 from tools.reference.make_sessions import Reference
-from tools.reference.reference_events import Row, State, events_of
+from tools.reference.reference_events import USUAL, Row, State, events_of
 from tools.reference.reference_status import status_of
 from tools.reference.reference_status_text import line_of
 
@@ -106,7 +106,8 @@ class LiveSession:
         self.session.answer(command, answers)
         if not self.tells or len(self.session.inputs) <= count:
             return [], answers
-        told = events_of(self.reference, before, self.session.inputs[-1], self.session.states[-1], row)
+        given, after = self.session.inputs[-1], self.session.states[-1]
+        (told,) = events_of(self.reference, before, given, after, row, [USUAL])
         return [f"event {tick:07} {code} {parameter}" for tick, code, parameter in told], answers
 
     def ticks(self, count: int) -> Iterator[tuple[list[str], list[str]]]:
