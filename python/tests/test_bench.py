@@ -367,6 +367,23 @@ def test_events_are_those_of_a_record(examples: Path, tmp_path: Path) -> None:
     assert export.equals(wanted) and len(wanted) > 100
 
 
+def test_events_of_switches_and_recalls(quad: Path) -> None:
+    """A switch asks for a preempt, if its input does not; recalls tell no calls."""
+    with Bench(quad) as bench:
+        bench.tick()
+        assert {it.code for it in bench.events} == {0, 1, 61}
+        bench.preempt(1)
+        bench.tick(preempts=[1])
+        bench.preempt(1, on=False)
+        bench.tick()
+        asked = [it for it in bench.events if it.code in (102, 104)]
+        assert asked == [Event(1, 102, 1), Event(3, 104, 1)]
+        bench.preempt(1)
+        assert bench.events[-1] == Event(3, 102, 1)
+        bench.undo()
+        assert bench.events[-1] == Event(3, 104, 1)
+
+
 def test_events_of_changes_and_single_ticks(quad: Path) -> None:
     """They are those of a step."""
     log = a_log("told", 700)

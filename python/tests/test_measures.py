@@ -1,10 +1,12 @@
 """Each measure on a case that was worked by hand."""
 
+from functools import partial
 from pathlib import Path
 
 import pandas as pd
 import pytest
-from tsb import Event, Plan, frames, measures
+from tsb import Event, Log, Plan, frames, measures
+from tsb.tasks import record, recorded
 
 
 def table(*events: tuple[int, int, int]) -> pd.DataFrame:
@@ -121,12 +123,62 @@ def test_preempts() -> None:
     assert rows(found) == [(1, 172, 172, 172, 335, 400, 450, 16.3)]
 
 
-def test_preempts_of_a_switch_have_no_request() -> None:
-    """Without track phases the green is that of the dwell, here lit already."""
+def test_preempts_without_a_request() -> None:
+    """None is told before the service. Without track phases the green is that of the
+    dwell, here lit already."""
     plan = Plan()
     plan["preemptDwellPhase"][2] = {2}
     found = measures.preempts(table((1, 1, 2), (60, 105, 2), (60, 107, 2)), plan)
     assert rows(found) == [(2, None, 60, None, 60, 60, None, None)]
+
+
+def test_preempts_of_inputs_and_switches() -> None:
+    """In one tick an input goes as the switch comes, which asks anew; and where none
+    asked, a switch comes and goes, which asks for nothing."""
+    plan = Plan()
+    plan["preemptDwellPhase"] = {1: {2}, 2: {2}}
+    lit = (1, 1, 2)
+    anew = table(lit, (5, 102, 1), (9, 104, 1), (9, 102, 1), (19, 105, 1))
+    assert rows(measures.preempts(anew, plan))[0][:5] == (1, 9, 19, None, 19)
+    gone = table(lit, (9, 102, 1), (9, 104, 1), (19, 105, 1))
+    assert rows(measures.preempts(gone, plan))[0][:3] == (1, None, 19)
+    other = table(lit, (5, 102, 2), (9, 102, 1), (9, 104, 2), (19, 105, 1))
+    assert rows(measures.preempts(other, plan))[0][:3] == (1, 9, 19)
+
+
+def test_the_request_of_a_switch(top: Path) -> None:
+    """The switch is turned on behind tick 171, and acts in the next tick: it is told a
+    tenth of a second before the input of the worst moment above."""
+    path = top / "examples/railroad.json"
+    log = Log.read(top / "examples/railroad.log")
+    events = recorded(path, log, "step 171\npreempt 1 on\nstep 300\n")
+    found = rows(measures.preempts(events, Plan.read(path)))[0]
+    assert found[:5] == (1, 171, 172, 335, 335) and found[7] == 16.4
+
+
+def test_records_of_each_form(top: Path) -> None:
+    """With calls of recalls there are more of codes 43 to 45, of the phases on recall;
+    with outputs detector 8, which has a delay of 5 s, is on less often than its input.
+    All else is the same."""
+    path = top / "examples/main_and_oak.json"
+    log = Log.read(top / "examples/hour_of_traffic.log")
+    run = partial(record, path, log, 3600)
+    usual, recalls, outputs = run(), run(recalls=True), run(outputs=True)
+    calls, detectors = (43, 44, 45), (81, 82)
+    for other, codes in ((recalls, calls), (outputs, detectors)):
+        a, b = (it[~it["code"].isin(codes)].reset_index(drop=True)
+                for it in (usual, other))  # fmt: skip
+        pd.testing.assert_frame_equal(a, b)
+    on_recall = Plan.read(path)["phaseMinRecall"]
+    waited = {name: set(measures.waits(it)["phase"])
+              for name, it in (("usual", usual), ("recalls", recalls))}  # fmt: skip
+    assert waited["recalls"] - waited["usual"] == {2, 6} == {*on_recall}
+    own = recalls[~(recalls["code"].isin(calls) & recalls["parameter"].isin([2, 6]))]
+    pd.testing.assert_frame_equal(own.reset_index(drop=True), usual)
+    on = [((it["code"] == 82) & (it["parameter"] == 8)).sum() for it in (usual, outputs)]
+    assert 0 < on[1] < on[0]
+    both = run(recalls=True, outputs=True)
+    assert len(both) - len(outputs) == len(recalls) - len(usual) > 100
 
 
 def test_no_events() -> None:

@@ -138,7 +138,9 @@ def runs(two: Path) -> dict[str, pd.DataFrame]:
     log = Log.read(EXAMPLES / "hour_of_traffic.log")
     folders = {"A": EXAMPLES, "B": two.parent}
     paths = {run: folders[run] / f"{plan}.json" for run, plan in PLANS.items()}
-    return {run: recorded(path, log, SESSION) for run, path in paths.items()}
+    return {
+        run: recorded(path, log, SESSION, recalls=True) for run, path in paths.items()
+    }
 
 
 def test_the_numbers_are_those_of_the_measures(
@@ -351,7 +353,11 @@ def test_one_run_by_commands(examples: Path, tmp_path: Path) -> None:
     services = page.tables[
         "preempts: main_and_oak: services, with seconds from one moment to another"
     ]
-    assert len(services) == 2 and services[1][1] == "–", "a switch has no request"
+    # (turned on behind tick 1000, first seen at 1001, and then a delay of 1 s)
+    assert len(services) == 2 and services[1][1].startswith("07:01:39.9")
+    assert services[1][2].startswith("07:01:41.0")
+    (named,) = (it for it, name in enumerate(services[0]) if name == "request to service")
+    assert services[1][named] == "1.1"
     assert page.tables[": "][1][5] == "pattern 1 (cycle 90 s, offset 40 s)"
 
 

@@ -100,7 +100,7 @@ def test_a_sweep_is_each_plan_on_each_day(
     # one of them by hand
     export = frames.read_export(days[1])
     log = frames.log_of_export(export, "2026-11-23 07:00:00", "7")
-    events = record(plans[0], log, SECONDS)
+    events = record(plans[0], log, SECONDS, recalls=True)
     one = table[(table["plan"] == "quad") & (table["day"] == "2026-11-23")]
     ended = one[one["measure"] == "terminations"].set_index("phase")
     hand = measures.terminations(events)

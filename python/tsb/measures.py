@@ -6,6 +6,7 @@ tenths of a second; times in seconds end with `_s`. What begins before the first
 or does not end by the last is not known: its ticks and seconds are NA.
 """
 
+from collections import Counter
 from collections.abc import Callable, Mapping
 
 import numpy as np
@@ -70,6 +71,7 @@ __all__ = [
 
 # What a phase shows from the tick of such an event on.
 SHOWN = {GREEN: "green", GREEN_ENDS: "yellow", YELLOW_ENDS: "red"}
+ASKS = (PREEMPT_ON, PREEMPT_OFF)
 
 
 def services(events: pd.DataFrame) -> pd.DataFrame:
@@ -174,14 +176,16 @@ def _waits(events: pd.DataFrame, begins: int, goes: int, served: int) -> pd.Data
 def waits(events: pd.DataFrame) -> pd.DataFrame:
     """Each wait from a vehicle call to the green: `phase`, the ticks of the call and
     of the green, `wait_s`. A call that goes before, of a phase whose calls are not
-    remembered, is left out. Recalls call from the end of a green on."""
+    remembered, is left out. Of a phase on recall events tell no call, and so no wait;
+    those with `--recalls` of `record` do, from the end of a green on."""
     return _waits(events, CALL, CALL_GOES, GREEN)
 
 
 def walk_waits(events: pd.DataFrame) -> pd.DataFrame:
     """Each wait from a pedestrian call to the walk: `phase`, the ticks of the call
     and of the walk, `wait_s`. A call begins with the first press of a button that
-    counts: one during the walk is lost. Recalls call from the end of a walk on."""
+    counts: one during the walk is lost. A recall calls as one of `waits`, from the
+    end of a walk on."""
     return _waits(events, PEDESTRIAN_CALL, -1, WALK)
 
 
@@ -189,8 +193,9 @@ def arriving(events: pd.DataFrame, phases: Mapping[int, int]) -> pd.DataFrame:
     """Each actuation of a detector: its `phase`, `detector` and `tick`, and what its
     phase `shows` then: green, yellow or red.
 
-    It is where the input goes on, and the detector has no place: a queue over a loop
-    is one. `phases` has the phase of each detector that counts, as
+    It is where the input goes on, or the output in events of outputs, and the detector
+    has no place: a queue over a loop is one. `phases` has the phase of each detector
+    that counts, as
     `plan["vehicleDetectorCallPhase"]` has it.
     """
     leads = {detector: phase for detector, phase in phases.items() if phase}
@@ -233,28 +238,25 @@ def counted(came: pd.DataFrame, phases: Mapping[int, int]) -> pd.DataFrame:
 
 
 def preempts(events: pd.DataFrame, plan: Plan) -> pd.DataFrame:
-    """Each service of a preempt: `preempt`, and the ticks of its request (NA where a
-    switch asked), of its service, of the greens of its stages track, dwell and exit,
-    as 106, 107 and 111 tell them, and of the green of all phases that it is for
-    (`green`): its track phases, or its dwell phases where it has none. `wait_s` is
-    from the request to that green."""
+    """Each service of a preempt: `preempt`, and the ticks of its request by an input or
+    the operator's switch (NA where none is told), of its service, of the greens of its
+    stages track, dwell and exit, as 106, 107 and 111 tell them, and of the green of all
+    phases that it is for (`green`): its track phases, or its dwell phases where it has
+    none. `wait_s` is from the request to that green."""
     rows: list[Row] = []
     requests: dict[int, int] = {}
     shown: set[int] = set()
     stages = {TRACK: "track", DWELL: "dwell", EXIT: "exit"}
     last: Row = {}
     wanted: frozenset[int] = frozenset()
-    codes = {GREEN, GREEN_ENDS, PREEMPT_ON, PREEMPT_OFF, SERVICE, *stages}
+    codes = {GREEN, GREEN_ENDS, *ASKS, SERVICE, *stages}
     for tick, moment in by_tick(events, codes):
         for code, number in moment:
             if code == GREEN:
                 shown.add(number)
             elif code == GREEN_ENDS:
                 shown.discard(number)
-            elif code == PREEMPT_ON:
-                requests[number] = tick
-            elif code == PREEMPT_OFF:
-                requests.pop(number, None)
+        _ask(requests, tick, moment)
         for code, number in moment:
             if code == SERVICE:
                 last = {"preempt": number, "service": tick}
@@ -270,6 +272,18 @@ def preempts(events: pd.DataFrame, plan: Plan) -> pd.DataFrame:
     ticks = ["preempt", "request", "service", "track", "green", "dwell", "exit"]
     found: pd.DataFrame = table_of(rows, ticks, [])
     return found.assign(wait_s=seconds(found["green"], found["request"]))
+
+
+def _ask(requests: dict[int, int], tick: int, moment: list[tuple[int, int]]) -> None:
+    """Takes over which preempts are asked for after a tick, and since when. In one tick
+    an input may go and then a switch come, or a switch come and go again."""
+    told = Counter(moment)
+    for preempt in {number for code, number in moment if code in ASKS}:
+        begins = told[PREEMPT_ON, preempt]
+        if (preempt in requests) + begins <= told[PREEMPT_OFF, preempt]:
+            requests.pop(preempt, None)
+        elif begins:
+            requests[preempt] = tick
 
 
 def _wanted(plan: Plan, preempt: int) -> frozenset[int]:

@@ -156,27 +156,48 @@ def _measured(
     """The measures of the events of a plan on a log."""
     if not measures:
         return
-    events, read = record(plan, log, seconds, pattern), Plan.read(plan)
+    # (with the calls of recalls, from which waits of phases on recall are)
+    events = record(plan, log, seconds, pattern, recalls=True)
+    read = Plan.read(plan)
     for it in measures:
         found = (MEASURES[it] if isinstance(it, str) else it)(events, read)
         named = any(name is not None for name in found.index.names)
         yield name_of(it), found.reset_index() if named else found
 
 
-def record(plan: AnyPath, log: Log, seconds: int, pattern: int = 0) -> pd.DataFrame:
-    """The events of a plan that runs for so long on a log, from power-up on."""
+def record(
+    plan: AnyPath,
+    log: Log,
+    seconds: int,
+    pattern: int = 0,
+    *,
+    recalls: bool = False,
+    outputs: bool = False,
+) -> pd.DataFrame:
+    """The events of a plan that runs for so long on a log, from power-up on: as
+    `recorded` gives them."""
     selected = f"pattern {pattern}\n" if pattern else ""
-    return recorded(plan, log, f"{selected}step {10 * seconds}\n")
+    commands = f"{selected}step {10 * seconds}\n"
+    return recorded(plan, log, commands, recalls=recalls, outputs=outputs)
 
 
-def recorded(plan: AnyPath, log: Log, commands: str) -> pd.DataFrame:
+def recorded(
+    plan: AnyPath,
+    log: Log,
+    commands: str,
+    *,
+    recalls: bool = False,
+    outputs: bool = False,
+) -> pd.DataFrame:
     """The events of a session of a plan on a log, by `tsb_field record`: `tick`,
-    `code`, `parameter`. `PlanFault` is a plan that is refused, `ProgramDied` a command
-    that is."""
+    `code`, `parameter`. With `recalls` they have the calls of phases on recall, and
+    with `outputs` those of detectors after delay and extension, in place of their
+    inputs. `PlanFault` is a plan that is refused, `ProgramDied` a command that is."""
     with tempfile.TemporaryDirectory() as folder:
         path = Path(folder) / "inputs.log"
         log.write(path)
         words = ["record", f"--from={POWER_UP}", "--device=1", word(plan), str(path)]
+        words += ["--recalls"] * recalls + ["--outputs"] * outputs
         try:
             done = programs.run("tsb_field", words, commands.encode())
         except ProgramDied as died:

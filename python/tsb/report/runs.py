@@ -65,11 +65,13 @@ def of_plan(
     commands: str,
     ticks: int | None,
     facts: Sequence[str],
+    recalls: bool,
 ) -> Run:
     """The run of a plan on a log: the bench is asked (`tsb_field record`). `ticks` is
-    how many the commands let pass; without it, the last event says it."""
+    how many the commands let pass; without it, the last event says it. `recalls` says
+    whether calls of recalls count, which the events of a street do not have."""
     try:
-        events = recorded(path, log, commands)
+        events = recorded(path, log, commands, recalls=recalls)
     except ProgramDied as died:
         said = died.stderr.strip() or str(died)
         raise Error(f"{path}: {said.splitlines()[0]}") from None

@@ -189,7 +189,9 @@ def waits(both: Both) -> Section:
     return _waits(
         both, "waits", "Waits from call to green",
         "A call comes with the first actuation that counts, or with a recall from the"
-        " end of the green on. What still waits at the end is counted apart.",
+        " end of the green on. Of a phase on recall events of a street tell no call, nor"
+        " those of the bench beside a street. What still waits at the end is counted"
+        " apart.",
         lambda it: it.waits, charts.waits, "No vehicle call was served.",
     )  # fmt: skip
 
@@ -199,7 +201,7 @@ def walks(both: Both) -> Section:
     return _waits(
         both, "walks", "Waits from button to walk",
         "From the first press that counts, or from a recall at the end of the walk,"
-        " to the walk.",
+        " to the walk; of a phase on recall not beside a street.",
         lambda it: it.walks, charts.walks, "No pedestrian call was served.",
     )  # fmt: skip
 
@@ -296,8 +298,8 @@ def preempts(both: Both) -> Section:
 
     return _section(
         "preempts", "Preempts",
-        "The request is the input of the preempt; of one that a switch turned on it"
-        " is not known. Numbers at marks are those of preempts.",
+        "The request is by the input of the preempt or by the operator's switch."
+        " Numbers at marks are those of preempts.",
         any(len(it.preempts) for it in both), "No preempt was in service.", made,
     )  # fmt: skip
 

@@ -31,7 +31,9 @@ def runs_of(given: argparse.Namespace) -> list[Run]:
     def run(plan: Path, pattern: int | None) -> Run:
         name = f"{plan.stem}, pattern {pattern}" if pattern else plan.stem
         selected = f"pattern {pattern}\n" if pattern else ""
-        return of_plan(name, plan, log, start, selected + commands, ticks, facts)
+        told = selected + commands
+        # (beside a street, which tells no calls of recalls, the bench tells none either)
+        return of_plan(name, plan, log, start, told, ticks, facts, not given.street)
 
     asked = [(given.plan_a, given.pattern_a), (given.plan_b, given.pattern_b)]
     with ThreadPoolExecutor() as both:  # (two processes of the bench)
