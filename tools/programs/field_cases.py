@@ -820,8 +820,20 @@ SWITCHES = (b"step 1\npreempt 1 on\nstep 2\npreempt 1 off\nstep 1\npreempt 1 on\
 ASKED = [(1, 102, 1), (2, 105, 1), (4, 104, 1), (4, 102, 1), (4, 104, 1)]
 
 
+# Detector 4 is on in tick 2, and its phase is called from then on. A commit behind tick 3 puts the phase on recall, so
+# that its call is none any more in a record without recalls; a commit behind tick 4 takes the recall away.
+COMMIT = b"begin 1\nset 1 %b 4 %d\nverify 1\ncommit 1\n"
+PASSING = [*((2, 2, phase) for phase in (2, 6)), (2, 43, 4), (2, 82, 4), (3, 81, 4)]
+
+
 def form_of_record_runs():
     """Records with calls of recalls, with outputs of detectors and with both; requests of preempts by switches."""
+    for recall in (b"phaseMinRecall", b"phaseMaxRecall"):
+        commands = b"step 3\n" + COMMIT % (recall, 1) + b"step 1\n" + COMMIT % (recall, 0)
+        passed = ["record", *FROM, "--device", "1001", "quad.json", "passed.log"]
+        yield Run(passed, 0, record(*FIRST, *PASSING, (3, 44, 4), (4, 43, 4)), b"", commands)
+        yield Run(passed, 0, record(*FIRST, *PASSING), b"", commands + b"seek 3\n" + b"undo\n")
+        yield Run([*passed, "--recalls"], 0, record(*sorted([*FIRST, *SERVED]), *PASSING), b"", commands)
     for options, first, detectors, forgets, again in FORMS:
         begun = [*sorted(first), *sorted([*detectors, *CALLED])]
         whole = [*begun, *sorted(TRIPS), *sorted(forgets), *sorted(again)]
@@ -921,6 +933,7 @@ def fill(folder):
     delayed = {**quad, "vehicleDetectorDelay": {"4": 10}, "vehicleDetectorExtend": {"2": 5}}
     (folder / "delayed.json").write_text(json.dumps(delayed))
     (folder / "forms.log").write_bytes(FORM_LOG)
+    (folder / "passed.log").write_bytes(row(2, [4]) + row(3))
     (folder / "asked.log").write_bytes(row(2, preempt=[1]) + row(4))
     (folder / "return.log").write_bytes(CAR_LOG[:-1] + b"\r")
     (folder / "all.log").write_bytes(b"# All inputs.\n" + row(1, range(17), range(9), range(5)) + row(2))
