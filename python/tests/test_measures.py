@@ -175,7 +175,7 @@ def test_records_of_each_form(top: Path) -> None:
     assert waited["recalls"] - waited["usual"] == {2, 6} == {*on_recall}
     own = recalls[~(recalls["code"].isin(calls) & recalls["parameter"].isin([2, 6]))]
     pd.testing.assert_frame_equal(own.reset_index(drop=True), usual)
-    on = [((it["code"] == 82) & (it["parameter"] == 8)).sum() for it in (usual, outputs)]
+    on = [len(it.query("code == 82 and parameter == 8")) for it in (usual, outputs)]
     assert 0 < on[1] < on[0]
     both = run(recalls=True, outputs=True)
     assert len(both) - len(outputs) == len(recalls) - len(usual) > 100

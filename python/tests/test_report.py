@@ -356,8 +356,7 @@ def test_one_run_by_commands(examples: Path, tmp_path: Path) -> None:
     # (turned on behind tick 1000, first seen at 1001, and then a delay of 1 s)
     assert len(services) == 2 and services[1][1].startswith("07:01:39.9")
     assert services[1][2].startswith("07:01:41.0")
-    (named,) = (it for it, name in enumerate(services[0]) if name == "request to service")
-    assert services[1][named] == "1.1"
+    assert services[1][services[0].index("request to service")] == "1.1"
     assert page.tables[": "][1][5] == "pattern 1 (cycle 90 s, offset 40 s)"
 
 

@@ -189,9 +189,9 @@ def waits(both: Both) -> Section:
     return _waits(
         both, "waits", "Waits from call to green",
         "A call comes with the first actuation that counts, or with a recall from the"
-        " end of the green on. Of a phase on recall events of a street tell no call, nor"
-        " those of the bench beside a street. What still waits at the end is counted"
-        " apart.",
+        " end of the green on. Of a phase on recall events of a street tell no call,"
+        " nor those of the bench beside a street. What still waits at the end is"
+        " counted apart.",
         lambda it: it.waits, charts.waits, "No vehicle call was served.",
     )  # fmt: skip
 
