@@ -1,5 +1,6 @@
 """Plans: by names and units, to the text and back, and as `tsb check` judges them."""
 
+import json
 from datetime import timedelta
 from pathlib import Path
 
@@ -126,6 +127,66 @@ def test_numbers_of_tables_are_values() -> None:
     assert dict(plan["phaseYellowChange"]) == {2: 40, 4: 35}
     assert plan["phaseConcurrency"][2] == 10
     assert Plan.of_text(plan.text) == plan
+
+
+@pytest.mark.parametrize(
+    "name, meant",
+    [
+        ("phaseYelowChange", "phaseYellowChange"),
+        ("phaseMinGreen", "phaseMinimumGreen"),
+        ("PHASEWALK", "phaseWalk"),
+        ("spliTtime", "splitTime"),
+        ("Walk", None),
+        ("overlapAcrossRing", None),  # (an object of another version)
+    ],
+)
+def test_an_object_that_is_misspelt(name: str, meant: str | None, tmp_path: Path) -> None:
+    """The nearest right name is told, by the package and of a file too."""
+    with pytest.raises(tsb.NoSuchObject) as told:
+        Plan()[name]
+    question = f": did you mean {meant}?" if meant else f"has no object {name}"
+    assert str(told.value).endswith(question)
+    path = tmp_path / "p.json"
+    path.write_text(json.dumps({"version": 2, name: {}}))
+    with pytest.raises(tsb.PlanFault) as fault:
+        tsb.Bench(path)
+    assert fault.value.line == f"plan: {name}: no such object"
+    if meant:
+        assert str(fault.value).endswith(question)
+
+
+def test_a_plan_is_reviewed(examples: Path) -> None:
+    """The lines are those of the program: places of a rule, or advices."""
+    plan = Plan.read(examples / "quad.json")
+    advices = plan.review()
+    assert advices and all(it.startswith("A") for it in advices)
+    plan["phaseYellowChange"] = {it: 30 for it in range(1, 9)}
+    for phase in (2, 4):
+        plan["phaseYellowChange"][phase] = 20
+    assert plan.review() == [
+        "plan: rule K8",
+        "K8 phase 2: its yellow is 2 s, under 3 s",
+        "K8 phase 4: its yellow is 2 s, under 3 s",
+    ]
+
+
+def test_a_value_of_0_and_one_that_is_deleted() -> None:
+    """Both are as if it was never given, in the table, the text and its count."""
+    plan, other = Plan(), Plan()
+    values = plan["phaseWalk"]
+    values[2], values[4] = 7, 9
+    values[2] = 0
+    assert dict(values) == {4: 9} and values[2] == 0 and 2 not in values
+    del values[4]
+    assert dict(values) == {} and len(values) == 0 and not values
+    assert plan == other and plan.text == other.text and list(plan.items()) == []
+    del values[4]  # (what is not there stays so)
+    values[3] = 0
+    assert dict(values) == {} and plan == other
+    values[3] = 5
+    assert plan != other and dict(values) == {3: 5}
+    plan["phaseWalk"] = {3: 0}
+    assert plan == other
 
 
 def test_names_and_indices_that_there_are_not() -> None:

@@ -4,6 +4,7 @@ All of it is read from manual.json, which tools/pages/python_manual.py writes fr
 documents: there is no other list of names, units or ranges in the package.
 """
 
+import difflib
 import json
 import re
 from collections.abc import Mapping
@@ -116,4 +117,23 @@ def plan_fault(line: str) -> str | None:
     """When a fault line of a plan comes that names no rule; None for another line."""
     shape = re.sub(r"^plan: \w+\.\w+: ", "plan: NAME.INDEX: ", line)
     shape = re.sub(r"^plan: \w+: ", "plan: NAME: ", shape)
-    return PLAN_FAULTS.get(shape)
+    told = PLAN_FAULTS.get(shape)
+    named = re.fullmatch(r"plan: (\w+): no such object", line)
+    return f"{told}{meant(named[1])}" if told and named else told
+
+
+#: How alike a name and an object's are that may be meant: 1 where they are the same.
+NEAR = 0.8
+
+
+def meant(name: str, version: int | None = None) -> str:
+    """A question for the object that a wrong name may mean, if it is near one that
+    texts of a version have, or of any version."""
+    known = {
+        it.lower(): it
+        for it, what in OBJECTS.items()
+        if version is None or what.counts(version)
+    }
+    near = difflib.get_close_matches(name.lower(), list(known), n=1, cutoff=NEAR)
+    found = known[near[0]] if near else name
+    return "" if found == name else f": did you mean {found}?"

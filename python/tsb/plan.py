@@ -64,6 +64,10 @@ class Values(MutableMapping[int, int]):
     def __delitem__(self, index: Index) -> None:
         self[index] = 0
 
+    def __contains__(self, index: Any) -> bool:
+        """Whether the value of an index is not 0."""
+        return self[index] != 0
+
     def __iter__(self) -> Iterator[int]:
         return iter(sorted(self._values))
 
@@ -211,6 +215,15 @@ class Plan:
             done = run("tsb", ["check", file.name], statuses=(0, 1))
         line = done.stdout.decode().strip()
         return None if line == OK else PlanFault(line)
+
+    def review(self) -> list[str]:
+        """The lines of `tsb_field review`: where the plan breaks its first rule, or
+        what can be wrong with it though it runs."""
+        with tempfile.NamedTemporaryFile("w", suffix=".json") as file:
+            file.write(self.text)
+            file.flush()
+            done = run("tsb_field", ["review", file.name], statuses=(0, 1))
+        return done.stdout.decode().splitlines()
 
     def check(self) -> None:
         """Asks `tsb check`; raises the `PlanFault` that it finds, if any."""

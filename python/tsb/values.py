@@ -5,7 +5,7 @@ from datetime import timedelta
 from numbers import Integral, Real
 
 from tsb.errors import NoSuchObject, OutOfRange, shown
-from tsb.manual import OBJECTS, Object
+from tsb.manual import OBJECTS, Object, meant
 
 #: A number in the object's own unit, a time, or the phases of a list.
 Value = int | timedelta | Iterable[int]
@@ -25,7 +25,8 @@ def object_of(name: str, version: int = 2) -> Object:
     """An object by its name; `NoSuchObject` where a version has none."""
     found = OBJECTS.get(name)
     if found is None or not found.counts(version):
-        raise NoSuchObject(f"version {version} has no object {shown(name)}")
+        told = f"version {version} has no object {shown(name)}"
+        raise NoSuchObject(told + meant(name, version))
     return found
 
 
