@@ -508,6 +508,159 @@ def test_play_and_pause(page: Page) -> None:
     assert page.tick == was
 
 
+def test_fast_stops_where_the_log_ends(
+    browser: Browser, examples: Path, tmp_path: Path
+) -> None:
+    """Its last row begins at tick 2000. Behind it fast goes to the end of what lies
+    ahead, and with nothing ahead on and on."""
+    log = tmp_path / "short.log"
+    log.write_text(f"{9:07} {tsb.rows.row({4})}\n{2000:07} {tsb.rows.row()}\n")
+    for server in started(tmp_path / "runs", examples / "quad.json", log):
+        page = Page(browser, server.address)
+        page.click("playfast")
+        page.wait(lambda: "stopped" in page.text("time-said"), "it stops")
+        assert page.tick == 2000
+        told = "stopped at tick 2000, where the log ends"
+        assert page.text("time-said") == page.text("said") == told
+        page.go(2500)
+        page.go(2100)
+        page.click("playfast")
+        page.wait(lambda: "stopped" in page.text("time-said"), "it stops")
+        assert page.text("said") == "stopped at tick 2500, the end of what lay ahead"
+        page.find("playfast").click()
+        page.wait(lambda: page.tick > 20_000, "it goes on")
+        page.click("pause")
+        page.go(5_999_900)
+        page.find("playfast").click()
+        page.wait(lambda: "stopped" in page.text("time-said"), "it stops")
+        assert page.text("said").endswith("tick 6000000, the last one that there is")
+        assert not page.shows("message")
+
+
+def test_what_lies_ahead_is_dropped(page: Page) -> None:
+    """By a button, that is there while something lies ahead."""
+    assert not page.shows("drop")
+    page.go(95)
+    page.go(40)
+    assert page.shows("drop") and "55 ticks lie ahead" in page.text("ahead")
+    page.click("drop")
+    assert page.text("time-said") == "55 ticks ahead of tick 40 are dropped"
+    assert page.text("ahead") == "" and not page.shows("drop") and page.tick == 40
+    assert page.find("scrubber").get_attribute("max") == "40"
+
+
+def test_a_pulse_that_is_none(page: Page) -> None:
+    """Nothing is asked of the bench, and what to enter is told beside it."""
+    page.choose_mode("pulse")
+    for typed, said in (
+        ("", "a pulse is empty"), ("0", "0 s is no such time"),
+        ("-1", "-1 s is no such time"), ("0.55", "0.55 s is no such time"),
+        ("3600.1", "3600.1 s is no such time"),
+    ):  # fmt: skip
+        page.find("pulse").send_keys(Keys.CONTROL, "a", Keys.NULL, Keys.DELETE, typed)
+        page.click("vehicle-4")
+        assert page.text("message-text") == said and said in page.text("pulse-said")
+        assert "enter a pulse from 0.1 to 3,600 s" in page.text("message-cure")
+        assert not page.has("vehicle-4", "held")
+    page.fill("pulse", "1.0")
+    page.click("vehicle-4")
+    assert page.is_on("vehicle-4") and page.text("pulse-said") == ""
+    page.go(9)
+    assert page.is_on("vehicle-4")
+    page.click("tick-on")
+    assert not page.is_on("vehicle-4")
+
+
+def test_a_verify_names_the_phases(page: Page) -> None:
+    """Each place at which the rule is broken, until it is mended."""
+    page.click("begin")
+    for phase in (2, 4, 6):
+        page.set("phaseYellowChange", phase, 20)
+    page.click("verify")
+    assert page.text("rule").startswith(
+        "Rule K8: phase 2: its yellow is 2 s, under 3 s. phase 4: its yellow is 2 s,"
+        " under 3 s. phase 6: its yellow is 2 s, under 3 s. The yellow of a phase"
+    )
+    page.set("phaseYellowChange", 2, 30)
+    page.click("verify")
+    assert "phase 2" not in page.text("rule") and "phase 4: its" in page.text("rule")
+    for phase in (4, 6):
+        page.set("phaseYellowChange", phase, 30)
+    page.set("overlapAcrossRings", 1, 1)  # (which texts of version 2 have not)
+    page.click("verify")
+    assert "can be committed" in page.text("desk-state") and page.text("rule") == ""
+
+
+def test_an_index_names_its_table_and_phase(page: Page) -> None:
+    """Of a split, and of a place in a sequence; of other objects there is none."""
+    page.click("begin")
+    page.choose("object", "splitTime")
+    page.fill("index", 18)
+    assert "Index 18 is table 2, phase 2. Index 1 to 128" in page.text("object-says")
+    page.set("splitTime", 18, 25)
+    assert "18 (table 2, phase 2)" in page.text("edits")
+    page.choose("object", "sequenceData")
+    page.fill("index", 17)
+    assert "Index 17 is sequence 1, ring 2, place 1. " in page.text("object-says")
+    page.fill("index", 0)
+    assert "Index 0 is" not in page.text("object-says")
+    page.set("phaseWalk", 2, 8)
+    assert "phaseWalk 2 8 (seconds)" in page.text("edits")
+
+
+@pytest.mark.parametrize("size", [(1280, 720), (1920, 950)])
+def test_the_diagram_is_in_sight_of_the_detectors(
+    page: Page, size: tuple[int, int]
+) -> None:
+    """And so are the buttons of time and the scrubber, without a scroll."""
+    width, height = size
+    metrics = {"width": width, "height": height, "deviceScaleFactor": 1, "mobile": False}
+    page.browser.execute_cdp_cmd("Emulation.setDeviceMetricsOverride", metrics)
+    try:
+        page.go(300)
+        names = ("playfast", "undo", "scrubber", "overview", "detail")
+        inputs = page.browser.find_elements(By.CSS_SELECTOR, "#map .input")
+        assert len(inputs) > 8
+        for it in [*map(page.find, names), *inputs]:
+            of, name = it.rect, it.get_attribute("id")
+            assert of["height"] > 0 and of["y"] >= 0 and of["x"] >= 0, name
+            assert of["y"] + of["height"] <= height, name
+            assert of["x"] + of["width"] <= width, name
+    finally:
+        page.browser.execute_cdp_cmd("Emulation.clearDeviceMetricsOverride", {})
+
+
+def test_a_run_that_is_not_saved_is_not_left_at_once(page: Page, server: Server) -> None:
+    """The browser asks; once the run is saved it does not."""
+    leaves = """const leaves = new Event("beforeunload", { cancelable: true });
+        return window.dispatchEvent(leaves);"""
+    assert page.browser.execute_script(leaves)
+    page.click("tick-on")
+    assert page.shows("unsaved") and not page.browser.execute_script(leaves)
+    page.fill("name", "left")
+    page.click("save")
+    assert not page.shows("unsaved") and page.browser.execute_script(leaves)
+    assert (server.runs / "left").is_dir()
+
+
+def test_the_plan_is_saved_by_its_button(page: Page, tmp_path: Path) -> None:
+    """What was committed is in it, and a plan that `tsb check` takes."""
+    params = {"behavior": "allow", "downloadPath": str(tmp_path)}
+    page.browser.execute_cdp_cmd("Page.setDownloadBehavior", params)
+    page.click("begin")
+    page.set("phaseMaximum1", 4, 44)
+    page.click("verify")
+    page.click("commit")
+    page.click("plan")
+    path = tmp_path / "plan.json"
+    page.wait(path.is_file, "it is there")
+    page.wait(lambda: path.stat().st_size, "it is whole")
+    found = tsb.Plan.read(path)
+    found.check()
+    assert found["phaseMaximum1"][4] == 44
+    assert page.text("keep-said") == "plan.json: made up to tick 0"
+
+
 def test_marks_at_each_change(page: Page) -> None:
     """Of a value that is watched."""
     page.click("vehicle-4")

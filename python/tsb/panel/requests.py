@@ -235,6 +235,11 @@ class Undo:
 
 
 @dataclass(frozen=True)
+class Drop:
+    """Drops what lies ahead of the present tick."""
+
+
+@dataclass(frozen=True)
 class Hold:
     """A hand turns an input of the rows on or off, and keeps it so."""
 
@@ -294,6 +299,7 @@ Request = (
     | Advance
     | Go
     | Undo
+    | Drop
     | Hold
     | Pulse
     | Free
@@ -314,7 +320,8 @@ REQUESTS: Mapping[str, type[Request]] = {
     **{
         it.__name__.lower(): it
         for it in (
-            Look, Advance, Go, Undo, Hold, Pulse, Free, Mark, Save, Load, Again
+            Look, Advance, Go, Undo, Drop, Hold, Pulse, Free, Mark, Save, Load,
+            Again,
         )
     },
 }  # fmt: skip

@@ -7,9 +7,10 @@ from tsb.errors import Error, NoSuchTick, Refused
 from tsb.manual import LAST_TICK
 from tsb.panel.keep import GIVEN_MOST, Source, parted
 from tsb.panel.marks import MARKS_MOST, WATCHED_MOST, Watched, walk_back
-from tsb.panel.requests import BadRequest, Free, Given, Hold, Mark, Pulse
+from tsb.panel.requests import BadRequest, Free, Given, Hold, Mark, Pulse, Verify
 from tsb.panel.tape import Hand, Tape, ends_trip, place
 from tsb.panel.track import Track
+from tsb.plan import Plan
 from tsb.rows import Log
 from tsb.status import Status
 
@@ -33,6 +34,7 @@ class Run:
             self._plan_text = self.plan.text
             self.tape = Tape(source.log)
             self.watched: list[Watched] = []
+            self._broken: list[str] = []
             for tick, given in parted(source):
                 if tick > self.now:
                     self._take(tick - self.now)
@@ -125,6 +127,25 @@ class Run:
         self._see_input()
         return answer
 
+    def verify(self, asked: Verify) -> str:
+        """Judges the plan with the edits: what the bench answers. At which places it
+        breaks the rule, a review is asked."""
+        answer, desk = self.give(asked), self.bench.edits
+        self._broken = []
+        if desk.rule is not None:
+            plan = Plan(3)  # (which has all objects)
+            for name, values in self.bench.plan.items():
+                plan[name] = dict(values)
+            for it in desk.edits:
+                plan[it.object][it.index] = it.value
+            self._broken = plan.review()[1:]
+        return answer
+
+    def places(self, rule: str | None) -> list[str]:
+        """At which places the last verify found this rule broken."""
+        at = [it.partition(" ") for it in self._broken]
+        return [place for name, _, place in at if name == rule]
+
     def undo(self) -> str:
         """Takes the newest input back: its kind."""
         kind = self.bench.undo()
@@ -138,6 +159,12 @@ class Run:
             self._see_input()
         self._see_plan()
         return kind
+
+    def drop(self) -> int:
+        """Drops what lies ahead: how many ticks there were."""
+        ahead = max(self.tape.end - self.now, 0)
+        self._cut()
+        return ahead
 
     def grasp(self, asked: Hold | Pulse | Free) -> None:
         """A hand takes an input over, or lets it go."""

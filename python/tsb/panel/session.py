@@ -10,6 +10,7 @@ from tsb.panel.layout import Layout
 from tsb.panel.requests import (
     Advance,
     Again,
+    Drop,
     Free,
     Go,
     Hold,
@@ -72,6 +73,8 @@ class Session:
                 return ""
             case Undo():
                 return f"undone {run.undo()}"
+            case Drop():
+                return f"{run.drop()} ticks ahead of tick {run.now} are dropped"
             case Hold() | Pulse() | Free():
                 run.grasp(asked)
                 return ""
@@ -88,7 +91,7 @@ class Session:
                 self.died = None
                 return f"the bench runs again, and took the run up to tick {run.now}"
             case Verify():
-                return _verified(run.give(asked))
+                return _verified(run.verify(asked))
         return f"{asked.line}: {run.give(asked)}"
 
     def _load(self, name: str) -> str:

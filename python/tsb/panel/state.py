@@ -8,6 +8,7 @@ from tsb.panel.layout import Layout, layout_of
 from tsb.panel.run import Run, is_tripped
 from tsb.programs import marked
 from tsb.status import Edits, Status
+from tsb.values import parts_of
 
 GIVEN_SHOWN = 100  # inputs that a page lists, the newest
 SEQUENCES, RINGS = 4, 2
@@ -21,6 +22,7 @@ def state_of(run: Run) -> dict[str, Any]:
     return {
         "now": now,
         "end": tape.end,
+        "log_end": max(tape.log.ticks, default=0),
         "line": bench.show().line,
         "row": tape.row(now + 1) if ahead else next(tape.next_rows(now, 1))[0],
         "hands": {where: hand.at(now + 1) for where, hand in sorted(hands.items())},
@@ -33,7 +35,7 @@ def state_of(run: Run) -> dict[str, Any]:
         "source": marked(run.source.name),
         "saved": run.is_saved,
         **_told(bench.status),
-        "desk": _desk(bench.edits),
+        "desk": _desk(bench.edits, run),
     }
 
 
@@ -69,13 +71,14 @@ def _told(status: Status) -> dict[str, Any]:
     }
 
 
-def _desk(edits: Edits) -> dict[str, Any]:
+def _desk(edits: Edits, run: Run) -> dict[str, Any]:
     rule = None if edits.rule is None else RULES.get(edits.rule)
     return {
         "owner": edits.owner,
         "state": edits.state,
         "says": words.DESK.get(edits.state, edits.state),
         "rule": None if rule is None else vars(rule),
+        "places": run.places(edits.rule),
         "edits": [{**vars(it), "unit": OBJECTS[it.object].unit} for it in edits.edits],
     }
 
@@ -112,6 +115,7 @@ def objects_told() -> dict[str, Any]:
             "unit": it.unit,
             "structural": it.structural,
             "meaning": it.meaning,
+            "parts": [[part, *of] for part, of in parts_of(it).items()],
         }
         for name, it in OBJECTS.items()
     }

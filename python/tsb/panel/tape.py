@@ -43,7 +43,7 @@ class Entry:
 
     tick: int
     what: Given
-    ended_trip: bool = False
+    ended_trip: bool
 
 
 @dataclass

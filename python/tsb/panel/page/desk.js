@@ -12,6 +12,18 @@ function inUnit(value, unit) {
   return `${value} (phases ${phases.join(", ") || "none"})`;
 }
 
+/** What an index that is a table's or a sequence's means, as `18 is table 2, phase 2`. */
+function parts(it, index) {
+  if (!it.parts.length || !/^\d+$/.test(index) || index < 1 || index > it.count) return "";
+  let left = index - 1;
+  const found = it.parts.map(([name, , step]) => {
+    const number = Math.floor(left / step) + 1;
+    left %= step;
+    return `${name} ${number}`;
+  });
+  return `Index ${index} is ${found.join(", ")}. `;
+}
+
 export class Desk {
   constructor(ask, told) {
     this.ask = ask;
@@ -59,18 +71,25 @@ export class Desk {
     byId("index").max = it.count;
     const now = this.plan?.values[name]?.[byId("index").value] ?? 0;
     const rest = it.structural ? " A commit changes it only while nothing is in service." : "";
-    say(byId("object-says"), `${it.meaning}. Index 1 to ${it.count}, value ${it.range}; in effect: ${inUnit(now, it.unit)}.${rest}`);
+    say(byId("object-says"), `${it.meaning}. ${parts(it, byId("index").value)}Index 1 to ${it.count}, value ${it.range}; in effect: ${inUnit(now, it.unit)}.${rest}`);
     const shown = it.unit === "list of phases" ? listed(now) : String(now);
     if (document.activeElement !== byId("value")) byId("value").value = shown;
   }
 
+  /** The index of an edit, with what it means. */
+  named({ object, index }) {
+    const said = parts(this.all[object], String(index));
+    return said ? `${index} (${said.replace(/.* is |\. $/g, "")})` : String(index);
+  }
+
   show(state) {
-    const { owner, says, rule, edits } = state.desk;
+    const { owner, says, rule, places, edits } = state.desk;
     say(byId("desk-state"), owner === null ? says : `station ${owner}: ${says}`);
     const rows = edits.map((it) => el("tr", {},
-      el("td", {}, it.object), el("td", {}, String(it.index)), el("td", {}, inUnit(it.value, it.unit))));
+      el("td", {}, it.object), el("td", {}, this.named(it)), el("td", {}, inUnit(it.value, it.unit))));
     byId("edits").tBodies[0].replaceChildren(...rows);
-    say(byId("rule"), rule === null ? "" : `Rule ${rule.name}: ${rule.holds} Usual cause: ${rule.cause}. Cure: ${rule.cure}.`);
+    const at = places.map((it) => `${it}. `).join("");
+    say(byId("rule"), rule === null ? "" : `Rule ${rule.name}: ${at}${rule.holds} Usual cause: ${rule.cause}. Cure: ${rule.cure}.`);
     mark(byId("rule"), "warned", rule !== null);
   }
 }

@@ -151,7 +151,7 @@ export class Diagram {
   axis(y, picture) {
     const pen = this.context, span = picture.last - picture.first + 1;
     const steps = [50, 100, 300, 600, 1200, 3000, 6000, 18000, 36000, 72000, 144000, 432000, 864000, 1728000];
-    const step = steps.find((it) => span / it <= 12) ?? 1728000;
+    const step = steps.find((it) => span / it <= Math.min(12, this.columns / 80)) ?? 1728000;
     pen.strokeStyle = pen.fillStyle = "#444";
     pen.lineWidth = 1;
     pen.font = "11px system-ui, sans-serif";

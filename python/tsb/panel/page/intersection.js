@@ -27,10 +27,11 @@ function point(leg, along, across) {
 const text = (x, y, words, name = "") => svg("text", { x, y, class: name }, words);
 
 export class Intersection {
-  /** `ask` sends a request; `mode` gives how a click acts. */
-  constructor(ask, mode) {
+  /** `ask` sends a request, `mode` gives how a click acts, and `pulse` asks for a pulse of an input. */
+  constructor(ask, mode, pulse) {
     this.ask = ask;
     this.mode = mode;
+    this.pulse = pulse;
     this.node = byId("map");
     this.now = 0;
     this.inputs = new Map();
@@ -230,9 +231,9 @@ export class Intersection {
     let pressed = null;
     const isOn = () => node.getAttribute("aria-pressed") === "true";
     const latch = () => this.ask({ do: "hold", kind, number, on: !isOn() });
-    const pulse = () => this.ask({ do: "pulse", kind, number, ticks: this.mode().ticks });
+    const pulse = () => this.pulse(kind, number);
     onPress(node, () => {
-      const { mode } = this.mode();
+      const mode = this.mode();
       if (mode === "latch") latch();
       else if (mode === "pulse") pulse();
       else {

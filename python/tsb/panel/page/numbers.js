@@ -22,6 +22,15 @@ export function whole(text, name, low, high) {
   return number;
 }
 
+/** The ticks of a time in seconds that is typed, as 0.5, from one to another. */
+export function ticks(text, name, low, high) {
+  const typed = text.trim(), cure = `enter ${name} from ${long(low / 10)} to ${long(high / 10)} s, with one decimal at most`;
+  if (!typed) throw new Typed(`${name} is empty`, cure);
+  const found = /^[-+]?(\d+(\.\d?0*)?|\.\d0*)$/.test(typed) ? Math.round(10 * Number(typed)) : NaN;
+  if (!(found >= low && found <= high)) throw new Typed(`${typed} s is no such time`, cure);
+  return found;
+}
+
 /** The number of a list of phases: as 2,6, or as `= 34` the number itself. */
 export function phases(text, high) {
   const typed = text.trim();

@@ -5,14 +5,15 @@ import { Desk } from "./desk.js";
 import { Diagram } from "./diagram.js";
 import { byId, clock, el, say } from "./dom.js";
 import { Intersection } from "./intersection.js";
-import { whole } from "./numbers.js";
+import { ticks, whole } from "./numbers.js";
 
 const WAITING_MOST = 40; // requests that wait for an earlier one
 const LAST_TICK = 6000000;
+const PULSE_MOST = 36000; // ticks
 // What was asked at the desk or at what is kept is answered there too.
 const BESIDE = {
   begin: "desk-said", set: "desk-said", verify: "desk-said", commit: "desk-said", abort: "desk-said",
-  save: "keep-said", load: "keep-said",
+  save: "keep-said", load: "keep-said", undo: "time-said", drop: "time-said", go: "time-said", mark: "time-said",
 };
 const BEAT = 50, SELDOM = 400, ALIVE = 20000; // milliseconds
 const WATCHES = {
@@ -51,7 +52,7 @@ class Page {
     this.overviewAt = 0;
     this.target = null;
     const ask = (what) => this.ask(what);
-    this.intersection = new Intersection(ask, () => this.mode());
+    this.intersection = new Intersection(ask, () => this.mode(), (kind, number) => this.pulse(kind, number));
     this.controller = new Controller(ask);
     this.beside = null;
     this.desk = new Desk(ask, (fault) => this.toldBeside("desk-said", fault));
@@ -61,9 +62,13 @@ class Page {
   }
 
   mode() {
-    const mode = document.querySelector("input[name=mode]:checked").value;
-    const ticks = Math.round(10 * Number(byId("pulse").value));
-    return { mode, ticks: Math.min(36000, Math.max(1, ticks || 1)) };
+    return document.querySelector("input[name=mode]:checked").value;
+  }
+
+  pulse(kind, number) {
+    this.tried("pulse-said", () => {
+      this.ask({ do: "pulse", kind, number, ticks: ticks(byId("pulse").value, "a pulse", 1, PULSE_MOST) });
+    });
   }
 
   // Asking
@@ -121,7 +126,7 @@ class Page {
   views(request) {
     const span = Number(byId("zoom").value), now = this.expected(request);
     const first = Math.max(0, Math.round(now - 0.75 * span));
-    const found = { view: { first, last: first + span, columns: this.detail.columns } };
+    const found = { view: { first, last: Math.min(first + span, LAST_TICK), columns: this.detail.columns } };
     const time = performance.now();
     if (request.do !== "advance" || time - this.overviewAt > SELDOM) {
       this.overviewAt = time;
@@ -175,6 +180,7 @@ class Page {
     if (this.target === null) scrubber.value = state.now;
     scrubber.setAttribute("aria-valuetext", `tick ${state.now}, ${clock(state.now)}`);
     const ahead = state.end - state.now;
+    byId("drop").hidden = !ahead;
     say(byId("ahead"), ahead ? `${ahead} ticks lie ahead: they are taken again as they were, until something is changed here.` : "");
     this.given(state);
   }
@@ -239,7 +245,7 @@ class Page {
   clear() {
     byId("message").hidden = true;
     byId("again").hidden = true;
-    for (const id of ["said", "desk-said", "keep-said"]) say(byId(id), "");
+    for (const id of ["said", "desk-said", "keep-said", "pulse-said", "time-said"]) say(byId(id), "");
   }
 
   // Time
@@ -247,6 +253,9 @@ class Page {
   play(speed) {
     this.speed = speed;
     this.played = performance.now();
+    // (as fast as it goes, it goes to the end of the log, or of what lies ahead)
+    const { now = 0, end = 0, log_end = 0 } = this.state ?? {};
+    this.until = Math.max(end, log_end) > now ? Math.max(end, log_end) : LAST_TICK;
     for (const [id, its] of [["pause", 0], ["play1", 1], ["play10", 10], ["playfast", Infinity]]) {
       byId(id).setAttribute("aria-pressed", its === speed);
     }
@@ -260,7 +269,9 @@ class Page {
   beat() {
     if (!this.speed || this.isAsking || this.waiting.length || this.target !== null) return;
     if (this.speed === Infinity) {
-      this.ask({ do: "advance", ticks: 100000 });
+      const left = this.until - this.state.now;
+      if (left > 0) this.ask({ do: "advance", ticks: Math.min(100000, left) });
+      else this.stopped();
       return;
     }
     const due = Math.floor(((performance.now() - this.played) / 100) * this.speed);
@@ -268,6 +279,14 @@ class Page {
     this.played += (due * 100) / this.speed;
     // (a page that slept does not catch up)
     this.ask({ do: "advance", ticks: Math.min(due, 60 * this.speed) });
+  }
+
+  /** Fast has come to where it ends. */
+  stopped() {
+    const { now, log_end } = this.state;
+    this.pause();
+    const where = now === LAST_TICK ? "the last one that there is" : now === log_end ? "where the log ends" : "the end of what lay ahead";
+    for (const id of ["said", "time-said"]) say(byId(id), `stopped at tick ${now}, ${where}`);
   }
 
   /** Goes to a tick, in as many steps as it takes; a newer one takes its place. */
@@ -301,8 +320,9 @@ class Page {
     onClick("playfast", () => this.play(Infinity));
     onClick("tick-on", () => this.step(1));
     onClick("tick-back", () => this.step(-1));
-    onClick("go-there", () => this.tried(null, () => this.go(whole(byId("go").value, "a tick", 0, LAST_TICK))));
+    onClick("go-there", () => this.tried("time-said", () => this.go(whole(byId("go").value, "a tick", 0, LAST_TICK))));
     onClick("undo", () => this.ask({ do: "undo" }));
+    onClick("drop", () => this.ask({ do: "drop" }));
     onClick("message-close", () => this.clear());
     onClick("again", () => this.ask({ do: "again" }));
     onClick("free-all", () => this.intersection.freeAll(this.state));
@@ -346,7 +366,7 @@ class Page {
     const isOne = () => ["stage", "trip"].includes(byId("watch").value);
     byId("watch").addEventListener("change", () => (byId("watch-number").disabled = isOne()));
     byId("mark").addEventListener("click", () => {
-      this.tried(null, () => {
+      this.tried("time-said", () => {
         const number = isOne() ? 0 : whole(byId("watch-number").value, "a number", 1, 16);
         this.ask({ do: "mark", watch: byId("watch").value, number, on: true });
       });
