@@ -13,7 +13,7 @@ from hypothesis import strategies as some
 
 from tsb import Error, Event, Log, Plan, frames, measures
 from tsb.report.differences import Difference, differences, of_counts, of_means
-from tsb.report.numbers import Numbers
+from tsb.report.numbers import Numbers, period_of
 from tsb.report.runs import Run, moment, of_rows, with_inputs_of
 from tsb.spread import percentile
 from tsb.told import by_tick, ordered
@@ -148,6 +148,16 @@ def test_actuations_by_what_is_shown() -> None:
     assert rows(none.reset_index()) == [(6, 0, 0, 0, 0, None)]
 
 
+def test_actuations_of_events_in_any_order() -> None:
+    """By tick, and within a tick by code; phases stand in their order."""
+    events = table((20, 7, 2), (10, 1, 2), (15, 82, 2), (30, 7, 2), (30, 1, 2), (30, 82, 2))
+    assert rows(measures.arriving(events, {2: 2})) == [
+        (2, 2, 15, "green"), (2, 2, 30, "yellow")
+    ]  # fmt: skip
+    found = measures.arrivals(table(), {2: 16, 3: 1, 4: 8})
+    assert list(found.index) == [1, 8, 16]
+
+
 def preempted(*events: tuple[int, int, int]) -> list[tuple[object, ...]]:
     """The services of preempts 1 (track 4, dwell 2) and 2 (dwell 2 and 6)."""
     plan = Plan()
@@ -187,6 +197,16 @@ def test_services_of_preempts_by_themselves() -> None:
         (2, None, 2, None, None, None, None, None),
         (1, None, 5, None, 5, 9, None, None),
     ]
+
+
+def test_a_green_before_the_service_that_ended_is_none() -> None:
+    """And a preempt that no plan has is for no phases, the last one of a plan is."""
+    assert preempted((1, 1, 4), (5, 7, 4), (10, 105, 1), (20, 1, 4))[0][4] == 20
+    plan = Plan()
+    plan["preemptDwellPhase"] = {1: {2}, 4: {6}}
+    for number, green in ((0, None), (1, 15), (4, 20), (5, None), (99999, None)):
+        events = table((10, 105, number), (15, 1, 2), (20, 1, 6))
+        assert rows(measures.preempts(events, plan))[0][4] == green
 
 
 def test_alarms_at_once() -> None:
@@ -239,6 +259,21 @@ def test_what_is_no_pattern() -> None:
         assert rows(measures.patterns(events)) == [wanted]
 
 
+@pytest.mark.parametrize(
+    "told, wanted",
+    [
+        ([(1, 132, 30), (1, 133, 4)], (None, None, None)),
+        ([(1, 131, 1), (1, 133, 4)], (None, None, None)),
+        ([(1, 131, 1), (1, 132, 30)], (1, 30, 0)),
+    ],
+)
+def test_a_pattern_of_which_a_part_is_not_told(
+    told: list[tuple[int, int, int]], wanted: tuple[int | None, ...]
+) -> None:
+    """Without its number or its cycle it is none; without an offset that is 0."""
+    assert rows(measures.patterns(table(*told, (5, 7, 2)))) == [(1, 6, *wanted)]
+
+
 def test_cycles_of_free_operation_at_its_ends() -> None:
     """A crossing in the first and in the last tick of a stretch counts, and those of a
     pattern do not."""
@@ -266,6 +301,8 @@ def test_greens_in_cycles_at_their_ends() -> None:
         ]
     found = measures.greens_a_cycle(table((1, 1, 2), (1, 1, 4)))
     assert rows(found.reset_index()) == [(2, 0, 0, 0, 0, None), (4, 0, 0, 0, 0, None)]
+    once = measures.greens_a_cycle(table(*crossings[:2], (100, 1, 2)))
+    assert rows(once.reset_index()) == [(2, 1, 1, 0, 0, 1.0)]
     twice = measures.greens_a_cycle(table(*crossings, (100, 1, 2), (299, 1, 2)))
     assert rows(twice.reset_index()) == [(2, 2, 2, 1, 1, 1.0)]
 
@@ -484,6 +521,111 @@ def test_a_planned_split_of_0_is_none(code: int) -> None:
     # told in the tick of the green it counts, a tick later not
     assert rows(numbers((100, code, 9), *service).programmed)[0][1] == 9
     assert rows(numbers((101, code, 9), *service).programmed)[0][1] is None
+
+
+def test_periods_of_a_day() -> None:
+    """The first length of which there are 24 at most, and the last one anyway."""
+    day = 864_000
+    for ticks, period in (
+        (0, 600), (14_400, 600), (14_401, 3000), (72_000, 3000), (72_001, 9000),
+        (216_001, 36_000), (day, 36_000), (day + 1, 144_000), (4 * day, 144_000),
+        (4 * day + 1, day), (25 * day, day),
+    ):  # fmt: skip
+        assert period_of(ticks) == period
+
+
+def test_names_of_a_run_among_others() -> None:
+    run = Run("_hand", table(), np.datetime64(START, "ns"), 9, None)
+    alone = Numbers(run)
+    assert (alone.letter, alone.label, alone.key) == ("", "_hand", "hand")
+    first, second = Numbers(run, of=2), Numbers(run, 1, 2)
+    assert (first.letter, first.label) == ("A", "A: _hand")
+    assert (second.letter, second.label, second.key) == ("B", "B: _hand", "B: _hand")
+    assert Numbers(replace(run, name="__")).key == "run"
+    assert alone.consecutive == 1 and alone.lost is None
+
+
+def test_greens_and_walks_by_time() -> None:
+    """What ends or begins in the last tick of a period is of it."""
+    of = numbers(
+        (10, 1, 2), (600, 4, 2), (600, 7, 2), (600, 21, 4), (601, 21, 4),
+        (601, 1, 2), (605, 5, 2), (1200, 7, 2), (1201, 1, 4), (1201, 7, 4),
+        ticks=1300,
+    )  # fmt: skip
+    found = of.marked_by_time
+    assert rows(found.reset_index()) == [
+        (0, 2, 1, 0, 0, 0, 1, 0), (0, 4, 0, 0, 0, 0, 0, 1),
+        (1, 2, 0, 1, 0, 0, 1, 0), (1, 4, 0, 0, 0, 0, 0, 1),
+        (2, 4, 0, 0, 0, 1, 1, 0),
+    ]  # fmt: skip
+    assert list(of.walked.columns) == ["phase", "tick"]
+    assert rows(of.walked) == [(4, 600), (4, 601)]
+    assert len(of.marked) == 3
+
+
+def test_planned_splits_in_any_order() -> None:
+    """Events of a table whose rows are not in order; of one tick the last row counts."""
+    of = numbers((300, 135, 40), (1, 135, 20), *SERVICE)
+    assert rows(of.splits[["planned_s"]]) == [(40.0,)]
+    assert rows(of.programmed)[0][1] == 20.0
+    for code in (133, 150):
+        assert numbers((1, code, 50))._planned().empty
+    many = [(5, 135, it) for it in range(1, 90)]
+    assert rows(numbers(*many, *SERVICE).splits[["planned_s"]]) == [(89.0,)]
+
+
+def test_the_85th_of_a_hundred_services() -> None:
+    """Of twenty the seventeenth."""
+    each = [
+        (1000 * k + tick, code, 2)
+        for k in range(20)
+        for tick, code in ((0, 1), (50, 4), (50, 7), (80 + 10 * k, 12))
+    ]
+    of = numbers(*each, ticks=30_000)
+    assert rows(of.programmed[["count", "mean", "p85"]]) == [(20, 17.5, 24.0)]
+
+
+def test_shares_of_a_run_that_was_green() -> None:
+    """Of a run of one tick; of a phase that was green for none, or had no detector."""
+    short = numbers((1, 1, 2), (1, 82, 2), (2, 7, 2), ticks=1).arrivals
+    assert rows(short[["green", "time_green", "platoon_ratio"]]) == [(1.0, 1.0, 1.0)]
+    of = numbers((5, 1, 2), (5, 7, 2), (9, 82, 2), (9, 82, 4))
+    assert of.arrivals["time_green"].to_list()[0] == 0.0
+    assert of.arrivals["platoon_ratio"].isna().all()
+    assert [of.waited(it) for it in (2, 4, 6)] == [1, 1, 0]
+
+
+def test_actuations_by_parts_of_a_cycle() -> None:
+    """Each in the cycle of the pattern that runs then, from its first tick on."""
+    of = numbers(
+        (1, 131, 1), (1, 132, 10), (1, 133, 0), (1, 1, 2), (1, 82, 2), (99, 82, 2),
+        (100, 82, 4), (200, 131, 2), (200, 132, 20), (200, 82, 2), (399, 82, 2),
+        (400, 131, 254), (400, 82, 2), (450, 82, 2),
+    )  # fmt: skip
+    assert rows(of.folded.reset_index()) == [
+        (2, 1, 2, 0, 0), (2, 20, 2, 0, 0), (4, 1, 0, 0, 1)
+    ]  # fmt: skip
+    assert of.coordinated == [2, 4]
+
+
+def test_coordinated_phases() -> None:
+    """Those of the split tables of the patterns that ran, in their order."""
+    plan = Plan()
+    plan["patternSplitNumber"] = {1: 2, 2: 3}
+    for table_, phase in ((1, 3), (2, 16), (2, 1), (2, 8), (3, 1), (3, 5), (4, 7)):
+        plan["splitCoordPhase"][table_, phase] = 1
+    one = [(1, 131, 1), (1, 132, 30), (1, 133, 0), (50, 7, 2)]
+    two = [(60, 131, 2), (60, 132, 40), (70, 7, 2)]
+    for events, found in ((one, [1, 8, 16]), (one + two, [1, 5, 8, 16]), (one[3:], [])):
+        run = Run("hand", table(*events), np.datetime64(START, "ns"), 99, plan)
+        assert Numbers(run).coordinated == found
+    # where the plan names none, or there is none: those that have an actuation
+    plain = Plan()
+    plain["vehicleDetectorCallPhase"] = {2: 16, 3: 1, 4: 8}
+    cars = [(9, 82, it) for it in (2, 3, 4)]
+    run = Run("hand", table(*one, *cars), np.datetime64(START, "ns"), 99, plain)
+    assert Numbers(run).coordinated == [1, 8, 16]
+    assert Numbers(replace(run, plan=None)).coordinated == []
 
 
 def test_a_phase_of_one_run_alone_is_told() -> None:

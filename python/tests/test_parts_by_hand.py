@@ -9,6 +9,7 @@ import pytest
 from hypothesis import given, settings
 from hypothesis import strategies as some
 
+from tsb import Bench
 from tsb.lines import Display
 from tsb.panel.keep import Source
 from tsb.panel.marks import MARKS_MOST, Watched
@@ -44,6 +45,14 @@ def test_marks_at_the_ends_of_a_view() -> None:
     assert marked(10, 19, 20).told(View(1, 30, 3))["ticks"] == [10, 20]
     assert (told["name"], told["watch"], told["number"]) == ("interval 2", "interval", 2)
     assert Watched("stage", 0).name == "stage"
+
+
+def test_marks_of_a_column() -> None:
+    """A column has one; where a tick has a column of its own, all are told."""
+    assert marked(3, 4).told(View(0, 9, 100))["ticks"] == [3, 4]
+    assert marked(100, 105, 109).told(View(100, 119, 4))["ticks"] == [100, 105]
+    assert marked(0, 4).told(View(0, 18, 4))["ticks"] == [0, 4]
+    assert Watched("stage", 0).until == 0 and MARKS_MOST == 20_000
 
 
 @given(some.lists(some.integers(0, 20), max_size=20), some.integers(0, 20))
@@ -119,6 +128,18 @@ def test_rows_that_were_taken() -> None:
     assert tape.end == 2 and tape.hands(1) == {} and tape.hands(2)[0].on
 
 
+def test_hands_behind_a_cut_and_pulses_beside_one_another() -> None:
+    """What a hand did behind a cut is gone; pulses end in the order of their ticks."""
+    tape = Tape()
+    tape.grasp(5, 0, Hand(True))
+    tape.cut(3)
+    assert tape.hands(9) == {}
+    tape.grasp(0, place("vehicle", 1), Hand(True, 16))
+    tape.grasp(0, place("vehicle", 2), Hand(True, 9))
+    found = list(tape.next_rows(0, 20))
+    assert found == [(row({1, 2}), 9), (row({1}), 7), (ALL_OFF, 4)]
+
+
 def test_inputs_that_are_no_ticks() -> None:
     """By their ticks; those at a cut stay, those behind it go."""
     tape, on, off = Tape(), Switch(1, "on"), Switch(1, "off")
@@ -157,6 +178,30 @@ def test_a_band_by_columns() -> None:
     band.cut(19)
     assert list(band.ticks) == [0, 10]
     assert Band(ord("-")).is_dark() and Band(ord("0")).is_dark()
+
+
+def test_a_band_that_is_put_again() -> None:
+    """The letter of its newest tick is another; what begins a tick before stays."""
+    band = Band(ord("R"))
+    for tick, letter in ((5, "G"), (6, "R"), (6, "Y")):
+        band.put(tick, ord(letter))
+    assert list(band.ticks) == [0, 5, 6] and band.letters == b"RGY"
+
+
+def test_shares_where_a_run_ends_in_a_column() -> None:
+    """The column has the ticks that there are; one behind the run has none. A head
+    that is green all the time is so in the only column."""
+    first = Display(0, "G" + "-" * 15, "-" * 16, "----", 0, None)
+    track = Track(first)
+    red, green = (first._replace(tick=it) for it in (5, 7))
+    track.add([red._replace(vehicles="R" + "-" * 15), green], 7)
+    shown = track.picture(View(0, 19, 4))["heads"][0]
+    assert shown == {"head": "P1", "shares": [100, 33, 0, 0]}
+    # a view that ends before the newest letter
+    assert track.picture(View(0, 5, 2))["heads"][0]["shares"] == [100, 67]
+    always = Track(first)
+    always.add([], 9)
+    assert always.picture(View(0, 9, 1))["heads"][0]["shares"] == [100]
 
 
 def test_a_picture_of_a_track() -> None:
@@ -231,6 +276,29 @@ def heads_of(letters: str) -> list[str]:
     return [f"R{it}RRRRRR" for it in letters]
 
 
+def test_a_gap_by_what_is_off_to_its_end() -> None:
+    """An input that is on in the tick behind the green ends no gap; one that was off
+    in all of a green was off for as long as the green."""
+    plan = crossroads.plan()
+    plan["phasePassage"] = {it: 3 for it in range(1, 9)}
+    off, on = "00000000", "11111111"
+    for phase in range(1, 9):
+        green = "".join("G" if it == phase else "R" for it in range(1, 9))
+        heads = ["RRRRRRRR"] * 2 + [green] * 7 + ["RRRRRRRR"] * 2
+        for rows, gapped in (
+            ([on] * 11, False),
+            ([on] * 4 + [off] * 5 + [on] * 2, False),
+            ([off] * 11, True),
+        ):
+            assert list(peers.greens(rows, heads, plan)) == [
+                peers.Green(phase, 3, 7, gapped)
+            ]
+        for passage, gapped in ((6, True), (7, False), (8, False)):
+            plan["phasePassage"][phase] = passage
+            (found,) = peers.greens([off] * 11, heads, plan)
+            assert found.gapped is gapped
+
+
 def test_a_gap_of_just_the_passage_has_not_passed() -> None:
     """Phase 2 of a passage of 3 ticks is green in ticks 3 to 9, and is off in its last
     ones; what is off a tick longer has passed."""
@@ -280,6 +348,65 @@ def test_causes_of_spells() -> None:
         found = peers.spells(theirs, ours)
         assert [it.cause for it in found] == [cause]
         assert peers.causes(found) == {cause: 1}
+
+
+def test_returns_to_the_left_turn_of_a_ring() -> None:
+    """Of each through phase, whatever the other ring does; a phase that is green again
+    is no other, and a left turn that ends goes back to none."""
+    for through, left in ((2, 1), (4, 3), (6, 5), (8, 7)):
+        theirs = [
+            lit(**{f"P{through}": letter, **{f"P{it}": "G" for it in others}})
+            for letter, others in (
+                ("G", []), ("Y", []), ("R", [5 if through < 5 else 4]), ("G", []),
+                ("R", [left]),
+            )
+        ]  # fmt: skip
+        ours = [theirs[0]] * len(theirs)
+        found = peers.spells(theirs, ours)
+        assert [it.cause for it in found] == ["return"], through
+        # (the ring has no other green behind it)
+        assert peers.spells(theirs[:4], ours[:4])[0].cause == "end"
+        lefts = [lit(**{f"P{left}": letter}) for letter in "GYR"]
+        assert peers.spells(lefts, lefts[:1] * 3)[0].cause == "end"
+
+
+def lit(**heads: str) -> str:
+    """Heads of which all others are red."""
+    return "".join(heads.get(f"P{it}", "R") for it in range(1, 9))
+
+
+def test_what_each_did_in_the_first_tick() -> None:
+    """Against the tick before, and before the first tick all are red."""
+    red, green, both = lit(), lit(P2="G"), lit(P2="G", P6="G")
+    (found,) = peers.spells([green, green], [both, green])
+    assert (found.begin, found.ticks) == (1, 1)
+    assert (found.theirs, found.ours, found.cause) == ("2G", "2G 6G", "choice")
+    # what was yellow before has not ended now
+    before, now = lit(P2="G", P6="Y"), lit(P2="Y", P6="Y")
+    (found,) = peers.spells([both, before, now, now], [both, before, before, before])
+    assert (found.theirs, found.ours, found.cause) == ("2Y", "stays", "end")
+    # theirs ends in the tick after, and goes on with it
+    yellow = lit(P2="Y")
+    (found,) = peers.spells([green, green, yellow, red], [green, yellow, yellow, red])
+    assert (found.begin, found.ticks, found.cause) == (2, 1, "later")
+    (found,) = peers.spells([green] * 2 + [yellow] * 2, [green] + [yellow] * 2 + [red])
+    assert (found.ticks, found.cause) == (2, "later")
+
+
+@pytest.mark.parametrize("pattern", [0, 1])
+def test_answers_are_those_of_a_bench(pattern: int) -> None:
+    """Of the first eight inputs; what is beside them is off."""
+    plan = crossroads.plan(pattern=True)
+    rows = ["0001000000"] * 400 + ["1000000000"] * 900
+    with Bench(plan) as bench:
+        if pattern:
+            bench.set_pattern(pattern)
+        shown = bench.ticks(it + ALL_OFF[10:] for it in rows)
+        wanted = [it.vehicles[:8] for it in shown]
+    assert peers.answers(rows, plan, pattern) == wanted
+    if not pattern:
+        assert peers.answers(rows, plan) == wanted
+    assert (peers.answers(rows, plan, 1 - pattern) != wanted) and len(wanted[0]) == 8
 
 
 TRIPS = """<tripinfos>

@@ -1,14 +1,16 @@
 """Small mistakes in modules of the package, and whether its tests notice them.
 
-    python3 -m tools.programs.mutants [--sample N] [--seed S] [--seconds S] [MODULE ..]
+    python3 -m tools.programs.mutants [--sample N] [--seed S] [--seconds S] [--least N] [MODULE ..]
 
 Each mutant is one change of a module's syntax tree: a comparison turned or moved by its
 boundary, a number one more, a sum or a product turned, a branch or a statement dropped,
 a sort or a filter left out, a minimum made a maximum. It is tried by the tests of its
 module (`TESTS`), in a fork of a process that has what all of them import. A mutant that
-runs too long counts as noticed. It prints those that survive, and of each module how
-many were noticed; the last line is `N killed, M survive`. Those of `EQUAL` are the same
-program, each with its reason, and are left out. Without modules it is all of them.
+runs too long counts as noticed. Those of `EQUAL` are the same program, each with its
+reason, and are not tried. It prints those that survive, and of each module a row of the
+table in docs/EVIDENCE.md: its mutants, how many were noticed, are equal, and are left.
+The last line is `N passed, M failed`: one passes where it is noticed, and with `--least`
+as many may fail as that leaves. Without modules it is all of them.
 """
 import argparse
 import ast
@@ -26,30 +28,52 @@ from tools import TOP
 
 PYTHON = TOP / "python"
 SECONDS = 60  # that the tests of a mutant have at most
-HAND = ["tests/test_boundaries.py"]
+HAND, PARTS, SUMO = ["tests/test_boundaries.py"], ["tests/test_parts_by_hand.py"], "tests/test_sumo.py"
 # The tests of each module that can notice a mistake in it: fast ones first.
 TESTS = {
     "measures": [*HAND, "tests/test_measures.py", "tests/test_cycles.py"],
     "cycles": [*HAND, "tests/test_cycles.py"],
     "frames": [*HAND, "tests/test_frames.py"],
     "forms": ["tests/test_forms.py"],
-    "tasks": ["tests/test_sweep.py"],
-    "sweep": ["tests/test_sweep.py"],
+    "tasks": ["tests/test_tasks.py"],
+    "sweep": ["tests/test_tasks.py", *(f"tests/test_sweep.py::{it}" for it in (
+        "test_what_processes_cannot_find", "test_the_command_on_a_cluster_that_runs_already",
+        "test_parts_that_a_dead_process_left_go", "test_a_sweep_that_is_stopped_leaves_nothing"))],
     "report.numbers": [*HAND, "tests/test_report_numbers.py"],
     "report.differences": [*HAND, "tests/test_report_numbers.py"],
     "report.runs": [*HAND, "tests/test_report_numbers.py"],
-    "panel.tape": ["tests/test_parts_by_hand.py", "tests/test_panel_parts.py"],
-    "panel.track": ["tests/test_parts_by_hand.py", "tests/test_panel_parts.py"],
-    "panel.marks": ["tests/test_parts_by_hand.py", "tests/test_panel_parts.py"],
-    "panel.run": ["tests/test_parts_by_hand.py", "tests/test_panel_parts.py"],
-    "sumo.nema": ["tests/test_parts_by_hand.py", "tests/test_sumo.py"],
-    "sumo.trips": ["tests/test_parts_by_hand.py"],
-    "sumo.peers": ["tests/test_parts_by_hand.py"],
+    "panel.tape": PARTS,
+    "panel.track": PARTS,
+    "panel.marks": PARTS,
+    "panel.run": [*PARTS, "tests/test_panel_parts.py"],
+    "sumo.nema": [*PARTS, *(f"{SUMO}::{it}" for it in (
+        "test_cycles_of_programs_of_type_nema", "test_phases_of_nema_in_no_ring",
+        "test_a_program_of_type_nema_is_read_back"))],
+    "sumo.trips": PARTS,
+    "sumo.peers": PARTS,
 }
 # The modules whose tests need no program of the bench and under a second each.
 QUICK = ["measures", "cycles", "report.numbers", "report.differences", "sumo.trips"]
 # Mutants that are the same program: why.
-EQUAL: dict[str, str] = {}
+SORTED = "two columns are sorted stably whatever the kind is"
+NAMED = "columns are taken by name"
+SHIFT = "shares are differences of what it moves by one"
+EQUAL = {
+    "measures walk_waits: 1 -> 2": "no event has a code below 0",
+    "measures arriving: 'stable' -> 'quicksort'": SORTED,
+    "measures counted: all_of > 0 -> all_of >= 0": "0 of 0 is not known either way",
+    "cycles cycles: False -> True": NAMED,
+    "cycles in_cycle: False -> True": NAMED,
+    "cycles greens_a_cycle: False -> True": "without cycles no place is 0 or more",
+    "panel.tape _with_hands: if not hands: return row -> if False: return row": "a shorter way to the same row",
+    "panel.track __init__: 0 -> 1 (2)": SHIFT,
+    "panel.track put: 0 -> 1": SHIFT,
+    "panel.track shares: 0 -> 1": "it is overwritten",
+    "panel.track shares: 1 -> 2 (3)": "it stands behind all edges",
+    "panel.track cut: tick < self.end -> tick <= self.end": "nothing lies behind the end",
+    "sumo.peers answers: False -> True": "a bench that keeps events answers the same",
+    "sumo.peers _next_green: 4 -> 5": "phase 5 is no through phase",
+}
 
 COMPARED = {
     ast.Lt: [ast.LtE], ast.LtE: [ast.Lt], ast.Gt: [ast.GtE], ast.GtE: [ast.Gt], ast.Eq: [ast.NotEq],
@@ -74,6 +98,9 @@ def own(node: ast.AST, parent: ast.AST | None) -> bool:
     if isinstance(node, (ast.Raise, ast.JoinedStr, ast.Import, ast.ImportFrom, ast.alias)):
         return False
     if isinstance(node, ast.If) and getattr(node.test, "id", "") == "TYPE_CHECKING":
+        return False
+    # (what a program checks of itself)
+    if isinstance(node, ast.keyword) and node.arg == "strict":
         return False
     return not (isinstance(node, ast.Expr) and isinstance(node.value, ast.Constant))
 
@@ -209,13 +236,13 @@ def laid_over(room: pathlib.Path, module: str, text: str) -> None:
     mine.write_text(text, encoding="utf-8")
 
 
-def tried(module: str, text: str, seconds: float) -> bool:
-    """Whether the tests of a module notice a text in its place."""
+def tried(module: str, text: str, seconds: float, tests: list[str]) -> bool:
+    """Whether tests notice a text in the place of a module."""
     with tempfile.TemporaryDirectory(prefix="tsb-mutant-") as room:
         laid_over(pathlib.Path(room), module, text)
         child = os.fork()
         if child == 0:
-            os._exit(_tested(pathlib.Path(room), module))
+            os._exit(_tested(pathlib.Path(room), tests))
         until = time.monotonic() + seconds
         while time.monotonic() < until:
             done, status = os.waitpid(child, os.WNOHANG)
@@ -227,21 +254,25 @@ def tried(module: str, text: str, seconds: float) -> bool:
         return True
 
 
-def _tested(room: pathlib.Path, module: str) -> int:
-    """Runs the tests of a module in this process, and says how they ended."""
+def _tested(room: pathlib.Path, tests: list[str]) -> int:
+    """Runs tests in this process, and says how they ended."""
     os.setsid()
+    # (a shell that starts this in the background has Ctrl-C ignored, and tests send it)
+    signal.signal(signal.SIGINT, signal.default_int_handler)
     nothing = os.open(os.devnull, os.O_RDWR)
     for fd in (0, 1, 2):
         os.dup2(nothing, fd)
-    os.chdir(PYTHON)
+    # (a program that a test starts takes the package of the folder that it stands in)
+    os.chdir(room)
     sys.path.insert(0, str(room))
     os.environ["PYTHONPATH"] = str(room)
     os.environ["PYTHONDONTWRITEBYTECODE"] = "1"
     import pytest
 
-    words = ["-x", "-q", "-p", "no:cacheprovider", "-p", "no:warnings", f"--basetemp={room}/tests"]
+    words = ["-x", "-q", "-p", "no:cacheprovider", "-p", "no:warnings", f"--basetemp={room}/tests",
+             "-c", str(PYTHON / "pyproject.toml"), f"--rootdir={PYTHON}"]
     try:
-        return int(pytest.main([*words, *TESTS[module]]))
+        return int(pytest.main([*words, *(str(PYTHON / it) for it in tests)]))
     except BaseException:
         return 1
 
@@ -252,32 +283,39 @@ def main() -> int:
     words.add_argument("--sample", type=int, help="so many mutants of all of the modules")
     words.add_argument("--seed", type=int, default=1)
     words.add_argument("--seconds", type=float, default=SECONDS)
+    words.add_argument("--least", type=int, default=0, help="how many have to be noticed, where not all")
     given = words.parse_args()
     modules = QUICK if given.modules == ["quick"] else given.modules or [*TESTS]
     # (what all forks have)
     import hypothesis, numpy, pandas, pytest  # noqa: E401, F401
 
-    # (what a mutant fails by is not kept, or the tests of the package itself would begin with it, and may stop there)
-    hypothesis.settings.register_profile("mutants", database=None)
+    # (what a mutant fails by is not kept, or the tests of the package itself would begin with it, and may stop there;
+    # examples are the same each time, so that figures are)
+    hypothesis.settings.register_profile("mutants", database=None, derandomize=True)
     hypothesis.settings.load_profile("mutants")
 
-    found = [(it, *mutant) for it in modules for mutant in mutants(it) if mutant[0] not in EQUAL]
+    every = [(it, *mutant) for it in modules for mutant in mutants(it)]
+    found = [it for it in every if it[1] not in EQUAL]
     if given.sample:
         found = random.Random(given.seed).sample(found, min(given.sample, len(found)))
-    for it in dict.fromkeys(module for module, _, _ in found):
-        if tried(it, path_of(it).read_text(encoding="utf-8"), 10 * given.seconds):
-            sys.exit(f"the tests of {it} fail as it is")
-    counts: dict[str, list[int]] = {}
+    used = dict.fromkeys(test for module in dict.fromkeys(it[0] for it in found) for test in TESTS[module])
+    if tried(modules[0], path_of(modules[0]).read_text(encoding="utf-8"), 10 * given.seconds, [*used]):
+        print("the tests fail as the modules are\n0 passed, 1 failed")
+        return 1
+    counts = {module: [0, 0] for module in modules}
     for module, name, text in found:
-        is_killed = tried(module, text, given.seconds)
-        counts.setdefault(module, [0, 0])[not is_killed] += 1
+        is_killed = tried(module, text, given.seconds, TESTS[module])
+        counts[module][not is_killed] += 1
         if not is_killed:
             print(f"survives: {name}", flush=True)
-    for module, (killed, survive) in counts.items():
-        print(f"{module}: {killed} of {killed + survive}")
+    if not given.sample:
+        for module, (killed, survive) in counts.items():
+            equal = sum(it[0] == module for it in every) - killed - survive
+            print(f"| `{module}` | {killed + survive + equal} | {killed} | {equal} | {survive} |")
     killed, survive = (sum(it[k] for it in counts.values()) for k in (0, 1))
-    print(f"{killed} killed, {survive} survive")
-    return 0
+    is_enough = killed >= given.least > 0 or not survive
+    print(f"{killed} passed, {0 if is_enough else survive} failed")
+    return 0 if is_enough else 1
 
 
 if __name__ == "__main__":

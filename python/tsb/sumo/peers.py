@@ -124,7 +124,7 @@ def _cause(theirs: Sequence[str], ours: Sequence[str], at: int) -> str:
     if ended[1] and not ended[0] and theirs[at + 1 : at + 2] == [b]:
         return "later"
     for phase in ended[0]:
-        if LEFT_OF.get(phase) == _next_green(theirs, at, phase):
+        if phase in LEFT_OF and LEFT_OF[phase] == _next_green(theirs, at, phase):
             return "return"
     if ended[1] - ended[0]:
         return "hold"

@@ -1,0 +1,367 @@
+"""The runs of a sweep and its words, at their boundaries: in this process, or in one."""
+
+import inspect
+import signal
+from collections.abc import Iterator
+from dataclasses import replace
+from pathlib import Path
+from typing import Any
+
+import pandas as pd
+import pytest
+from tsb import Error, Log, Plan, PlanFault, ProgramDied, measures, programs
+from tsb.processes import local
+from tsb.sumo import Intersection, Loop, crossroads, read_trips, summary
+from tsb.sumo.command import log_of
+from tsb.sweep import (
+    Runs,
+    SweepFailed,
+    _client,
+    _ended_by_terms,
+    _traffic,
+    _words,
+    main,
+    sweep,
+    tasks_of,
+    workers_of,
+)
+from tsb.tasks import (
+    Day,
+    Seed,
+    Traffic,
+    events_of_record,
+    key_of,
+    one_run,
+    record,
+    recorded,
+    tried,
+)
+
+SECONDS = 60
+
+
+@pytest.fixture(scope="module")
+def one() -> Iterator[Any]:
+    """A process."""
+    with local(1) as client:
+        yield client
+
+
+@pytest.fixture
+def plan(examples: Path) -> Path:
+    return examples / "quad.json"
+
+
+@pytest.fixture
+def log(examples: Path, tmp_path: Path) -> Path:
+    """A log of inputs, named by a day."""
+    path = tmp_path / "2026-11-22.log"
+    path.write_bytes((examples / "hour_of_traffic.log").read_bytes())
+    return path
+
+
+@pytest.fixture
+def day(plan: Path, log: Path) -> Day:
+    return Day(str(plan), str(log), "00:00:00", SECONDS, None, 0)
+
+
+def told(events: pd.DataFrame, plan: Plan) -> pd.DataFrame:
+    """A measure that is the events."""
+    return events
+
+
+def full(events: pd.DataFrame, plan: Plan) -> pd.DataFrame:
+    """A measure that meets a full disk, somewhere."""
+    raise OSError(28, "No space left on device")
+
+
+def fails(events: pd.DataFrame, plan: Plan) -> pd.DataFrame:
+    raise ValueError("it fails")
+
+
+# Tasks
+
+
+def test_a_day_of_inputs(day: Day, plan: Path, log: Path) -> None:
+    """A log of inputs begins with its tick 1; a measure by its name, or a function."""
+    wanted = record(plan, Log.read(log), SECONDS)
+    assert wanted.equals(record(plan, Log.read(log), SECONDS, 0))
+    tables = dict(day.tables(["terminations", told]))
+    pd.testing.assert_frame_equal(tables["told"], wanted)
+    by_hand = measures.terminations(wanted)
+    assert by_hand.sum().sum() > 3 and by_hand.index.name == "phase"
+    pd.testing.assert_frame_equal(tables["terminations"], by_hand.reset_index())
+    assert dict(day.tables([])) == {}
+    # in a pattern it is told so in the first tick
+    (pattern,) = dict(replace(day, pattern=1).tables([told])).values()
+    assert [1, 131, 1] in pattern.to_numpy().tolist()
+    assert [1, 131, 1] not in wanted.to_numpy().tolist()
+
+
+def test_a_day_of_events(day: Day, plan: Path, log: Path, tmp_path: Path) -> None:
+    """By its name, or by a whole time; a clock alone needs a day's name."""
+    words = ["record", "--from=2026-11-22 07:00:00", "--device=7", str(plan), str(log)]
+    text = programs.run("tsb_field", words, b"step 600\n").stdout
+    named, other = tmp_path / "2026-11-22.csv", tmp_path / "street.csv"
+    named.write_bytes(text)
+    other.write_bytes(text)
+    begun = replace(day, source=str(named), begin="07:00:00", device="7")
+    whole = replace(day, source=str(other), begin="2026-11-22 07:00:00", device="7")
+    (first,), (second,) = (dict(it.tables([told])).values() for it in (begun, whole))
+    pd.testing.assert_frame_equal(first, second)
+    assert len(first) > 20
+    with pytest.raises(Error, match="street.csv: name it by its day, or begin with a"):
+        list(replace(whole, begin="07:00:00").tables([told]))
+    # all events of a record, the first too
+    lines = text.decode().splitlines()[1:]
+    found = events_of_record(text, "2026-11-22 07:00:00")
+    assert len(found) == len(lines) and list(found.columns) == ["tick", "code", "parameter"]
+    code, parameter = map(int, lines[0].split(",")[2:])
+    assert found.iloc[0].to_list() == [1, code, parameter]
+
+
+def test_what_a_record_is_refused_by(plan: Path, tmp_path: Path) -> None:
+    bad = tmp_path / "bad.json"
+    bad.write_text('{"version": 2}\n')
+    with pytest.raises(PlanFault, match="plan: rule K1"):
+        recorded(bad, Log(), "step 1\n")
+    with pytest.raises(ProgramDied, match="refused E9"):
+        recorded(plan, Log(), "pattern 9\n")
+
+
+def test_the_table_of_a_run(day: Day, tmp_path: Path) -> None:
+    """Plan, day and measure come first, and rows have no number."""
+    tmp_path = tmp_path / "out"
+    tmp_path.mkdir()
+    name = one_run(day, str(tmp_path), "x", ["splits", "terminations"])
+    lines = (tmp_path / name).read_text().splitlines()
+    assert lines[0].startswith("plan,day,measure,phase,begin,over,green_s,")
+    assert lines[0].count("measure") == 1 and lines[1].startswith("quad,2026-11-22,splits,")
+    assert len(key_of(day, ["splits"])) == 10
+
+
+def test_what_went_wrong_with_a_run(day: Day, tmp_path: Path) -> None:
+    """A disk that is full is told by the folder, a file that is not there by itself."""
+    out = tmp_path / "out"
+    out.mkdir()
+    assert tried(day, str(out), "x", ["splits"]) is None and len(list(out.iterdir())) == 1
+    said = "No space left on device"
+    assert tried(day, str(out), "y", [full]) == f"{out}: {said}"
+    gone = replace(day, source=str(tmp_path / "gone.log"))
+    assert tried(gone, str(out), "y", [told]) == f"{gone.source}: No such file or directory"
+    none = tmp_path / "none"
+    assert tried(day, str(none), "y", [told]) == f"{none}: No such file or directory"
+    assert tried(day, str(out), "y", [fails]) == "ValueError: it fails"
+
+
+@pytest.fixture
+def traffic(tmp_path: Path) -> Traffic:
+    """Traffic with a seed, whose names end with a comma."""
+    crossroads.build(tmp_path)
+    crossroads.demand(tmp_path / "1.rou.xml", "heavy", 1, 60)
+    crossroads.plan(pattern=True).write(tmp_path / "free.json")
+    files = ("net.xml", "{seed}.rou.xml,", "mapping.json", ",detectors.xml")
+    return Traffic(*(str(tmp_path / it) if it[0] != "," else f",{tmp_path}/{it[1:]}" for it in files))
+
+
+@pytest.mark.parametrize("pattern", [0, 1])
+def test_a_run_of_traffic(traffic: Traffic, tmp_path: Path, pattern: int) -> None:
+    """Its trips and its events are those of a loop of so many seconds."""
+    seed = Seed(str(tmp_path / "free.json"), traffic, 1, 30, pattern)
+    assert seed.reads == [
+        str(tmp_path / it)
+        for it in ("free.json", "net.xml", "mapping.json", "1.rou.xml", "detectors.xml")
+    ]
+    tables = dict(seed.tables([told, "trips"]))
+    assert list(tables) == ["trips", "told"]
+    at = Intersection.of(traffic.net, None, traffic.mapping, seed.plan)
+    trips = tmp_path / "trips.xml"
+    with Loop(
+        traffic.net, str(tmp_path / "1.rou.xml"), at,
+        additional=str(tmp_path / "detectors.xml"), seed=1, trips=trips,
+    ) as loop:  # fmt: skip
+        if pattern:
+            loop.benches[at.tls].set_pattern(pattern)
+        loop.run(300)
+        rows = log_of(loop.rows(at.tls))
+    wanted = summary(read_trips(trips)).rename_axis("kind").reset_index()
+    pd.testing.assert_frame_equal(tables["trips"], wanted)
+    assert wanted["under_way"].sum() > 3
+    pd.testing.assert_frame_equal(tables["told"], record(seed.plan, rows, 30, pattern))
+    alone = dict(seed.tables(["terminations"]))
+    assert list(alone) == ["terminations"]
+
+
+# A sweep
+
+
+def test_the_tables_of_all_runs(one: Any, plan: Path, log: Path, tmp_path: Path) -> None:
+    """In the order of the runs, with a row for each; whole numbers stay whole."""
+    out = tmp_path / "a" / "b"
+    other = tmp_path / "other.json"
+    other.write_bytes(plan.read_bytes())
+    asked: dict[str, Any] = {"out": out, "seconds": SECONDS}
+    table = sweep([plan, other], [log], ["terminations", "waits"], one, **asked)
+    assert list(table.index) == list(range(len(table)))
+    assert table["plan"].unique().tolist() == ["quad", "other"]
+    assert table["phase"].dtype == "Int64" and table["gap"].dtype == "Int64"
+    kept = {it: it.stat().st_mtime_ns for it in out.iterdir()}
+    assert len(kept) == 2
+    again = sweep([plan, other], [log], ["waits", "terminations"], one, **asked)
+    assert set(again["measure"]) == {"terminations", "waits"}
+    assert {it: it.stat().st_mtime_ns for it in out.iterdir()} == kept
+    # a run that fails has no rows, and the others have
+    with pytest.raises(SweepFailed, match="^1 runs failed; of none.2026-11-22.*: PlanFault") as failed:
+        bad = tmp_path / "none.json"
+        bad.write_text('{"version": 2}')
+        sweep([bad, plan], [log], ["terminations", "waits"], one, **asked)
+    assert set(failed.value.table["plan"]) == {"quad"} and len(failed.value.failures) == 1
+    with pytest.raises(SweepFailed) as failed:
+        sweep([bad], [log], ["terminations"], one, **asked)
+    assert list(failed.value.table.columns) == ["plan", "day", "measure"]
+    assert len(failed.value.table) == 0
+
+
+def test_a_sweep_of_its_own_processes(
+    plan: Path, log: Path, tmp_path: Path, monkeypatch: pytest.MonkeyPatch
+) -> None:
+    """Without a client and a folder it has its own, and leaves nothing."""
+    room = tmp_path / "room"
+    room.mkdir()
+    monkeypatch.chdir(room)
+    monkeypatch.setattr("tempfile.tempdir", str(room))
+    table = sweep([plan], [log], ["splits"], seconds=SECONDS)
+    assert len(table) > 5 and list(room.iterdir()) == []
+    found = inspect.signature(sweep).parameters
+    assert (found["seconds"].default, found["pattern"].default) == (86400, 0)
+
+
+def test_what_a_sweep_is_refused_by(day: Day, traffic: Traffic, tmp_path: Path) -> None:
+    """A measure that there is not, trips of days, a run or a name that comes twice."""
+    out = tmp_path / "out"
+    seed = Seed(str(tmp_path / "free.json"), traffic, 1, 30, 0)
+    with pytest.raises(Error, match="there is no measure nothing: greens, splits, "):
+        Runs([seed], ["trips", "nothing"], out)
+    with pytest.raises(Error, match="trips: a day has none"):
+        Runs([day, seed], ["trips"], out)
+    with pytest.raises(Error, match="the same run comes twice"):
+        Runs([seed, seed], ["trips"], out)
+    for members in ("plan", "source"):
+        first, second = (tmp_path / it / "x.log" for it in ("a", "b"))
+        for it in (first, second):
+            it.parent.mkdir(exist_ok=True)
+            it.write_bytes(Path(day.plan).read_bytes())
+        what = {"plan": "plans", "source": "days"}[members]
+        message = f"two {what} of one name: {first} and {second}: rename one"
+        for names in ((first, second), (second, first)):
+            tasks = [replace(day, **{members: str(it)}) for it in names]
+            with pytest.raises(Error) as told_of:
+                Runs([*tasks], ["splits"], out)
+            assert str(told_of.value) == message
+    assert not out.exists()
+    found = Runs([day, seed], [told, "splits"], out)
+    assert found.missing == list(found.names) and len(found.missing) == 2
+    assert out.is_dir() and found.table().empty
+    assert Runs([seed], ["trips"], out).missing  # (a folder that is there)
+
+
+def test_the_traffic_of_a_sweep(traffic: Traffic, tmp_path: Path) -> None:
+    """Each plan with each seed, with whole names; without traffic seeds are none."""
+    plans = [tmp_path / "free.json", "other.json"]
+    asked: dict[str, Any] = {"begin": "", "seconds": 5, "device": None, "pattern": 2}
+    found = tasks_of(plans, [], traffic=traffic, seeds=[1, 2], **asked)
+    assert [(Path(it.plan).stem, it.name) for it in found] == [
+        ("free", "seed1"), ("free", "seed2"), ("other", "seed1"), ("other", "seed2")
+    ]  # fmt: skip
+    whole = found[0].traffic  # type: ignore[union-attr]
+    assert whole.routes == str(tmp_path / "{seed}.rou.xml")
+    assert whole.additional == str(tmp_path / "detectors.xml")
+    assert tasks_of(plans, [], traffic=None, seeds=[1, 2], **asked) == []
+
+
+ALL = [
+    "a.json", "b.json", "--days", "x.csv", "y.csv", "--out", "out", "--measure",
+    "splits", "--measure", "waits", "--begin", "07:00:00", "--seconds", "60",
+    "--device", "7", "--pattern", "3", "--sumo", "net.xml", "--routes", "r.xml",
+    "--mapping", "m.json", "--additional", "d.xml", "--seeds", "1", "2",
+    "--scheduler", "tcp://x:1", "--workers", "1",
+]  # fmt: skip
+
+
+def test_the_words_of_a_sweep(capsys: pytest.CaptureFixture[str]) -> None:
+    """All of them, and what is meant without them."""
+    assert vars(_words().parse_args(ALL)) == {
+        "plans": ["a.json", "b.json"], "days": ["x.csv", "y.csv"], "out": Path("out"),
+        "measure": ["splits", "waits"], "begin": "07:00:00", "seconds": 60,
+        "device": "7", "pattern": 3, "sumo": "net.xml", "routes": "r.xml",
+        "mapping": "m.json", "additional": "d.xml", "seeds": [1, 2],
+        "scheduler": "tcp://x:1", "workers": 1,
+    }  # fmt: skip
+    assert vars(_words().parse_args(["a.json", "--out", "o"])) == {
+        "plans": ["a.json"], "days": [], "out": Path("o"), "measure": None,
+        "begin": "00:00:00", "seconds": 86400, "device": None, "pattern": 0,
+        "sumo": None, "routes": "", "mapping": "", "additional": "", "seeds": [],
+        "scheduler": None, "workers": None,
+    }  # fmt: skip
+    for words in (["a.json"], ["--out", "o"], ["a.json", "--out", "o", "--workers", "0"]):
+        with pytest.raises(SystemExit):
+            _words().parse_args(words)
+    assert "--workers: invalid" in capsys.readouterr().err
+    assert workers_of("1") == 1 and workers_of("12") == 12
+    for text in ("0", "-1", "x"):
+        with pytest.raises(ValueError):
+            workers_of(text)
+    of = _traffic(_words().parse_args(ALL))
+    assert of == Traffic("net.xml", "r.xml", "m.json", "d.xml")
+    assert _traffic(_words().parse_args(["a.json", "--out", "o"])) is None
+    for word in ("--routes", "--mapping", "--seeds"):
+        at = ALL.index(word)
+        rest = ALL[:at] + ALL[at + (3 if word == "--seeds" else 2) :]
+        with pytest.raises(Error, match=f"--sumo needs {word} as well"):
+            _traffic(_words().parse_args(rest))
+
+
+def test_the_command_of_a_sweep(
+    plan: Path, log: Path, tmp_path: Path, capsys: pytest.CaptureFixture[str]
+) -> None:
+    """What it prints and writes; runs of one fault are told together."""
+    before = signal.getsignal(signal.SIGTERM)
+    out, bad = tmp_path / "out", [tmp_path / "bad.json", tmp_path / "worse.json"]
+    for it in bad:
+        it.write_text('{"version": 2}')
+    words = ["--days", str(log), "--out", str(out), "--workers", "1", "--seconds", "60"]
+    assert main([str(plan), *map(str, bad), *words]) == 1
+    said = capsys.readouterr()
+    assert said.out == f"1 runs done, 1 of them now, 2 failed\nall tables: {out}/all_runs.txt\n"
+    (line,) = said.err.splitlines()
+    names = line.split(": ")[0].split(", ")
+    assert sorted(it.split(".")[0] for it in names) == ["bad", "worse"]
+    assert ": PlanFault: plan: rule K1" in line
+    lines = (out / "all_runs.txt").read_text().splitlines()
+    assert lines[0].startswith("plan,day,measure,phase") and lines[1].startswith("quad,2026-")
+    assert ",terminations," in lines[1]
+    assert main([str(plan), *words]) == 0
+    assert capsys.readouterr().out.startswith("1 runs done, 0 of them now, 0 failed\n")
+    assert main([str(plan), *words, "--measure", "splits"]) == 0
+    assert ",splits," in (out / "all_runs.txt").read_text().splitlines()[1]
+    with pytest.raises(Error, match="there is nothing to run: name --days, or --sumo"):
+        main([str(plan), "--out", str(out)])
+    assert signal.getsignal(signal.SIGTERM) == before
+    with pytest.raises(KeyboardInterrupt), _ended_by_terms():
+        signal.raise_signal(signal.SIGTERM)
+    assert signal.getsignal(signal.SIGTERM) == before
+
+
+def test_the_command_on_traffic(traffic: Traffic, tmp_path: Path) -> None:
+    """Without a measure it is that of trips."""
+    words = [str(tmp_path / "free.json"), "--sumo", traffic.net, "--seeds", "1"]
+    words += ["--routes", traffic.routes, "--mapping", traffic.mapping]
+    words += ["--additional", traffic.additional, "--seconds", "10"]
+    assert main([*words, "--out", str(tmp_path / "o"), "--workers", "1"]) == 0
+    found = pd.read_csv(tmp_path / "o/all_runs.txt")
+    assert set(found["measure"]) == {"trips"} and set(found["day"]) == {"seed1"}
+
+
+def test_processes_of_ones_own() -> None:
+    with _client(None, 1) as client:
+        assert client._free and len(client._all) == 1
