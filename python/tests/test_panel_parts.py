@@ -10,6 +10,7 @@ import pytest
 import tsb
 from tsb import Log, Plan, programs
 from tsb.lines import Lines
+from tsb.manual import LAST_TICK
 from tsb.panel import keep as kept
 from tsb.panel import words
 from tsb.panel.keep import Keep, NotKept, Source
@@ -479,6 +480,16 @@ def test_marks_are_all_changes(run: Run, tmp_path: Path) -> None:
     to(run, 640)
     run.give(Pattern(1))
     assert all(max(it.ticks, default=0) <= 640 for it in run.watched)
+
+
+def test_the_last_tick_of_a_run(run: Run) -> None:
+    """It is gone to, and a tick behind it is refused in the bench's own words."""
+    while run.now < LAST_TICK:
+        run.go(LAST_TICK)
+    run.go(LAST_TICK)
+    with pytest.raises(tsb.Refused, match="E11"):
+        run.advance(LAST_TICK)
+    assert run.now == LAST_TICK == run.tape.end
 
 
 def test_a_watch_is_bounded(run: Run) -> None:

@@ -1,6 +1,10 @@
 """Parts of the panel and of tsb.sumo at their boundaries, worked by hand: first and last
 ticks, pulses of one tick, gaps of just a time."""
 
+import os
+import subprocess
+from collections.abc import Iterator
+from dataclasses import replace
 from pathlib import Path
 
 import numpy as np
@@ -9,11 +13,29 @@ import pytest
 from hypothesis import given, settings
 from hypothesis import strategies as some
 
-from tsb import Bench
+from tsb import Bench, NoSuchTick, Refused
 from tsb.lines import Display
 from tsb.panel.keep import Source
 from tsb.panel.marks import MARKS_MOST, Watched
-from tsb.panel.requests import Given, Lamp, Mark, NoLamp, Reset, Switch, View
+from tsb.manual import LAST_TICK
+from tsb.panel.requests import (
+    BadRequest,
+    Begin,
+    Commit,
+    Free,
+    Given,
+    Hold,
+    Lamp,
+    Mark,
+    NoLamp,
+    Pattern,
+    Pulse,
+    Reset,
+    Set,
+    Switch,
+    Verify,
+    View,
+)
 from tsb.panel.run import Run
 from tsb.panel.tape import Hand, Tape, ends_trip, place
 from tsb.panel.track import Band, Track
@@ -236,6 +258,152 @@ def test_a_picture_of_a_track() -> None:
 
 
 # A run
+
+
+@pytest.fixture
+def run(examples: Path) -> Iterator[Run]:
+    """A run of eight phases without a log."""
+    found = Run(Source.read(examples / "quad.json", None))
+    yield found
+    found.close()
+
+
+def benches() -> int:
+    """How many benches this process has that run."""
+    words = ["ps", "-o", "stat=,comm=", "--ppid", str(os.getpid())]
+    told = subprocess.run(words, capture_output=True, text=True).stdout.splitlines()
+    return sum("tsb_live" in it and not it.startswith("Z") for it in told)
+
+
+def test_a_run_that_cannot_be_taken_leaves_no_bench(examples: Path) -> None:
+    """Its pattern is none; and a run that is closed has none either."""
+    before = benches()
+    source = Source.read(examples / "quad.json", None)
+    with pytest.raises(Refused):
+        Run(replace(source, given=((3, Pattern(9)),), end=5))
+    assert benches() == before
+    found = Run(replace(source, given=((3, Pattern(1)),), end=5))
+    assert benches() == before + 1 and found.now == 5 and found.is_saved
+    assert [it.tick for it in found.tape.given] == [3]
+    found.close()
+    assert benches() == before
+
+
+def test_a_request_takes_ticks_for_a_while(run: Run) -> None:
+    """Not as many as were asked for, if they are too many; else just those."""
+    run.advance(LAST_TICK)
+    assert 500 <= run.now < LAST_TICK
+    was = run.now
+    run.advance(was + 3)
+    assert run.now == was + 3 and run.tape.end == was + 3
+    run.go(10)
+    assert run.now == 10 and run.tape.end == was + 3
+    run.go(12)
+    assert run.now == 12 and run.tape.end == was + 3
+    assert run.drop() == was - 9 and run.tape.end == 12 and run.drop() == 0
+
+
+def test_the_plan_at_a_tick(run: Run) -> None:
+    """It is another behind a commit, and the old one before it, forward and back."""
+    first, serial = run.plan, run.serial
+    run.advance(5)
+    commands: list[Given] = [
+        Begin(1), Set(1, "phaseWalk", 2, 9), Verify(1), Commit(1)
+    ]  # fmt: skip
+    for it in commands:
+        run.give(it)
+    assert run.plan["phaseWalk"][2] == 9 and run.serial > serial
+    serial = run.serial
+    run.advance(9)
+    assert run.serial == serial
+    run.go(3)
+    assert run.plan == first and run.serial > serial
+    run.go(9)
+    assert run.plan["phaseWalk"][2] == 9
+    run.go(5)
+    assert run.undo() == "commit" and run.plan == first
+    assert [it.what.line for it in run.tape.given] == [it.line for it in commands[:3]]
+    run.undo()
+    assert run.tape.end == 5 and len(run.tape.given) == 2
+
+
+def test_what_is_refused_leaves_a_run(run: Run) -> None:
+    """Nothing lies ahead that was not there, and nothing is dropped."""
+    run.advance(20)
+    run.go(10)
+    run.is_saved = True
+    with pytest.raises(Refused):
+        run.give(Pattern(9))
+    assert run.tape.end == 20 and run.is_saved and run.tape.given == []
+    run.give(Pattern(1))
+    assert run.tape.end == 10 and not run.is_saved
+    for _ in range(11):
+        kind = run.undo()
+    assert kind == "tick" and run.now == 0
+    with pytest.raises(NoSuchTick, match="there is no input to take back"):
+        run.undo()
+
+
+def test_hands_of_a_run(run: Run) -> None:
+    """A pulse is on in just its ticks, whatever was asked before."""
+    run.advance(4)
+    run.grasp(Pulse("vehicle", 4, 3))
+    run.advance(12)
+    on = [tick for tick in range(1, 13) if run.tape.row(tick)[3] == "1"]
+    assert on == [5, 6, 7]
+    run.grasp(Hold("pedestrian", 2, True))
+    run.advance(14)
+    assert run.tape.row(13)[18] == "1" == run.tape.row(14)[18]
+    run.go(13)
+    run.grasp(Free("pedestrian", 2))
+    assert run.tape.end == 13 and not run.is_saved
+    run.advance(15)
+    assert run.tape.row(14) == ALL_OFF
+
+
+def test_marks_of_a_run(run: Run) -> None:
+    """Eight values at most; those of a reset and of ticks that are taken again."""
+    run.grasp(Hold("vehicle", 4, True))
+    run.advance(60)
+    assert run.mark(Mark("interval", 2, True)) == "interval 2: 2 changes up to tick 60"
+    assert run.watched[0].ticks == [1, 51] and run.watched[0].until == 60
+    assert run.now == 60
+    run.advance(95)
+    assert run.watched[0].ticks == [1, 51, 81, 91] and run.watched[0].until == 95
+    run.mark(Mark("interval", 2, True))
+    assert len(run.watched) == 1
+    for number in range(3, 10):
+        run.mark(Mark("interval", number, True))
+    with pytest.raises(BadRequest, match="8 values are marked already"):
+        run.mark(Mark("interval", 10, True))
+    assert run.mark(Mark("interval", 9, False)) == "interval 9: marked no more"
+    assert len(run.watched) == 7
+    run.give(Lamp("P4", "R"))
+    run.advance(130)
+    trip = run.mark(Mark("trip", 0, True))
+    assert trip.startswith("trip: 1 changes")
+    run.give(Reset())
+    assert run.watched[-1].ticks[-1] == 130
+    run.undo()
+    assert run.watched[-1].ticks[-1] < 130
+    ticks, now = [it.ticks[:] for it in run.watched], run.now
+    run.go(0)
+    run.go(now)
+    assert [it.ticks for it in run.watched] == ticks
+
+
+def test_a_run_that_is_begun_again(run: Run) -> None:
+    """All that was given is given again, up to the tick at which it was."""
+    run.give(Pattern(1))
+    run.advance(30)
+    run.give(Lamp("P2", "R"))
+    run.advance(50)
+    line, given = run.bench.show().line, list(run.tape.given)
+    run.bench.kill()
+    run.again()
+    assert (run.now, run.bench.show().line, run.tape.given) == (50, line, given)
+    run.advance(51)
+    assert run.now == 51
 
 
 def test_marks_after_an_undo(examples: Path) -> None:

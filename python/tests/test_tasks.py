@@ -267,7 +267,7 @@ def test_what_a_sweep_is_refused_by(day: Day, traffic: Traffic, tmp_path: Path) 
 
 def test_the_traffic_of_a_sweep(traffic: Traffic, tmp_path: Path) -> None:
     """Each plan with each seed, with whole names; without traffic seeds are none."""
-    plans = [tmp_path / "free.json", "other.json"]
+    plans: list[str | Path] = [tmp_path / "free.json", "other.json"]
     asked: dict[str, Any] = {"begin": "", "seconds": 5, "device": None, "pattern": 2}
     found = tasks_of(plans, [], traffic=traffic, seeds=[1, 2], **asked)
     assert [(Path(it.plan).stem, it.name) for it in found] == [

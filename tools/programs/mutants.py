@@ -28,7 +28,7 @@ from tools import TOP
 
 PYTHON = TOP / "python"
 SECONDS = 60  # that the tests of a mutant have at most
-HAND, PARTS, SUMO = ["tests/test_boundaries.py"], ["tests/test_parts_by_hand.py"], "tests/test_sumo.py"
+HAND, PARTS = ["tests/test_boundaries.py"], ["tests/test_parts_by_hand.py"]
 # The tests of each module that can notice a mistake in it: fast ones first.
 TESTS = {
     "measures": [*HAND, "tests/test_measures.py", "tests/test_cycles.py"],
@@ -45,18 +45,21 @@ TESTS = {
     "panel.tape": PARTS,
     "panel.track": PARTS,
     "panel.marks": PARTS,
-    "panel.run": [*PARTS, "tests/test_panel_parts.py"],
-    "sumo.nema": [*PARTS, *(f"{SUMO}::{it}" for it in (
+    "panel.run": [*PARTS, *(f"tests/test_panel_parts.py::{it}" for it in (
+        "test_the_last_tick_of_a_run", "test_anything_after_anything"))],
+    "sumo.nema": ["tests/test_nema.py", *(f"tests/test_sumo.py::{it}" for it in (
         "test_cycles_of_programs_of_type_nema", "test_phases_of_nema_in_no_ring",
         "test_a_program_of_type_nema_is_read_back"))],
     "sumo.trips": PARTS,
     "sumo.peers": PARTS,
 }
-# The modules whose tests need no program of the bench and under a second each.
+# The modules whose tests need no program of the bench.
 QUICK = ["measures", "cycles", "report.numbers", "report.differences", "sumo.trips"]
 # Mutants that are the same program: why.
 SORTED = "two columns are sorted stably whatever the kind is"
 NAMED = "columns are taken by name"
+PIECES = "how many ticks are taken at a time, which nothing tells"
+NO_TICKS = "it takes 0 ticks then"
 SHIFT = "shares are differences of what it moves by one"
 EQUAL = {
     "measures walk_waits: 1 -> 2": "no event has a code below 0",
@@ -66,6 +69,17 @@ EQUAL = {
     "cycles in_cycle: False -> True": NAMED,
     "cycles greens_a_cycle: False -> True": "without cycles no place is 0 or more",
     "panel.tape _with_hands: if not hands: return row -> if False: return row": "a shorter way to the same row",
+    "panel.run : 500 -> 501": PIECES,
+    "panel.run : 20000 -> 20001": PIECES,
+    "panel.run : 1 -> 2": "serials are only compared",
+    "panel.run __init__: tick > self.now -> tick >= self.now": NO_TICKS,
+    "panel.run advance: 1 -> 2": "either is refused",
+    "panel.run advance: self.now < target -> self.now <= target": NO_TICKS,
+    "panel.run advance: time.monotonic() - begun < BUDGET -> time.monotonic() - begun <= BUDGET":
+        "no time is just so long",
+    "panel.run advance: min(2 * piece, PIECE) -> max(2 * piece, PIECE)": PIECES,
+    "panel.run advance: 2 -> 3": PIECES,
+    "panel.run _take: count > again -> count >= again": NO_TICKS,
     "panel.track __init__: 0 -> 1 (2)": SHIFT,
     "panel.track put: 0 -> 1": SHIFT,
     "panel.track shares: 0 -> 1": "it is overwritten",
@@ -285,6 +299,10 @@ def main() -> int:
     words.add_argument("--seconds", type=float, default=SECONDS)
     words.add_argument("--least", type=int, default=0, help="how many have to be noticed, where not all")
     given = words.parse_args()
+    # (texts of a set have one order in all runs)
+    if os.environ.get("PYTHONHASHSEED") != "0":
+        os.execve(sys.executable, [sys.executable, "-m", "tools.programs.mutants", *sys.argv[1:]],
+                  {**os.environ, "PYTHONHASHSEED": "0"})
     modules = QUICK if given.modules == ["quick"] else given.modules or [*TESTS]
     # (what all forks have)
     import hypothesis, numpy, pandas, pytest  # noqa: E401, F401
