@@ -6,7 +6,7 @@ from pathlib import Path
 
 import pandas as pd
 import pytest
-from tsb import Error, Log, frames
+from tsb import Error, Log, forms, frames
 
 START = "2026-11-22 07:00:00"
 # The files of tools/programs/exports that are read, by the letters and numbers of
@@ -133,3 +133,186 @@ def test_a_parameter_that_tells_nothing_is_left_out() -> None:
     rows = [(time, 150, -1), (time, 82, 4), (time, 131, 2)]
     table = pd.DataFrame(rows, columns=["Time", "Code", "Param"])
     assert frames.export_of_table(table)["code"].to_list() == [82, 131]
+
+
+# By hand, at boundaries
+
+
+def known(found: "pd.Series[int]") -> list[int | None]:
+    """Numbers, with None for what is none."""
+    return [None if it is pd.NA else int(it) for it in found]
+
+
+def test_whole_numbers() -> None:
+    """Up to the greatest, as texts or as numbers; what is none is not known."""
+    texts = {
+        "0": 0, "82": 82, " 82. ": 82, "82.000": 82, "4294967295": 4294967295,
+        "4294967295.0": 4294967295, "4294967296": None, "42949672950": None,
+        "82.5": None, "-1": None, "": None, "8 2": None, "x": None, "+8": None,
+    }  # fmt: skip
+    assert known(forms.numbers_of(pd.Series([*texts]))) == [*texts.values()]
+    whole = pd.Series([0, 4294967295, 4294967296, -1], index=[3, 1, 2, 0])
+    found = forms.numbers_of(whole)
+    assert known(found) == [0, 4294967295, None, None] and list(found.index) == [3, 1, 2, 0]
+    assert known(forms.numbers_of(pd.Series([7], dtype="uint8"))) == [7]
+    assert known(forms.numbers_of(pd.Series([82.0, 82.5]))) == [82, None]
+    texts_ = pd.Series(["5", "x", "5"], index=[9, 4, 7])
+    assert known(forms.numbers_of(texts_)) == [5, None, 5]
+    assert list(forms.numbers_of(texts_).index) == [9, 4, 7]
+    assert sorted(forms.INPUTS) == [81, 82, 89, 90, 102, 104] and forms.LARGEST == 2**32 - 1
+
+
+def columned(*lines: str) -> tuple[list[str], dict[int, list[str]]]:
+    """The names of columns, and the fields of the rows by their lines."""
+    found = forms.columns_of("\n".join(lines))
+    rows = {int(at): [*row] for at, row in zip(found.index, found.to_numpy(), strict=True)}
+    return [str(it) for it in found.columns], rows
+
+
+ROW = "7,2026-11-22 07:00:03,82,4"
+FIELDS = ["7", "2026-11-22 07:00:03", "82", "4"]
+USUAL = ["DeviceId", "Timestamp", "EventId", "Parameter"]
+
+
+def test_lines_of_an_export() -> None:
+    """Comments and empty lines count as lines, and are none of its rows."""
+    usual = columned("")[0]
+    assert len(usual) == 4 and columned("# nothing", "  ", "\t")[0] == usual
+    assert columned("# a", "", ROW, " ", f"{ROW}\r", "#", ROW) == (
+        usual, {3: FIELDS, 5: FIELDS, 7: FIELDS}
+    )  # fmt: skip
+    header = ",".join(USUAL)
+    assert columned("Made by x", "on a, day", header, ROW) == (USUAL, {4: FIELDS})
+    # a header comes again where files were put together
+    assert columned(header, ROW, header.lower(), ROW) == (USUAL, {2: FIELDS, 4: FIELDS})
+    # what a database draws, and counts; a row may begin as such
+    dashes = FIELDS[1:]
+    assert columned(
+        header, "--,---,--,-", ROW, "(1 row)", "(2 rows affected)", "-+-", "|---|---|",
+        f"-5,{','.join(dashes)}",
+    ) == (USUAL, {3: FIELDS, 8: ["-5", *dashes]})  # fmt: skip
+    # columns without a name are numbered, where there is no header
+    assert columned(f"{ROW},more") == ([*usual, "4"], {1: [*FIELDS, "more"]})
+    assert columned(ROW, "7,x") == (usual, {1: FIELDS, 2: ["7", "x", "", ""]})
+    with pytest.raises(Error, match="no header and no row: put commas"):
+        columned("a,b", "c;d")
+    with pytest.raises(Error, match="the export has no column "):
+        columned("DeviceId,Timestamp,Parameter", "7,x,4")
+    assert columned("Timestamp,EventId,Parameter", "x,82,4")[1] == {2: ["x", "82", "4"]}
+
+
+def test_what_parts_fields() -> None:
+    """What names the columns, or else makes three fields; a comma where nothing does."""
+    names = ["Timestamp", "EventId", "Parameter"]
+    for mark in ",;\t":
+        assert forms._separator(mark.join(names)) == mark
+        assert forms._separator(mark.join("abc")) == mark
+        assert forms._separator(f"{mark.join(names)}{mark}x,y;z\tw") == mark
+    assert forms._separator("a,b,c;d;e") == "," and forms._separator("a;b") == ","
+    assert forms._separator("a,b;c;d") == ";"
+    assert forms._has_three("a,b,c") and forms._has_three("a\tb\tc")
+    assert not forms._has_three("a,b;c") and not forms._has_three("")
+    for line, fields in (
+        ('"a,b",c', ["a,b", "c"]), ("a,,c", ["a", "", "c"]), ("", [""]),
+        ('a"b,c', ['a"b', "c"]), ('"a"b,c', []), ('a,"b', []), ('"",x', ["", "x"]),
+    ):  # fmt: skip
+        assert forms._parted(line, ",") == fields
+
+
+def test_fields_of_lines() -> None:
+    """Without the spaces around them; a quote may hold a mark, and one out of place
+    is told."""
+    found = forms._fields({3: ' a , "b;c",d', 9: "e"}, ",")
+    assert found.to_numpy().tolist() == [["a", "b;c", "d"], ["e", "", ""]]
+    assert list(found.index) == [3, 9]
+    found = forms._fields({1: '"b,c", d', 2: "e"}, ",")
+    assert found.iloc[:, 0].to_list() == ["b,c", "e"] and found.iloc[0, 1] == "d"
+    with pytest.raises(Error, match="the export is no CSV: a quote is out of place"):
+        forms._fields({1: 'a,"b', 2: 'c",d'}, ",")
+    assert forms._fields({1: "NA,null"}, ",").to_numpy().tolist() == [["NA", "null"]]
+
+
+def test_places_of_columns() -> None:
+    """The first that has one of its names, in any case and with any fillers."""
+    assert forms.places_of(["x", "param", "Event_ID", "TIME stamp", "event-id"]) == {
+        "time": 3, "code": 2, "parameter": 1
+    }  # fmt: skip
+    with pytest.raises(Error, match="the export has no column "):
+        forms.places_of(["Timestamp", "Parameter"])
+
+
+def moments(*texts: str) -> list[str]:
+    """The moments of texts, on lines from 5 on."""
+    found = forms.moments_of(pd.Series([*texts], index=range(5, 5 + len(texts))))
+    assert list(found.index) == list(range(5, 5 + len(texts)))
+    assert found.dtype == "datetime64[ns]"
+    return [str(it) for it in found]
+
+
+def test_moments_that_are_moments_already() -> None:
+    """A zone is passed over: what the clock shows counts."""
+    plain = pd.to_datetime(pd.Series(["2026-11-22 07:00:00", "2026-11-22 07:00:01"]))
+    for of in (plain, plain.dt.tz_localize("Etc/GMT+7")):
+        assert forms.moments_of(of).equals(plain)
+    assert forms.moments_of(pd.Series([], dtype=object)).dtype == "datetime64[ns]"
+
+
+@pytest.mark.parametrize(
+    "clock, shown",
+    [
+        ("0:00:00", "00:00:00"), ("23:59:59", "23:59:59"), ("24:00:00", None),
+        ("7:60:00", None), ("7:00:60", None), ("12:00:00 AM", "00:00:00"),
+        ("12:59:59 pm", "12:59:59"), ("1:00:00 PM", "13:00:00"),
+        ("11:00:00 am", "11:00:00"), ("0:00:00 AM", None), ("13:00:00 PM", None),
+        ("7:00:00.", "07:00:00"), ("7:00:00,000000001", "07:00:00.000000001"),
+        ("7:00:00 XM", None), ("7:00:00+23:59", "07:00:00"), ("7:00:00-7", "07:00:00"),
+    ],
+)  # fmt: skip
+def test_clocks(clock: str, shown: str | None) -> None:
+    """Of a day whose order shows, and behind one of which it does."""
+    if shown is None:
+        with pytest.raises(Error, match="line 5: time .* is no time"):
+            moments(f"11/22/2026 {clock}")
+        with pytest.raises(Error, match="line 6: time .* is no time of the form of '11"):
+            moments("11/22/2026 7:00:00", f"11/22/2026 {clock}")
+    else:
+        assert moments(f"11/22/2026 {clock}") == [f"2026-11-22 {shown}"]
+        assert moments(f" 22-11-2026 {clock} ") == [f"2026-11-22 {shown}"]
+        assert moments(f"2026/11/22 {clock}") == [f"2026-11-22 {shown}"]
+
+
+def test_days() -> None:
+    """Month and day are told apart by one over 12; a year that is first by itself."""
+    assert moments("2026/12/11 7:00:00") == ["2026-12-11 07:00:00"]
+    assert moments("13/12/2026 7:00:00", "1/2/2026 7:00:00") == [
+        "2026-12-13 07:00:00", "2026-02-01 07:00:00"
+    ]  # fmt: skip
+    assert moments("12/13/2026 7:00:00", "1/2/2026 7:00:00")[1] == "2026-01-02 07:00:00"
+    for text in ("12/12/2026 7:00:00", "1/2/2026 7:00:00"):
+        with pytest.raises(Error, match="line 5: time .* its month or its day first"):
+            moments(text, "22/11/2026 7:00:00")
+    for text in ("2026-02-30 07:00:00", "2026-13-01 07:00:00", "22/13/2026 7:00:00", "x"):
+        with pytest.raises(Error, match="line 5: time .* is no time as 2026-11-22 07:00"):
+            moments(text)
+    with pytest.raises(Error, match="line 6: time '2026-02-30 07:00:00' is no time of the"):
+        moments("2026-02-28 07:00:00", "2026-02-30 07:00:00")
+
+
+def test_seconds_since_1970() -> None:
+    """Of ten digits at most, with parts; more digits are milliseconds, in all rows."""
+    assert moments("0", "0.5", "1,25", "9223372035") == [
+        "1970-01-01 00:00:00", "1970-01-01 00:00:00.500000", "1970-01-01 00:00:01.250000",
+        "2262-04-11 23:47:15",
+    ]  # fmt: skip
+    # (a table has no later moments)
+    for late in ("9223372036", "9999999999", "9999999999999"):
+        with pytest.raises(Error, match=f"line 5: time '{late}' is no time of the form"):
+            moments(late)
+    assert moments("17953308032", "1795330803200") == [
+        "1970-07-27 19:01:48.032000", "2026-11-22 07:00:03.200000"
+    ]  # fmt: skip
+    for texts in (("1795330803", "1795330803200"), ("1795330803200", "1.5")):
+        with pytest.raises(Error, match="line 6: time .* is no time of the form of '1795"):
+            moments(*texts)
+    with pytest.raises(Error, match="line 5: time .* is no time as"):
+        moments("17953308032001")

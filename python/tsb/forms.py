@@ -23,6 +23,8 @@ _DRAWN = re.compile(r"[-,;\t +|]*-[-,;\t +|]*|\(\d{1,10} rows?(?: affected)?\)")
 _FILLERS = str.maketrans("", "", " _-")
 _WHOLE = r"(\d{1,10})(?:\.0*)?"
 LARGEST = (1 << 32) - 1
+# The seconds after 1970 began from which on a table has no moments: the year 2262.
+LAST_SECOND = 9_223_372_036
 # The codes of vehicle detectors, buttons and preempt inputs that go on and off.
 INPUTS = (82, 81, 90, 89, 102, 104)
 
@@ -229,8 +231,9 @@ def _since_1970(times: "pd.Series[str]") -> "pd.Series[Any]":
     """The moments of seconds, or of milliseconds, after 1970 began; NaT for what is
     none."""
     parts = times.str.extract(f"^(?:{_SINCE_1970})$")
-    place, unit = (2, "ms") if pd.isna(parts.iloc[0, 0]) else (0, "s")
+    place, unit, each = (2, "ms", 1000) if pd.isna(parts.iloc[0, 0]) else (0, "s", 1)
     count = parts[place].fillna("0").astype(np.int64)
+    fine = parts[place].notna() & (count < LAST_SECOND * each)
     begun = pd.Timestamp("1970-01-01")
-    found = begun + pd.to_timedelta(count, unit) + _fraction(parts[1])
-    return found.where(parts[place].notna())
+    passed = pd.to_timedelta(count.where(fine, 0), unit)
+    return (begun + passed + _fraction(parts[1])).where(fine)
