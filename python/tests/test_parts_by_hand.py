@@ -329,7 +329,11 @@ def test_the_plan_at_a_tick(run: Run) -> None:
 
 def test_what_is_refused_leaves_a_run(run: Run) -> None:
     """Nothing lies ahead that was not there, and nothing is dropped."""
+    run.advance(15)
+    assert not run.is_saved
+    run.go(10)
     run.advance(20)
+    assert run.now == run.tape.end == 20
     run.go(10)
     run.is_saved = True
     with pytest.raises(Refused):

@@ -139,6 +139,18 @@ def test_a_step_is_a_tick(cars: Path, api: str) -> None:
         loop_of(cars, options=["--step-length", "1"], api=api)
 
 
+@pytest.mark.parametrize("api", ["libsumo", "traci"])
+def test_a_loop_is_closed_twice(cars: Path, api: str) -> None:
+    """The second time does nothing, also behind a fault."""
+    loop = loop_of(cars, api=api)
+    loop.run(3)
+    loop.close()
+    loop.close()
+    with pytest.raises(SumoFailed) as told, loop_of(cars, options=["--no-such"]) as loop:
+        loop.run(1)
+    assert "no-such" in str(told.value) and "Warning" not in str(told.value)
+
+
 def test_sumo_that_does_not_start_says_why(cars: Path) -> None:
     at = Intersection.of(cars / "net.xml", "C", cars / "mapping.json")
     words = cars / "net.xml", cars / "no_routes.xml", at

@@ -16,9 +16,11 @@ import argparse
 import ast
 import contextlib
 import copy
+import itertools
 import os
 import pathlib
 import random
+import resource
 import signal
 import sys
 import tempfile
@@ -27,14 +29,15 @@ import time
 from tools import TOP
 
 PYTHON = TOP / "python"
-SECONDS = 60  # that the tests of a mutant have at most
+SECONDS = 60  # of a processor, that the tests of a mutant have at most
+SLOWER = 10  # times that they may take by the clock, on a machine that does much else
 HAND, PARTS = ["tests/test_boundaries.py"], ["tests/test_parts_by_hand.py"]
 # The tests of each module that can notice a mistake in it: fast ones first.
 TESTS = {
     "measures": [*HAND, "tests/test_measures.py", "tests/test_cycles.py"],
     "cycles": [*HAND, "tests/test_cycles.py"],
     "frames": [*HAND, "tests/test_frames.py"],
-    "forms": ["tests/test_forms.py"],
+    "forms": [*HAND, "tests/test_forms.py"],
     "tasks": ["tests/test_tasks.py"],
     "sweep": ["tests/test_tasks.py", *(f"tests/test_sweep.py::{it}" for it in (
         "test_what_processes_cannot_find", "test_the_command_on_a_cluster_that_runs_already",
@@ -47,7 +50,7 @@ TESTS = {
     "panel.marks": PARTS,
     "panel.run": [*PARTS, *(f"tests/test_panel_parts.py::{it}" for it in (
         "test_the_last_tick_of_a_run", "test_anything_after_anything"))],
-    "sumo.nema": ["tests/test_nema.py", *(f"tests/test_sumo.py::{it}" for it in (
+    "sumo.nema": ["tests/test_nema.py", f"{PARTS[0]}::test_the_offset_of_a_program_of_type_nema", *(f"tests/test_sumo.py::{it}" for it in (
         "test_cycles_of_programs_of_type_nema", "test_phases_of_nema_in_no_ring",
         "test_a_program_of_type_nema_is_read_back"))],
     "sumo.trips": PARTS,
@@ -238,26 +241,45 @@ def path_of(module: str) -> pathlib.Path:
     return PYTHON / "tsb" / f"{module.replace('.', '/')}.py"
 
 
-def laid_over(room: pathlib.Path, module: str, text: str) -> None:
-    """The package in a folder of its own, of links but for one module."""
-    for path in (PYTHON / "tsb").rglob("*"):
-        if path.is_file() and "__pycache__" not in path.parts:
-            mine = room / "tsb" / path.relative_to(PYTHON / "tsb")
-            mine.parent.mkdir(parents=True, exist_ok=True)
-            mine.symlink_to(path)
+@contextlib.contextmanager
+def laid_over():
+    """The package in a folder of its own, of links."""
+    with tempfile.TemporaryDirectory(prefix="tsb-mutant-", ignore_cleanup_errors=True) as name:
+        room = pathlib.Path(name)
+        for path in (PYTHON / "tsb").rglob("*"):
+            if path.is_file() and "__pycache__" not in path.parts:
+                mine = room / "tsb" / path.relative_to(PYTHON / "tsb")
+                mine.parent.mkdir(parents=True, exist_ok=True)
+                mine.symlink_to(path)
+        yield room
+
+
+# Each text has a second of its own, by which Python tells whether it is compiled already.
+_seconds = itertools.count(1)
+
+
+@contextlib.contextmanager
+def replaced(room: pathlib.Path, module: str, text: str):
+    """A folder of the package in which a module has another text for a while."""
     mine = room / "tsb" / f"{module.replace('.', '/')}.py"
+    was = mine.readlink()
     mine.unlink()
     mine.write_text(text, encoding="utf-8")
+    os.utime(mine, times=(second := next(_seconds), second))
+    try:
+        yield
+    finally:
+        mine.unlink()
+        mine.symlink_to(was)
 
 
-def tried(module: str, text: str, seconds: float, tests: list[str]) -> bool:
+def tried(room: pathlib.Path, module: str, text: str, seconds: float, tests: list[str]) -> bool:
     """Whether tests notice a text in the place of a module."""
-    with tempfile.TemporaryDirectory(prefix="tsb-mutant-") as room:
-        laid_over(pathlib.Path(room), module, text)
+    with replaced(room, module, text):
         child = os.fork()
         if child == 0:
-            os._exit(_tested(pathlib.Path(room), tests))
-        until = time.monotonic() + seconds
+            os._exit(_tested(room, tests, seconds))
+        until = time.monotonic() + SLOWER * seconds
         while time.monotonic() < until:
             done, status = os.waitpid(child, os.WNOHANG)
             if done:
@@ -268,9 +290,10 @@ def tried(module: str, text: str, seconds: float, tests: list[str]) -> bool:
         return True
 
 
-def _tested(room: pathlib.Path, tests: list[str]) -> int:
+def _tested(room: pathlib.Path, tests: list[str], seconds: float) -> int:
     """Runs tests in this process, and says how they ended."""
     os.setsid()
+    resource.setrlimit(resource.RLIMIT_CPU, (int(seconds), int(seconds) + 1))
     # (a shell that starts this in the background has Ctrl-C ignored, and tests send it)
     signal.signal(signal.SIGINT, signal.default_int_handler)
     nothing = os.open(os.devnull, os.O_RDWR)
@@ -280,7 +303,10 @@ def _tested(room: pathlib.Path, tests: list[str]) -> int:
     os.chdir(room)
     sys.path.insert(0, str(room))
     os.environ["PYTHONPATH"] = str(room)
-    os.environ["PYTHONDONTWRITEBYTECODE"] = "1"
+    # (what is compiled once is so for all mutants, outside of the tree)
+    os.environ.pop("PYTHONDONTWRITEBYTECODE", None)
+    os.environ["PYTHONPYCACHEPREFIX"] = sys.pycache_prefix = str(room / "compiled")
+    sys.dont_write_bytecode = False
     import pytest
 
     words = ["-x", "-q", "-p", "no:cacheprovider", "-p", "no:warnings", f"--basetemp={room}/tests",
@@ -317,15 +343,16 @@ def main() -> int:
     if given.sample:
         found = random.Random(given.seed).sample(found, min(given.sample, len(found)))
     used = dict.fromkeys(test for module in dict.fromkeys(it[0] for it in found) for test in TESTS[module])
-    if tried(modules[0], path_of(modules[0]).read_text(encoding="utf-8"), 10 * given.seconds, [*used]):
-        print("the tests fail as the modules are\n0 passed, 1 failed")
-        return 1
     counts = {module: [0, 0] for module in modules}
-    for module, name, text in found:
-        is_killed = tried(module, text, given.seconds, TESTS[module])
-        counts[module][not is_killed] += 1
-        if not is_killed:
-            print(f"survives: {name}", flush=True)
+    with laid_over() as room:
+        if tried(room, modules[0], path_of(modules[0]).read_text(encoding="utf-8"), 10 * given.seconds, [*used]):
+            print("the tests fail as the modules are\n0 passed, 1 failed")
+            return 1
+        for module, name, text in found:
+            is_killed = tried(room, module, text, given.seconds, TESTS[module])
+            counts[module][not is_killed] += 1
+            if not is_killed:
+                print(f"survives: {name}", flush=True)
     if not given.sample:
         for module, (killed, survive) in counts.items():
             equal = sum(it[0] == module for it in every) - killed - survive
