@@ -15,7 +15,7 @@ from hypothesis import strategies as some
 
 from tsb import Bench, NoSuchTick, Refused
 from tsb.lines import Display
-from tsb.panel.keep import Source
+from tsb.panel.keep import GIVEN_MOST, Source
 from tsb.panel.marks import MARKS_MOST, Watched
 from tsb.manual import LAST_TICK
 from tsb.panel.requests import (
@@ -37,7 +37,7 @@ from tsb.panel.requests import (
     View,
 )
 from tsb.panel.run import Run
-from tsb.panel.tape import Hand, Tape, ends_trip, place
+from tsb.panel.tape import Entry, Hand, Tape, ends_trip, place
 from tsb.panel.track import Band, Track
 from tsb.rows import ALL_OFF, Log, row
 from tsb.sumo import crossroads, peers, read_trips, summary
@@ -348,6 +348,16 @@ def test_what_is_refused_leaves_a_run(run: Run) -> None:
         run.undo()
 
 
+def test_a_run_has_so_many_inputs(run: Run) -> None:
+    """The last of them is taken, and one more is refused."""
+    run.tape.given = [Entry(0, NoLamp(), False)] * (GIVEN_MOST - 1)
+    run.give(NoLamp())
+    assert len(run.tape.given) == GIVEN_MOST == 100_000
+    with pytest.raises(BadRequest, match="this run has 100000 inputs already"):
+        run.give(NoLamp())
+    assert len(run.tape.given) == GIVEN_MOST
+
+
 def test_hands_of_a_run(run: Run) -> None:
     """A pulse is on in just its ticks, whatever was asked before."""
     run.advance(4)
@@ -355,6 +365,9 @@ def test_hands_of_a_run(run: Run) -> None:
     run.advance(12)
     on = [tick for tick in range(1, 13) if run.tape.row(tick)[3] == "1"]
     assert on == [5, 6, 7]
+    run.go(6)  # (what lies ahead is taken again, from its first tick on)
+    run.go(12)
+    assert run.bench.when("input", 4) == 8
     run.grasp(Hold("pedestrian", 2, True))
     run.advance(14)
     assert run.tape.row(13)[18] == "1" == run.tape.row(14)[18]

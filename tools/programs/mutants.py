@@ -82,6 +82,7 @@ EQUAL = {
         "no time is just so long",
     "panel.run advance: min(2 * piece, PIECE) -> max(2 * piece, PIECE)": PIECES,
     "panel.run advance: 2 -> 3": PIECES,
+    "panel.run _take_again: begun + 1 -> begun - 1": "the row that holds then is the same one",
     "panel.run _take: count > again -> count >= again": NO_TICKS,
     "panel.track __init__: 0 -> 1 (2)": SHIFT,
     "panel.track put: 0 -> 1": SHIFT,
