@@ -161,9 +161,11 @@ class Page:
         browser.get(address)
         self.settle()
 
-    def wait(self, holds: Callable[[], Any], what: str = "") -> None:
+    def wait(
+        self, holds: Callable[[], Any], what: str = "", seconds: float = PATIENCE
+    ) -> None:
         """Waits until something holds."""
-        end = time.monotonic() + PATIENCE
+        end = time.monotonic() + seconds
         while not holds():
             assert time.monotonic() < end, f"{what}: {self.text('message')}"
             time.sleep(0.02)
@@ -530,11 +532,18 @@ def test_fast_stops_where_the_log_ends(
         page.find("playfast").click()
         page.wait(lambda: page.tick > 20_000, "it goes on")
         page.click("pause")
-        page.go(5_999_900)
+        # (all ticks that there are take some seconds, and long on a busy machine)
+        page.fill("go", 5_999_900)
+        page.find("go-there").click()
+        page.wait(lambda: page.tick == 5_999_900, "it is there", 180)
+        page.settle()
         page.find("playfast").click()
         page.wait(lambda: "stopped" in page.text("time-said"), "it stops")
         assert page.text("said").endswith("tick 6000000, the last one that there is")
         assert not page.shows("message")
+        # (a page whose panel has ended would tell the browser's log of it)
+        browser.close()
+        browser.switch_to.window(browser.window_handles[0])
 
 
 def test_what_lies_ahead_is_dropped(page: Page) -> None:
