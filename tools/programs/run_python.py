@@ -17,7 +17,7 @@ PYTHON = TOP / "python"
 # The seconds that all tests have at most; they take some 150 on four processors that do nothing else.
 SECONDS = 1200
 # The mutants of the sample (mutants.py), how they are drawn, and how many of them the tests have to notice.
-SAMPLE, SEED, LEAST = 40, 1, 30
+SAMPLE, SEED, LEAST = 40, 1, 36
 
 
 def counted(report: pathlib.Path) -> tuple[int, int]:
