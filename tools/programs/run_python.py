@@ -62,7 +62,7 @@ def typed() -> tuple[int, int]:
 def noticed(programs: list[str]) -> tuple[int, int]:
     """How many mutants of the sample the tests notice, and whether those are too few."""
     words = [PYTHON / ".venv/bin/python", "-m", "tools.programs.mutants", "--sample", str(SAMPLE), "--seed", str(SEED),
-             "--least", str(LEAST)]
+             "--least", str(LEAST), "quick"]
     done = subprocess.run(words, cwd=TOP, env=environment(programs), stdin=subprocess.DEVNULL, stdout=subprocess.PIPE,
                           text=True, timeout=SECONDS)
     print(done.stdout, end="", flush=True)
