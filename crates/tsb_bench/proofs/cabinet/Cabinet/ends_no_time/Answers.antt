@@ -10,7 +10,12 @@ right-none true b none = absurd cc
 right-none false b none = none
 
 pub returns : goal.returns
-returns c is = record {
-  minimum = λ p from to. sym (c.completed.ensures p from to) ∙ left-none _ _ (sym (c.union-ends.ensures p) ∙ c.is_empty.ensures.none is p);
-  red = λ p from to. sym (c.cleared.ensures p from to) ∙ right-none _ _ (sym (c.union-ends.ensures p) ∙ c.is_empty.ensures.none is p);
-}
+returns c is =
+    let kept = c.keeps_cycle.ensures c.if-not-keeps_cycle.false in
+    record {
+      minimum = λ p from to. sym (c.completed.ensures p from to) ∙ left-none _ _ (sym (c.union-ends.ensures p) ∙ c.is_empty.ensures.none is p);
+      red = λ p from to. sym (c.cleared.ensures p from to) ∙ right-none _ _ (sym (c.union-ends.ensures p) ∙ c.is_empty.ensures.none is p);
+      cycle = kept.cycle;
+      zero = kept.zero;
+      yields = kept.yields;
+    }

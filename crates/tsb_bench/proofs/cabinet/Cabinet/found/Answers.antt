@@ -1,12 +1,12 @@
-use Rattle.std.proofs.Common.{◌≡◌, ◌∙◌, refl, sym, ap, subst, arith}
+use Rattle.std.proofs.Common.{◌≡◌, ◌+◌, ◌∙◌, refl, sym, ap, subst, arith}
 use Rattle.tsb_objects.specs.Checked.{checked_plan}
 use Rattle.tsb_plan.specs.Plan.{Plan}
 use Rattle.tsb_plan.specs.PlanOf.{plan_of}
 use Rattle.tsb_phase.specs.declared.cause.Cause.TheVariants.{ForceOff, Gap, Maximum}
 use Rattle.tsb_phase.specs.Causes.{cause}
 use Rattle.tsb_preempt.specs.Preempts.{has_been_served}
-use Rattle.tsb_coord.specs.Cells.{IsBy}
-use Rattle.tsb_coord.specs.Cycle.{TellsYields, TellsZero, comes_to_zero, yields}
+use Rattle.tsb_step.specs.tsb_coord.Cells.{IsBy}
+use Rattle.tsb_step.specs.tsb_coord.Cycle.{TellsYields, TellsZero, comes_to_zero, yields}
 use Rattle.tsb_step.specs.Cells.{clock_at}
 use Rattle.tsb_step.specs.Events.{ends_freely}
 use Rattle.tsb_step.specs.MonitorCells.{trip_in}
