@@ -748,16 +748,22 @@ def word_runs():
 
 def record(*events):
     """A record of controller 1001: each event has its tick, a code and a parameter."""
-    return HEADER + b"".join(b"1001,2026-11-22 07:00:0%d.%d,%d,%d\n" % (*divmod(tick - 1, 10), code, parameter)
+    return HEADER + b"".join(b"1001,2026-11-22 07:%02d:%02d.%d,%d,%d\n" % (*clock(tick), code, parameter)
                              for tick, code, parameter in events)
+
+
+def clock(tick):
+    """Minutes, seconds and tenths behind 7:00 of a tick within the hour; tick 0 has the time of tick 1."""
+    seconds, tenths = divmod(max(tick - 1, 0), 10)
+    return (*divmod(seconds, 60), tenths)
 
 
 # From power-up phases 2 and 6 of quad turn green, as they are recalled, and overlap 1, which includes phase 2.
 FIRST = [(1, 0, 2), (1, 0, 6), (1, 1, 2), (1, 1, 6), (1, 61, 1)]
 # In a record with recalls their calls go as they are served.
 SERVED = [(1, 44, 2), (1, 44, 6)]
-# Pattern 1 has a cycle of 80 seconds, no offset, and eight splits.
-PATTERN = [(1, 131, 1), (1, 132, 80), *((1, 133 + p, (25, 15)[p % 2]) for p in range(1, 9))]
+# Pattern 1 has a cycle of 80 seconds, no offset, and eight splits. Its local counter is in step, as none ran before it.
+PATTERN = [(1, 131, 1), (1, 132, 80), *((1, 133 + p, (25, 15)[p % 2]) for p in range(1, 9)), (1, 150, 1)]
 
 
 def record_runs():
@@ -855,6 +861,68 @@ def form_of_record_runs():
         yield Run(words, 2, b"", USAGE, b"step 1\n")
 
 
+# In coming_into_step.json phases 2 and 6 are coordinated. Pattern 1 has a cycle of 80 s, and they yield at 750; pattern 2
+# has one of 60 s, and they yield at 550. Offsets are 0, and here the limit is 20 percent. The monitor trips at tick 1, so
+# from then on the local counter alone goes.
+FLASHES = b"pattern 1\nstep 1\nfault P4 G\n"
+FLASHED = [
+    (0, 131, 1), (0, 132, 80), (0, 135, 50), (0, 137, 30), (0, 139, 50), (0, 141, 30), (0, 150, 1),
+    (1, 0, 2), (1, 0, 6), (1, 1, 2), (1, 1, 6), (1, 7, 2), (1, 7, 6), (1, 12, 2), (1, 12, 6), (1, 173, 6),
+    (750, 151, 2), (750, 151, 6), (800, 150, 5),
+]
+
+
+def selected(tick, state):
+    """What a selection of pattern 2 tells, whose local counter then goes so."""
+    splits = ((tick, 133 + phase, 35 if phase in (2, 6) else 25) for phase in (2, 4, 6, 8))
+    return [(tick, 131, 2), (tick, 132, 60), *splits, (tick, 150, state)]
+
+
+def cycle(yields, zero):
+    """What a cycle of pattern 2 tells: the yield points of phases 2 and 6, and local zero."""
+    return [(yields, 151, 2), (yields, 151, 6), (zero, 150, 5)]
+
+
+# Pattern 2 is selected at tick 850, where that of pattern 1 stands at 50: it is 400 ticks ahead of 250, where it would
+# be in step. By dwell it stands at 549 for 120 ticks in each cycle: from 1349, 2069 and 2789 on, and from 3509 on for the
+# last 40. In step it is at 0 at 3600.
+DWELLS = [*selected(850, 4), *cycle(1470, 1520), *cycle(2190, 2240), *cycle(2910, 2960), (3549, 150, 1), *cycle(3550, 3600)]
+# By the short way it gains one tick in four, 200 in 800: then it is a cycle ahead. After 400 ticks it has gone 500 steps,
+# and after 440 it has gone 550.
+GAINS = [*selected(850, 3), *cycle(1250, 1290), (1650, 150, 1), *cycle(1750, 1800)]
+# At tick 851 it stands at 51. So it comes to 550 and to 0 with the first of the two steps that it takes in tick 400 and
+# in tick 440 behind the selection.
+PASSES = [*selected(851, 3), *cycle(1251, 1291), (1651, 150, 1), *cycle(1750, 1800)]
+# By add only it loses one tick in six, 400 in 2400. From 51 on it has gone 499 steps after 598 ticks, and 549 after 658;
+# each cycle has 720.
+LOSES = [*selected(851, 2), *cycle(1449, 1509), *cycle(2169, 2229), *cycle(2889, 2949), (3251, 150, 1), *cycle(3550, 3600)]
+# From 50 on it has gone 500 steps after 599 ticks, and stands there in the next; and likewise 550 after 659.
+STANDS = [*selected(850, 2), (1449, 151, 2), (1449, 151, 6), (1450, 151, 2), (1450, 151, 6), (1509, 150, 5), (1510, 150, 5)]
+# A commit that has each pattern in step at once.
+AT_ONCE = b"begin 1\nset 1 coordCorrectionMode 1 0\nverify 1\ncommit 1\n"
+# In free operation no local counter goes.
+RESETS = [(3600, 131, 254), *((3600, code, 0) for code in (132, 135, 137, 139, 141, 150)), (3600, 173, 2)]
+
+
+def cycle_runs():
+    """Records of local counters: how they go, local zero and yield points, in flash too."""
+    for plan, commands, events in [
+        ("dwell.json", b"step 849\npattern 2\nstep 2750\n", DWELLS),
+        ("dwell.json", b"step 849\npattern 2\nstep 2750\nreset\n", [*DWELLS, *RESETS]),
+        ("dwell.json", b"step 849\npattern 2\nstep 2750\nseek 1469\n", DWELLS[:7]),
+        ("short.json", b"step 849\npattern 2\nstep 950\n", GAINS),
+        ("short.json", b"step 850\npattern 2\nstep 949\n", PASSES),
+        ("adds.json", b"step 850\npattern 2\nstep 2749\n", LOSES),
+        ("adds.json", b"step 849\npattern 2\nstep 660\n", STANDS),
+        ("adds.json", b"step 849\npattern 2\n" + AT_ONCE + b"step 350\n",
+         [*selected(850, 2), (850, 150, 1), *cycle(1150, 1200)]),
+        ("adds.json", b"step 849\npattern 2\n" + AT_ONCE + b"undo\n", selected(850, 2)),
+        ("adds.json", b"step 849\npattern 2\npattern 2\nundo\nundo\nstep 750\n", [(1550, 151, 2), (1550, 151, 6), (1600, 150, 5)]),
+        ("coming_into_step.json", b"step 849\npattern 2\nstep 350\n", [*selected(850, 1)[:6], *cycle(1150, 1200)]),
+    ]:
+        yield Run(["record", *FROM, "--device", "1001", plan, "empty.log"], 0, record(*FLASHED, *events), b"", FLASHES + commands)
+
+
 def plan_faults():
     """Plans that are refused or can't be read, each with the status and the lines that it ends with."""
     yield from ((path, 3, not_read(path)) for path in ["none.json", "folder", TORN])
@@ -932,6 +1000,10 @@ def fill(folder):
     (folder / "twice.json").write_text(json.dumps({**quad, "vehicleDetectorDelay": DELAYS, "vehicleDetectorExtend": EXTENSIONS}))
     delayed = {**quad, "vehicleDetectorDelay": {"4": 10}, "vehicleDetectorExtend": {"2": 5}}
     (folder / "delayed.json").write_text(json.dumps(delayed))
+    step = json.loads((EXAMPLES / "coming_into_step.json").read_text())
+    for name, mode in [("dwell", 1), ("short", 2), ("adds", 3)]:
+        corrected = {**step, "coordCorrectionMode": {"1": mode}, "coordCorrectionLimit": {"1": 20}}
+        (folder / f"{name}.json").write_text(json.dumps(corrected))
     (folder / "forms.log").write_bytes(FORM_LOG)
     (folder / "passed.log").write_bytes(row(2, [4]) + row(3))
     (folder / "asked.log").write_bytes(row(2, preempt=[1]) + row(4))

@@ -50,6 +50,10 @@ STAGE_BEGINS = {106: "Track", 107: "Dwell", 111: "Exit"}
 STAGE_LISTS = {"Track": "preemptTrackPhase", "Dwell": "preemptDwellPhase", "Exit": "preemptExitPhase"}
 # What is told of a pattern where none is selected.
 FREE = 254
+# How the local counter of the pattern that runs goes, and what is told where it is 0.
+IN_STEP, ADDS, SUBTRACTS, DWELLS, LOCAL_ZERO = range(1, 6)
+# The correction modes.
+DWELL, SHORT_WAY = 1, 2
 # The force modes in which phases are forced off behind their instants, and in which by the length of their greens too.
 LATE, FLOATING = (1, 2), 2
 # The maximum that acts in a pattern, by the maximum mode.
@@ -180,6 +184,17 @@ def force_off_instant(bench: Any, state: State, phase: int) -> int:
     return (10 * (end - zero) - clearance(state, phase)) % cycle_of(state)
 
 
+def cycle_state(bench: Any, state: State) -> int:
+    """How the local counter of the pattern that runs goes, as an event tells it: 0 where none runs."""
+    if not runs_pattern(state):
+        return 0
+    if bench.ahead_at(state, state.now) == 0:
+        return IN_STEP
+    mode, cycle = bench.correction(state)[0], cycle_of(state)
+    is_faster = mode == SHORT_WAY and 2 * (state.ahead % cycle) > cycle
+    return DWELLS if mode == DWELL else SUBTRACTS if is_faster else ADDS
+
+
 def has_minimum_recall(state: State, phase: int) -> bool:
     """Whether the phase, its split mode or its being coordinated recalls it to its minimum."""
     by_mode = of_split(state, "splitMode", phase) == MINIMUM
@@ -264,7 +279,7 @@ def pattern_values(state: State) -> dict[int, int]:
 # --- what a tick works with ---
 
 class Tick(NamedTuple):
-    """A tick of a controller that had not tripped: the states before and after it, and its row."""
+    """A tick: the states before and after it, and its row."""
 
     bench: Any
     before: State
@@ -503,6 +518,12 @@ def pattern_events(before: State, after: State) -> list[Told]:
     return selected + [(code, new[code]) for code in new if new[code] != values[code]]
 
 
+def cycle_events(bench: Any, before: State, after: State) -> list[Told]:
+    """The event of a local counter that goes otherwise than before."""
+    state, was = cycle_state(bench, after), cycle_state(bench, before)
+    return [] if state == was else [(150, state)]
+
+
 def flash_events(before: State, after: State) -> list[Told]:
     """The event of a trip or of the end of one, with the number that the flash status of NTCIP 1202 has."""
     if (before.trip is None) == (after.trip is None):
@@ -555,17 +576,28 @@ def presence_events(tick: Tick) -> list[Told]:
     return [(110, preempt)] if 0 < most <= served and (is_on or is_short) else []
 
 
-def tick_events(tick: Tick) -> list[Told]:
-    """The events of what a tick alone does: none while the controller has tripped, as nothing moves then."""
-    if tick.before.trip is not None:
+def place_events(tick: Tick) -> list[Told]:
+    """The events of places of the local counter: where it is 0 in this tick, or at the instant of a coordinated phase,
+    also where it stands there for another tick, and at both of two steps."""
+    if not runs_pattern(tick.before):
         return []
-    return crossing_events(tick) + minimum_events(tick) + ending_events(tick) + presence_events(tick)
+    bench, before, places = tick.bench, tick.before, steps(tick)
+    yielding = [it for it in coordinated_phases(bench, before) if force_off_instant(bench, before, it) in places]
+    return [(150, LOCAL_ZERO)] * (0 in places) + [(151, phase) for phase in yielding]
+
+
+def tick_events(tick: Tick) -> list[Told]:
+    """The events of what a tick alone does: while the controller has tripped the local counter alone moves."""
+    if tick.before.trip is not None:
+        return place_events(tick)
+    return place_events(tick) + crossing_events(tick) + minimum_events(tick) + ending_events(tick) + presence_events(tick)
 
 
 def common_events(bench: Any, before: State, given: Given, after: State) -> list[Told]:
     """The events of an input that a record has in each form, but for those of rows."""
     told = phase_events(before, after) + overlap_events(bench, before, after) + failure_events(before, after)
-    told += preempt_events(bench, before, after) + pattern_events(before, after) + flash_events(before, after)
+    told += preempt_events(bench, before, after) + pattern_events(before, after) + cycle_events(bench, before, after)
+    told += flash_events(before, after)
     return told + (tick_events(Tick(bench, before, after, given[1])) if given[0] == "tick" else [])
 
 
