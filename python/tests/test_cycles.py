@@ -56,6 +56,71 @@ def test_places_in_the_cycle() -> None:
     assert found.dropna().to_list() == [6.0, 29.9, 0.0, 5.9, 0.0]
 
 
+# Pattern 1 of 80 s is in step, and pattern 2 of 60 s comes into step by shorter cycles
+# from tick 851 on, where the local counter stands at 51; it is so at 1651. Free from
+# tick 2000 on. Offsets are 0; events tell local zero, 5 of code 150.
+CORRECTED = (
+    (1, 131, 1), (1, 132, 80), (1, 150, 1), (800, 150, 5),
+    (851, 131, 2), (851, 132, 60), (851, 150, 3), (1291, 150, 5), (1651, 150, 1),
+    (1800, 150, 5), (2000, 131, 254), (2000, 132, 0), (2000, 150, 0),
+)  # fmt: skip
+
+
+def test_cycles_by_told_zeros() -> None:
+    """The cycle from 1291 to 1800 is whole, and has 50.9 s and not 60; by the sums of
+    the cycle and the offset it would be that from 1200 to 1800."""
+    assert rows(measures.cycles(table(*CORRECTED))) == [(1291, 1800, 2, 50.9)]
+    untold = table(*(it for it in CORRECTED if it[1] != 150))
+    assert rows(measures.cycles(untold)) == [(1200, 1800, 2, 60.0)]
+
+
+def test_places_by_told_zeros() -> None:
+    """In pattern 1 by its offset and then from 800 on; in pattern 2 on from 5.1 s at
+    851, from 1291 on and from 1800 on. 1790 is 49.9 s behind 1291."""
+    ticks = pd.Series([1, 799, 800, 850, 851, 1290, 1291, 1790, 1800, 1999, 2000])
+    found = measures.in_cycle(table(*CORRECTED), ticks)
+    assert found.isna().to_list() == [False] * 10 + [True]
+    told = [0.1, 79.9, 0.0, 5.0, 5.1, 49.0, 0.0, 49.9, 0.0, 19.9]
+    assert found.dropna().to_list() == told
+    untold = table(*(it for it in CORRECTED if it[1] != 150))
+    by_sums = [0.1, 79.9, 0.0, 5.0, 25.1, 9.0, 9.1, 59.0, 0.0, 19.9]
+    assert measures.in_cycle(untold, ticks).dropna().to_list() == by_sums
+
+
+def test_a_zero_at_which_the_counter_stands() -> None:
+    """By longer cycles a counter may be told at 0 in two ticks: it comes to it once. In
+    one more it would have come there anew."""
+    pattern = ((1, 131, 1), (1, 132, 30), (1, 150, 2), (900, 1, 2))
+    zeros = ((100, 150, 5), (101, 150, 5), (460, 150, 5), (461, 150, 5), (463, 150, 5))
+    assert rows(measures.cycles(table(*pattern, *zeros))) == [
+        (100, 460, 1, 36.0),
+        (460, 463, 1, 0.3),
+    ]
+    found = measures.in_cycle(table(*pattern, *zeros), pd.Series([99, 100, 101, 459]))
+    assert found.to_list() == [9.9, 0.0, 0.1, 35.9]
+
+
+def test_a_zero_of_the_pattern_before() -> None:
+    """Told in the tick in which another is selected, it ends a cycle of the old one. It
+    begins one of a new one that goes on from there, and of none that is in step."""
+    before = ((1, 131, 1), (1, 132, 30), (300, 150, 5), (600, 150, 5), (1100, 1, 2))
+    after = ((600, 131, 2), (600, 132, 40), (600, 133, 10), (1000, 150, 5))
+    found = measures.cycles(table(*before, *after, (600, 150, 2), (900, 150, 1)))
+    assert rows(found) == [(300, 600, 1, 30.0), (600, 1000, 2, 40.0)]
+    found = measures.cycles(table(*before, *after))
+    assert rows(found) == [(300, 600, 1, 30.0)]
+
+
+def test_a_counter_that_comes_into_step_before_a_zero() -> None:
+    """From then on its place is by the cycle and the offset of 1 s."""
+    events = table(
+        (1, 131, 1), (1, 132, 80), (50, 131, 2), (50, 132, 30), (50, 133, 1),
+        (50, 150, 4), (100, 150, 1), (310, 150, 5), (400, 1, 2),
+    )  # fmt: skip
+    found = measures.in_cycle(events, pd.Series([49, 50, 99, 100, 150, 309, 310]))
+    assert found.to_list() == [4.9, 5.0, 9.9, 9.0, 14.0, 29.9, 0.0]
+
+
 def test_cycles_of_free_operation() -> None:
     """From one crossing to side 1 to the next; the ends are not whole."""
     events = table((1, 1, 2), (90, 31, 2), (200, 31, 1), (350, 31, 2), (480, 31, 1))

@@ -1,6 +1,7 @@
 """The patterns that a run's events tell, and its cycles."""
 
-from typing import Any
+from collections.abc import Iterator
+from typing import Any, NamedTuple
 
 import numpy as np
 import pandas as pd
@@ -8,8 +9,11 @@ import pandas as pd
 from tsb.told import (
     BARRIER,
     CYCLE,
+    CYCLE_STATE,
     FREE,
     GREEN,
+    LOCAL_ZERO,
+    NOT_IN_STEP,
     OFFSET,
     PATTERN,
     Row,
@@ -55,13 +59,11 @@ def cycles(events: pd.DataFrame) -> pd.DataFrame:
     """
     free = _free_begins(events)
     rows: list[Row] = []
-    for it in patterns(events).itertuples(index=False):
-        if it.pattern is pd.NA:
+    for it, counter in _stretches(events):
+        if counter is None:
             begins = free[(free >= it.begin) & (free <= it.end)]
         else:
-            length, zero = 10 * it.cycle_s, 10 * it.offset_s
-            first = it.begin + (zero - it.begin) % length
-            begins = np.arange(first, it.end + 1, length)
+            begins = counter.zeros()
         pairs = zip(begins[:-1].tolist(), begins[1:].tolist(), strict=True)
         rows += [{"begin": b, "end": e, "pattern": it.pattern} for b, e in pairs]
     found: pd.DataFrame = table_of(rows, ["begin", "end", "pattern"], [])
@@ -83,16 +85,95 @@ def in_cycle(events: pd.DataFrame, ticks: "pd.Series[int]") -> "pd.Series[float]
     """The place of each tick in the cycle of the pattern that runs then: seconds
     since local zero, NA in free operation.
 
-    Local zero is an offset after tick 0, and each cycle later: so the bench counts.
-    Of a street tick 0 is the moment at which events begin.
+    Local zero is where events tell it (code 150, parameter 5). Where they tell none,
+    and before the first of a pattern that is in step, it is an offset after tick 0, and
+    each cycle later: so the bench counts. Of a street tick 0 is the moment at which
+    events begin. A counter that comes into step goes on from the last pattern's place.
     """
     found = pd.Series(pd.NA, ticks.index, dtype="Float64")
-    for it in patterns(events).itertuples(index=False):
-        if it.pattern is not pd.NA:
+    for it, counter in _stretches(events):
+        if counter is not None:
             within = (ticks >= it.begin) & (ticks < it.end)
-            since = (ticks[within] - 10 * it.offset_s) % (10 * it.cycle_s)
-            found[within] = since.astype("Float64") / 10
+            since = counter.since_zero(ticks[within].to_numpy(np.int64))
+            found[within] = since / 10
     return found
+
+
+class _Told(NamedTuple):
+    """What a run's events tell of local counters: the ticks of local zero, and each
+    state with its tick."""
+
+    zeros: Any
+    ticks: Any
+    states: Any
+
+    def is_in_step(self, ticks: Any) -> Any:
+        """Whether the counter is in step in each tick, by the state told last."""
+        place = np.searchsorted(self.ticks, ticks, "right")
+        return ~np.isin(np.append(0, self.states)[place], NOT_IN_STEP)
+
+
+def _told(events: pd.DataFrame) -> _Told:
+    """What events tell of local counters. One that stands at zero for another tick is
+    told there again, and has come to it once."""
+    of = events[events["code"] == CYCLE_STATE].sort_values("tick", kind="stable")
+    at_zero, is_state = of["parameter"] == LOCAL_ZERO, of["parameter"] < LOCAL_ZERO
+    zeros = np.unique(of.loc[at_zero, "tick"].to_numpy(np.int64))
+    ticks, states = (
+        of.loc[is_state, it].to_numpy(np.int64) for it in ("tick", "parameter")
+    )
+    return _Told(zeros[np.diff(zeros, prepend=-2) > 1], ticks, states)
+
+
+class _Counter(NamedTuple):
+    """The local counter of a stretch in which a pattern runs. In step it is 0 at the
+    tick `offset`, and each `length` later; as it begins it is as if at `zero`."""
+
+    told: _Told
+    begin: int
+    end: int
+    length: int
+    offset: int
+    zero: int
+
+    def zeros(self) -> Any:
+        """The ticks from `begin` up to `end` at which it is 0."""
+        first = self.begin + (self.zero - self.begin) % self.length
+        if not len(self.told.zeros):
+            return np.arange(first, self.end + 1, self.length)
+        own = self._own()
+        return np.append(self.begin, own) if first == self.begin else own
+
+    def _own(self) -> Any:
+        """Those of them that are told, behind `begin`."""
+        zeros = self.told.zeros
+        return zeros[(zeros > self.begin) & (zeros <= self.end)]
+
+    def since_zero(self, ticks: Any) -> Any:
+        """How many ticks behind its newest zero each of these ticks is."""
+        zeros = np.append(self.zero, self._own())
+        place = np.searchsorted(zeros[1:], ticks, "right")
+        since = ticks - zeros[place]
+        is_in_step = self.told.is_in_step(ticks)
+        first = np.where(is_in_step, ticks - self.offset, since) % self.length
+        return np.where(place == 0, first, since)
+
+
+def _stretches(events: pd.DataFrame) -> Iterator[tuple[Any, _Counter | None]]:
+    """The stretches of patterns, each with its local counter: none in free operation.
+    One that is not in step goes on from where the one before it stands."""
+    told = _told(events)
+    before: _Counter | None = None
+    for it in patterns(events).itertuples(index=False):
+        counter = None
+        if it.pattern is not pd.NA:
+            zero = offset = 10 * it.offset_s
+            if before and not told.is_in_step(it.begin):
+                zero = it.begin - int(before.since_zero(np.array([it.begin]))[0])
+            length = 10 * it.cycle_s
+            counter = _Counter(told, it.begin, it.end, length, offset, zero)
+        yield it, counter
+        before = counter
 
 
 def greens_a_cycle(events: pd.DataFrame) -> pd.DataFrame:

@@ -238,7 +238,9 @@ class Numbers:
         to 20, that they are in: `part`, `green`, `yellow`, `red`."""
         came = self.arriving.dropna(subset=["in_cycle_s"])
         lengths = self._cycle_lengths(came["tick"])
-        part = (came["in_cycle_s"].astype(float) * FOLDS // lengths).astype(int) + 1
+        # (while the counter comes into step a cycle may be longer)
+        place = came["in_cycle_s"].astype(float) * FOLDS // lengths
+        part = place.clip(upper=FOLDS - 1).astype(int) + 1
         by = [came["phase"], part.rename("part")]
         found = pd.crosstab(by, came["shows"])
         return found.reindex(columns=SHOWN, fill_value=0)
