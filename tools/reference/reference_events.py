@@ -48,7 +48,7 @@ OVERLAP_ENDS = {64: "GY"}
 # Stages of preempts, told once all of their phases are green, with the lists of these phases.
 STAGE_BEGINS = {106: "Track", 107: "Dwell", 111: "Exit"}
 STAGE_LISTS = {"Track": "preemptTrackPhase", "Dwell": "preemptDwellPhase", "Exit": "preemptExitPhase"}
-# What is told of a pattern where none is selected.
+# The number of a pattern in events where none is selected.
 FREE = 254
 # How the local counter of the pattern that runs goes, and what is told where it is 0.
 IN_STEP, ADDS, SUBTRACTS, DWELLS, LOCAL_ZERO = range(1, 6)
