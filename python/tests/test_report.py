@@ -290,6 +290,29 @@ def test_places_in_the_cycle_are_the_local_counter(examples: Path) -> None:
     assert len(measures.cycles(events).dropna()) >= 3
 
 
+@pytest.mark.parametrize("mode", [0, 1, 2, 3])
+def test_cycles_begin_at_local_zero(examples: Path, mode: int) -> None:
+    """Where lines show the local counter come to 0, or pass it with two steps, also
+    while it comes into step. The way of pattern 2 begins at 53."""
+    plan = Plan.read(examples / "coming_into_step.json")
+    plan["coordCorrectionMode"], plan["coordCorrectionLimit"] = {1: mode}, {1: 20}
+    with Bench(plan) as bench:
+        parts = []
+        for pattern, steps in ((1, 853), (2, 3600)):
+            bench.set_pattern(pattern)
+            parts.append(frames.of_lines(bench.step(steps)))
+        events = frames.of_events(bench.events)
+    shown = pd.concat(parts)["local"].astype(int)
+    zeros = shown.index[shown.diff() < 0].tolist()
+    found = measures.cycles(events)
+    # (at tick 0, at which pattern 1 was selected, its local counter was 0)
+    assert found.iloc[0].to_list() == [0, 800, 1, 80.0]
+    assert [*found["end"][:1], *found["begin"][1:], *found["end"][-1:]] == zeros
+    lengths = found.loc[found["pattern"] == 2, "cycle_s"]
+    wanted = [{60.0}, {72.0, 64.0, 60.0}, {50.9, 60.0}, {72.0, 65.1, 60.0}]
+    assert set(lengths) == wanted[mode]
+
+
 def test_arrivals_and_greens_are_what_lines_show(examples: Path) -> None:
     """Where the input of a detector goes on, its phase's letter; and how long each
     phase shows a green that ends."""
