@@ -293,7 +293,7 @@ def test_a_transaction_may_end_before(quad: Path) -> None:
 
 
 def test_a_station_that_has_the_desk(quad: Path) -> None:
-    """Another is refused, and told which it is."""
+    """Another is refused, and the answer names the one that has it."""
     with Bench(quad) as bench:
         with bench.transaction(3):
             with pytest.raises(tsb.Refused) as told:
@@ -337,8 +337,8 @@ def test_the_status(quad: Path) -> None:
 
 
 def test_events_are_those_of_a_record(examples: Path, tmp_path: Path) -> None:
-    """What the bench was told is what `tsb_field record` writes of the inputs that
-    remain, with ticks and commands that were taken back."""
+    """The events of the bench are those that `tsb_field record` writes of the inputs
+    that remain, with ticks and commands that were taken back."""
     plan, log = examples / "main_and_oak.json", a_log("events", 900)
     log.write(tmp_path / "log")
     commands = ["step 300", "pattern 1", "step 200", "undo", "back 260", "preempt 1 on",
@@ -368,7 +368,8 @@ def test_events_are_those_of_a_record(examples: Path, tmp_path: Path) -> None:
 
 
 def test_events_of_switches_and_recalls(quad: Path) -> None:
-    """A switch asks for a preempt, if its input does not; recalls tell no calls."""
+    """A switch asks for a preempt, if its input does not; the calls of recalls
+    have no events."""
     with Bench(quad) as bench:
         bench.tick()
         assert {it.code for it in bench.events} == {0, 1, 61}
@@ -459,13 +460,13 @@ def forever(bench: Bench) -> None:
 
 
 def test_a_plan_that_is_not_there(tmp_path: Path) -> None:
-    """It is told as any file."""
+    """It is an error as for any file."""
     with pytest.raises(FileNotFoundError):
         Bench(tmp_path / "none.json")
 
 
 def test_a_bench_is_killed_from_another_thread(quad: Path) -> None:
-    """Who waits for an answer is told."""
+    """Who waits for an answer gets an error that says so."""
     with Bench(quad) as bench:
         threading.Timer(0.1, bench.kill).start()
         with pytest.raises(tsb.ProgramDied, match="tsb_live ended by signal 9"):

@@ -149,7 +149,7 @@ def test_actuations_by_what_is_shown() -> None:
 
 
 def test_actuations_of_events_in_any_order() -> None:
-    """By tick, and within a tick by code; phases stand in their order."""
+    """By tick, and within a tick by code; phases are in their order."""
     events = table((20, 7, 2), (10, 1, 2), (15, 82, 2), (30, 7, 2), (30, 1, 2), (30, 82, 2))
     assert rows(measures.arriving(events, {2: 2})) == [
         (2, 2, 15, "green"), (2, 2, 30, "yellow")
@@ -229,7 +229,7 @@ def test_percentiles_are_nearest_ranks(values: list[int], share: int) -> None:
 
 
 def in_pattern(end: int, offset: int = 0) -> pd.DataFrame:
-    """Pattern 1 of 30 s from tick 1 up to a tick, free behind it."""
+    """Pattern 1 of 30 s from tick 1 up to a tick, free after it."""
     told = [(1, 131, 1), (1, 132, 30), (1, 133, offset)]
     return table(*told, (end, 131, 254), (end + 9, 7, 2))
 
@@ -292,7 +292,7 @@ def test_cycles_of_free_operation_at_its_ends() -> None:
 
 def test_greens_in_cycles_at_their_ends() -> None:
     """A green in the last tick of a cycle is of it, one at its end of the next; those
-    before the first and behind the last are of none."""
+    before the first and after the last are of none."""
     crossings = [(100, 31, 1), (300, 31, 1), (500, 31, 1)]
     for tick, counts in ((99, 0), (100, 1), (299, 1), (300, 1), (499, 1), (500, 0)):
         found = measures.greens_a_cycle(table(*crossings, (tick, 1, 2)))
@@ -308,7 +308,7 @@ def test_greens_in_cycles_at_their_ends() -> None:
 
 
 def test_places_in_a_cycle_at_its_ends() -> None:
-    """Of a pattern from 40 to 700 with local zero at 40, 340, 640."""
+    """In a pattern from 40 to 700 with local zero at 40, 340, 640."""
     events = table((40, 131, 2), (40, 132, 30), (40, 133, 4), (700, 131, 254), (800, 7, 1))
     ticks = pd.Series([39, 40, 41, 339, 340, 699, 700], index=range(10, 17))
     found = measures.in_cycle(events, ticks)
@@ -497,7 +497,7 @@ def test_a_street_with_the_inputs_of_the_bench() -> None:
 
 
 def numbers(*events: tuple[int, int, int], ticks: int = 1000, place: int = 0) -> Numbers:
-    """The numbers of events, of which detector 2 calls phase 2, and 4 phase 4."""
+    """The numbers of events, where detector 2 calls phase 2, and 4 phase 4."""
     plan = Plan()
     plan["vehicleDetectorCallPhase"] = {2: 2, 4: 4}
     run = Run("hand", table(*events), np.datetime64(START, "ns"), ticks, plan)
@@ -509,7 +509,7 @@ SERVICE = [(100, 1, 2), (150, 4, 2), (150, 7, 2), (180, 10, 2), (190, 12, 2)]
 
 @pytest.mark.parametrize("code", [134, 149])
 def test_a_planned_split_of_0_is_none(code: int) -> None:
-    """Of the first and of the last phase, whatever was told before."""
+    """For the first and for the last phase, whatever came before."""
     phase = code - 133
     service = [(tick, it, phase) for tick, it, _ in SERVICE]
     for split, planned in ((0, None), (1, 1.0)):
@@ -518,13 +518,13 @@ def test_a_planned_split_of_0_is_none(code: int) -> None:
         assert rows(of.programmed)[0][:3] == (phase, planned, 1)
     for other in (133, 150):
         assert rows(numbers((1, other, 50), *service).splits[["planned_s"]]) == [(None,)]
-    # told in the tick of the green it counts, a tick later not
+    # in the tick of the green it counts, a tick later not
     assert rows(numbers((100, code, 9), *service).programmed)[0][1] == 9
     assert rows(numbers((101, code, 9), *service).programmed)[0][1] is None
 
 
 def test_periods_of_a_day() -> None:
-    """The first length of which there are 24 at most, and the last one anyway."""
+    """The first length that fits 24 times at most, and the last one anyway."""
     day = 864_000
     for ticks, period in (
         (0, 600), (14_400, 600), (14_401, 3000), (72_000, 3000), (72_001, 9000),
@@ -575,7 +575,7 @@ def test_planned_splits_in_any_order() -> None:
 
 
 def test_the_85th_of_a_hundred_services() -> None:
-    """Of twenty the seventeenth."""
+    """The seventeenth of twenty."""
     each = [
         (1000 * k + tick, code, 2)
         for k in range(20)
@@ -586,7 +586,7 @@ def test_the_85th_of_a_hundred_services() -> None:
 
 
 def test_shares_of_a_run_that_was_green() -> None:
-    """Of a run of one tick; of a phase that was green for none, or had no detector."""
+    """In a run of one tick; for a phase that was green for none, or had no detector."""
     short = numbers((1, 1, 2), (1, 82, 2), (2, 7, 2), ticks=1).arrivals
     assert rows(short[["green", "time_green", "platoon_ratio"]]) == [(1.0, 1.0, 1.0)]
     of = numbers((5, 1, 2), (5, 7, 2), (9, 82, 2), (9, 82, 4))

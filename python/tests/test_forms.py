@@ -128,7 +128,7 @@ def test_what_is_no_row_names_its_line(tmp_path: Path, rows: str) -> None:
 
 
 def test_a_parameter_that_tells_nothing_is_left_out() -> None:
-    """Of codes that are no inputs."""
+    """With codes that are no inputs."""
     time = "2026-11-22 07:00:03"
     rows = [(time, 150, -1), (time, 82, 4), (time, 131, 2)]
     table = pd.DataFrame(rows, columns=["Time", "Code", "Param"])
@@ -221,7 +221,7 @@ def test_what_parts_fields() -> None:
 
 def test_fields_of_lines() -> None:
     """Without the spaces around them; a quote may hold a mark, and one out of place
-    is told."""
+    is a fault."""
     found = forms._fields({3: ' a , "b;c",d', 9: "e"}, ",")
     assert found.to_numpy().tolist() == [["a", "b;c", "d"], ["e", "", ""]]
     assert list(found.index) == [3, 9]
@@ -269,7 +269,7 @@ def test_moments_that_are_moments_already() -> None:
     ],
 )  # fmt: skip
 def test_clocks(clock: str, shown: str | None) -> None:
-    """Of a day whose order shows, and behind one of which it does."""
+    """On a day whose order shows, and after such a day."""
     if shown is None:
         with pytest.raises(Error, match="line 5: time .* is no time"):
             moments(f"11/22/2026 {clock}")
@@ -282,7 +282,8 @@ def test_clocks(clock: str, shown: str | None) -> None:
 
 
 def test_days() -> None:
-    """Month and day are told apart by one over 12; a year that is first by itself."""
+    """One over 12 shows which is the month and which the day; a year that is first
+    shows it by itself."""
     assert moments("2026/12/11 7:00:00") == ["2026-12-11 07:00:00"]
     assert moments("13/12/2026 7:00:00", "1/2/2026 7:00:00") == [
         "2026-12-13 07:00:00", "2026-02-01 07:00:00"
@@ -299,7 +300,7 @@ def test_days() -> None:
 
 
 def test_seconds_since_1970() -> None:
-    """Of ten digits at most, with parts; more digits are milliseconds, in all rows."""
+    """With ten digits at most, and parts; more digits are milliseconds, in all rows."""
     assert moments("0", "0.5", "1,25", "9223372035") == [
         "1970-01-01 00:00:00", "1970-01-01 00:00:00.500000", "1970-01-01 00:00:01.250000",
         "2262-04-11 23:47:15",

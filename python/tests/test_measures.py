@@ -124,7 +124,7 @@ def test_preempts() -> None:
 
 
 def test_preempts_without_a_request() -> None:
-    """None is told before the service. Without track phases the green is that of the
+    """None comes before the service. Without track phases the green is that of the
     dwell, here lit already."""
     plan = Plan()
     plan["preemptDwellPhase"][2] = {2}
@@ -147,8 +147,8 @@ def test_preempts_of_inputs_and_switches() -> None:
 
 
 def test_the_request_of_a_switch(top: Path) -> None:
-    """The switch is turned on behind tick 171, and acts in the next tick: it is told a
-    tenth of a second before the input of the worst moment above."""
+    """The switch is turned on after tick 171, and acts in the next tick: its event is a
+    tenth of a second before that of the input of the worst moment above."""
     path = top / "examples/railroad.json"
     log = Log.read(top / "examples/railroad.log")
     events = recorded(path, log, "step 171\npreempt 1 on\nstep 300\n")
@@ -182,7 +182,7 @@ def test_records_of_each_form(top: Path) -> None:
 
 
 def test_no_events() -> None:
-    """A run in which nothing was told has empty tables."""
+    """A run without events has empty tables."""
     for name, measure in measures.MEASURES.items():
         assert len(measure(table(), Plan())) == 0, name
 

@@ -233,8 +233,8 @@ def test_phases_of_no_ring_in_their_order(program: Program) -> None:
 def test_a_pattern_is_read(
     program: Program, more: dict[str, str], offset: str, behind: int
 ) -> None:
-    """Its splits have yellow and red clearance, and its offset is behind the first
-    ring's coordinated green; of type 170 behind its clearance."""
+    """Its splits have yellow and red clearance, and its offset is after the first
+    ring's coordinated green; of type 170 after its clearance."""
     program.keys |= {
         "coordinate-mode": "true", "cycleTime": "100", "coordinatePhases": "2,6",
         "fixForceOff": "true", **more,
@@ -300,7 +300,7 @@ def test_detectors_that_a_program_names(program: Program) -> None:
 
 
 def test_crossings_have_no_times(tmp_path: Path) -> None:
-    """A program that lights one is told that."""
+    """The notes say so of a program that lights one."""
     crossroads.build(tmp_path, pedestrians=True)
     at = Intersection.of(tmp_path / "net.xml", "C", tmp_path / "mapping.json")
     program = Program(tmp_path, at)

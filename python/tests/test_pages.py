@@ -26,7 +26,7 @@ PAGES = sorted(
 # (git does not keep the first; it has no commands)
 PAGES = [it for it in PAGES if it != "docs/work/DEFINITIONS.md"]
 
-#: A block of a page: what stands behind its fence, its text, and of a block of
+#: A block of a page: what comes after its fence, its text, and of a block of
 #: commands what the page says that it writes.
 BLOCK = re.compile(
     r"^```([^\n]*)\n(.*?)^```\n"
@@ -38,7 +38,7 @@ COMMAND = re.compile(
     r"(tsb|tsb_live|tsb_field|tsb-py|rt|pip|python3?|tools/\w+|python/\S+) \S"
     r"|tools/\w+$"
 )
-#: Commands that no test runs as they stand, and why.
+#: Commands that no test runs as they are, and why.
 LEFT_OUT = {
     r"tools/build\b": "it proves for half an hour; the gate does",
     r"tools/gate\b": "it is what runs this test",
@@ -102,7 +102,7 @@ ANSWER = re.compile(r"\d{7} .*|event \d{7} .*|ok")
 
 
 def blocks(page: str) -> Iterator[tuple[str, str, str]]:
-    """The blocks of a page: what stands behind the fence, the text, and what a block
+    """The blocks of a page: what comes after the fence, the text, and what a block
     of commands writes."""
     for kind, text, written in BLOCK.findall((TOP / page).read_text()):
         yield kind, text, written
@@ -168,7 +168,7 @@ def fill(room: Path, page: str) -> None:
 
 @pytest.mark.parametrize("page", PAGES)
 def test_commands_are_told_from_other_blocks(page: str) -> None:
-    """A block that begins with a command says so behind its fence."""
+    """A block that begins with a command says so after its fence."""
     for kind, text, _ in blocks(page):
         assert kind == "sh" or not COMMAND.match(text), f"{page}: {text}"
 
@@ -189,7 +189,7 @@ def test_commands_of_a_page(page: str, room: Path) -> None:
 
 def served(room: Path, script: str) -> str:
     """What a script writes; a server in it is stopped after some seconds, and has to
-    tell its address before."""
+    print its address before."""
     told = typed(room, SERVER.sub(SERVED, script))
     assert not SERVER.search(script) or "http://127.0.0.1:" in told, script
     return told
@@ -209,7 +209,7 @@ def test_the_questions_of_the_readme(room: Path) -> None:
 
 def test_live_sessions() -> None:
     """Those of docs/use/LIVE.md: each line that is no answer is given, and all answers
-    stand behind it."""
+    come after it."""
     sessions = [
         text.splitlines()
         for _, text, _ in blocks("docs/use/LIVE.md")
@@ -228,7 +228,7 @@ def test_live_sessions() -> None:
 
 
 def test_versions(room: Path) -> None:
-    """All programs that tell theirs tell that of the repository."""
+    """All programs that print theirs print that of the repository."""
     version = (TOP / "VERSION").read_text()
     for name, told in [("tsb-py", "tsb"), ("tsb_field", "tsb_field"), ("tsb_live", "tsb_live")]:
         assert typed(room, f"{name} --version") == f"{told} {version}"
@@ -240,7 +240,7 @@ HELPED = {name: f"## `tsb_field {name}`" for name in ["record", "log", "events",
 
 @pytest.mark.parametrize("name", HELPED)
 def test_help_names_what_the_page_does(name: str, room: Path) -> None:
-    """Each word of the page's table, behind the usage."""
+    """Each word of the page's table, after the usage."""
     section = (TOP / "docs/use/FIELD.md").read_text().split(HELPED[name])[1]
     table = section.split("\n|---|---|\n")[1].split("\n\n")[0]
     words = re.findall(r"--[a-z][a-z-]*", re.sub(r"(?m)^(\| [^|]*\|).*$", r"\1", table))
@@ -262,7 +262,7 @@ def test_examples_of_help(words: str, room: Path) -> None:
 
 
 def test_slips(room: Path) -> None:
-    """A word that is nearly right is told with the right one."""
+    """A word that is nearly right is refused, and the line has the right one."""
     done = subprocess.run(
         [room / "bin/tsb_field", "log", "--devise", "7"], capture_output=True, text=True,
         timeout=60, check=False,

@@ -20,7 +20,7 @@ import tsb
 from tsb import programs
 from tsb.panel.server import BENCHES_MOST, BODY_MOST
 
-# (its types are not all told)
+# (not all of its types are known)
 webdriver = pytest.importorskip("selenium.webdriver")
 Service = pytest.importorskip("selenium.webdriver.chrome.service").Service
 By = pytest.importorskip("selenium.webdriver.common.by").By
@@ -336,7 +336,7 @@ def test_refusals_in_words_with_their_cures(page: Page) -> None:
 
 
 def test_what_is_typed_and_is_no_number(page: Page) -> None:
-    """Nothing is asked of the bench, and the field is told beside its button too."""
+    """Nothing is asked of the bench, and the field is named beside its button too."""
     page.click("begin")
     assert page.text("desk-said") == "begin 1: ok"
     page.set("phaseWalk", 2, 7)
@@ -356,7 +356,7 @@ def test_what_is_typed_and_is_no_number(page: Page) -> None:
 
 
 def test_lists_take_phases(page: Page) -> None:
-    """As 2,6, and the number behind a sign; what is in effect is shown so too."""
+    """As 2,6, and the number after a sign; what is in effect is shown so too."""
     page.click("begin")
     page.choose("object", "overlapIncludedPhases")
     for typed, number in (("2,6", 34), ("4 8", 136), ("=34", 34), ("0", 0)):
@@ -541,7 +541,7 @@ def test_fast_stops_where_the_log_ends(
         page.wait(lambda: "stopped" in page.text("time-said"), "it stops")
         assert page.text("said").endswith("tick 6000000, the last one that there is")
         assert not page.shows("message")
-        # (a page whose panel has ended would tell the browser's log of it)
+        # (a page whose panel has ended would say so in the browser's log)
         browser.close()
         browser.switch_to.window(browser.window_handles[0])
 
@@ -559,7 +559,7 @@ def test_what_lies_ahead_is_dropped(page: Page) -> None:
 
 
 def test_a_pulse_that_is_none(page: Page) -> None:
-    """Nothing is asked of the bench, and what to enter is told beside it."""
+    """Nothing is asked of the bench, and what to enter is shown beside it."""
     page.choose_mode("pulse")
     for typed, said in (
         ("", "a pulse is empty"), ("0", "0 s is no such time"),
@@ -601,7 +601,7 @@ def test_a_verify_names_the_phases(page: Page) -> None:
 
 
 def test_an_index_names_its_table_and_phase(page: Page) -> None:
-    """Of a split, and of a place in a sequence; of other objects there is none."""
+    """For a split, and for a place in a sequence; other objects have none."""
     page.click("begin")
     page.choose("object", "splitTime")
     page.fill("index", 18)
@@ -671,7 +671,7 @@ def test_the_plan_is_saved_by_its_button(page: Page, tmp_path: Path) -> None:
 
 
 def test_marks_at_each_change(page: Page) -> None:
-    """Of a value that is watched."""
+    """For a value that is watched."""
     page.click("vehicle-4")
     page.go(95)
     page.choose("watch", "interval")
@@ -768,7 +768,7 @@ def test_a_killed_bench(browser: Browser, server: Server) -> None:
 
 
 def test_a_full_disk(page: Page, server: Server) -> None:
-    """A run that cannot be written is told, and what was saved stays."""
+    """A run that cannot be written is reported, and what was saved stays."""
     page.go(20)
     page.fill("name", "before")
     page.click("save")
@@ -846,7 +846,7 @@ def test_the_page_says_what_it_may_load(server: Server) -> None:
 
 
 def test_requests_that_are_none_reach_no_bench(server: Server) -> None:
-    """Each is told, and the bench is as it was."""
+    """Each is refused, and the bench is as it was."""
     asker = server.opened()
     before = asker.ask("look")[1]["state"]
     for wrong in [
@@ -864,7 +864,7 @@ def test_requests_that_are_none_reach_no_bench(server: Server) -> None:
 
 
 def test_a_page_that_is_open_twice(server: Server) -> None:
-    """The later one has the bench, and the earlier one is told."""
+    """The later one has the bench, and the earlier one gets a fault."""
     asker = server.opened()
     asker.go(7)
     status, found = server.post("open", {"session": asker.session})
@@ -942,7 +942,7 @@ def test_a_log_acts_until_a_hand_takes_over(examples: Path, tmp_path: Path) -> N
 
 
 def test_a_panel_is_ended_while_a_bench_is_busy(examples: Path, tmp_path: Path) -> None:
-    """The request is told that its bench has ended, and the program ends well."""
+    """The answer says that the bench has ended, and the program ends well."""
     found: list[Any] = []
     for server in started(tmp_path / "runs", examples / "quad.json"):
         asker = server.opened()
@@ -955,7 +955,7 @@ def test_a_panel_is_ended_while_a_bench_is_busy(examples: Path, tmp_path: Path) 
 
 
 def test_too_many_pages(examples: Path, tmp_path: Path) -> None:
-    """The last one is told, and the others go on."""
+    """The last one is refused, and the others go on."""
     for server in started(tmp_path / "runs", examples / "two.json"):
         askers = [server.opened() for _ in range(BENCHES_MOST)]
         status, told = server.post("open", {"session": None})
@@ -976,7 +976,7 @@ def test_too_many_pages(examples: Path, tmp_path: Path) -> None:
 def test_what_no_panel_begins_with(
     examples: Path, tmp_path: Path, words: list[str], said: str
 ) -> None:
-    """A plan, a log or a layout that is refused is told, and nothing is served."""
+    """A plan, a log or a layout that is refused is reported, and nothing is served."""
     files = [it if it.startswith("--") else str(examples / it) for it in words]
     command = [sys.executable, "-m", "tsb", "panel", *files]
     done = subprocess.run(

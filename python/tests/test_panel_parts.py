@@ -483,7 +483,7 @@ def test_marks_are_all_changes(run: Run, tmp_path: Path) -> None:
 
 
 def test_the_last_tick_of_a_run(run: Run) -> None:
-    """It is gone to, and a tick behind it is refused in the bench's own words."""
+    """It is gone to, and a tick after it is refused in the bench's own words."""
     while run.now < LAST_TICK:
         run.go(LAST_TICK)
     run.go(LAST_TICK)

@@ -56,7 +56,7 @@ def marked(*ticks: int) -> Watched:
 
 
 def test_marks_at_the_ends_of_a_view() -> None:
-    """Those at its first and its last tick are told, and none beside."""
+    """Those at its first and its last tick are given, and none outside."""
     of = marked(9, 10, 20, 30, 31)
     told = of.told(View(10, 30, 100))
     assert told["ticks"] == [10, 20, 30] and told["count"] == 5
@@ -70,7 +70,7 @@ def test_marks_at_the_ends_of_a_view() -> None:
 
 
 def test_marks_of_a_column() -> None:
-    """A column has one; where a tick has a column of its own, all are told."""
+    """A column has one; where a tick has a column of its own, all are given."""
     assert marked(3, 4).told(View(0, 9, 100))["ticks"] == [3, 4]
     assert marked(100, 105, 109).told(View(100, 119, 4))["ticks"] == [100, 105]
     assert marked(0, 4).told(View(0, 18, 4))["ticks"] == [0, 4]
@@ -151,7 +151,7 @@ def test_rows_that_were_taken() -> None:
 
 
 def test_hands_behind_a_cut_and_pulses_beside_one_another() -> None:
-    """What a hand did behind a cut is gone; pulses end in the order of their ticks."""
+    """What a hand did after a cut is gone; pulses end in the order of their ticks."""
     tape = Tape()
     tape.grasp(5, 0, Hand(True))
     tape.cut(3)
@@ -163,7 +163,7 @@ def test_hands_behind_a_cut_and_pulses_beside_one_another() -> None:
 
 
 def test_inputs_that_are_no_ticks() -> None:
-    """By their ticks; those at a cut stay, those behind it go."""
+    """By their ticks; those at a cut stay, those after it go."""
     tape, on, off = Tape(), Switch(1, "on"), Switch(1, "off")
     inputs: list[Given] = [on, Lamp("P2", "R"), off, NoLamp()]
     for tick, what in zip((0, 5, 5, 8), inputs, strict=True):
@@ -211,8 +211,8 @@ def test_a_band_that_is_put_again() -> None:
 
 
 def test_shares_where_a_run_ends_in_a_column() -> None:
-    """The column has the ticks that there are; one behind the run has none. A head
-    that is green all the time is so in the only column."""
+    """The column has the ticks that there are; one after the run has none. A head
+    that is green all the time has all of the only column."""
     first = Display(0, "G" + "-" * 15, "-" * 16, "----", 0, None)
     track = Track(first)
     red, green = (first._replace(tick=it) for it in (5, 7))
@@ -304,7 +304,7 @@ def test_a_request_takes_ticks_for_a_while(run: Run) -> None:
 
 
 def test_the_plan_at_a_tick(run: Run) -> None:
-    """It is another behind a commit, and the old one before it, forward and back."""
+    """It is another after a commit, and the old one before it, forward and back."""
     first, serial = run.plan, run.serial
     run.advance(5)
     commands: list[Given] = [
@@ -462,7 +462,7 @@ def heads_of(letters: str) -> list[str]:
 
 
 def test_a_gap_by_what_is_off_to_its_end() -> None:
-    """An input that is on in the tick behind the green ends no gap; one that was off
+    """An input that is on in the tick after the green ends no gap; one that was off
     in all of a green was off for as long as the green."""
     plan = crossroads.plan()
     plan["phasePassage"] = {it: 3 for it in range(1, 9)}
@@ -536,8 +536,8 @@ def test_causes_of_spells() -> None:
 
 
 def test_returns_to_the_left_turn_of_a_ring() -> None:
-    """Of each through phase, whatever the other ring does; a phase that is green again
-    is no other, and a left turn that ends goes back to none."""
+    """From each through phase, whatever the other ring does; a phase that is green
+    again is no other, and a left turn that ends goes back to none."""
     for through, left in ((2, 1), (4, 3), (6, 5), (8, 7)):
         theirs = [
             lit(**{f"P{through}": letter, **{f"P{it}": "G" for it in others}})
@@ -549,14 +549,14 @@ def test_returns_to_the_left_turn_of_a_ring() -> None:
         ours = [theirs[0]] * len(theirs)
         found = peers.spells(theirs, ours)
         assert [it.cause for it in found] == ["return"], through
-        # (the ring has no other green behind it)
+        # (the ring has no other green after it)
         assert peers.spells(theirs[:4], ours[:4])[0].cause == "end"
         lefts = [lit(**{f"P{left}": letter}) for letter in "GYR"]
         assert peers.spells(lefts, lefts[:1] * 3)[0].cause == "end"
 
 
 def lit(**heads: str) -> str:
-    """Heads of which all others are red."""
+    """Heads, with all others red."""
     return "".join(heads.get(f"P{it}", "R") for it in range(1, 9))
 
 
@@ -580,7 +580,7 @@ def test_what_each_did_in_the_first_tick() -> None:
 
 @pytest.mark.parametrize("pattern", [0, 1])
 def test_answers_are_those_of_a_bench(pattern: int) -> None:
-    """Of the first eight inputs; what is beside them is off."""
+    """By the first eight inputs; what is beside them is off."""
     plan = crossroads.plan(pattern=True)
     rows = ["0001000000"] * 400 + ["1000000000"] * 900
     with Bench(plan) as bench:

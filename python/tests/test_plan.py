@@ -32,7 +32,7 @@ def test_the_bench_has_the_same_plan(examples: Path, name: str) -> None:
 
 
 def test_version_3_is_version_2_with_another_number(examples: Path) -> None:
-    """The bench has the same plan, which it tells in version 2."""
+    """The bench has the same plan, which it gives in version 2."""
     plan = Plan.read(examples / "main_and_oak.json").wide()
     text = plan.text.replace('"version": 2', '"version": 3')
     newest = Plan.of_text(text)
@@ -141,7 +141,7 @@ def test_numbers_of_tables_are_values() -> None:
     ],
 )
 def test_an_object_that_is_misspelt(name: str, meant: str | None, tmp_path: Path) -> None:
-    """The nearest right name is told, by the package and of a file too."""
+    """The nearest right name is given, by the package and for a file too."""
     with pytest.raises(tsb.NoSuchObject) as told:
         Plan()[name]
     question = f": did you mean {meant}?" if meant else f"has no object {name}"
@@ -235,7 +235,7 @@ def test_texts_that_are_no_plan(tmp_path: Path, text: str) -> None:
 
 
 def test_rules_are_judged_by_the_bench(examples: Path) -> None:
-    """The rule is told with its cure, by `check` and where a bench is to run it."""
+    """The rule is given with its cure, by `check` and where a bench is to run it."""
     plan = Plan.read(examples / "two_short_yellow.json")
     fault = plan.fault()
     assert fault is not None and fault.rule is not None and fault.rule.name == "K8"

@@ -141,7 +141,7 @@ def test_a_step_is_a_tick(cars: Path, api: str) -> None:
 
 @pytest.mark.parametrize("api", ["libsumo", "traci"])
 def test_a_loop_is_closed_twice(cars: Path, api: str) -> None:
-    """The second time does nothing, also behind a fault."""
+    """The second time does nothing, also after a fault."""
     loop = loop_of(cars, api=api)
     loop.run(3)
     loop.close()
@@ -575,7 +575,7 @@ def test_a_light_of_crossings_alone(walks: Path) -> None:
 
 
 def test_cycles_of_programs_of_type_nema(cars: Path, tmp_path: Path) -> None:
-    """Each key that SUMO reads for a cycle, and none; what is none is told."""
+    """Each key that SUMO reads for a cycle, and none; what is none is a fault."""
     at = Intersection.of(cars / "net.xml", "C", cars / "mapping.json")
     text = nema_of(crossroads.plan(pattern=True), at, pattern=1)
     said = '<param key="total-cycle-length" value="110"/>'
@@ -602,7 +602,7 @@ def test_cycles_of_programs_of_type_nema(cars: Path, tmp_path: Path) -> None:
 
 
 def test_phases_of_nema_in_no_ring(cars: Path, tmp_path: Path) -> None:
-    """They are left out, and told, and the draft fits its plan."""
+    """They are left out, and noted, and the draft fits its plan."""
     at = Intersection.of(cars / "net.xml", "C", cars / "mapping.json")
     text = nema_of(crossroads.plan(), at)
     path = tmp_path / "nema.xml"

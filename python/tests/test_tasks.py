@@ -92,7 +92,7 @@ def test_a_day_of_inputs(day: Day, plan: Path, log: Path) -> None:
     assert by_hand.sum().sum() > 3 and by_hand.index.name == "phase"
     pd.testing.assert_frame_equal(tables["terminations"], by_hand.reset_index())
     assert dict(day.tables([])) == {}
-    # in a pattern it is told so in the first tick
+    # in a pattern the first tick has its event
     (pattern,) = dict(replace(day, pattern=1).tables([told])).values()
     assert [1, 131, 1] in pattern.to_numpy().tolist()
     assert [1, 131, 1] not in wanted.to_numpy().tolist()
@@ -141,7 +141,7 @@ def test_the_table_of_a_run(day: Day, tmp_path: Path) -> None:
 
 
 def test_what_went_wrong_with_a_run(day: Day, tmp_path: Path) -> None:
-    """A disk that is full is told by the folder, a file that is not there by itself."""
+    """The line of a full disk names the folder, that of a missing file the file."""
     out = tmp_path / "out"
     out.mkdir()
     assert tried(day, str(out), "x", ["splits"]) is None and len(list(out.iterdir())) == 1
@@ -324,7 +324,7 @@ def test_the_words_of_a_sweep(capsys: pytest.CaptureFixture[str]) -> None:
 def test_the_command_of_a_sweep(
     plan: Path, log: Path, tmp_path: Path, capsys: pytest.CaptureFixture[str]
 ) -> None:
-    """What it prints and writes; runs of one fault are told together."""
+    """What it prints and writes; runs of one fault have one line."""
     before = signal.getsignal(signal.SIGTERM)
     out, bad = tmp_path / "out", [tmp_path / "bad.json", tmp_path / "worse.json"]
     for it in bad:

@@ -75,10 +75,10 @@ ASKS = (PREEMPT_ON, PREEMPT_OFF)
 
 
 def services(events: pd.DataFrame) -> pd.DataFrame:
-    """Each time that a phase was served: its phase, the ticks at which its green
-    began (`green`) and ended (`yellow`), at which red clearance began and its time
-    ended (`red_clearance`, `red_end`, NA where there is none) and at which it was no
-    longer in service (`over`), and the `cause` that ended its green: gap, maximum,
+    """Each time that a phase was served: its phase, and the ticks at which its green
+    began (`green`) and ended (`yellow`); at which red clearance began and its time
+    ended (`red_clearance`, `red_end`, NA where there is none); and at which it was no
+    longer in service (`over`). The `cause` that ended its green is gap, maximum,
     force-off, or other, which is a preempt or a trip; none for a green that goes on."""
     rows: list[Row] = []
     on: dict[int, Row] = {}
@@ -149,7 +149,7 @@ def terminations(events: pd.DataFrame) -> pd.DataFrame:
 
 
 def in_a_row(ended: pd.DataFrame) -> "pd.Series[int]":
-    """Of each green that ended (`greens`), how many greens of its phase up to it ended
+    """For each green that ended (`greens`), how many greens of its phase up to it ended
     by its cause in a row: 1 where the one before ended by another."""
     by_phase = ended.groupby("phase")["cause"]
     changes = (ended["cause"] != by_phase.shift()).groupby(ended["phase"]).cumsum()
@@ -176,8 +176,8 @@ def _waits(events: pd.DataFrame, begins: int, goes: int, served: int) -> pd.Data
 def waits(events: pd.DataFrame) -> pd.DataFrame:
     """Each wait from a vehicle call to the green: `phase`, the ticks of the call and
     of the green, `wait_s`. A call that goes before, of a phase whose calls are not
-    remembered, is left out. Of a phase on recall events tell no call, and so no wait;
-    those with `--recalls` of `record` do, from the end of a green on."""
+    remembered, is left out. A phase on recall has no calls in the events, and
+    so no waits; with `--recalls` of `record` it does, from the end of a green on."""
     return _waits(events, CALL, CALL_GOES, GREEN)
 
 
@@ -239,8 +239,8 @@ def counted(came: pd.DataFrame, phases: Mapping[int, int]) -> pd.DataFrame:
 
 def preempts(events: pd.DataFrame, plan: Plan) -> pd.DataFrame:
     """Each service of a preempt: `preempt`, and the ticks of its request by an input or
-    the operator's switch (NA where none is told), of its service, of the greens of its
-    stages track, dwell and exit, as 106, 107 and 111 tell them, and of the green of all
+    the operator's switch (NA where there is none); of its service; of the greens of its
+    stages track, dwell and exit, as 106, 107 and 111 give them; and of the green of all
     phases that it is for (`green`): its track phases, or its dwell phases where it has
     none. `wait_s` is from the request to that green."""
     rows: list[Row] = []
@@ -297,7 +297,7 @@ def _wanted(plan: Plan, preempt: int) -> frozenset[int]:
 def alarms(events: pd.DataFrame) -> pd.DataFrame:
     """Each alarm of a detector: `detector`, the ticks at which it comes and goes,
     `alarm_s`, and the `code` that it came with, 84 to 88. What comes while an alarm
-    of the detector stands belongs to that."""
+    of the detector is on belongs to that."""
     rows: list[Row] = []
     on: dict[int, Row] = {}
     for tick, code, detector in ordered(events, {ALARM_GOES, *ALARMS}):

@@ -1,4 +1,4 @@
-"""Finds where the words of programs are not told alike; run it at the top, or by tools/ready.py.
+"""Finds places where the words of programs differ; run it at the top, or by tools/ready.py.
 
 VERSION has the version. The package in Python, the pages of tsb_words and their definitions have to have the same one,
 as `tools/pages/manual_pages.py` and `tools/release` take it from there. The words that tsb_words asks for in place of
@@ -11,7 +11,7 @@ from collections.abc import Iterator
 
 VERSION = pathlib.Path("VERSION")
 CRATE = pathlib.Path("crates/tsb_words")
-# Where the version stands besides: a pattern for each place, with all that is before it.
+# Where else the version is: a pattern for each place, with all that is before it.
 PLACES = [
     (pathlib.Path("python/tsb/__init__.py"), r'^__version__ = "([^"]+)"$'),
     (CRATE / "src/pages/texts.rt", r'b"tsb_live ([^"]+)\\n"'),

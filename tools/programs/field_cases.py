@@ -559,7 +559,7 @@ def return_runs():
     yield refused(HEADER[:-1] + b"\r", header)
     yield refused(HEADER.replace(b"\n", b"\r\r\n") + CAR, header)
     yield refused(CAR.replace(b"\n", b"\r\r\n"), b"events line 1: " + number)
-    # They count among the bytes of their line, of which there are 1,000 at most.
+    # They count among the bytes of their line, and these are 1,000 at most.
     for end in [b"\r", b"\r\r\n"]:
         yield refused(CAR + b"#" + b"x" * 999 + end, b"events line 3: " + LONG + b"\n", CAR_KNOWN)
 
@@ -586,8 +586,8 @@ def known_runs():
         yield refused(told(*events) + b"x\n", b"events line %d: %b\n" % (len(events) + 1, ENDS % b"time"), known)
     other = told("07:00:01 82 2") + b"8,2026-11-22 07:00:05,82,2\n"
     yield refused(other + b"x\n", b"events line 3: " + ENDS % b"time" + b"\n", b"", "--device", "7")
-    # More rows than a buffer holds. That the last ones go out before the fault is told shows in one stream alone, as
-    # `run_field.one_stream` has it: a buffer is written as well when it is dropped.
+    # More rows than a buffer holds. That the last ones go out before the line of the fault shows in one stream alone,
+    # as `run_field.one_stream` has it: a buffer is written as well when it is dropped.
     events, log = switching(2000)
     yield refused(events + b"x\n", b"events line 2001: " + ENDS % b"time" + b"\n", log[:-len(row(2000))])
 
@@ -669,7 +669,7 @@ def back_runs(given):
     """Sessions that go back."""
     begun = b"".join(LINES[:2])
     yield given(begun + display(2), HEADER)
-    # An undo is told in a line that takes nothing back: the next display line does.
+    # An undo has a line that takes nothing back: the next display line does.
     yield given(UNDONE, shown(*TOLD[0]))
     yield given(UNDONE + b"undone tick\n", shown(*TOLD[0]))
     yield given(UNDONE + LINES[0], HEADER)
@@ -693,7 +693,8 @@ def joined_runs(given):
     yield given(SWITCHED, shown(*SWITCHED_TOLD))
     yield given(SWITCHED, shown(*SWITCHED_TOLD), "--log", "empty.log")
     yield given(SWITCHED, shown(*SWITCHED_TOLD, "07:00:01.0 82 2", "07:00:03.0 81 2"), "--log", "car.log")
-    # Rows of a log are told wherever the session ended: behind its last line, and behind that to which it went back.
+    # Rows of a log have events wherever the session ended: after its last line, and after the one to which it went
+    # back.
     yield given(display(1), shown("07:00:01.0 82 2", "07:00:03.0 81 2"), "--log", "car.log")
     yield given(display(1) + display(20, "-G"), shown("07:00:01.0 82 2", "07:00:01.9 1 2", "07:00:03.0 81 2"),
                 "--log", "car.log")

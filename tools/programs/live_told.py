@@ -1,4 +1,4 @@
-"""What a live session tells besides its answers: events, its commands, where it ended, and how to come to its state."""
+"""What a live session gives besides its answers: events, its commands, where it ended, and how to come to its state."""
 import concurrent.futures
 import csv
 import json
@@ -39,7 +39,7 @@ def lines_at_random(rng: random.Random, many: int, goes_back: bool) -> list[str]
 # --- Events ---
 
 def told(answers: bytes) -> list[tuple[int, int, int]]:
-    """The events that answers tell: tick, code and parameter."""
+    """The events in answers: tick, code and parameter."""
     found = (line.split(b" ") for line in answers.splitlines() if line.startswith(b"event "))
     return [(int(tick), int(code), int(parameter)) for _, tick, code, parameter in found]
 
@@ -60,7 +60,7 @@ def saved_of(live: pathlib.Path, plan: bytes, lines: list[str]) -> tuple[bytes, 
 
 
 def events(live: pathlib.Path, field: pathlib.Path) -> list[str]:
-    """Events as they come, beside a record of the same run; and all other answers, beside a run that tells none."""
+    """Events as they come, beside a record of the same run; and all other answers, beside a run that gives none."""
     wrong = []
     for name in PLANS:
         for number in range(TIMES):
@@ -123,7 +123,7 @@ def saved_once(live: pathlib.Path, tsb: pathlib.Path, number: int) -> list[str]:
 # --- Commands repeated ---
 
 def echoed(live: pathlib.Path) -> list[str]:
-    """With `echo on` each answer that is no display line stands after its command, and else all is the same."""
+    """With `echo on` each answer that is no display line comes after its command, and else all is the same."""
     wrong = []
     for name in PLANS:
         for number in range(TIMES):
@@ -146,7 +146,7 @@ def echoed(live: pathlib.Path) -> list[str]:
 # --- Strict runs ---
 
 def strict(live: pathlib.Path) -> list[str]:
-    """A strict run ends at the first line that is refused or no command, and tells it."""
+    """A strict run ends at the first line that is refused or no command, and reports it."""
     wrong = []
     for name in PLANS:
         for number in range(TIMES):
@@ -215,7 +215,7 @@ def inputs(live: pathlib.Path) -> list[str]:
 
 def worked(live: pathlib.Path) -> list[str]:
     """A vehicle comes on detector 4 in tick 2: its input goes on (code 82) and calls phase 4 (43), with which the greens of
-    2 and 6 conflict from then on (2). As these turn green in tick 1, their recalls tell no call that goes (44); and a
+    2 and 6 conflict from then on (2). As these turn green in tick 1, their recalls give no call that goes (44); and a
     preempt is asked for (102) and no longer (104) by its switch."""
     plan = plan_of("quad")
     row = "0001000000000000 00000000 0000"

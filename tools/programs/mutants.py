@@ -3,8 +3,8 @@
     python3 -m tools.programs.mutants [--sample N] [--seed S] [--seconds S] [--least N] [MODULE ..]
 
 Each mutant is one change of a module's syntax tree: a comparison turned or moved by its
-boundary, a number one more, a sum or a product turned, a branch or a statement dropped,
-a sort or a filter left out, a minimum made a maximum. It is tried by the tests of its
+boundary; a number one more; a sum or a product turned; a branch or a statement dropped;
+a sort or a filter left out; a minimum made a maximum. It is tried by the tests of its
 module (`TESTS`), in a fork of a process that has what all of them import. A mutant that
 runs too long counts as noticed. Those of `EQUAL` are the same program, each with its
 reason, and are not tried. It prints those that survive, and of each module a row of the
@@ -256,7 +256,7 @@ def laid_over():
         yield room
 
 
-# Each text has a second of its own, by which Python tells whether it is compiled already.
+# Each text has a second of its own, by which Python sees whether it is compiled already.
 _seconds = itertools.count(1)
 
 
@@ -301,11 +301,11 @@ def _tested(room: pathlib.Path, tests: list[str], seconds: float) -> int:
     nothing = os.open(os.devnull, os.O_RDWR)
     for fd in (0, 1, 2):
         os.dup2(nothing, fd)
-    # (a program that a test starts takes the package of the folder that it stands in)
+    # (a program that a test starts takes the package of the folder that it is in)
     os.chdir(room)
     sys.path.insert(0, str(room))
     os.environ["PYTHONPATH"] = str(room)
-    # (what is compiled once is so for all mutants, outside of the tree)
+    # (what is compiled once serves all mutants, outside of the tree)
     os.environ.pop("PYTHONDONTWRITEBYTECODE", None)
     os.environ["PYTHONPYCACHEPREFIX"] = sys.pycache_prefix = str(room / "compiled")
     sys.dont_write_bytecode = False

@@ -25,9 +25,9 @@ FORMS: list[list[str]] = [[], ["--recalls"], ["--outputs"]]
 USAGE = "python3 -m tools.programs.run_record PROGRAM [SUMS CASES..]"
 FILES = ["records.sums", "even.cases", "late.cases", "aimed.cases", "tripped.cases", "options.cases", "worked.cases",
          "mangled.cases"]
-# What is told of a command that was not carried out.
+# The line of a command that was not carried out.
 TOLD = re.compile(rb"command ([1-9][0-9]*): (.*): (?:bad command|refused E[0-9]+ [A-Za-z]+(?: [1-4])?)")
-# How many bytes of a line are told.
+# How many bytes of a line are shown.
 SHOWN = 200
 
 

@@ -48,7 +48,7 @@ OVERLAP_ENDS = {64: "GY"}
 # Stages of preempts, told once all of their phases are green, with the lists of these phases.
 STAGE_BEGINS = {106: "Track", 107: "Dwell", 111: "Exit"}
 STAGE_LISTS = {"Track": "preemptTrackPhase", "Dwell": "preemptDwellPhase", "Exit": "preemptExitPhase"}
-# What is told of a pattern where none is selected.
+# The number of a pattern in events where none is selected.
 FREE = 254
 # The force modes in which phases are forced off behind their instants, and in which by the length of their greens too.
 LATE, FLOATING = (1, 2), 2

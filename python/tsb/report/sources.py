@@ -32,7 +32,7 @@ def runs_of(given: argparse.Namespace) -> list[Run]:
         name = f"{plan.stem}, pattern {pattern}" if pattern else plan.stem
         selected = f"pattern {pattern}\n" if pattern else ""
         told = selected + commands
-        # (beside a street, which tells no calls of recalls, the bench tells none)
+        # (beside a street, which gives no calls of recalls, the bench gives none)
         return of_plan(name, plan, log, start, told, ticks, facts, not given.street)
 
     asked = [(given.plan_a, given.pattern_a), (given.plan_b, given.pattern_b)]
