@@ -1,4 +1,4 @@
-//! Taking an input and telling its events.
+//! Takes an input and writes its events.
 #![tactic(auto, unfolding(tsb_objects::specs::Checked::checked_plan, tsb_plan::specs::PlanOf::plan_of))]
 
 ghost use Rattle.std.specs.Prelude.{◌≡◌, ℕ, ◌+◌, ◌<◌, ◌≤◌, [], ◌∷◌, length, Err, None, true, is_some, OnOk, OnErr, IfErr};
@@ -39,7 +39,7 @@ pub(crate) struct Before {
     selected: Selected,
     /// The layers.
     controller: Controller,
-    /// The tick number, or that of the trip, at which timers stand.
+    /// The tick number, or that of the trip, at which timers are read.
     clock: u32,
     /// The Green phases whose minimum green the next tick completes.
     completed: PhaseSet,
@@ -76,7 +76,7 @@ impl Cabinet {
         self.controller.selected(&self.plan)
     }
 
-    /// The tick number at which timers stand, at tick number `tick`: that of the trip, where there is one.
+    /// The tick number at which timers are read, at tick number `tick`: that of the trip, where there is one.
     pub(crate) fn clock(&self, tick: u32) -> u32
         requires by { (now : ℕ) × AreAllBy now (rows_of self.now) }
         ensures { result ≡ clock_at tick (trip_in (rows_of self.now).monitor) }
@@ -126,7 +126,8 @@ impl Cabinet {
             .difference(self.red_timings(tick + 1))
     }
 
-    /// Whether the local counter goes on as it did in the tick after tick number `tick`, and comes to no place that is told.
+    /// Whether the local counter, in the tick after tick number `tick`, goes on as it did and comes to no place that
+    /// has an event.
     fn keeps_cycle(&self, tick: u32) -> bool
         requires limit { tick ≤ last_tick }
         requires by { AreAllBy tick (rows_of self.now) }
@@ -138,8 +139,8 @@ impl Cabinet {
         self.controller.keeps_cycle(tick, &self.plan)
     }
 
-    /// Whether the tick after tick number `tick` ends no minimum green and no time of a red clearance, and the local counter
-    /// goes on as it did in it and comes to no place that is told.
+    /// Whether the tick after tick number `tick` ends no minimum green and no time of a red clearance. The local
+    /// counter also has to go on in it as it did, and to come to no place that has an event.
     fn ends_no_time(&self, tick: u32) -> bool
         requires limit { tick ≤ last_tick }
         requires by { AreAllBy tick (rows_of self.now) }
@@ -238,8 +239,9 @@ impl Cabinet {
 }
 
 impl Bench {
-    /// Takes an input, as `apply` does, and tells its events in `events`, in place of what was there. `noted` is what the
-    /// log has noted before it: its form, and the inputs that were on in the newest tick. A refused input has no events.
+    /// Takes an input, as `apply` does, and writes its events to `events`, in place of what was there. `noted` is what
+    /// the log has noted before it: its form, and the inputs that were on in the newest tick. A refused input has no
+    /// events.
     ///
     /// It takes no memory beside that of `apply`. A tick that changes nothing, with the inputs of the tick before, costs
     /// little more than there.

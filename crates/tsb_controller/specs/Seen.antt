@@ -30,7 +30,7 @@ abbrev pub is_off_beside : Plan → NumberSet → PhaseSet → ℕ → Bool
 is_off_beside plan lit served o =
     not (has_number lit o) && not (list_any (λ p. is_included plan o p && has served p) (run_from 1 16))
 
--- the calls that stand, of phases in these intervals and parts: no button is pressed, and no order is given
+-- the standing calls, of phases in these intervals and parts: no button is pressed, and no order is given
 pub record IsStanding (intervals : Intervals) (pedestrians : Pedestrians) (plan : Plan) (rows : Rows) (result : Standing) : Type 0 where
   pub observed : Observed
   pub outputs_are : TellsOutputs rows.detectors observed.outputs
@@ -44,12 +44,12 @@ pub record IsStanding (intervals : Intervals) (pedestrians : Pedestrians) (plan 
   pub stands : TellsStanding observed plan rows.calls result
 
 -- `view(tripped, clock, tick, plan)`: what a log sees of the state at tick number `tick`, where timers are read at
--- `clock`, whatever stands beside the rows
+-- `clock`, whatever is beside the rows
 abbrev pub TellsSeen : ℕ → ℕ → Plan → Bool → Rows → Seen → Type 0
 TellsSeen clock tick plan tripped rows result = (b : Beside) → b.plan ≡ plan → is_some b.trip ≡ tripped → clock_at tick b.trip ≡ clock →
     AgreeInAll (view_of result) (view (state_of tick b rows))
 
--- `red_timings(tripped, clock, plan)`: likewise the phases in red clearance whose time has not passed
+-- `red_timings(tripped, clock, plan)`: the phases in red clearance whose time has not passed, read in the same way
 abbrev pub TellsRedTimings : ℕ → Plan → Bool → Rows → PhaseSet → Type 0
 TellsRedTimings clock plan tripped rows result = (now : ℕ) (b : Beside) → b.plan ≡ plan → is_some b.trip ≡ tripped → clock_at now b.trip ≡ clock →
     Agree (has result) (times_red (state_of now b rows))
@@ -64,7 +64,8 @@ abbrev pub TellsSelected : Plan → Rows → Selected → Type 0
 TellsSelected plan rows result = (now : ℕ) (b : Beside) → b.plan ≡ plan →
     AgreeInSelected (selected_of result) (selected (state_of now b rows))
 
--- `keeps_cycle(now, plan)`: in the next tick the local counter goes on as it did, and comes to no place that is told
+-- `keeps_cycle(now, plan)`: in the next tick the local counter goes on as it did, and comes to no place that has an
+-- event
 pub record KeepsCycle (now : ℕ) (plan : Plan) (row : List ℕ) : Type 0 where
   pub cycle : cycle_state plan (pattern_in row) (correction_in row) (now + 1) ≡ cycle_state plan (pattern_in row) (correction_in row) now
   pub zero : comes_to_zero plan (pattern_in row) (correction_in row) (now + 1) ≡ false

@@ -1,4 +1,4 @@
-//! The local counter in the next tick, for those who tell it.
+//! The local counter in the next tick, for event logs.
 ghost use Rattle.std.specs.Prelude.{◌≡◌, ◌<◌, true};
 ghost use Rattle.tsb_objects.specs.Checked.{checked_plan};
 ghost use Rattle.tsb_coord.specs.Cells as coord;
@@ -31,8 +31,8 @@ impl Controller {
         self.coord.yields(now + 1, plan)
     }
 
-    /// Whether the local counter goes on as it did in the tick after tick number `now`, which is not the last, and comes to
-    /// no place that is told.
+    /// Whether the local counter, in the tick after tick number `now`, goes on as it did and comes to no place that has
+    /// an event. `now` is not the last tick number.
     pub fn keeps_cycle(&self, now: u32, plan: &Checked) -> bool
         requires in_time { now < last_tick }
         requires pattern_by { coord.IsBy (rows_of self.now).pattern }

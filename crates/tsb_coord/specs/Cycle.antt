@@ -1,5 +1,5 @@
 -- How the local counter goes, for event logs: the state of the cycle, local zero, and the yield points of coordinated
--- phases. A counter that takes two steps in a tick comes to both places. That a state is told of the counter, and not of
+-- phases. A counter that takes two steps in a tick comes to both places. That a state describes the counter, and not
 -- the cycle's length, is the profile's own.
 use Rattle.std.specs.Prelude.{◌≡◌, ℕ, ◌+◌, ◌-◌, ◌%◌, ◌==◌, ◌≤◌, Bool, false, ◌&&◌, ◌||◌, if◌then◌else◌, List, Option, Some, None}
 use Rattle.tsb_objects.specs.tsb_types.declared.event.TheConstants.{CYCLE_FREE, CYCLE_IN_STEP, CYCLE_ADDS, CYCLE_SUBTRACTS, CYCLE_DWELLS}
@@ -45,7 +45,7 @@ abbrev pub is_first : Option ℕ → Option ℕ → Bool
 is_first None instant = false
 is_first (Some first) instant = agree (Some first) instant
 
--- the tick in which a counter in step stands where that of pattern n stands in tick t
+-- the tick in which a counter in step is where that of pattern n is in tick t
 abbrev pub counted : Plan → ℕ → Correction → ℕ → ℕ
 counted plan n c t = t + ahead_in plan (Some n) c t
 

@@ -1,4 +1,4 @@
-//! How the local counter goes, for those who tell it: the state of the cycle, local zero and yield points.
+//! How the local counter goes, for event logs: the state of the cycle, local zero and yield points.
 ghost use Rattle.std.specs.Prelude.{◌≡◌, ℕ, ◌+◌, ◌-◌, ◌≤◌, ◌||◌, ◌&&◌, true, Some, None, if◌then◌else◌};
 ghost use Rattle.tsb_objects.specs.tsb_types.declared.limits.TheConstants.{TICKS};
 ghost use Rattle.tsb_objects.specs.tsb_types.Sets.{has};

@@ -1,4 +1,4 @@
--- The lines that the program tells, each with its end.
+-- The lines that the program writes of faults, each with its end.
 use Rattle.std.specs.Prelude.{◌≡◌, ◌⊎◌, ℕ, List, [], ◌∷◌, ◌++◌, IfSome, Option, Some, None, codes}
 use Rattle.tsb_program.specs.tsb_lines.Seen.{Seen, Tells}
 use Rattle.tsb_words.specs.declared.error.WordsError.{WordsError}
@@ -12,7 +12,7 @@ abbrev pub usage : List ℕ
 usage =
     codes "usage: tsb_field log --from TIME [--device ID] [--time-form FORM] [--zone OFFSET] [--count] [--allow-empty]\n          [--sort] [--sort-within SECONDS] [--as-outputs PLAN]\n          [--vehicle CHANNEL=DETECTOR].. [--pedestrian CHANNEL=DETECTOR].. [--preempt CHANNEL=INPUT]..\n    or tsb_field record --from TIME --device ID [--go-on] [--recalls] [--outputs] PLAN LOG\n    or tsb_field events --from TIME --device ID [--log LOG]\n    or tsb_field diagram [--log LOG] [--title TEXT] [--seconds-per-line N]\n    or tsb_field review PLAN\n"
 
--- what is told of bad words: the right word that was perhaps meant, or else how the program is used
+-- what is said of bad words: the right word that was perhaps meant, or else how the program is used
 abbrev pub bad_line : Option (List ℕ) → List ℕ
 bad_line (Some right) = hint right
 bad_line None = usage
@@ -26,11 +26,11 @@ abbrev pub TellsWords : Option (List ℕ) → WordsError → ℕ → Seen → Se
 TellsWords near words.Memory status told tells = Fails Memory status told tells
 TellsWords near words.Bad status told tells = TellsBad near status told tells
 
--- what was refused is told in its own words, with this status, where there is memory for the line
+-- what was refused is shown in its own words, with this status, where there is memory for the line
 abbrev pub Refuses : ℕ → Option (List ℕ) → ℕ → Seen → Seen → Type 0
 Refuses wanted shown status told tells =
     ((status ≡ wanted) × IfSome shown (λ line. Tells told tells (line ++ 10 ∷ []))) ⊎ Fails Memory status told tells
 
--- a tick that has no time is told, as a fault of the words: with 2
+-- a tick that has no time is reported, as a fault of the words: with 2
 abbrev pub TellsLate : ℕ → Seen → Seen → Type 0
 TellsLate status told tells = (status ≡ 2) × Tells told tells (codes "events: past the year 9999\n")

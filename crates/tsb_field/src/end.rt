@@ -20,8 +20,8 @@ const USAGE: &[u8] =
     or tsb_field review PLAN
 ";
 
-/// Says why words ask for nothing, and gives the status that the program ends with. Of bad words it says which right word
-/// was perhaps meant, or else how the program is used.
+/// Says why words ask for nothing, and gives the status that the program ends with. For bad words it says which right
+/// word was perhaps meant, or else how the program is used.
 pub(crate) fn tell_words_fault<E: Write>(
     errors: &mut Watched<E>,
     near: Option<&str>,

@@ -10,7 +10,7 @@ fn begins(page: Option<&[u8]>, begin: &[u8]) -> bool {
     }
 }
 
-/// Whether versions and help are told.
+/// Whether versions and help are given.
 fn pages_are_told() -> bool {
     begins(live_page(&["tsb_live", "--version"]), b"tsb_live ")
         && begins(live_page(&["tsb_live", "--help"]), b"usage: tsb_live ")
@@ -21,7 +21,7 @@ fn pages_are_told() -> bool {
         )
 }
 
-/// Whether the help of each command is told.
+/// Whether the help of each command is given.
 fn commands_are_told() -> bool {
     begins(
         field_page(&["tsb_field", "log", "--help"]),
@@ -65,7 +65,7 @@ fn is_word(found: Option<&str>, right: &str) -> bool {
     }
 }
 
-/// Whether the right word is found behind a slip.
+/// Whether the right word is found for a slip.
 fn slips_are_found() -> bool {
     is_word(live_near(&["tsb_live", "a.json", "--stict"]), "--strict")
         && is_word(field_near(&["tsb_field", "daigram"]), "diagram")
@@ -76,7 +76,7 @@ fn slips_are_found() -> bool {
         )
 }
 
-/// Whether nothing is found for right words, for words far from any, and behind `--`.
+/// Whether nothing is found for right words, for words far from any, and after `--`.
 fn others_are_not_near() -> bool {
     field_near(&["tsb_field", "events", "--title"]).is_none()
         && field_near(&["tsb_field", "log", "--count", "--", "--devise"]).is_none()

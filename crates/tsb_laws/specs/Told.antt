@@ -1,5 +1,5 @@
--- What the events of a run tell: those of display lines stand among them, and so do those of inputs; and they tell the
--- heads at its end. Each law here is the contract of a function in src/events.rt.
+-- What the events of a run say. Those of display lines are among them, as are those of inputs, and they give the heads
+-- at its end. Each law here is the contract of a function in src/events.rt.
 use Rattle.std.specs.Prelude.{◌≡◌, ℕ, ◌≤◌, ◌==◌, Bool, true, false, ◌&&◌, List, [], ◌∷◌, ◌++◌, filter, Option, Some, None, is_some, if◌then◌else◌}
 use Rattle.tsb_step.specs.tsb_types.Lists.{among}
 use Rattle.tsb_step.specs.tsb_types.Sets.{has_number}
@@ -67,7 +67,7 @@ pub record TellsHeads (lit : Lit) (s : State) : Type 0 where
   pub overlap_yellow : (o : ℕ) → 1 ≤ o → o ≤ 4 → lit.overlap_yellow o ≡ colours.is_yellow ((display s).overlap o)
   pub flash : lit.flash ≡ is_some s.trip
 
--- the events of a run tell what the heads show at its end, whatever the form of the log is
+-- the events of a run say what the heads show at its end, whatever the form of the log is
 abbrev pub RunsTellTheHeads : Type 0
 RunsTellTheHeads = (form : LogForm) (plan : Plan) (is : List Input) → IsConsistent plan → plan.phase_count ≤ 16 → AreTaken plan is →
     TellsHeads (read_back (told_along form plan is)) (replay plan is)
@@ -102,15 +102,15 @@ says_pedestrian code = if code == 90 then Some true else (if code == 89 then Som
 abbrev pub says_preempt : ℕ → Option Bool
 says_preempt code = if code == 102 then Some true else (if code == 104 then Some false else None)
 
--- of each vehicle detector, pedestrian detector and preempt, whether it is on, as the last of these events says that says
--- something of it, in a log of this form, with the inputs of this row at a state; before them all are off. A vehicle
--- detector is on by its input, or by its output; a preempt by its input or its switch
+-- for each vehicle detector, pedestrian detector and preempt, the last of these events that is about it says whether it
+-- is on: in a log of this form, with the inputs of this row at a state. Before them all are off. A vehicle detector is
+-- on by its input, or by its output; a preempt by its input or its switch
 pub record TellsInputs (es : List Event) (form : LogForm) (row : Row) (s : State) : Type 0 where
   pub vehicles : (d : ℕ) → 1 ≤ d → d ≤ 16 → lit_after (says_at says_vehicle d) false es ≡ vehicles_in form row (view s) d
   pub pedestrians : (d : ℕ) → 1 ≤ d → d ≤ 16 → lit_after (says_at says_pedestrian d) false es ≡ has_number row.pedestrians d
   pub preempts : (n : ℕ) → 1 ≤ n → n ≤ 16 → lit_after (says_at says_preempt n) false es ≡ requests row (view s) n
 
--- the events of a run tell the inputs of its newest tick
+-- the events of a run give the inputs of its newest tick
 abbrev pub RunsTellTheInputs : Type 0
 RunsTellTheInputs = (form : LogForm) (plan : Plan) (is : List Input) →
     TellsInputs (told_along form plan is) form (last_row is) (replay plan is)

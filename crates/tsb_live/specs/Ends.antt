@@ -1,6 +1,6 @@
 -- How the program ends, and what it has then written on its output and of faults.
 --
--- Of each stream there is what is seen before and after: `input` and `left`, `old` and `new`, `told` and `tells`.
+-- Each stream has what is seen before and after: `input` and `left`, `old` and `new`, `told` and `tells`.
 use Rattle.std.specs.Prelude.{◌≡◌, ◌⊎◌, ℕ, Bool, List, Option, Some, None, Result, Ok, Err, true, false, codes}
 use Rattle.tsb_words.specs.declared.live.Asked.{Asked}
 use Rattle.tsb_words.specs.declared.error.WordsError.{WordsError}
@@ -24,8 +24,8 @@ use Rattle.tsb_program.specs.Told.{FailsToReadFile, RefusesAt, TellsInputEnd}
 use Rattle.tsb_program.specs.tsb_plan_notes.declared.place.JsonPlace.{JsonPlace}
 use Rattle.tsb_live.specs.Lines.{TellsWords}
 
--- a live run ended well with 0 and nothing told; or at a line with which something is wrong, with 4 and that line; or by
--- a fault, with 3 and its lines
+-- a live run ended well with 0 and nothing written of faults; or at a line with which something is wrong, with 4 and
+-- that line; or by a fault, with 3 and its lines
 abbrev pub EndsSo : Result (Option Stop) SessionError → ℕ → Seen → Seen → Type 0
 EndsSo (Ok None) status told tells = (status ≡ 0) × (tells ≡ told)
 EndsSo (Ok (Some stop)) status told tells = (status ≡ 4) × Tells told tells (fault_line (codes "line ") stop.number stop.line.items stop.fault)
@@ -37,7 +37,7 @@ Talked status on_fault plan input left old new told tells =
     (result : Result (Option Stop) SessionError) × LiveEnded result on_fault plan input.bytes left.bytes old.bytes new.bytes
     × Blames result left.failed new.failed new.flushed × EndsSo result status told tells
 
--- there is no run: with 1 because the plan is refused, which is told by its own line, and with the place at which its text
+-- there is no run: with 1 because the plan is refused, which its own line says, and with the place at which its text
 -- stops being JSON; or because the file of this name, or memory, failed
 abbrev pub Stops : List ℕ → ℕ → Option (List ℕ) → Seen → Seen → Type 0
 Stops name status file told tells =
@@ -61,8 +61,8 @@ Did near (Ok asked) status files input left old new told tells =
     Ran asked.plan.now status (after_fault asked.is_strict) (files asked.plan.now) input left old new told tells
 Did near (Err fault) status files input left old new told tells = (left ≡ input) × (new ≡ old) × TellsWords near fault status told tells
 
--- this page is written whole, nothing is told, and the program ends with 0; or the writer failed, which is told, with a
--- prefix of the page
+-- this page is written whole, nothing is written of faults, and the program ends with 0; or the writer failed, which a
+-- line says, with a prefix of the page
 abbrev pub WritesPage : List ℕ → ℕ → (old new told tells : Seen) → Type 0
 WritesPage page status old new told tells =
     ((status ≡ 0) × GoesOut old new page × (tells ≡ told))

@@ -7,7 +7,7 @@ use Rattle.tsb_words.specs.Near.{hint}
 use Rattle.tsb_program.specs.Failures.{Fails}
 use Rattle.tsb_program.specs.declared.failure.Failure.TheVariants.{Memory}
 
--- what is told of bad words: the right word that was perhaps meant, or else how the program is used
+-- what is said of bad words: the right word that was perhaps meant, or else how the program is used
 abbrev pub bad_line : Option (List ℕ) → List ℕ
 bad_line (Some right) = hint right
 bad_line None = codes "usage: tsb_live [--strict] PLAN\n"

@@ -25,11 +25,11 @@ use tsb_words::live::read_words;
 use tsb_words::near::{hint, live_near};
 use tsb_words::pages::live_page;
 
-/// Does what the words ask for, the first of which is the program's name, and gives the status that the program ends
-/// with: 0 where all was done, 1 for a refused plan, 2 for bad words, 3 where a read, a write or memory failed, or where
-/// the lines are too large, 4 where a line ended a strict run.
+/// Does what the words ask for, and gives the status that the program ends with. The first word is the program's name.
+/// The status is 0 where all was done; 1 for a refused plan; 2 for bad words; 3 where a read, a write or memory failed,
+/// or where the lines are too large; 4 where a line ended a strict run.
 ///
-/// What is answered goes to `output`. The fault that ends a run goes to `errors`, and so do the line that ends a strict
+/// What is answered goes to `output`. The fault that ends a run goes to `errors`, as do the line that ends a strict
 /// one, bad words and failures. A second line has where the text of a plan stops being JSON, or what was not read. The
 /// version and the help, where the words ask for one of them, go to `output`.
 pub fn run_words<S: AsStr, F: Files, R: Read, W: Write, E: Write>(
@@ -90,8 +90,8 @@ fn run_asked<S: AsStr, F: Files, R: Read, W: Write, E: Write>(
     }
 }
 
-/// Says why words ask for nothing, and gives the status that the program ends with. Of bad words it says which right word
-/// was perhaps meant, or else how the program is used.
+/// Says why words ask for nothing, and gives the status that the program ends with. For bad words it says which right
+/// word was perhaps meant, or else how the program is used.
 pub fn tell_words_fault<E: Write>(
     errors: &mut Watched<E>,
     near: Option<&str>,

@@ -94,7 +94,7 @@ pub telling-form : (form : LogForm) (plan : Plan) (is : List Input) → (telling
 telling-form form plan [] = refl
 telling-form form plan (i ∷ is) = same-form i _ _ (telling form plan is) ∙ telling-form form plan is
 
--- so what was told in a log of this form is what is told in one of its own
+-- so the events in a log of this form are those in one of its own
 pub own : (form : LogForm) (plan : Plan) (is : List Input) (told : Telling) → told ≡ telling form plan is → told ≡ telling told.form plan is
 own form plan is told same =
     same ∙ ap (λ (f : LogForm). telling f plan is) (sym (ap (λ (t : Telling). t.form) same ∙ telling-form form plan is))

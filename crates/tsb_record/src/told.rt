@@ -1,4 +1,4 @@
-//! What inputs have told, which can be taken back.
+//! The events of inputs, which can be taken back.
 ghost use Rattle.std.specs.Prelude.{◌≡◌, ◌⊎◌, ◌<◌, ◌∷◌, ◌++◌, [], List, OnErr, OnOk, length, take};
 ghost use Rattle.tsb_record.specs.Told.{gone_back, nothing_told, with_events, with_mark, without_later, event_tick, mark_tick};
 ghost use Rattle.tsb_record.specs.Along.{Wants, with_input};
@@ -15,12 +15,12 @@ use tsb_types::Event;
 pub struct Mark {
     /// The number of the tick in force.
     pub tick: u32,
-    /// How many events had been told before it.
+    /// How many events there were before it.
     pub events: usize,
 }
 
-/// What the inputs that remain have told, the oldest first. A contract sees the form of the log, the events and the marks,
-/// one for each input that is no tick, and for how many more of them there is memory.
+/// The events of the inputs that remain, the oldest first. A contract sees the form of the log, the events and the
+/// marks, one for each input that is no tick. It also sees for how many more of them there is memory.
 #[derive(Drop)]
 pub struct Told {
     form: LogForm,
@@ -70,7 +70,7 @@ impl Told {
     }
 
     /// Adds the events of an input, where this tick was in force before it. The error is that memory ran out, which
-    /// comes only where there was no room for them, and leaves what was told as it was.
+    /// comes only where there was no room for them, and leaves all as it was.
     pub fn add(&mut self, input: &Input, tick: u32, news: &[Event]) -> Result<(), AllocError>
         ensures ok { OnOk result (self.new.told ≡ with_input input.now tick news.now self.old.told) }
         ensures err { OnErr result (self.new.told ≡ self.old.told) }
@@ -83,7 +83,7 @@ impl Told {
         }
     }
 
-    /// Adds the events of a tick. The error is that memory ran out, and leaves what was told as it was.
+    /// Adds the events of a tick. The error is that memory ran out, and leaves all as it was.
     fn add_tick(&mut self, news: &[Event]) -> Result<(), AllocError>
         ensures ok { OnOk result (self.new.told ≡ with_events news.now self.old.told) }
         ensures err { OnErr result (self.new.told ≡ self.old.told) }
@@ -94,7 +94,7 @@ impl Told {
     }
 
     /// Adds the events of an input that is no tick, where this tick is in force. The error is that memory ran out, and
-    /// leaves what was told as it was.
+    /// leaves all as it was.
     fn add_input(&mut self, tick: u32, news: &[Event]) -> Result<(), AllocError>
         ensures ok { OnOk result (self.new.told ≡ with_mark tick news.now self.old.told) }
         ensures err { OnErr result (self.new.told ≡ self.old.told) }
@@ -108,7 +108,7 @@ impl Told {
         Ok(())
     }
 
-    /// Takes back what the newest input has told, which is no tick.
+    /// Takes back the events of the newest input, which is no tick.
     pub fn undo_input(&mut self)
         ensures undone { (marks : List Mark) (mark : Mark) → self.old.told.marks ≡ marks ++ mark ∷ []
             → self.new.told ≡ record { form = self.old.told.form; events = take mark.events self.old.told.events; marks = marks } }
@@ -119,7 +119,7 @@ impl Told {
         }
     }
 
-    /// Takes back what all inputs have told that came later than a tick: with a tick number above it.
+    /// Takes back the events of all inputs that came later than a tick: with a tick number above it.
     pub fn go_back(&mut self, tick: u32)
         ensures { self.new.told ≡ gone_back tick self.old.told }
     {

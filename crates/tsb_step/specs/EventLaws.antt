@@ -31,8 +31,8 @@ abbrev pub OthersHaveNoCause : Type 0
 OthersHaveNoCause = (noted : Noted) (s : State) (row : Row) (p : ℕ) →
     ends_freely s row (step s (Tick row)) p ≡ false → causes_told (found_next noted s row) p ≡ 0
 
--- the next tick ends no minimum green and no time of a red clearance, and the local counter comes to no place in it that is
--- told, and goes on as it did
+-- the next tick ends no minimum green and no time of a red clearance; in it the local counter comes to no place that
+-- has an event, and goes on as it did
 pub record EndsNoTime (s : State) : Type 0 where
   pub minimum : (p : ℕ) → 1 ≤ p → p ≤ 16 → completes_minimum s p ≡ false
   pub red : (p : ℕ) → 1 ≤ p → p ≤ 16 → completes_red s p ≡ false
@@ -40,7 +40,7 @@ pub record EndsNoTime (s : State) : Type 0 where
   pub zero : comes_to_zero s.plan s.pattern s.correction (s.now + 1) ≡ false
   pub yields : (p : ℕ) → 1 ≤ p → p ≤ 16 → yields s.plan s.pattern s.correction (s.now + 1) p ≡ false
 
--- a quiet tick with the inputs of the tick before it tells nothing, where it ends no such time
+-- a quiet tick with the inputs of the tick before it has no events, where it ends no such time
 abbrev pub QuietTicksTellNothing : Type 0
 QuietTicksTellNothing = (noted : Noted) (s : State) → IsQuiet s (step s (Tick noted.row)) → EndsNoTime s →
     events_of noted s (Tick noted.row) ≡ []

@@ -4,8 +4,8 @@ ghost use Rattle.tsb_step.specs.Events.{usual, usual_after};
 
 use tsb_objects::Row;
 
-/// The form of an event log: what it has beside what each has, or in place of it. With all off it has the events of calls
-/// and inputs as the enumerations describe them, but for vehicle detectors, which go on and off as their inputs do.
+/// The form of an event log: what it has beside what each has, or in place of it. With all off it has the events of
+/// calls and inputs as the enumerations describe them, except that vehicle detectors go on and off as their inputs do.
 #[derive(Clone, Copy, Default, PartialEq, Eq)]
 pub struct LogForm {
     /// The calls of phases on recall come and go in it too.

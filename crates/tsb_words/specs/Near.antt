@@ -22,8 +22,8 @@ abbrev pub is_turned : ℕ → Text → ℕ → Text → Bool
 is_turned x (a ∷ xs) y (b ∷ ys) = a == y && (b == x && bytes_eq xs ys)
 is_turned x xs y ys = false
 
--- a word y ∷ ys differs from a right one, x ∷ xs, by another letter, one too few, one too many, or two that have changed
--- places, where x is not y
+-- where x is not y, a word y ∷ ys differs from a right one, x ∷ xs, by a slip: another letter, one too few, one too
+-- many, or two that have changed places
 abbrev pub is_slip_apart : ℕ → Text → ℕ → Text → Bool
 is_slip_apart x xs y ys = bytes_eq xs ys || (is_joined y ys xs || (is_joined x xs ys || is_turned x xs y ys))
 
@@ -41,7 +41,7 @@ abbrev pub near : List Text → Text → Option Text
 near [] word = None
 near (right ∷ rights) word = if is_slip right word then Some right else near rights word
 
--- what stands before a first `=`
+-- what comes before a first `=`
 abbrev pub front_in : Text → Option (Text × Text) → Text
 front_in word None = word
 front_in word (Some parts) = parts.0
@@ -74,7 +74,7 @@ words_of command =
     else (if bytes_eq command (codes "diagram") then map (λ right. right.now) words.DIAGRAM
     else (if bytes_eq command (codes "review") then (map (λ right. right.now) words.REVIEW) else []))))
 
--- the right word that was perhaps meant by a wrong one of `tsb_live`, by words of which the first is the program's name
+-- the right word that was perhaps meant by a wrong one of `tsb_live`; the first of all words is the program's name
 abbrev pub live_near : List Text → Option Text
 live_near [] = None
 live_near (name ∷ rest) = near_in (map (λ right. right.now) words.LIVE) rest
@@ -84,11 +84,11 @@ abbrev pub field_after : List Text → Option Text
 field_after [] = None
 field_after (command ∷ options) = or_else (near (map (λ right. right.now) words.COMMANDS) command) (near_in (words_of command) options)
 
--- by all words, of which the first is the name
+-- by all words; the first is the program's name
 abbrev pub field_near : List Text → Option Text
 field_near [] = None
 field_near (name ∷ rest) = field_after rest
 
--- the line that asks whether this right word was meant, of which the first bytes are told
+-- the line that asks whether this right word was meant, and shows its first bytes
 abbrev pub hint : Text → List ℕ
 hint right = codes "did you mean " ++ (take words.SHOWN right ++ codes "? --help lists the words\n")

@@ -6,7 +6,7 @@ use crate::field_files::parts;
 use std::convert::AsStr;
 use tsb_lines::ShortLine;
 
-/// How many bytes of a right word are told at most; all have fewer.
+/// How many bytes of a right word are shown at most; all have fewer.
 const SHOWN: usize = 40;
 
 /// The greatest length of the line of a hint, in bytes.
@@ -62,9 +62,9 @@ const DIAGRAM: [&str; 4] = ["--log", "--title", "--seconds-per-line", "--help"];
 /// The options of `review`.
 const REVIEW: [&str; 1] = ["--help"];
 
-/// The right word that was perhaps meant by a wrong one of `tsb_live`, by words of which the first is the program's name:
-/// one from which a word differs by a slip of the hand. That is a letter too much, too few or another, or two that have
-/// changed places. What comes after `--` is the name of a file.
+/// The right word that was perhaps meant by a wrong one of `tsb_live`: one from which a word differs by a slip of the
+/// hand. That is a letter too much, too few or another, or two that have changed places. The first of all words is the
+/// program's name. What comes after `--` is the name of a file.
 pub fn live_near<S: AsStr>(words: &[S]) -> Option<&'static str>
     ensures { option_map (λ right. right.now) result ≡ live_near (map S.text words.now) }
 {
@@ -95,7 +95,7 @@ pub fn hint(right: &str) -> ShortLine<HINT>
     line
 }
 
-/// A right word as it is told.
+/// A right word as it is shown.
 fn shown(right: &[u8]) -> &[u8]
     ensures text { result.now ≡ take SHOWN right.now }
     ensures short { length result.now ≤ SHOWN }
@@ -122,7 +122,7 @@ fn words_of(command: &str) -> &'static [&'static str]
     }
 }
 
-/// Of the words before `--`, the right word that the first was perhaps meant for that is near one.
+/// The right word that was perhaps meant by the first word that is near one, among the words before `--`.
 fn near_in<S: AsStr>(right: &[&'static str], words: &[S]) -> Option<&'static str>
     ensures { option_map (λ right. right.now) result ≡ near_in (map (λ right. right.now) right.now) (map S.text words.now) }
 {

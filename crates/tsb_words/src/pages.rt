@@ -10,7 +10,7 @@ use texts::{
     RECORD_HELP, REVIEW_HELP,
 };
 
-/// The page that words of `tsb_live` ask for, the first of which is the program's name: `--version` or `--help` alone.
+/// The page that words of `tsb_live` ask for, by `--version` or `--help` alone. The first word is the program's name.
 pub fn live_page<S: AsStr>(words: &[S]) -> Option<&'static [u8]>
     ensures { option_map (λ page. page.now) result ≡ live_page (map S.text words.now) }
 {
@@ -23,8 +23,8 @@ pub fn live_page<S: AsStr>(words: &[S]) -> Option<&'static [u8]>
     }
 }
 
-/// The page that words of `tsb_field` ask for, the first of which is the program's name: `--version` or `--help` alone, or
-/// `--help` after the name of a subcommand.
+/// The page that words of `tsb_field` ask for, by `--version` or `--help` alone, or by `--help` after the name of a
+/// subcommand. The first word is the program's name.
 pub fn field_page<S: AsStr>(words: &[S]) -> Option<&'static [u8]>
     ensures { option_map (λ page. page.now) result ≡ field_page (map S.text words.now) }
 {

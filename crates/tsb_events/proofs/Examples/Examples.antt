@@ -103,7 +103,7 @@ minimum_and_gap : events.tick_events 9 (record quiet { minimum = only 2; gap = o
 unfolding opened
 minimum_and_gap = refl
 
--- it ends by gap, by maximum, by force-off; the cause stands before the end
+-- it ends by gap, by maximum, by force-off; the cause comes before the end
 gap_out : events.tick_events 9 (record quiet { gap = only 2 }) (record dark { greens = only 2 }) (record dark { yellows = only 2 }) ≡ event 9 4 2 ∷ event 9 7 2 ∷ event 9 8 2 ∷ []
 unfolding opened
 gap_out = refl
@@ -116,7 +116,7 @@ force_off : events.tick_events 9 (record quiet { force_off = only 2 }) (record d
 unfolding opened
 force_off = refl
 
--- a preempt ends it: no cause is told
+-- a preempt ends it: no cause is given
 preempted : events.tick_events 9 quiet (record dark { greens = only 2 }) (record dark { yellows = only 2 }) ≡ event 9 7 2 ∷ event 9 8 2 ∷ []
 unfolding opened
 preempted = refl
@@ -191,7 +191,7 @@ with_recalls_too : events.tick_events 9 (record quiet { noted = with_recalls }) 
 unfolding opened
 with_recalls_too = refl
 
--- a call that stands comes where its phase is recalled no more
+-- a standing call comes where its phase is recalled no more
 recalled_no_more : events.other_events 9 usual recalled (record recalled { recalls = none }) free free ≡ event 9 43 4 ∷ []
 unfolding opened
 recalled_no_more = refl
@@ -328,7 +328,7 @@ free_again : events.other_events 9 usual dark dark pattern_2 free ≡ event 9 13
 unfolding opened
 free_again = refl
 
--- the same pattern with other values tells these alone
+-- the same pattern with other values has events of these alone
 same_pattern : events.other_events 9 usual dark dark (record pattern_2 { cycle = 80; offset = 10 }) pattern_2 ≡ event 9 132 90 ∷ []
 unfolding opened
 same_pattern = refl
@@ -343,7 +343,7 @@ cycle_selected : events.other_events 9 usual dark (record dark { cycle = cycles.
 unfolding opened
 cycle_selected = refl
 
--- phases 1 to 16 are told, and no number beyond
+-- phases 1 to 16 have events, and no number beyond
 sixteen_is_told : events.tick_events 9 quiet dark (record dark { greens = only 16 }) ≡ event 9 0 16 ∷ event 9 1 16 ∷ []
 unfolding opened
 sixteen_is_told = refl

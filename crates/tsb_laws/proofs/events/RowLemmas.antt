@@ -88,8 +88,8 @@ none-preempt c h = rw (differs by_input c 102 h refl, differs by_input c 104 h r
 
 -- ## Runs
 
--- what holds of something that these codes speak of, and that is on with a row at a state as this tells, in a log of this
--- form
+-- what holds of something that these codes speak of, and that is on with a row at a state as this says, in a log of
+-- this form
 record Follows (form : LogForm) (by_code : ℕ → Option Bool) (d : ℕ) (is_on : Row → State → Bool) : Type 0 where
   others : (c : ℕ) → by_input c ≡ false → by_code c ≡ None
   off : (plan : Plan) → is_on all_off (start plan) ≡ false

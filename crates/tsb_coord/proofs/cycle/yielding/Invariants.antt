@@ -6,7 +6,7 @@ use Rattle.tsb_coord.specs.Coordinated.{agree, force_off}
 use Rattle.tsb_coord.specs.Cycle.{is_first}
 use Rattle.tsb_coord.proofs.cycle.yielding.Given as goal
 
--- the phases before this one are told, and none after them
+-- the set has the phases before this one that yield, and none from this one on
 abbrev pub invariant-loop-number : goal.invariant-loop-number
 invariant-loop-number l = record {
   from : 1 ≤ l.number;

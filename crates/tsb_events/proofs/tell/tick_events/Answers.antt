@@ -2,7 +2,7 @@ use Rattle.std.proofs.Common.{◌≡◌, ◌∙◌, List, ◌++◌, ap}
 use Rattle.tsb_types.specs.declared.event.Event.{Event}
 use Rattle.tsb_events.proofs.tell.tick_events.Goals as goal
 
--- some more events, behind those that were told before
+-- some more events, after those that were there before
 onto : (before told more all : List Event) → all ≡ before ++ more → before ≡ told → all ≡ told ++ more
 onto before told more all added same = added ∙ ap (λ (es : List Event). es ++ more) same
 
