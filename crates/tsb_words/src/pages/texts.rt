@@ -23,7 +23,7 @@ Example: one tick in which detector 2 is on
 
     echo '0100000000000000 00000000 0000' | tsb_live plan.json
 
-docs/LIVE.md has all lines and their answers.
+docs/use/LIVE.md has all lines and their answers.
 ";
 
 /// How `tsb_field` is used.
@@ -38,7 +38,7 @@ review     what can be wrong with a plan that runs
 --version  the version
 --help     this page; after a command, its words with their units and an example
 
-All but `review` read standard input, and all write standard output. docs/FIELD.md has more.
+All but `review` read standard input, and all write standard output. docs/use/FIELD.md has more.
 ";
 
 /// How `log` is used.
