@@ -28,7 +28,7 @@ PATTERNS = table(
 
 
 def test_patterns() -> None:
-    """What is not told again stays: pattern 2 has the cycle of pattern 1."""
+    """What has no new event stays: pattern 2 has the cycle of pattern 1."""
     assert rows(measures.patterns(PATTERNS)) == [
         (1, 100, None, None, None),
         (100, 1000, 1, 30, 4),
@@ -57,8 +57,8 @@ def test_places_in_the_cycle() -> None:
 
 
 # Pattern 1 of 80 s is in step, and pattern 2 of 60 s comes into step by shorter cycles
-# from tick 851 on, where the local counter stands at 51; it is so at 1651. Free from
-# tick 2000 on. Offsets are 0; events tell local zero, 5 of code 150.
+# from tick 851 on, where the local counter is at 51. At 1651 it is in step. Free from
+# tick 2000 on. Offsets are 0, and local zero has events, 5 of code 150.
 CORRECTED = (
     (1, 131, 1), (1, 132, 80), (1, 150, 1), (800, 150, 5),
     (851, 131, 2), (851, 132, 60), (851, 150, 3), (1291, 150, 5), (1651, 150, 1),
@@ -88,8 +88,8 @@ def test_places_by_told_zeros() -> None:
 
 
 def test_a_zero_at_which_the_counter_stands() -> None:
-    """By longer cycles a counter may be told at 0 in two ticks: it comes to it once. In
-    one more it would have come there anew."""
+    """By longer cycles a counter may be at 0 in two ticks running: it comes to it once.
+    In one more it would have come there anew."""
     pattern = ((1, 131, 1), (1, 132, 30), (1, 150, 2), (900, 1, 2))
     zeros = ((100, 150, 5), (101, 150, 5), (460, 150, 5), (461, 150, 5), (463, 150, 5))
     assert rows(measures.cycles(table(*pattern, *zeros))) == [

@@ -1,4 +1,4 @@
-"""The patterns that a run's events tell, and its cycles."""
+"""The patterns of a run, and its cycles, by its events."""
 
 from collections.abc import Iterator
 from typing import Any, NamedTuple
@@ -25,7 +25,7 @@ from tsb.told import (
 
 def patterns(events: pd.DataFrame) -> pd.DataFrame:
     """The stretches in which a pattern runs, or none: `begin` and `end` (the first
-    tick behind it; of the last one, behind the last event), `pattern`, `cycle_s` and
+    tick after it; for the last one, the tick after the last event), `pattern`, `cycle_s` and
     `offset_s`, NA in free operation. Before the first code 131 operation is free."""
     if not len(events):
         names = ["begin", "end", "pattern", "cycle_s", "offset_s"]
@@ -54,7 +54,7 @@ def cycles(events: pd.DataFrame) -> pd.DataFrame:
 
     Cycles of a pattern begin at local zero (`in_cycle`). In free operation one begins
     where a barrier is crossed to the side of the lowest number (code 31); where no
-    crossing is told, with each green of the phase that has the most of them, the
+    event has a crossing, with each green of the phase that has the most of them, the
     lowest of such.
     """
     free = _free_begins(events)
@@ -85,10 +85,9 @@ def in_cycle(events: pd.DataFrame, ticks: "pd.Series[int]") -> "pd.Series[float]
     """The place of each tick in the cycle of the pattern that runs then: seconds
     since local zero, NA in free operation.
 
-    Local zero is where events tell it (code 150, parameter 5). Where they tell none,
+    Local zero is where events have it (code 150, parameter 5). Where they have none,
     and before the first of a pattern that is in step, it is an offset after tick 0, and
-    each cycle later: so the bench counts. Of a street tick 0 is the moment at which
-    events begin. A counter that comes into step goes on from the last pattern's place.
+    each cycle later: so the bench counts. A street has tick 0 where its events begin. A counter that comes into step goes on from the last pattern's place.
     """
     found = pd.Series(pd.NA, ticks.index, dtype="Float64")
     for it, counter in _stretches(events):
@@ -100,22 +99,22 @@ def in_cycle(events: pd.DataFrame, ticks: "pd.Series[int]") -> "pd.Series[float]
 
 
 class _Told(NamedTuple):
-    """What a run's events tell of local counters: the ticks of local zero, and each
-    state with its tick."""
+    """The local counter in a run's events: the ticks of local zero, and each state with
+    its tick."""
 
     zeros: Any
     ticks: Any
     states: Any
 
     def is_in_step(self, ticks: Any) -> Any:
-        """Whether the counter is in step in each tick, by the state told last."""
+        """Whether the counter is in step in each tick, by the last state."""
         place = np.searchsorted(self.ticks, ticks, "right")
         return ~np.isin(np.append(0, self.states)[place], NOT_IN_STEP)
 
 
 def _told(events: pd.DataFrame) -> _Told:
-    """What events tell of local counters. One that stands at zero for another tick is
-    told there again, and has come to it once."""
+    """The local counter in these events. Where it is at zero for another tick events
+    have that tick too, and it has come to zero once."""
     of = events[events["code"] == CYCLE_STATE].sort_values("tick", kind="stable")
     at_zero, is_state = of["parameter"] == LOCAL_ZERO, of["parameter"] < LOCAL_ZERO
     zeros = np.unique(of.loc[at_zero, "tick"].to_numpy(np.int64))
@@ -145,12 +144,12 @@ class _Counter(NamedTuple):
         return np.append(self.begin, own) if first == self.begin else own
 
     def _own(self) -> Any:
-        """Those of them that are told, behind `begin`."""
+        """Those of them that events have, after `begin`."""
         zeros = self.told.zeros
         return zeros[(zeros > self.begin) & (zeros <= self.end)]
 
     def since_zero(self, ticks: Any) -> Any:
-        """How many ticks behind its newest zero each of these ticks is."""
+        """How many ticks each of these ticks is after the newest zero before it."""
         zeros = np.append(self.zero, self._own())
         place = np.searchsorted(zeros[1:], ticks, "right")
         since = ticks - zeros[place]
@@ -161,7 +160,7 @@ class _Counter(NamedTuple):
 
 def _stretches(events: pd.DataFrame) -> Iterator[tuple[Any, _Counter | None]]:
     """The stretches of patterns, each with its local counter: none in free operation.
-    One that is not in step goes on from where the one before it stands."""
+    One that is not in step goes on from the place of the one before it."""
     told = _told(events)
     before: _Counter | None = None
     for it in patterns(events).itertuples(index=False):
@@ -177,9 +176,9 @@ def _stretches(events: pd.DataFrame) -> Iterator[tuple[Any, _Counter | None]]:
 
 
 def greens_a_cycle(events: pd.DataFrame) -> pd.DataFrame:
-    """How often each phase is green in a cycle: a row for a phase, with how many
-    whole `cycles` there are (`cycles`), the `greens` that begin in them, `a_cycle`,
-    and how many cycles have none (`without`) and more than one (`with_more`)."""
+    """How often each phase is green in a cycle: a row for a phase. It has how many
+    whole `cycles` there are, the `greens` that begin in them, and `a_cycle`. Then come
+    how many cycles have none (`without`) and more than one (`with_more`)."""
     whole = cycles(events)
     begins, ends = (whole[it].to_numpy(np.int64) for it in ("begin", "end"))
     rows: list[Row] = []

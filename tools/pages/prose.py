@@ -6,6 +6,7 @@ anew, unless a listed file or all together have more than it says. With a name o
 
 A hand-written line is one of a page that git keeps, outside of the parts that a script writes.
 """
+import ast
 import collections
 import pathlib
 import re
@@ -42,6 +43,13 @@ LINES = 6000
 MADE = re.compile(r"^<!-- (\w+): written by .*?^<!-- end of \1 -->$", re.M | re.S)
 
 
+def docstrings(text: str) -> Iterator[str]:
+    """The texts of Python that are statements of their own."""
+    for it in ast.walk(ast.parse(text)):
+        if isinstance(it, ast.Expr) and isinstance(it.value, ast.Constant) and isinstance(it.value.value, str):
+            yield it.value.value
+
+
 def prose(path: pathlib.Path) -> str:
     """The sentences of a document, or of the comments of a source."""
     text = path.read_text(errors="replace")
@@ -49,8 +57,7 @@ def prose(path: pathlib.Path) -> str:
         text = re.sub(r"```.*?```", "\n\n", text, flags=re.S)
         return re.sub(r"^(\||#|<!--).*$", "\n", text, flags=re.M)
     if path.suffix == ".py":
-        documented = re.findall(r'"""(.*?)"""', text, flags=re.S)
-        return "\n\n".join(documented + re.findall(r"^\s*# (.*)", text, flags=re.M))
+        return "\n\n".join([*docstrings(text), *re.findall(r"^\s*# (.*)", text, flags=re.M)])
     return "\n".join(it[1] if (it := COMMENT[path.suffix].match(line)) else "" for line in text.splitlines())
 
 

@@ -1,4 +1,4 @@
-"""The events that an input of the bench tells, found in plain Python from the states of an independent reference.
+"""The events of an input of the bench, found in plain Python from the states of an independent reference.
 
 An event has a tick number, a code and a parameter. The codes are those of the Indiana enumerations. `events_of` finds
 the events of one input, from the states before and after it. `records` writes those of a session, as CSV, in several
@@ -45,12 +45,12 @@ PEDESTRIAN_ENDS = {23: "WC"}
 # Heads of overlaps: green and yellow.
 OVERLAP_BEGINS = {61: "G", 63: "Y"}
 OVERLAP_ENDS = {64: "GY"}
-# Stages of preempts, told once all of their phases are green, with the lists of these phases.
+# Stages of preempts, by events once all of their phases are green, with the lists of these phases.
 STAGE_BEGINS = {106: "Track", 107: "Dwell", 111: "Exit"}
 STAGE_LISTS = {"Track": "preemptTrackPhase", "Dwell": "preemptDwellPhase", "Exit": "preemptExitPhase"}
 # The number of a pattern in events where none is selected.
 FREE = 254
-# How the local counter of the pattern that runs goes, and what is told where it is 0.
+# How the local counter of the pattern that runs goes, and the number where it is 0.
 IN_STEP, ADDS, SUBTRACTS, DWELLS, LOCAL_ZERO = range(1, 6)
 # The correction modes.
 DWELL, SHORT_WAY = 1, 2
@@ -185,7 +185,7 @@ def force_off_instant(bench: Any, state: State, phase: int) -> int:
 
 
 def cycle_state(bench: Any, state: State) -> int:
-    """How the local counter of the pattern that runs goes, as an event tells it: 0 where none runs."""
+    """How the local counter of the pattern that runs goes, by the numbers of events: 0 where none runs."""
     if not runs_pattern(state):
         return 0
     if bench.ahead_at(state, state.now) == 0:
