@@ -1,5 +1,5 @@
 //! How the program ends, and the lines that it writes then.
-ghost use Rattle.std.specs.Prelude.{option_map};
+ghost use Rattle.std.specs.Prelude.{None, option_map};
 ghost use Rattle.tsb_field.specs.Lines.{TellsBad, TellsLate, TellsWords};
 ghost use Rattle.tsb_field.specs.Ends.{Written};
 ghost use Rattle.tsb_program.specs.tsb_lines.Seen.{seen};
@@ -41,8 +41,15 @@ fn tell_bad_words<E: Write>(errors: &mut Watched<E>, near: Option<&str>) -> u8
 {
     match near {
         Some(right) => tell(errors, Status::BadWords, hint(right).as_bytes()),
-        None => tell(errors, Status::BadWords, USAGE),
+        None => tell_usage(errors),
     }
+}
+
+/// Says how the program is used, as it does of bad words.
+fn tell_usage<E: Write>(errors: &mut Watched<E>) -> u8
+    ensures { TellsBad None result (seen E.contents errors.old) (seen E.contents errors.new) }
+{
+    tell(errors, Status::BadWords, USAGE)
 }
 
 /// Says that a tick has no time, as a fault of the words.
