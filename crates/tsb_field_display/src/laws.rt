@@ -3,7 +3,7 @@ ghost use Rattle.tsb_field_display.specs.Laws.{AreRead, ComeOfChanges, TellTheHe
 
 /// What is read from a display line is what it shows. That is its tick, what each head shows, and the preempt.
 ///
-/// Not said: the local counter, which no event reports.
+/// Not said: the local counter of the line, as `tsb_field events` makes no event of it.
 /// Mistake: the letters of a field are read from the last (`shows_2`, `would_show_15`, `would_not_show_2`).
 /// Witness: `is_written`, `shows_2` of Mistakes.
 pub fn display_lines_are_read()

@@ -4,7 +4,7 @@ ghost use Rattle.tsb_laws.specs.Told.{InputsMakeTheLog, LinesAreReadInRuns, Line
 /// `read`: The display line of each state of a run is read as what it shows. `shown_in` has its tick, and what the
 /// letters of its heads say.
 ///
-/// Not said: the local counter, which no event reports.
+/// Not said: the local counter of the line, as `tsb_field events` makes no event of it.
 /// Mistake: the tick of the line before (`reads_1`, `would_read_0`).
 /// Witness: `a_trip` of LineRuns.
 ///

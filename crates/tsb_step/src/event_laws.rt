@@ -16,12 +16,13 @@ pub fn greens_end_with_one_cause()
     ensures none { OthersHaveNoCause }
 {}
 
-/// A tick in which nothing happens but time tells nothing, where its inputs are those of the tick before, and no minimum
-/// green and no red clearance ends its time in it. So a bench that passes over such ticks leaves no event out.
+/// A tick in which nothing happens but time has no event, where its inputs are those of the tick before, no minimum green
+/// and no red clearance ends its time in it, and the local counter goes on as before and comes neither to local zero nor
+/// to a yield point. So a bench that passes over such ticks leaves no event out.
 ///
-/// Needs: that the row of the tick before is the same; of another one the inputs that change are told. And that no such
-/// time ends: of a phase that rests, or that waits for the other ring, nothing else changes then (`completed`, `waits_on`,
-/// `told_as_it_waits`).
+/// Needs: that the row of the tick before is the same; of another one the inputs that change have events. And that no
+/// such time ends and no such place is met: of a phase that rests, or that waits for the other ring, nothing else changes
+/// then (`completed`, `waits_on`, `told_as_it_waits`).
 /// Not said: which ticks are quiet.
 /// Mistake: all calls that stand are told again in each tick, `stands` of EventExamples.
 /// Witness: `quiet_as_it_flashes` of EventExamples, with `is_quiet` and `no_time_ends`.
