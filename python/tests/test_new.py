@@ -86,7 +86,8 @@ def test_each_choice_serves_all(choice: Sequence[str]) -> None:
         free = recorded(out, log, "step 8000\n")
         in_step = recorded(out, log, "pattern 1\nstep 12000\n")
     assert set(free.loc[free["code"] == 1, "parameter"]) == plan.phases
-    told = in_step["tick"].where(in_step["code"] < 131, 4000)  # (of the pattern)
+    of_pattern = in_step["code"].between(131, 149)
+    told = in_step["tick"].mask(of_pattern, 4000)
     cycles = greens_a_cycle(in_step.assign(tick=told).query("tick >= 4000"))
     for phase in plan.phases:
         beside = plan["phaseConcurrency"].phases(phase)

@@ -46,8 +46,6 @@ LEFT_OUT = {
     r"tools/look\b": "it builds by the kit; tools/programs/run_look.py runs it",
     r"tools/site\b": "tools/programs/run_site.py runs it",
     r"python/setup\.sh\b": "tools/programs/run_python.py runs it, before this test",
-    r"cd python\b": "it is what runs this test",
-    r"TSB_BIN=FOLDER \S+ -m pytest\b": "it is what runs this test",
     r"rt \w": "it proves",
     r"pip install\b": "tools/programs/run_release.py does, without an index",
     r"apt install\b": "it needs the rights of an administrator",
@@ -86,12 +84,16 @@ python3 -m tsb sumo example crossroads
 cp crossroads/* .
 grep -Ev 'depart="[0-9]{3,}' crossroads/routes.xml > routes.xml
 """
+#: An hour of a controller's event log, as docs/use/PYTHON.md makes it in Python.
+EXPORT = """
+echo "step 36000" | tsb_field record --from "2026-11-22 07:00:00" --device 1001 \\
+    examples/quad.json examples/hour_of_traffic.log > export.csv
+"""
 #: The files that the examples of help name.
-MORNING = """
+MORNING = f"""
 cp examples/quad.json plan.json
 cp examples/hour_of_traffic.log day.log
-echo "step 36000" | tsb_field record --from "2026-11-22 07:00:00" --device 1001 \\
-    plan.json day.log > export.csv
+{EXPORT}
 """
 #: A server, and how it is run: until it is stopped, as by Ctrl-C. (One that is still
 #: beginning then ends with 130.)
@@ -159,6 +161,8 @@ def fill(room: Path, page: str) -> None:
     for name, source in FILES.get(page, {}).items():
         (room / name).parent.mkdir(parents=True, exist_ok=True)
         (room / name).write_bytes((TOP / source).read_bytes())
+    if page == "docs/use/PYTHON.md":
+        typed(room, EXPORT)
     if page == "docs/use/SUMO.md":
         typed(room, "python3 -m tsb sumo example given && cp given/net.xml net.xml")
         at = Intersection.of(room / "net.xml", "C", room / "given/mapping.json")

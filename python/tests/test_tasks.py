@@ -83,9 +83,11 @@ def fails(events: pd.DataFrame, plan: Plan) -> pd.DataFrame:
 
 
 def test_a_day_of_inputs(day: Day, plan: Path, log: Path) -> None:
-    """A log of inputs begins with its tick 1; a measure by its name, or a function."""
-    wanted = record(plan, Log.read(log), SECONDS)
-    assert wanted.equals(record(plan, Log.read(log), SECONDS, 0))
+    """A log of inputs begins with its tick 1; a measure by its name, or a function. The
+    calls of recalls count."""
+    wanted = record(plan, Log.read(log), SECONDS, recalls=True)
+    assert wanted.equals(record(plan, Log.read(log), SECONDS, 0, recalls=True))
+    assert len(wanted) > len(record(plan, Log.read(log), SECONDS))
     tables = dict(day.tables(["terminations", told]))
     pd.testing.assert_frame_equal(tables["told"], wanted)
     by_hand = measures.terminations(wanted)
@@ -187,7 +189,8 @@ def test_a_run_of_traffic(traffic: Traffic, tmp_path: Path, pattern: int) -> Non
     wanted = summary(read_trips(trips)).rename_axis("kind").reset_index()
     pd.testing.assert_frame_equal(tables["trips"], wanted)
     assert wanted["under_way"].sum() > 3
-    pd.testing.assert_frame_equal(tables["told"], record(seed.plan, rows, 30, pattern))
+    recorded = record(seed.plan, rows, 30, pattern, recalls=True)
+    pd.testing.assert_frame_equal(tables["told"], recorded)
     alone = dict(seed.tables(["terminations"]))
     assert list(alone) == ["terminations"]
 

@@ -458,7 +458,7 @@ def outputs_runs():
     for path, status, line in plan_faults():
         yield Run([*LOG, "--as-outputs", path], status, b"", line, stdin=TORN)
         yield Run([*LOG, "--as-outputs", path], status, b"", line, CAR, stdout=FULL)
-    for words in [["--as-outputs"], ["--as-outputs=quad.json", *twice], ["--as-outputs", "quad.json", "twice.json"], ["--as-output=quad.json"]]:
+    for words in [["--as-outputs"], ["--as-outputs=quad.json", *twice], ["--as-outputs", "quad.json", "twice.json"]]:
         yield Run([*LOG, *words], 2, b"", USAGE, CAR)
 
 
@@ -738,6 +738,8 @@ def word_runs():
         (["log", "--form", AT], b"--from"), ([*LOG, "--count", "--srot"], b"--sort"),
         ([*EVENTS, "--lgo=car.log"], b"--log"), (["record", *FROM, "--go-no"], b"--go-on"),
         (["diagram", "--seconds-perline", "9"], b"--seconds-per-line"), (["review", "--hel"], b"--help"),
+        ([*LOG, "--as-output=quad.json"], b"--as-outputs"), ([*RECORD, "empty.log", "--recall"], b"--recalls"),
+        ([*RECORD, "empty.log", "--output"], b"--outputs"),
     ]:
         yield Run(words, 2, b"", HINT % right, CAR)
     yield Run(["--version"], 0, VERSION % b"tsb_field", b"", CAR)
@@ -857,7 +859,6 @@ def form_of_record_runs():
     turned = ["record", "--outputs", "delayed.json", *FROM, "--recalls", "forms.log", "--device=1001"]
     yield Run(turned, 0, record(*sorted([*FIRST, *SERVED])), b"", b"step 1\n")
     for words in [[*LOG, "--recalls"], [*LOG, "--outputs"], [*EVENTS, "--recalls"], [*EVENTS, "--outputs"],
-                  [*RECORD, "empty.log", "--recall"], [*RECORD, "empty.log", "--output"],
                   [*RECORD, "empty.log", "--as-outputs"]]:
         yield Run(words, 2, b"", USAGE, b"step 1\n")
 
