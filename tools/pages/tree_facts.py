@@ -4,8 +4,8 @@ It finds a public type whose name another crate's type has, and a crate without 
 comment in `specs/` names and that is not there, from the top, from the crate or from the folder of the comment. And it
 finds numbers of crates, edits, laws, objects and cells in documents that are not those of the tree.
 
-What is known and has to wait is in `TWICE`, `MOVED` and `OTHERS`, each with its reason. A new case of one kind is found
-all the same, as these name crates, files and numbers.
+What is known and has to wait is in `TWICE` and `OTHERS`, each with its reason. A new case of one kind is found all
+the same, as these name crates, files and numbers.
 """
 import collections
 import itertools
@@ -65,10 +65,6 @@ TWICE = {
 }
 UNPROVED = {"tsb_tests", "tsb_field_tests", "tsb_layer_runs", "tsb_runs", "tsb_speed"}
 
-# Files that comments name by their old places. A comment waits for a change of its crate, as that is proved anew.
-MOVED = {"src/laws.rt", "src/desk_laws.rt", "tools/test_coordination.py", "tools/test_stated_laws.py",
-         *(f"docs/{it}.md" for it in ("CONTRACTS", "DECISIONS", "MANUAL", "SAFETY"))}
-
 # Numbers that are of something else.
 OTHERS = {
     "64 edits": "as many has a transaction",
@@ -109,7 +105,7 @@ def files_not_there() -> Iterator[str]:
     for path in sorted(pathlib.Path("crates").glob("*/specs/**/*.antt")):
         for number, line in enumerate(path.read_text().splitlines(), 1):
             for cited in FILE.findall(line.partition("--")[2]):
-                if cited not in MOVED and not is_there(path, cited):
+                if not is_there(path, cited):
                     yield f"{path}:{number}: there is no {cited}"
 
 

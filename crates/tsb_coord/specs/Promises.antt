@@ -1,5 +1,5 @@
 -- The contracts of the public calls of `Coord`, clause by clause, over its cells: `old` before a call, `new` after it.
--- docs/CONTRACTS.md says which value comes from which layer.
+-- docs/work/CONTRACTS.md says which value comes from which layer.
 use Rattle.std.specs.Prelude.{◌≡◌, ℕ, ◌≤◌, List, Option, Some, None, Result}
 use Rattle.tsb_objects.specs.tsb_types.declared.refusal.Refusal.{Refusal}
 use Rattle.tsb_objects.specs.tsb_types.Flow.{answered}

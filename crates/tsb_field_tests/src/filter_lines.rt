@@ -1,4 +1,5 @@
-//! The lines of what ends a filter, as the derived `Display` prints them. Expected lines are those of docs/FIELD.md.
+//! The lines of what ends a filter, as the derived `Display` prints them. Expected lines are those of
+//! docs/use/FIELD.md.
 
 use std::alloc::Global;
 use tsb_event_text::{Column, RowFault, SHOWN, Separator, Shown, TimeForm};

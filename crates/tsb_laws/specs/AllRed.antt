@@ -1,5 +1,5 @@
 -- All red ends: where some phase is wanted in each tick, no phase being in service does not last. The law here is the
--- contract of a function in src/laws.rt, and proved there. Times are in tenths of a second, which are ticks.
+-- contract of a function in src/safety.rt, and proved there. Times are in tenths of a second, which are ticks.
 --
 -- A plan here has 16 phases at most, as every plan in memory has: what the layers tell one another is of phases 1 to 16
 -- alone, so that a phase of a greater number would never be served.
@@ -26,8 +26,8 @@ abbrev pub HasBeenRed : Plan → List Input → List Input → Type 0
 HasBeenRed plan is [] = IsAllRed (replay plan is)
 HasBeenRed plan is (i ∷ later) = HasBeenRed plan is later × IsAllRed (replay plan (i ∷ (later ++ is)))
 
--- some phase is wanted: a preempt is in service, or some phase is callable, which is one that is enabled, not omitted, not
--- Green, and has a call or a recall
+-- some phase is wanted: a preempt is in service, or some phase is callable, which is one that is enabled, not omitted,
+-- not Green, and has a call or a recall
 abbrev pub is_wanted : State → Input → Bool
 is_wanted s (Tick row) = is_some (service s row) || some_passes (callable s row) (phases s.plan)
 is_wanted s i = true
@@ -42,8 +42,8 @@ HasBeenWanted plan is (i ∷ later) = HasBeenWanted plan is later × (is_wanted 
 abbrev pub IsInRange : Plan → Type 0
 IsInRange plan = (o : Object) (i : ℕ) → plan.value o i ≤ greatest_of plan o
 
--- All red, while some phase is wanted, lasts for the largest red revert time and two ticks at most, whatever inputs come:
--- n is as large as the red revert of each phase, the largest by the plans in effect meanwhile.
+-- All red, while some phase is wanted, lasts for the largest red revert time and two ticks at most, whatever inputs
+-- come: n is as large as the red revert of each phase, the largest by the plans in effect meanwhile.
 abbrev pub AllRedEnds : Type 0
 AllRedEnds = (plan : Plan) (base later : List Input) (n : ℕ) → IsConsistent plan → IsInRange plan → plan.phase_count ≤ 16 →
     AreTaken plan (later ++ base) → IsUntripped plan base later → HasBeenRed plan base later → HasBeenWanted plan base later →

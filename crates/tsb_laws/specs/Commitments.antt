@@ -1,6 +1,6 @@
 -- Commitments are served: a green that ends for the phase that its ring commits to is followed by that phase, in a time
--- that the plan says. Each law here is the contract of a function in src/laws.rt, and proved there. Times are in tenths
--- of a second, which are ticks.
+-- that the plan says. Each law here is the contract of a function in src/safety.rt, and proved there. Times are in
+-- tenths of a second, which are ticks.
 --
 -- A plan here has 16 phases at most, as every plan in memory has: what the layers tell one another is of phases 1 to 16
 -- alone, so that a commitment to a phase of a greater number would wait for ever.

@@ -1,6 +1,6 @@
 -- Crossings of the barrier are completed: a crossing that begins is followed by the tick in which all that it committed
 -- the rings to starts on the other side, in a time that the plan says. The law here is the contract of a function in
--- src/laws.rt, and proved there. Times are in tenths of a second, which are ticks.
+-- src/safety.rt, and proved there. Times are in tenths of a second, which are ticks.
 --
 -- A plan here has 16 phases at most, as every plan in memory has: what the layers tell one another is of phases 1 to 16
 -- alone, so that a crossing to a phase of a greater number would wait for ever.

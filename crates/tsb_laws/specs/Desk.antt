@@ -1,5 +1,5 @@
 -- What holds of the desk after every run, as statements. Both are proved, each as a clause of the contract of a
--- function that does nothing (src/desk_laws.rt).
+-- function that does nothing (src/desk.rt).
 use Rattle.std.specs.Prelude.{◌≡◌, None}
 use Rattle.tsb_step.specs.tsb_rules.Rules.{first_broken}
 use Rattle.tsb_step.specs.tsb_transact.declared.desk_state.DeskState.TheVariants.{Done}

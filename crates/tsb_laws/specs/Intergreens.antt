@@ -1,6 +1,6 @@
 -- Intergreens: what lies between the tick that ends the green of a phase and a later one that starts a phase which is
--- not concurrent with it, whatever inputs came between. Each law here is the contract of a function in src/laws.rt, and
--- proved there. Times are in tenths of a second, which are ticks.
+-- not concurrent with it, whatever inputs came between. Each law here is the contract of a function in src/safety.rt,
+-- and proved there. Times are in tenths of a second, which are ticks.
 --
 -- Each time is by the plan in effect in the tick that ends what it times. That is why a commit between is no exception.
 use Rattle.std.specs.Prelude.{◌≡◌, ◌≢◌, ℕ, ◌+◌, ◌≤◌, Bool, false, not, ◌||◌, List, ◌∷◌, ◌++◌, Option}

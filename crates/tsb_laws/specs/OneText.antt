@@ -1,7 +1,7 @@
 -- What holds of the texts of sessions, as statements. What a session writes is one of the texts that the definition
 -- gives (`IsText` of tsb_text). It leaves open where memory runs out, and nothing else.
 --
--- All are proved, each as the contract of a function that does nothing (src/laws.rt).
+-- All are proved, each as the contract of a function that does nothing (src/one_text.rt).
 use Rattle.std.specs.Prelude.{◌≡◌, ◌⊎◌, ℕ, Bool, false, List, ◌++◌, Option, Some, Ok, bytes_eq}
 use Rattle.std.specs.List.{list_any}
 use Rattle.tsb_step.specs.tsb_types.declared.refusal.Refusal.TheVariants.{Memory}

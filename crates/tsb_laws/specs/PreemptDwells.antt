@@ -1,7 +1,7 @@
 -- An older bound for the dwell of a preempt: NOT PROVED, AND FALSE. `w` is as large as walk and clearance of one plan
--- together, and a commit between the two can make them longer; docs/SAFETY.md has a run. The bound that holds is
--- DwellsAreReached of PreemptStages: it takes the largest walk and the largest clearance of each phase. Times are in tenths
--- of a second, which are ticks.
+-- together, and a commit between the two can make them longer; docs/trust/SAFETY.md has a run. The bound that holds is
+-- DwellsAreReached of PreemptStages: it takes the largest walk and the largest clearance of each phase. Times are in
+-- tenths of a second, which are ticks.
 use Rattle.std.specs.Prelude.{◌≡◌, ℕ, ◌+◌, ◌*◌, ◌<◌, ◌≤◌, ◌==◌, Bool, true, false, not, ◌&&◌, max, List, ◌∷◌, ◌++◌, Option, Some, None, ◌⊎◌}
 use Rattle.tsb_step.specs.tsb_types.declared.row.Row.{Row}
 use Rattle.tsb_step.specs.tsb_plan.Parts.{is_dwell_phase, preempt_minimum_green, track_green}
@@ -59,8 +59,8 @@ pub record Arrives (plan : Plan) (base : List Input) (n limit : ℕ) (later : Li
   pub arrived : has_arrived n (replay plan (older ++ base)) ≡ true
   pub in_time : (replay plan (older ++ base)).now ≤ (replay plan base).now + limit
 
--- FALSE: a preempt that stays in service has all of its dwell phases Green within that time, whatever inputs come, unless
--- the controller trips before.
+-- FALSE: a preempt that stays in service has all of its dwell phases Green within that time, whatever inputs come,
+-- unless the controller trips before.
 abbrev pub PreemptsReachDwell : Type 0
 PreemptsReachDwell = (plan : Plan) (is later : List Input) (row : Row) (n g w c t limit : ℕ) → IsConsistent plan →
     plan.phase_count ≤ 16 → AreTaken plan (later ++ (Tick row ∷ is)) → IsUntripped plan (Tick row ∷ is) later →

@@ -44,8 +44,8 @@ abbrev pub HasBeenPressed : Plan → ℕ → List Input → List Input → Type 
 HasBeenPressed plan p is [] = Unit {0}
 HasBeenPressed plan p is (i ∷ later) = HasBeenPressed plan p is later × (is_pressed p (replay plan (later ++ is)) i ≡ true)
 
--- n is as large as the longest maximum and initial time of p, and as its walk and its pedestrian clearance together; each
--- is the largest by the plans in effect meanwhile, where a commit changes it
+-- n is as large as the longest maximum and initial time of p, and as its walk and its pedestrian clearance together;
+-- each is the largest by the plans in effect meanwhile, where a commit changes it
 pub record IsDoneWithin (plan : Plan) (base : List Input) (p n : ℕ) (later : List Input) : Type 0 where
   pub maximum : largest (λ x. longest_maximum x p) plan base later ≤ n
   pub initial : largest (λ x. longest_initial x p) plan base later ≤ n
@@ -142,8 +142,8 @@ abbrev pub time_to_cross : State → ℕ → ℕ → ℕ
 time_to_cross s k h =
     turns s.plan k s.rings.side (still_to_come s Ring1) + turns s.plan k s.rings.side (still_to_come s Ring2) + 2 * (h + 2 * k + 1)
 
--- While a phase of another side is called in each tick, a crossing of the barrier begins in that time: a stretch in which
--- none does is no longer.
+-- While a phase of another side is called in each tick, a crossing of the barrier begins in that time: a stretch in
+-- which none does is no longer.
 abbrev pub CrossingsBegin : Type 0
 CrossingsBegin = (plan : Plan) (base later : List Input) (q k h : ℕ) → IsConsistent plan → plan.phase_count ≤ 16 →
     AreTaken plan (later ++ base) → IsUntripped plan base later → IsFullyConcurrent (replay plan base).plan →
@@ -163,17 +163,17 @@ abbrev pub places : Plan → ℕ → List ℕ → ℕ
 places plan d [] = 0
 places plan d (p ∷ ps) = (if is_on_side plan d p then 1 else 0) + places plan d ps
 
--- Within which time q of ring r is served, wherever the rings have come: each turn twice, what both rings have begun, and
--- a crossing for each side, with what a ring waits after it that enters none. And where its ring has passed q, each phase
--- of its ring on its side may find the other ring anywhere in its order, and wait for all turns across before the barrier
--- is crossed.
+-- Within which time q of ring r is served, wherever the rings have come: each turn twice, what both rings have begun,
+-- and a crossing for each side, with what a ring waits after it that enters none. And where its ring has passed q, each
+-- phase of its ring on its side may find the other ring anywhere in its order, and wait for all turns across before the
+-- barrier is crossed.
 abbrev pub time_to_serve : Plan → Ring → ℕ → ℕ → ℕ → ℕ
 time_to_serve plan r q k h =
     2 * all_turns plan k (phases plan) + 2 * (h + 2 * k + 1) + plan.side_count * (3 * k + 3)
     + places plan (side_of plan q) (order plan r) * (turns plan k (side_of plan q) (order plan (other r)) + h + k + 1)
 
--- A called phase waits for so long at most, on whatever side it is: a stretch in which it is called in each tick, and not
--- Green, is no longer. Without the last product that is FALSE: docs/SAFETY.md has a run.
+-- A called phase waits for so long at most, on whatever side it is: a stretch in which it is called in each tick, and
+-- not Green, is no longer. Without the last product that is FALSE: docs/trust/SAFETY.md has a run.
 abbrev pub CalledPhasesAreServed : Type 0
 CalledPhasesAreServed = (plan : Plan) (base later : List Input) (r : Ring) (q k h : ℕ) → IsConsistent plan → plan.phase_count ≤ 16 →
     AreTaken plan (later ++ base) → IsUntripped plan base later → IsFullyConcurrent (replay plan base).plan →

@@ -1,8 +1,8 @@
--- Plan texts of versions 1 and 2. Of version 1: the plan of 8 phases and 2 sides that a text names, and what holds of it
--- and of the plan that is read. Of version 2: what is read where the number of version 3 takes its place. All of it as
--- statements; how a text is read, or refused, stands in tsb_plan_text.
+-- Plan texts of versions 1 and 2. Of version 1: the plan of 8 phases and 2 sides that a text names, and what holds of
+-- it and of the plan that is read. Of version 2: what is read where the number of version 3 takes its place. All of it
+-- as statements; how a text is read, or refused, stands in tsb_plan_text.
 --
--- All are proved, as the contract of a function that does nothing (src/laws.rt).
+-- All are proved, as the contract of a function that does nothing (src/versions.rt).
 use Rattle.std.specs.Prelude.{◌≡◌, ◌↔◌, ℕ, ◌≤◌, false, List, length, map, if◌then◌else◌, Some, None, Ok, codes}
 use Rattle.serde_json.specs.Data.{Data, Members, number, put, unsigned}
 use Rattle.serde_json.specs.Find.{as_object}
@@ -80,7 +80,8 @@ TextsLeaveOptionsOff = OfReadTexts (λ members plan. OptionsOff plan)
 abbrev pub renumbered : Members → Members
 renumbered members = put (codes "version") (number (unsigned 3)) members
 
--- A text of version 2 that is read gives the same plan with the number of version 3 in place of 2, however it is written.
+-- A text of version 2 that is read gives the same plan with the number of version 3 in place of 2, however it is
+-- written.
 abbrev pub RenumberedTextsGiveTheSame : Type 0
 RenumberedTextsGiveTheSame = (text other : List ℕ) (members : Members) (plan : Plan) → IsOfVersion Two text members → reading text ≡ Ok plan →
     IsOfVersion Three other (renumbered members) → length other ≤ limit → reading other ≡ Ok plan

@@ -1,7 +1,7 @@
 -- What holds of the bench of 8 phases and 2 sides and of that of 16 and 4, as statements: with one plan of version 1,
 -- and whatever inputs within version 1's ranges, both show the same.
 --
--- All are proved, each as the contract of a function that does nothing (src/laws.rt).
+-- All are proved, each as the contract of a function that does nothing (src/versions.rt).
 use Rattle.std.specs.Prelude.{◌≡◌, ◌≢◌, ◌↔◌, ℕ, ◌<◌, true, false, List, map}
 use Rattle.tsb_step.specs.tsb_plan.declared.object.Object.{Object}
 use Rattle.tsb_step.specs.tsb_plan.declared.version.Version.TheVariants.{One}

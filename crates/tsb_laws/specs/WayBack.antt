@@ -1,5 +1,5 @@
 -- What holds of the cells and the records of every run, as statements. All are proved, each as the contract of a
--- function that does nothing (src/laws.rt).
+-- function that does nothing (src/way_back.rt).
 use Rattle.std.specs.Prelude.{◌≡◌, ◌↔◌, ℕ, ◌≤◌, List, length, drop}
 use Rattle.tsb_step.specs.tsb_types.declared.row.Row.{Row}
 use Rattle.tsb_step.specs.tsb_plan.Plan.{Plan}
@@ -50,7 +50,8 @@ StatesHaveRows = OfRuns (λ plan is. HasRows (replay plan is))
 abbrev pub CheckedPlansAreHeld : Type 0
 CheckedPlansAreHeld = (checked : Checked) → IsHeld (checked_plan checked)
 
--- And no value of it is over the greatest that its numbers of phases and sides allow, as the law that all red ends asks.
+-- And no value of it is over the greatest that its numbers of phases and sides allow, as the law that all red ends
+-- asks.
 abbrev pub CheckedPlansAreInRange : Type 0
 CheckedPlansAreInRange = (checked : Checked) → IsInRange (checked_plan checked)
 

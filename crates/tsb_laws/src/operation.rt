@@ -1,5 +1,5 @@
-//! How the controller operates: calls, greens, overlaps, the dynamic maximum and preempts. Each law is the contract of a
-//! function that does nothing.
+//! How the controller operates: calls, greens, overlaps, the dynamic maximum and preempts. Each law is the contract of
+//! a function that does nothing.
 ghost use Rattle.tsb_laws.specs.KeptCalls.{CallsAreRemembered, PedestrianCallsStand, VehicleCallsStand};
 ghost use Rattle.tsb_laws.specs.CrossingGreens.{CommittedRingsClear};
 ghost use Rattle.tsb_laws.specs.GreenEnds.{GreensEndForAReason};
@@ -335,7 +335,7 @@ pub fn coordination_goes_on()
 /// as it is called by its pattern.
 ///
 /// Needs: as `called`.
-/// Not said: that it is Green in every cycle; docs/SAFETY.md says why that is false.
+/// Not said: that it is Green in every cycle; docs/trust/SAFETY.md says why that is false.
 /// Mistake: a pattern that gives its coordinated phases no recall, `by_itself` (`would_not_be_called`).
 /// Witness: `a_return` of CoordinatedRuns.
 pub fn phases_are_served_in_patterns()

@@ -1,4 +1,4 @@
--- THE UNITS OF VALUES, as docs/MANUAL.md has them for each object.
+-- THE UNITS OF VALUES, as docs/use/MANUAL.md has them for each object.
 use Rattle.std.specs.Prelude.{ℕ, List, [], codes}
 use Rattle.tsb_plan.specs.declared.object.Object.{Object}
 use Rattle.tsb_plan.specs.declared.object.Object.TheVariants.{PatternCycleTime, PatternOffsetTime, PatternPermissiveTime, PhaseAddedInitial, PhaseDynamicMaxLimit, PhaseDynamicMaxStep, PhaseMaximum1, PhaseMaximum2, PhaseMaximumInitial, PhaseMinimumGap, PhaseMinimumGreen, PhasePassage, PhasePedestrianClear, PhaseRedClear, PhaseRedRevert, PhaseTimeBeforeReduction, PhaseTimeToReduce, PhaseWalk, PhaseYellowChange, PreemptDelay, PreemptEnterPedClear, PreemptMaximumPresence, PreemptMinimumDuration, PreemptMinimumGreen, PreemptMinimumWalk, PreemptTrackGreen, SplitTime, UnitRedRevert, VehicleDetectorDelay, VehicleDetectorExtend, VehicleDetectorFailTime, VehicleDetectorMaxPresence, VehicleDetectorNoActivity}

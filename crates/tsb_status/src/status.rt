@@ -1,5 +1,5 @@
-//! The status of a controller as a plain value, by the names of NTCIP 1202's status objects. Sets are of phases, overlaps
-//! and vehicle detectors by their numbers; times are in tenths of a second.
+//! The status of a controller as a plain value, by the names of NTCIP 1202's status objects. Sets are of phases,
+//! overlaps and vehicle detectors by their numbers; times are in tenths of a second.
 
 use tsb_objects::{NumberSet, Phase, Station};
 use tsb_step::{FlashStatus, FreeStatus, PreemptState, RingPart, Wait};
@@ -36,7 +36,7 @@ pub struct RingStatus {
     pub force_off_in: Option<u32>,
 }
 
-/// What a state says. Choices where the standard is silent are in docs/DECISIONS.md, "What a status says".
+/// What a state says. Choices where the standard is silent are in docs/work/DECISIONS.md, "What a status says".
 #[derive(Clone, Copy)]
 pub struct Status {
     /// The tick number, 0 to 6,000,000.

@@ -1,6 +1,7 @@
--- What a state says of phases, overlaps, detectors, preempts, coordination, flash, desk and rings: the values that NTCIP
--- 1202 names as status objects, each found from a state alone. A controller that has tripped flashes: it serves no phase
--- and shows no walk. Where the standard is silent the choice is the profile's own; docs/DECISIONS.md has these.
+-- What a state says of phases, overlaps, detectors, preempts, coordination, flash, desk and rings: the values that
+-- NTCIP 1202 names as status objects, each found from a state alone. A controller that has tripped flashes: it serves
+-- no phase and shows no walk. Where the standard is silent the choice is the profile's own; docs/work/DECISIONS.md has
+-- these.
 --
 -- Times are in tenths of a second. What is left of a time is 0 once it is reached.
 use Rattle.std.specs.Prelude.{ℕ, ◌+◌, ◌-◌, ◌%◌, ◌==◌, nat_lt, Bool, true, false, not, ◌&&◌, ◌||◌, if◌then◌else◌, Option, Some, None, is_some, option_map}

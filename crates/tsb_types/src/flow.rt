@@ -1,5 +1,5 @@
 //! What the layers of the controller give one another within one tick: what phases show, what is asked of the rings,
-//! which phases are called and timed out, and what the rings do about it. `docs/CONTRACTS.md` says who finds each
+//! which phases are called and timed out, and what the rings do about it. `docs/work/CONTRACTS.md` says who finds each
 //! value, and who reads it.
 
 use crate::numbers::{Phase, Side};
