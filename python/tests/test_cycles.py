@@ -87,6 +87,23 @@ def test_places_by_told_zeros() -> None:
     assert measures.in_cycle(untold, ticks).dropna().to_list() == by_sums
 
 
+def test_places_of_events_in_any_order() -> None:
+    """Rows need no order."""
+    mixed = table(*CORRECTED).sample(frac=1, random_state=1)
+    ticks = pd.Series([850, 851, 1290, 1291, 1790])
+    assert measures.in_cycle(mixed, ticks).to_list() == [5.0, 5.1, 49.0, 0.0, 49.9]
+    assert rows(measures.cycles(mixed)) == [(1291, 1800, 2, 50.9)]
+
+
+def test_a_pattern_while_the_last_one_comes_into_step() -> None:
+    """Local zero is no state: at 1400 the counter of pattern 2 still gets shorter, and
+    that of pattern 3 goes on from its 10.9 s."""
+    begun = CORRECTED[: CORRECTED.index((1291, 150, 5)) + 1]
+    events = table(*begun, (1400, 131, 3), (1400, 132, 90), (1600, 1, 2))
+    ticks = pd.Series([1399, 1400, 1500])
+    assert measures.in_cycle(events, ticks).to_list() == [10.8, 10.9, 20.9]
+
+
 def test_a_zero_at_which_the_counter_stands() -> None:
     """By longer cycles a counter may be at 0 in two ticks running: it comes to it once.
     In one more it would have come there anew."""
