@@ -88,8 +88,8 @@ def test_places_by_told_zeros() -> None:
 
 
 def test_places_of_events_in_any_order() -> None:
-    """Rows need no order."""
-    mixed = table(*CORRECTED).sample(frac=1, random_state=1)
+    """Rows need no order: the last comes first here."""
+    mixed = table(*CORRECTED[::-1])
     ticks = pd.Series([850, 851, 1290, 1291, 1790])
     assert measures.in_cycle(mixed, ticks).to_list() == [5.0, 5.1, 49.0, 0.0, 49.9]
     assert rows(measures.cycles(mixed)) == [(1291, 1800, 2, 50.9)]

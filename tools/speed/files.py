@@ -45,7 +45,7 @@ def runs_of(setup: Setup, field: str) -> dict[str, Run]:
     lines, events = display_lines(files, setup.programs[0], log, hours), folder / "events"
     export = pathlib.Path(files.path("export", lambda: b"".join(export_rows(EXPORT // part, SEED))))
     told, device = folder / "told", (*FROM, "--device=1001")
-    reviews = {"a plan of 184 lines of advice": advised_plan(), "a plan text of 1 MiB": list(plan_texts().values())[2]}
+    reviews = {"a plan of 63 lines of advice": advised_plan(), "a plan text of 1 MiB": list(plan_texts().values())[2]}
     plans = {name: files.path(f"review-{place}.json", lambda it=text: it)
              for place, (name, text) in enumerate(reviews.items())}
     return {
