@@ -49,6 +49,7 @@ const RANGES: [Value; 24] = [
     (Object::CoordCorrectionMode, 1, 3),
     (Object::CoordCorrectionLimit, 1, 50),
     (Object::OverlapAcrossRings, 4, 1),
+    (Object::PreemptChoosesAnew, 4, 1),
 ];
 
 /// Whether the object has so many indices and this greatest value, said in both ways.
@@ -72,7 +73,7 @@ fn have_ranges(wanted: &[Value]) -> bool {
 
 #[test]
 fn objects_have_their_ranges(rt: HostRuntime) {
-    assert!(rt; have_ranges(&RANGES) && Object::ALL.len() == 69);
+    assert!(rt; have_ranges(&RANGES) && Object::ALL.len() == 70);
     laws::cells_are_told_apart();
     laws::values_are_told_apart();
 }
