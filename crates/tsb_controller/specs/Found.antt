@@ -8,6 +8,7 @@ use Rattle.tsb_step.specs.tsb_types.declared.flow.Timing.{Timing}
 use Rattle.tsb_step.specs.tsb_types.declared.row.Row.{Row}
 use Rattle.tsb_step.specs.tsb_types.declared.phase_set.PhaseSet.{PhaseSet}
 use Rattle.tsb_step.specs.tsb_types.Sets.{has}
+use Rattle.tsb_step.specs.tsb_plan.Parts.{is_anew}
 use Rattle.tsb_step.specs.tsb_plan.Plan.{Plan}
 use Rattle.tsb_detect.specs.declared.greens.Greens.{Greens}
 use Rattle.tsb_detect.specs.Cells as detect_cells
@@ -29,7 +30,6 @@ use Rattle.tsb_preempt.specs.Cells as preempt_cells
 use Rattle.tsb_preempt.specs.Cells.{preempts_in}
 use Rattle.tsb_preempt.specs.Promises as preempts
 use Rattle.tsb_heads.specs.Promises as heads
-use Rattle.tsb_step.specs.Tick.{is_anew}
 use Rattle.tsb_controller.specs.declared.values.Sensed.{Sensed}
 use Rattle.tsb_controller.specs.declared.values.Movement.{Movement}
 use Rattle.tsb_controller.specs.Carried.{IsCarriedOut, AreOnes}

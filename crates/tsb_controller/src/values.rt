@@ -1,7 +1,7 @@
 //! The values that the layers give one another in a tick, put together.
 ghost use Rattle.std.specs.Prelude.{◌≡◌, ℕ, ◌||◌, None, length, if◌then◌else◌};
 ghost use Rattle.tsb_objects.specs.Checked.{checked_plan};
-ghost use Rattle.tsb_step.specs.Tick.{is_anew};
+ghost use Rattle.tsb_step.specs.tsb_plan.Parts.{is_anew};
 ghost use Rattle.tsb_step.specs.tsb_types.Lists.{is};
 ghost use Rattle.tsb_step.specs.tsb_types.Sets.{has};
 ghost use Rattle.tsb_phase.specs.Counts.{AreCounts};

@@ -1,7 +1,7 @@
 -- What a plan says of detectors, overlaps, patterns, splits and preempts, each named by its number from 1. Times are in
 -- tenths of a second. Names are those of NTCIP 1202; the numbers of split modes, overlap types and force modes are the
 -- profile's own. So are permissive time, lead and lag, overlaps across rings, and preempts that choose anew.
-use Rattle.std.specs.Prelude.{ℕ, ◌+◌, ◌-◌, ◌*◌, ◌==◌, Bool, not, if◌then◌else◌, Option, Some, None}
+use Rattle.std.specs.Prelude.{ℕ, ◌+◌, ◌-◌, ◌*◌, ◌==◌, Bool, false, not, if◌then◌else◌, Option, Some, None}
 use Rattle.tsb_plan.specs.declared.object.Object.TheVariants.{VehicleDetectorCallPhase, VehicleDetectorDelay, VehicleDetectorExtend, VehicleDetectorNoActivity, VehicleDetectorMaxPresence, VehicleDetectorErraticCounts, VehicleDetectorFailTime, PedestrianDetectorCallPhase, OverlapIncludedPhases, PatternCycleTime, PatternOffsetTime, PatternSplitNumber, PatternSequenceNumber, SplitTime, SplitMode as SplitModeObject, SplitCoordPhase, PreemptDelay, PreemptMinimumDuration, PreemptMaximumPresence, PreemptMinimumGreen, PreemptMinimumWalk, PreemptEnterPedClear, PreemptTrackGreen, PreemptTrackPhase, PreemptDwellPhase, PreemptExitPhase, OverlapType, OverlapModifierPhases, CoordForceMode, PatternPermissiveTime, PatternLeadLag, CoordCorrectionMode, CoordCorrectionLimit, OverlapAcrossRings, PreemptChoosesAnew}
 use Rattle.tsb_plan.specs.declared.plan.patterns.CorrectionMode.{CorrectionMode}
 use Rattle.tsb_plan.specs.declared.plan.patterns.CorrectionMode.TheVariants.{AtOnce, Dwell, ShortWay, AddOnly}
@@ -187,6 +187,11 @@ track_green plan n = 10 * plan.value PreemptTrackGreen n
 -- under the service of preempt n a ring gives a commitment up to a phase that it does not want
 abbrev pub chooses_anew : Plan → ℕ → Bool
 chooses_anew plan n = plan.value PreemptChoosesAnew n == 1
+
+-- so is it with the preempt in service, if one is
+abbrev pub is_anew : Plan → Option ℕ → Bool
+is_anew plan None = false
+is_anew plan (Some n) = chooses_anew plan n
 
 -- phase p clears the track when preempt n enters; with no such phase service begins with dwell
 abbrev pub is_track_phase : Plan → ℕ → ℕ → Bool

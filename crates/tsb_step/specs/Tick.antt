@@ -5,7 +5,7 @@
 --
 -- What a layer is told of each phase is told of phases 1 to 16 alone: it is false, or 0, of any other number, as it is
 -- in the sets that the layers tell one another.
-use Rattle.std.specs.Prelude.{ℕ, ◌+◌, Bool, false, not, ◌&&◌, if◌then◌else◌, Option, Some, None, option_map}
+use Rattle.std.specs.Prelude.{ℕ, ◌+◌, Bool, not, ◌&&◌, if◌then◌else◌, Option, Some, None, option_map}
 use Rattle.tsb_cells.specs.declared.timer.Timer.{Timer}
 use Rattle.tsb_cells.specs.declared.timer.Timer.TheVariants.{Off}
 use Rattle.tsb_types.specs.declared.flow.Moves.{Moves}
@@ -13,8 +13,7 @@ use Rattle.tsb_types.specs.declared.row.Row.{Row}
 use Rattle.tsb_types.specs.Clip.{clipped, within}
 use Rattle.tsb_types.specs.Intervals.{is_green}
 use Rattle.tsb_types.specs.Sets.{has_number}
-use Rattle.tsb_objects.specs.tsb_plan.Parts.{call_phase, chooses_anew}
-use Rattle.tsb_objects.specs.tsb_plan.Plan.{Plan}
+use Rattle.tsb_objects.specs.tsb_plan.Parts.{call_phase, is_anew}
 use Rattle.tsb_objects.specs.tsb_plan.Running.{running}
 use Rattle.tsb_detect.specs.Detector as detector
 use Rattle.tsb_detect.specs.Detector.{Detector}
@@ -34,9 +33,8 @@ use Rattle.tsb_coord.specs.Coordinated as coordination
 use Rattle.tsb_coord.specs.Correction as correction
 use Rattle.tsb_preempt.specs.Preempts as preempts
 use Rattle.tsb_preempt.specs.Service.{Service}
-use Rattle.tsb_heads.specs.Overlaps.{some_lasts}
 use Rattle.tsb_step.specs.State.{State, interval, pedestrian_part}
-use Rattle.tsb_step.specs.Signs.{shown}
+use Rattle.tsb_step.specs.Signs.{is_lasting}
 
 -- ## Preempts: stage, target, what must end
 
@@ -248,15 +246,10 @@ acted s row = record {
   trip = s.trip;
 }
 
--- the preempt, if there is one, chooses anew: a ring gives up a commitment to a phase that it does not want
-abbrev pub is_anew : Plan → Option ℕ → Bool
-is_anew plan None = false
-is_anew plan (Some n) = chooses_anew plan n
-
 -- commitments are given up in this tick: the preempt in service chooses anew, and no overlap lasts through a clearance
 -- by a commitment. An overlap has no yellow of its own with which it could end there
 unfoldable pub gives_up : State → Row → Bool
-gives_up s row = is_anew s.plan (service s row) && not (some_lasts s.plan (shown (acted s row)))
+gives_up s row = is_anew s.plan (service s row) && not (is_lasting (acted s row))
 
 -- the rings after the tick: without what they are committed to outside the target, where that is given up
 unfoldable pub new_rings : State → Row → rings.State
