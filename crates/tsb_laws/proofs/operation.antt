@@ -21,6 +21,7 @@ pub mod StageTickLemmas
 pub mod StageRingLemmas
 pub mod StageDirtyLemmas
 pub mod StageArrivalLemmas
+pub mod StageChoiceLemmas
 pub mod StageRunLemmas
 pub mod StageServiceLemmas
 pub mod PressedGreenLemmas

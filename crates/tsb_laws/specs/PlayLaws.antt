@@ -28,7 +28,7 @@ use Rattle.tsb_step.specs.Runs.{replay}
 use Rattle.tsb_step.specs.Signs.{display, is_choosing, is_lasting, field, IsSafe, IsInStep}
 use Rattle.tsb_step.specs.State.{State, interval}
 use Rattle.tsb_step.specs.Step.{step, verdict}
-use Rattle.tsb_step.specs.Tick.{service, must_end, runs, hold, forced, at_force_off, omitted, conflict as has_conflict, ready, moves, acted, next}
+use Rattle.tsb_step.specs.Tick.{service, must_end, runs, hold, forced, at_force_off, omitted, conflict as has_conflict, ready, moves, after_moves, next}
 use Rattle.tsb_step.specs.TimeLaws.{held_for, is_tick, is_yellow_head, EndsInTime, HasHeld, IsSided, Rests, TellsTime, StandsOrStarts, ShowsTheSame}
 use Rattle.tsb_step.specs.WaitLaws.{IsKeptNext}
 use Rattle.tsb_laws.specs.AllRed.{HasBeenRed, HasBeenWanted}
@@ -393,7 +393,7 @@ pub record KeepsLaws (plan : Plan) (is : List Input) (s : State) : Type 0 where
   pub phases_rest : (p : ℕ) → Rests (s.phases p)
   pub commitments_stand_in_runs : KeepsCommitments s
   pub commitments_are_wanted : WantsCommitments s
-  pub giving_up_shows_nothing : (row : Row) → ShowsTheSame (acted s row) (next s row)
+  pub giving_up_shows_nothing : (row : Row) → ShowsTheSame (after_moves s row) (next s row)
   pub fields_are_safe_unless_tripped : HasSafeField s
   pub phases_clear_in_yellow : Untripped TurnsRedFromYellow plan is
   pub overlaps_clear_in_yellow : Untripped TurnsOverlapsRedFromYellow plan is

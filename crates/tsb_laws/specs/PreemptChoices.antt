@@ -32,10 +32,10 @@ pub record ChoiceTakesAtMost (plan : Plan) (base : List Input) (n g w c v : ℕ)
   pub clearance : (p : ℕ) → largest (λ x. yellow_change x p) plan base later + largest (λ x. red_clear x p) plan base later ≤ c
   pub revert : (p : ℕ) → largest (λ x. red_revert x p) plan base later ≤ v
 
--- how long it may take: what is Green has its least green, or its pedestrians clear, and then it clears; or what is wanted
--- clears itself, and reverts; and four ticks
+-- how long it may take: the pedestrians of what is Green clear, or it has its least green and a tick, and then it clears; or
+-- what is wanted clears itself, and reverts; and four ticks in which the rings move
 abbrev pub time_by_choice : ℕ → ℕ → ℕ → ℕ → ℕ
-time_by_choice g w c v = max (max g w) v + c + 4
+time_by_choice g w c v = max (max w (g + 1)) v + c + 4
 
 -- A preempt that chooses anew, and stays in a stage, has all phases of it Green within that time, from any moment of the
 -- stage on, whatever inputs come, unless the controller trips before.

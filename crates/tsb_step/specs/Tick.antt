@@ -228,10 +228,9 @@ done s row = record {
 
 -- ## The new state, of a controller that has not tripped and before the monitor judges it
 
--- Field by field; plan, desk, pattern, lamp and trip are as they were. The rings have acted on their moves, and given
--- nothing up.
-abbrev pub acted : State → Row → State
-acted s row = record {
+-- field by field, where rings give nothing up; plan, desk, pattern, lamp and trip are as they were
+abbrev pub after_moves : State → Row → State
+after_moves s row = record {
   now = s.now + 1;
   plan = s.plan;
   desk = s.desk;
@@ -249,12 +248,12 @@ acted s row = record {
 -- commitments are given up in this tick: the preempt in service chooses anew, and no overlap lasts through a clearance
 -- by a commitment. An overlap has no yellow of its own with which it could end there
 unfoldable pub gives_up : State → Row → Bool
-gives_up s row = is_anew s.plan (service s row) && not (is_lasting (acted s row))
+gives_up s row = is_anew s.plan (service s row) && not (is_lasting (after_moves s row))
 
 -- the rings after the tick: without what they are committed to outside the target, where that is given up
 unfoldable pub new_rings : State → Row → rings.State
-new_rings s row = if gives_up s row then given_up s.plan (target s row) (acted s row).rings else (acted s row).rings
+new_rings s row = if gives_up s row then given_up s.plan (target s row) (after_moves s row).rings else (after_moves s row).rings
 
 -- the new state
 abbrev pub next : State → Row → State
-next s row = record (acted s row) { rings = new_rings s row }
+next s row = record (after_moves s row) { rings = new_rings s row }

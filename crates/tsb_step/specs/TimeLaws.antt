@@ -25,7 +25,7 @@ use Rattle.tsb_step.specs.declared.inputs.Input.{Input}
 use Rattle.tsb_step.specs.declared.inputs.Input.TheVariants.{Tick, Reset}
 use Rattle.tsb_machine.specs.declared.commands.Answer.{Answer}
 use Rattle.tsb_step.specs.State.{State, interval, pedestrian_part}
-use Rattle.tsb_step.specs.Tick.{service, must_end, phases_given, phase_read, moves, acted, next}
+use Rattle.tsb_step.specs.Tick.{service, must_end, phases_given, phase_read, moves, after_moves, next}
 use Rattle.tsb_step.specs.Signs.{shown, display, is_choosing, is_lasting, field}
 use Rattle.tsb_step.specs.Step.{step, kind_of}
 use Rattle.tsb_step.specs.Runs.{replay, AreTaken}
@@ -143,7 +143,7 @@ pub record ShowsTheSame (s t : State) : Type 0 where
 
 -- so it is in each tick
 abbrev pub GivingUpShowsNothing : Type 0
-GivingUpShowsNothing = OfEveryRun (λ s. (row : Row) → ShowsTheSame (acted s row) (next s row))
+GivingUpShowsNothing = OfEveryRun (λ s. (row : Row) → ShowsTheSame (after_moves s row) (next s row))
 
 -- cells tell the state after a run, of a plan of 16 phases and 4 sides and of inputs whose numbers are of the program's
 -- types; proved in tsb_laws, of plans with no value over its object's greatest

@@ -45,7 +45,7 @@ use Rattle.tsb_laws.specs.PreemptTurns.{place}
 use Rattle.tsb_laws.specs.PreemptStages.{is_in_stage, StageTakesAtMost, time_to_stage, ReachesStage, ReachesWithin}
 use Rattle.tsb_laws.proofs.safety.StretchLemmas.{dark_now, taken_before, IsSame, Goes, ticks, stays, goes}
 use Rattle.tsb_laws.proofs.safety.DueLemmas.{largest_now, largest_more, ring_same, count_run}
-use Rattle.tsb_laws.proofs.safety.EnabledLemmas.{enabled_run}
+use Rattle.tsb_laws.proofs.safety.EnabledLemmas.{enabled_next, enabled_run}
 use Rattle.tsb_laws.proofs.operation.AcrossLemmas.{across_run}
 use Rattle.tsb_laws.proofs.operation.CalmLemmas.{calm_run}
 use Rattle.tsb_laws.proofs.operation.PhaseTimeLemmas.{clearing_left, revert_left, green_left}
@@ -53,6 +53,7 @@ use Rattle.tsb_laws.proofs.operation.PreemptTurnLemmas.{service_then}
 use Rattle.tsb_laws.proofs.operation.StageFactLemmas.{Limits, Within, clear_of, revert_of, green_of, Stays, under}
 use Rattle.tsb_laws.proofs.operation.StageTickLemmas.{IsClean, StartsSoon, IsDirty}
 use Rattle.tsb_laws.proofs.operation.StageDirtyLemmas.{dirty_first}
+use Rattle.tsb_laws.proofs.operation.StageChoiceLemmas.{near_then}
 use Rattle.tsb_laws.proofs.operation.StageArrivalLemmas.{IsRested, IsCrossing, Near, dirty, clean, rested, crosses, AreGreen, all_are_green, nearer}
 use Rattle.tsb_laws.proofs.operation.PressedRunLemmas.{timed_run}
 
@@ -365,7 +366,7 @@ module _ (Done : List Input → Type 0) (t : Limits) (plan : Plan) (base : List 
   ticked row later taken dark before held cover (near d was time) =
       elim (nearer s row (stage_phases s.plan n stage) n (stays_at plan (later ++ base) row n stage ok few taken dark held) t (covers_now t plan base n later cover) d was) [
         | inl green ↦ lit (then_lit s row n stage dark green) (soon (step s (Tick row)).now s.now d ((replay plan base).now + limit) (one_later s row) some time)
-        | inr closer ↦ near (d - 1) (then_near s row n stage dark t (d - 1) closer)
+        | inr closer ↦ near (d - 1) (then_near s row n stage dark t (d - 1) (near_then t (stage_phases s.plan n stage) s row (d - 1) here.asks (enabled_next s row here.good here.on).promised closer))
             (later_on (step s (Tick row)).now s.now d ((replay plan base).now + limit) (one_later s row) some time)
       ]
     where
@@ -374,6 +375,9 @@ module _ (Done : List Input → Type 0) (t : Limits) (plan : Plan) (base : List 
 
       some : 1 ≤ d
       some = near_some t (stage_phases s.plan n stage) s.plan s.phases s.rings d was
+
+      here : Stays s row (stage_phases s.plan n stage) n
+      here = stays_at plan (later ++ base) row n stage ok few taken dark held
 
   one_on : (i : Input) (later : List Input) → AreTaken plan (i ∷ (later ++ base)) → (replay plan (later ++ base)).trip ≡ None →
       is_in_stage n stage (replay plan (later ++ base)).preempts.service ≡ true →

@@ -14,7 +14,7 @@ use Rattle.tsb_ring.specs.Rings.{Ring1, Ring2}
 use Rattle.tsb_ring.proofs.Examples.Scenes.{both}
 use Rattle.tsb_step.specs.State.{State, interval}
 use Rattle.tsb_step.specs.Signs.{shown, display}
-use Rattle.tsb_step.specs.Tick.{target, must_end, acted}
+use Rattle.tsb_step.specs.Tick.{target, must_end, after_moves}
 use Rattle.tsb_step.proofs.Examples.Scenes.{opened, after, preempt, clearing, these, all_red, red}
 
 -- ## A crossing to 3 and 8, with this value of preemptChoosesAnew
@@ -85,7 +85,7 @@ shows_green = refl
 -- ## Rings that give up though an overlap lasts
 
 abbrev pub gives_up_always : State → Row → State
-gives_up_always s row = record (acted s row) { rings = given_up s.plan (target s row) (acted s row).rings }
+gives_up_always s row = record (after_moves s row) { rings = given_up s.plan (target s row) (after_moves s row).rings }
 
 would_show_red : overlap_head lasts.plan (shown (gives_up_always lasts (preempt 2))) 1 ≡ aspects.Red
 unfolding opened
@@ -94,7 +94,7 @@ would_show_red = refl
 -- ## Rings that give nothing up
 
 abbrev pub acts_alone : State → Row → rings.State
-acts_alone s row = (acted s row).rings
+acts_alone s row = (after_moves s row).rings
 
 is_unwanted : must_end (crosses 1) (preempt 2) 3 ≡ true
 unfolding opened
