@@ -158,3 +158,11 @@ outside_left plan (Some target) s r c e h = go (some_strays (is_targeted plan ta
         (if b then without_strays (is_targeted plan target) s else s).commitment r ≡ Some c → s.crossing ≡ None
     go true k x = is-none s.crossing (left (is_targeted plan target) (is_some s.crossing) (s.commitment r) c x).outside
     go false k x = k
+
+-- and where there was none there is none
+pub none_given : (plan : Plan) (target : Option (ℕ → Bool)) (s : State) (r : Ring) → s.commitment r ≡ None → (given_up plan target s).commitment r ≡ None
+none_given plan target s r none = go ((given_up plan target s).commitment r) refl
+  where
+    go : (o : Option ℕ) → (given_up plan target s).commitment r ≡ o → (given_up plan target s).commitment r ≡ None
+    go None e = e
+    go (Some c) e = (let bad : None ≡ Some c = sym none ∙ was_before plan target s r c e in absurd cc)
