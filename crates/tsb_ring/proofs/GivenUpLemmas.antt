@@ -166,3 +166,13 @@ none_given plan target s r none = go ((given_up plan target s).commitment r) ref
     go : (o : Option ℕ) → (given_up plan target s).commitment r ≡ o → (given_up plan target s).commitment r ≡ None
     go None e = e
     go (Some c) e = (let bad : None ≡ Some c = sym none ∙ was_before plan target s r c e in absurd cc)
+
+-- nor does a crossing come of it
+pub no_crossing_given : (plan : Plan) (target : Option (ℕ → Bool)) (s : State) → s.crossing ≡ None → (given_up plan target s).crossing ≡ None
+unfolding given_up
+no_crossing_given plan None s none = none
+no_crossing_given plan (Some target) s none = go (some_strays (is_targeted plan target) s)
+  where
+    go : (b : Bool) → (if b then without_strays (is_targeted plan target) s else s).crossing ≡ None
+    go true = refl
+    go false = none

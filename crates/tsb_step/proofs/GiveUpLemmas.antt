@@ -10,7 +10,7 @@ use Rattle.tsb_ring.specs.Rings as rings
 use Rattle.tsb_ring.specs.Rings.{Ring}
 use Rattle.tsb_ring.specs.Next as rings_next
 use Rattle.tsb_ring.specs.GivenUp.{given_up}
-use Rattle.tsb_ring.proofs.GivenUpLemmas.{crossing_left, last_stays, side_stays, was_before}
+use Rattle.tsb_ring.proofs.GivenUpLemmas.{crossing_left, last_stays, no_crossing_given, outside_left, side_stays, was_before}
 use Rattle.tsb_step.specs.State.{State, interval}
 use Rattle.tsb_step.specs.Signs.{is_lasting}
 use Rattle.tsb_step.specs.Tick.{service, target, rings_given, after_moves, gives_up, new_rings, next}
@@ -92,3 +92,14 @@ side_by_moves s row =
 pub last_by_moves : (s : State) (row : Row) (r : Ring) → (next s row).rings.last r ≡ (after_moves s row).rings.last r
 last_by_moves s row r =
     by_rings (λ (x : rings.State). x.last r ≡ (after_moves s row).rings.last r) s row refl (last_stays s.plan (target s row) (after_moves s row).rings r)
+
+-- no crossing comes of what is given up; and where a commitment is left, none was under way before
+pub outside_then : (s : State) (row : Row) → (after_moves s row).rings.crossing ≡ None → (next s row).rings.crossing ≡ None
+outside_then s row none =
+    by_rings (λ (x : rings.State). x.crossing ≡ None) s row none (no_crossing_given s.plan (target s row) (after_moves s row).rings none)
+
+pub outside_by_moves : (s : State) (row : Row) (r : Ring) (c : ℕ) → (next s row).rings.crossing ≡ None → (next s row).rings.commitment r ≡ Some c →
+    (after_moves s row).rings.crossing ≡ None
+outside_by_moves s row r c =
+    by_rings (λ (x : rings.State). x.crossing ≡ None → x.commitment r ≡ Some c → (after_moves s row).rings.crossing ≡ None) s row (λ h k. h)
+    (λ h k. outside_left s.plan (target s row) (after_moves s row).rings r c h k)

@@ -98,8 +98,9 @@ module _ (plan : Plan) (held : IsHeld plan) where
     intergreens_hold_walks = λ older later row next p q e x. has_walked plan older later row next p q ok (rw e at taken) x;
     red_reverts_hold = λ base later row p e x. reverts_hold plan base later row p ok (rw e at taken) x;
     enabled_are_served = record { serves = (enabled_run plan is ok taken).serves; promised = (enabled_run plan is ok taken).promised };
-    commitments_are_served = λ older later row p r c e dark x. are_served plan older later row p r c ok (few plan held) (rw e at taken) dark x;
-    crossings_complete = λ older later row d n e dark x most. completes_in_time plan older later row d n ok (few plan held) (rw e at taken) dark x most;
+    commitments_are_served = λ older later row p r c e dark none x. are_served plan older later row p r c ok (few plan held) (rw e at taken) dark none x;
+    crossings_complete = λ older later row d n e dark none x most.
+        completes_in_time plan older later row d n ok (few plan held) (rw e at taken) dark none x most;
     coordinated_end_by_force_off = λ dark row p ends on none. ends_by_force_off plan is row p ok (few plan held) taken dark ends on none;
     omitted_are_not_served = λ dark row q off none. omits_hold plan is row q ok (few plan held) taken dark off none;
     all_red_ends = λ base later n e dark red wanted most.
