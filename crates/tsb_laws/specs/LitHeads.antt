@@ -7,7 +7,6 @@ use Rattle.tsb_step.specs.tsb_plan.Parts.{is_minus_green_yellow}
 use Rattle.tsb_step.specs.tsb_plan.Plan.{Plan}
 use Rattle.tsb_step.specs.tsb_heads.Heads.{Heads}
 use Rattle.tsb_step.specs.tsb_heads.Monitoring.{gives_way, lets_walk}
-use Rattle.tsb_step.specs.tsb_heads.Overlaps.{IsOverlap}
 use Rattle.tsb_step.specs.declared.inputs.Input.{Input}
 use Rattle.tsb_step.specs.State.{State}
 use Rattle.tsb_step.specs.Signs.{display}
@@ -48,6 +47,6 @@ LitPhasesClearInYellow = OfEveryUntrippedRun (λ plan is. (i : Input) (p : ℕ) 
 
 -- And of the head of an overlap that is not of type minusGreenYellow.
 abbrev pub LitOverlapsClearInYellow : Type 0
-LitOverlapsClearInYellow = OfEveryUntrippedRun (λ plan is. (i : Input) (o : ℕ) → IsOverlap o → verdict (replay plan is) i ≡ None →
+LitOverlapsClearInYellow = OfEveryUntrippedRun (λ plan is. (i : Input) (o : ℕ) → verdict (replay plan is) i ≡ None →
     (replay plan (i ∷ is)).trip ≡ None → is_minus_green_yellow (replay plan is).plan o ≡ false →
     gives_way ((display (replay plan is)).overlap o) ≡ true → StaysOrClears (λ s. (display s).overlap o) plan is i)

@@ -9,7 +9,6 @@ use Rattle.tsb_step.specs.tsb_types.Intervals.{is_yellow, is_red_clear, in_servi
 use Rattle.tsb_step.specs.tsb_plan.Parts.{is_included, is_minus_green_yellow, overlaps_across_rings}
 use Rattle.tsb_step.specs.tsb_plan.Plan.{is_concurrent}
 use Rattle.tsb_step.specs.tsb_heads.Monitoring.{gives_way, has_right_of_way}
-use Rattle.tsb_step.specs.tsb_heads.Overlaps.{IsOverlap}
 use Rattle.tsb_step.specs.tsb_ring.Laws.{Agree}
 use Rattle.tsb_step.specs.tsb_ring.Rings.{Ring, other, in_ring}
 use Rattle.tsb_step.specs.declared.inputs.Input.TheVariants.{Tick}
@@ -40,7 +39,7 @@ pub record EndsAGreen (s : State) (row : Row) (o : ℕ) : Type 0 where
 
 -- A tick that turns the head of a normal overlap from green to yellow is such a tick.
 abbrev pub OverlapsEndWithAGreen : Type 0
-OverlapsEndWithAGreen = OfEveryRun (λ s. (row : Row) (o : ℕ) → IsOverlap o → is_minus_green_yellow s.plan o ≡ false →
+OverlapsEndWithAGreen = OfEveryRun (λ s. (row : Row) (o : ℕ) → is_minus_green_yellow s.plan o ≡ false →
     (display s).overlap o ≡ aspects.Green → (display (step s (Tick row))).overlap o ≡ aspects.Yellow → EndsAGreen s row o)
 
 -- an included phase clears, its ring is committed, and the other ring to an included phase with which it is not
@@ -66,4 +65,4 @@ pub record StaysGreen (s : State) (o : ℕ) : Type 0 where
 
 -- So it is with a normal overlap that has `overlapAcrossRings`, from the commitments on until the other phase is Green.
 abbrev pub OverlapsLastAcrossRings : Type 0
-OverlapsLastAcrossRings = OfEveryRun (λ s. (o : ℕ) → IsOverlap o → s.trip ≡ None → is_minus_green_yellow s.plan o ≡ false → GoesOver s o → StaysGreen s o)
+OverlapsLastAcrossRings = OfEveryRun (λ s. (o : ℕ) → s.trip ≡ None → is_minus_green_yellow s.plan o ≡ false → GoesOver s o → StaysGreen s o)

@@ -14,7 +14,6 @@ use Rattle.tsb_step.specs.tsb_plan.Parts.{is_minus_green_yellow}
 use Rattle.tsb_step.specs.tsb_plan.Plan.{Plan, is_enabled, side_of, walk, pedestrian_clear, red_revert}
 use Rattle.tsb_step.specs.tsb_plan.Running.{pattern_maximum}
 use Rattle.tsb_step.specs.tsb_heads.Monitoring.{conflict, gives_way}
-use Rattle.tsb_step.specs.tsb_heads.Overlaps.{IsOverlap}
 use Rattle.tsb_step.specs.tsb_preempt.Service.{has_track}
 use Rattle.tsb_step.specs.tsb_ring.Moves.{is_started}
 use Rattle.tsb_step.specs.tsb_rules.Consistent.{IsPhase}
@@ -126,7 +125,7 @@ TurnsRedFromYellow plan is = (row : Row) (p : ℕ) → (display (replay plan is)
 
 -- so has the head of an overlap that is not of type minusGreenYellow
 abbrev pub TurnsOverlapsRedFromYellow : Plan → List Input → Type 0
-TurnsOverlapsRedFromYellow plan is = (row : Row) (o : ℕ) → IsOverlap o → is_minus_green_yellow (replay plan is).plan o ≡ false →
+TurnsOverlapsRedFromYellow plan is = (row : Row) (o : ℕ) → is_minus_green_yellow (replay plan is).plan o ≡ false →
     (display (replay plan is)).overlap o ≢ Red → (display (replay plan (Tick row ∷ is))).overlap o ≡ Red →
     29 ≤ held_for (λ s. is_yellow_head ((display s).overlap o)) plan is
 
@@ -137,7 +136,7 @@ ClearsLitPhases plan is = (i : Input) (p : ℕ) → verdict (replay plan is) i �
 
 -- so does that of an overlap that is not of type minusGreenYellow
 abbrev pub ClearsLitOverlaps : Plan → List Input → Type 0
-ClearsLitOverlaps plan is = (i : Input) (o : ℕ) → IsOverlap o → verdict (replay plan is) i ≡ None → (replay plan (i ∷ is)).trip ≡ None →
+ClearsLitOverlaps plan is = (i : Input) (o : ℕ) → verdict (replay plan is) i ≡ None → (replay plan (i ∷ is)).trip ≡ None →
     is_minus_green_yellow (replay plan is).plan o ≡ false → gives_way ((display (replay plan is)).overlap o) ≡ true →
     StaysOrClears (λ s. (display s).overlap o) plan is i
 

@@ -109,7 +109,7 @@ PhasesClearInYellow = OfEveryUntrippedRun (λ plan is. (row : Row) (p : ℕ) →
 
 -- so has the head of an overlap that is not of type minusGreenYellow
 abbrev pub OverlapsClearInYellow : Type 0
-OverlapsClearInYellow = OfEveryUntrippedRun (λ plan is. (row : Row) (o : ℕ) → IsOverlap o → is_minus_green_yellow (replay plan is).plan o ≡ false →
+OverlapsClearInYellow = OfEveryUntrippedRun (λ plan is. (row : Row) (o : ℕ) → is_minus_green_yellow (replay plan is).plan o ≡ false →
     (display (replay plan is)).overlap o ≢ aspects.Red →
     (display (replay plan (Tick row ∷ is))).overlap o ≡ aspects.Red → 29 ≤ held_for (λ s. is_yellow_head ((display s).overlap o)) plan is)
 
