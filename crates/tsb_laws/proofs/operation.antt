@@ -24,6 +24,7 @@ pub mod StageArrivalLemmas
 pub mod StageChoiceLemmas
 pub mod StageRunLemmas
 pub mod StageServiceLemmas
+pub mod ChosenStageLemmas
 pub mod PressedGreenLemmas
 pub mod PressedRunLemmas
 pub mod TurnListLemmas

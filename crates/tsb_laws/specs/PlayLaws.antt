@@ -43,7 +43,7 @@ use Rattle.tsb_laws.specs.LateGreens.{IsInLateSpan, IsLateGreen}
 use Rattle.tsb_laws.specs.PatternEnds.{LacksOnlyItsEnd, HasWaitedInPattern, HasMaxedInPattern, IsInPermissiveTime}
 use Rattle.tsb_laws.specs.LitHeads.{KeepsLitHeads, StaysOrClears}
 use Rattle.tsb_laws.specs.OverlapPhases.{GoesWithPhases}
-use Rattle.tsb_laws.specs.PreemptChoices.{HasChosen, ChoiceTakesAtMost, time_by_choice}
+use Rattle.tsb_laws.specs.PreemptChoices.{HasChosen, ChoiceTakesAtMost, time_by_choice, time_to_chosen_dwell}
 use Rattle.tsb_laws.specs.PreemptDwells.{BeginsService, is_served}
 use Rattle.tsb_laws.specs.CalledStarts.{EntersByCall}
 use Rattle.tsb_laws.specs.PreemptEntries.{EntersByPreempt}
@@ -243,6 +243,16 @@ ReachesDwells plan is = (older later : List Input) (row : Row) (n g w c t limit 
     ReachesDwell plan (Tick row ∷ older) n limit later
     ⊎ ((replay plan (later ++ (Tick row ∷ older))).now < (replay plan (Tick row ∷ older)).now + limit)
 
+-- so does one that chooses anew, in a shorter time
+abbrev pub ReachesChosenDwells : Plan → List Input → Type 0
+ReachesChosenDwells plan is = (older later : List Input) (row : Row) (n g w c v t limit : ℕ) → is ≡ later ++ (Tick row ∷ older) →
+    IsUntripped plan (Tick row ∷ older) later → BeginsService plan older row n → HasChosen plan (Tick row ∷ older) later →
+    has_held_since (λ s. is_served n s.preempts.service) plan (Tick row ∷ older) later ≡ true →
+    ChoiceTakesAtMost plan (Tick row ∷ older) n g w c v later → largest (λ x. track_green x n) plan (Tick row ∷ older) later ≤ t →
+    limit ≡ time_to_chosen_dwell (has_track (replay plan older).plan n) g w c v t →
+    ReachesDwell plan (Tick row ∷ older) n limit later
+    ⊎ ((replay plan (later ++ (Tick row ∷ older))).now < (replay plan (Tick row ∷ older)).now + limit)
+
 -- a vehicle call that was remembered is so now, or its phase has turned Green since
 abbrev pub KeepsVehicleCalls : Plan → List Input → Type 0
 KeepsVehicleCalls plan is = (base later : List Input) (p : ℕ) → is ≡ later ++ base → RunsOn plan base later →
@@ -429,6 +439,7 @@ pub record KeepsLaws (plan : Plan) (is : List Input) (s : State) : Type 0 where
   pub preempts_reach_their_stages_exits : EndsExits plan is
   pub preempts_reach_dwell_in_time : ReachesDwells plan is
   pub preempts_that_choose_come_sooner : ReachesChosenStages plan is
+  pub preempts_that_choose_come_sooner_dwells : ReachesChosenDwells plan is
   pub crossings_have_no_green : IsCalm s.plan (interval s) s.rings
   pub preempts_let_in_their_own : Untripped LetsInByPreempt plan is
   pub uncalled_phases_stay : Untripped LetsInByCall plan is

@@ -6,34 +6,36 @@
 use Rattle.std.specs.Prelude.{◌≡◌, ℕ, ◌+◌, ◌<◌, ◌≤◌, Bool, true, false, not, ◌&&◌, max, List, ◌∷◌, ◌++◌, Some, ◌⊎◌}
 use Rattle.tsb_step.specs.tsb_types.declared.row.Row.{Row}
 use Rattle.tsb_step.specs.tsb_types.declared.stage.Stage.{Stage}
-use Rattle.tsb_step.specs.tsb_plan.Parts.{preempt_minimum_green, track_green}
-use Rattle.tsb_step.specs.tsb_plan.Plan.{Plan, yellow_change, red_clear, red_revert}
-use Rattle.tsb_step.specs.tsb_phase.Pedestrian.{walk_time, clearance_time}
+use Rattle.tsb_step.specs.tsb_plan.Parts.{track_green}
+use Rattle.tsb_step.specs.tsb_plan.Plan.{Plan, red_revert}
 use Rattle.tsb_step.specs.tsb_preempt.Service.{has_track}
 use Rattle.tsb_step.specs.declared.inputs.Input.{Input}
 use Rattle.tsb_step.specs.declared.inputs.Input.TheVariants.{Tick}
+use Rattle.tsb_step.specs.State.{State}
 use Rattle.tsb_step.specs.Signs.{is_choosing, is_lasting}
 use Rattle.tsb_step.specs.Runs.{replay, AreTaken}
 use Rattle.tsb_step.specs.Laws.{IsConsistent}
 use Rattle.tsb_laws.specs.Stretches.{IsUntripped, has_held_since, largest}
 use Rattle.tsb_laws.specs.PreemptDwells.{BeginsService, is_served}
-use Rattle.tsb_laws.specs.PreemptStages.{is_in_stage, ReachesWithin, ReachesDwell}
+use Rattle.tsb_laws.specs.PreemptStages.{is_in_stage, StageTakesAtMost, ReachesWithin, ReachesDwell}
 
--- the preempt in service chooses anew since then, and no overlap lasts through a clearance by a commitment
+-- the preempt in service chooses anew, and no overlap lasts through a clearance by a commitment
+abbrev pub chooses : State → Bool
+chooses s = is_choosing s && not (is_lasting s)
+
+-- so it has been since the inputs `base`
 abbrev pub HasChosen : Plan → List Input → List Input → Type 0
-HasChosen plan base later = has_held_since (λ s. is_choosing s && not (is_lasting s)) plan base later ≡ true
+HasChosen plan base later = has_held_since (λ s. chooses s) plan base later ≡ true
 
--- g is as large as the minimum green of preempt n; w as its walk and its pedestrian clearance together, of each phase; c as
--- the yellow change and the red clearance of each phase together; v as the red revert of each. Each time is the largest by
--- the plans in effect meanwhile, where a commit changes it
+-- g, w and c are as for any preempt: as large as the minimum green of preempt n; as its walk and its pedestrian clearance
+-- together; as the yellow change and the red clearance together, and as the red revert. v is as large as the red revert of
+-- each phase alone, by the plans in effect meanwhile
 pub record ChoiceTakesAtMost (plan : Plan) (base : List Input) (n g w c v : ℕ) (later : List Input) : Type 0 where
-  pub green : largest (λ x. preempt_minimum_green x n) plan base later ≤ g
-  pub walk : (p : ℕ) → largest (λ x. walk_time x p (Some n)) plan base later + largest (λ x. clearance_time x p (Some n)) plan base later ≤ w
-  pub clearance : (p : ℕ) → largest (λ x. yellow_change x p) plan base later + largest (λ x. red_clear x p) plan base later ≤ c
+  pub stage : StageTakesAtMost plan base n g w c later
   pub revert : (p : ℕ) → largest (λ x. red_revert x p) plan base later ≤ v
 
--- how long it may take: the pedestrians of what is Green clear, or it has its least green and a tick, and then it clears; or
--- what is wanted clears itself, and reverts; and four ticks in which the rings move
+-- how long it may take: the pedestrians of what is Green clear, or it has its least green and a tick, or what is wanted
+-- reverts; then what is in service clears; and four ticks in which the rings move
 abbrev pub time_by_choice : ℕ → ℕ → ℕ → ℕ → ℕ
 time_by_choice g w c v = max (max w (g + 1)) v + c + 4
 

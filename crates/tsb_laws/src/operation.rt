@@ -222,7 +222,7 @@ pub fn preempts_reach_dwell_in_time()
 /// `stages`: A preempt that chooses anew reaches each stage in the time of a worksheet. While it stays in a stage all
 /// phases of that stage are Green within a time that the plan gives, from any moment on and whatever inputs come. That
 /// time is the largest of the least green and a tick, of the walk and pedestrian clearance left to a green, and of the
-/// red revert; then the yellow change and red clearance, and four ticks.
+/// red revert; then the yellow change and red clearance, or a longer red revert, and four ticks.
 ///
 /// Needs: as `preempts_reach_their_stages`; no overlap that lasts through a clearance by a commitment.
 /// Not said: that they stay Green.

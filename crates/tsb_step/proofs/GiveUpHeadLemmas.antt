@@ -1,6 +1,6 @@
 -- What rings give up changes no head, and what they are still committed to under a preempt that chooses anew is wanted.
 use Rattle.std.proofs.Common.{◌≡◌, ℕ, ◌+◌, ◌==◌, Bool, true, false, not, if◌then◌else◌, Option, Some, None, is_some, option_map, refl, sym, ap, subst, ◌∙◌, inl, inr, ◌⊎◌}
-use Rattle.std.proofs.lemmas.Bool.{cases_Bool, and_parts, true≢false, false≢true}
+use Rattle.std.proofs.lemmas.Bool.{cases_Bool, and_parts, true≢false, false≢true, false_from_ne_true}
 use Rattle.tsb_types.specs.declared.row.Row.{Row}
 use Rattle.tsb_types.specs.Lists.{run_from}
 use Rattle.tsb_objects.specs.tsb_plan.Parts.{is_anew}
@@ -17,11 +17,11 @@ use Rattle.tsb_ring.proofs.GivenUpLemmas.{left_of_target}
 use Rattle.tsb_step.specs.declared.inputs.Input.TheVariants.{Tick}
 use Rattle.tsb_step.specs.State.{State}
 use Rattle.tsb_step.specs.Tick.{preempts_given, preempts_read, new_service, service, target, must_end, after_moves, gives_up, new_rings, next}
-use Rattle.tsb_step.specs.Signs.{commitment, shown, is_lasting, watched}
+use Rattle.tsb_step.specs.Signs.{commitment, shown, is_choosing, is_lasting, watched}
 use Rattle.tsb_step.specs.Step.{step}
 use Rattle.tsb_step.specs.TimeLaws.{ShowsTheSame}
 use Rattle.tsb_step.proofs.GiveUpLemmas.{committed_by_moves, gives_by, gives_none_lasting, keeps_all}
-use Rattle.tsb_step.proofs.StandLemmas.{rings_then}
+use Rattle.tsb_step.proofs.StandLemmas.{choosing_then, rings_then}
 
 -- ## Heads
 
@@ -114,13 +114,20 @@ module _ (s : State) (row : Row) where
       ap (λ (o : Option (ℕ → Bool)). preempts.is_outside o c) e ∙ ap not (and_parts (is_enabled s.plan c) (list c) it).1
 
   -- where they are given up
-  rings_given_up : gives_up s row ≡ true → (next s row).rings ≡ given_up s.plan (target s row) (after_moves s row).rings
+  pub rings_given_up : gives_up s row ≡ true → (next s row).rings ≡ given_up s.plan (target s row) (after_moves s row).rings
   unfolding new_rings
   rings_given_up h = rw h refl
 
   gives : is_anew s.plan (service s row) ≡ true → is_lasting (after_moves s row) ≡ false → gives_up s row ≡ true
   unfolding gives_up
   gives h e = rw (h, e) refl
+
+  -- so they are where it is in service after the tick and no overlap lasts then
+  pub gave_up : s.trip ≡ None → is_choosing (step s (Tick row)) ≡ true → is_lasting (step s (Tick row)) ≡ false → gives_up s row ≡ true
+  gave_up dark choosing quiet = gives (sym (choosing_then s row dark) ∙ choosing) (false_from_ne_true (is_lasting (after_moves s row)) lasted)
+    where
+      lasted : is_lasting (after_moves s row) ≡ true → ⊥
+      lasted e = true≢false (sym (lasting_then dark ∙ ap is_lasting (keeps_all s row (gives_none_lasting s row e)) ∙ e) ∙ quiet)
 
   pub wants_commitments : (r : Ring) (c : ℕ) → s.trip ≡ None → is_anew s.plan (service s row) ≡ true →
       (step s (Tick row)).rings.commitment r ≡ Some c → (must_end s row c ≡ false) ⊎ (is_lasting (step s (Tick row)) ≡ true)

@@ -108,6 +108,9 @@ revert_most t phases p =
     sum_under _ _ _ _ (reverting_most (t.yellow p) (t.revert p) (phases p).timer (phases p).red_revert (phases p).interval)
     (first_under (t.yellow p) (t.red p) t.clears (t.clears_most p)) (t.reverts_most p)
 
+pub revert_sum : (t : Limits) (phases : ℕ → Phase) (p : ℕ) → revert_of t phases p ≤ t.yellow p + t.revert p
+revert_sum t phases p = reverting_most (t.yellow p) (t.revert p) (phases p).timer (phases p).red_revert (phases p).interval
+
 pub revert_dark : (t : Limits) (phases : ℕ → Phase) (p : ℕ) → in_service (phases p).interval ≡ false → revert_of t phases p ≤ t.clears
 revert_dark t phases p h =
     under _ _ _ (reverting_dark (t.yellow p) (t.revert p) (phases p).timer (phases p).red_revert (phases p).interval h) (t.reverts_most p)

@@ -231,7 +231,7 @@ chosen_on = refl
 
 takes_anew : (base : List Input) (i : Input) → (replay leads base).plan ≡ leads → (replay leads (i ∷ base)).plan ≡ leads →
     ChoiceTakesAtMost leads base 1 2550 5100 510 510 (i ∷ [])
-takes_anew base i e f = (let k = takes base i e f in record { green = k.green; walk = k.walk; clearance = k.clearance; revert = k.revert })
+takes_anew base i e f = (let k = takes base i e f in record { stage = k; revert = k.revert })
 
 record Choice (plan : Plan) (base later : List Input) (n : ℕ) (stage : Stage) (g w c v : ℕ) : Type 0 where
   consistent : IsConsistent plan
