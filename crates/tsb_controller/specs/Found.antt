@@ -141,6 +141,10 @@ pub record TellsLasting (plan : Plan) (rows : Rows) (result : Bool) : Type 0 whe
   pub second_is : rings.TellsCommitment rows.rings 2 ring_2
   pub told : heads.TellsLasting intervals ring_1 ring_2 plan result
 
+-- no row changes but that of the rings
+abbrev pub LeavesAllButRings : Rows → Rows → Type 0
+LeavesAllButRings old new = new ≡ record old { rings = new.rings }
+
 -- the rings give up what they are committed to outside the target, unless an overlap lasts; no other row changes
 pub record IsGivenUpOutside (target : ℕ → Bool) (plan : Plan) (old new : Rows) : Type 0 where
   pub lasts : Bool
@@ -148,7 +152,7 @@ pub record IsGivenUpOutside (target : ℕ → Bool) (plan : Plan) (old new : Row
   pub given : lasts ≡ false → rings.IsGivenUp plan target old.rings new.rings
   pub stays : lasts ≡ true → new.rings ≡ old.rings
   pub rings_by : ring_cells.IsBy new.rings
-  pub rest : new ≡ record old { rings = new.rings }
+  pub rest : LeavesAllButRings old new
 
 -- so where there is a target, and else nothing changes
 abbrev pub IsGivenUpFor : Option PhaseSet → Plan → Rows → Rows → Type 0

@@ -6,7 +6,7 @@ ghost use Rattle.tsb_phase.specs.Cells as phases;
 ghost use Rattle.tsb_ring.specs.Cells as rings;
 ghost use Rattle.tsb_step.specs.Step.{last_tick};
 ghost use Rattle.tsb_step.specs.tsb_types.Sets.{has};
-ghost use Rattle.tsb_controller.specs.Found.{IsSensed, IsMoved, IsGivenUp, IsGivenUpOutside, TellsLasting};
+ghost use Rattle.tsb_controller.specs.Found.{IsSensed, IsMoved, IsGivenUp, IsGivenUpOutside, LeavesAllButRings, TellsLasting};
 ghost use Rattle.tsb_controller.specs.Rows.{AreBy};
 ghost use Rattle.tsb_controller.specs.Promises.{IsTicked};
 
@@ -109,6 +109,8 @@ impl Controller {
         requires opened { IsOpen self.old }
         requires rings_by { rings.IsBy (rows_of self.old).rings }
         ensures given { IsGivenUp sensed.now (checked_plan plan.now) (rows_of self.old) (rows_of self.new) }
+        ensures rings_by { rings.IsBy (rows_of self.new).rings }
+        ensures rest { LeavesAllButRings (rows_of self.old) (rows_of self.new) }
         ensures kept { kept_of self.new ≡ kept_of self.old }
         ensures opened { IsOpen self.new }
     {
