@@ -184,11 +184,11 @@ enter_pedestrian_clear plan n = 10 * plan.value PreemptEnterPedClear n
 abbrev pub track_green : Plan → ℕ → ℕ
 track_green plan n = 10 * plan.value PreemptTrackGreen n
 
--- under the service of preempt n a ring gives a commitment up to a phase that it does not want
+-- while preempt n is in service, a ring gives up its commitment to a phase that the preempt does not want
 abbrev pub chooses_anew : Plan → ℕ → Bool
 chooses_anew plan n = plan.value PreemptChoosesAnew n == 1
 
--- so is it with the preempt in service, if one is
+-- the preempt in service does so, if there is one
 abbrev pub is_anew : Plan → Option ℕ → Bool
 is_anew plan None = false
 is_anew plan (Some n) = chooses_anew plan n

@@ -38,7 +38,7 @@ none_strays test s h = rw (strays_not test (s.commitment Ring1) (h Ring1), stray
 -- and the other way about: where none strays, each commitment passes
 passes_unless_strays : (test : ℕ → Bool) (o : Option ℕ) (c : ℕ) → strays test o ≡ false → o ≡ Some c → test c ≡ true
 passes_unless_strays test None c h e = absurd cc
-passes_unless_strays test (Some d) c h e = (let same : d ≡ c = cc in sym (ap test (sym same)) ∙ not-false (test d) h)
+passes_unless_strays test (Some d) c h e = (let same : d ≡ c = cc in sym (ap test same) ∙ not-false (test d) h)
   where
     not-false : (b : Bool) → not b ≡ false → b ≡ true
     not-false true k = refl

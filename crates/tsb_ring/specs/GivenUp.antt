@@ -33,7 +33,7 @@ without_strays test s = record {
 abbrev pub given_up_in : (ℕ → Bool) → State → State
 given_up_in test s = if some_strays test s then without_strays test s else s
 
--- the rings once they have given up what is outside the target; all stands where no preempt is in service
+-- the rings once they have given up what is outside the target; they keep all where no preempt is in service
 unfoldable pub given_up : Plan → Option (ℕ → Bool) → State → State
 given_up plan None s = s
 given_up plan (Some target) s = given_up_in (is_targeted plan target) s

@@ -1,5 +1,5 @@
 //! What the rings give up under a preempt that chooses anew.
-ghost use Rattle.std.specs.Prelude.{◌≡◌, ◌||◌, is_some};
+ghost use Rattle.std.specs.Prelude.{◌≡◌, true, is_some};
 ghost use Rattle.tsb_objects.specs.Checked.{checked_plan};
 ghost use Rattle.tsb_types.specs.Sets.{has};
 ghost use Rattle.tsb_ring.specs.Cells.{IsBy};
@@ -29,10 +29,15 @@ fn strays(set: PhaseSet, commitment: Option<Phase>) -> bool
 fn kept_commitment(set: PhaseSet, crosses: bool, commitment: Option<Phase>) -> Option<Phase>
     ensures { result ≡ kept_commitment (has set) crosses commitment }
 {
-    if crosses || strays(set, commitment) {
-        None
-    } else {
-        commitment
+    match commitment {
+        None => None,
+        Some(c) => {
+            if crosses || !set.contains(c) {
+                None
+            } else {
+                Some(c)
+            }
+        }
     }
 }
 
