@@ -63,7 +63,7 @@ TWICE = {
     "Stop": {"tsb_plan_notes", "tsb_live_text"},
     "Watched": {"tsb_bench", "tsb_lines"},
 }
-UNPROVED = {"tsb_tests", "tsb_field_tests", "tsb_layer_runs", "tsb_runs", "tsb_speed"}
+UNPROVED = {"tsb_tests", "tsb_field_tests", "tsb_layer_runs", "tsb_runs"}
 
 # Numbers that are of something else.
 OTHERS = {

@@ -2,7 +2,7 @@
 ghost use Rattle.std.specs.Prelude.{◌<◌, ◌≤◌};
 ghost use Rattle.tsb_step.specs.Step.{last_tick};
 
-use crate::random::Random;
+use crate::timed::random::Random;
 use std::alloc::{AllocError, Global};
 use tsb_objects::limits;
 

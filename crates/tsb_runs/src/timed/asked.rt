@@ -46,7 +46,7 @@ impl Asked<'_> {
 
 /// The words ask for nothing.
 #[derive(Clone, Copy, Debug, Error, PartialEq, Eq)]
-#[error("usage: tsb_speed PLAN LOG TICKS ticks|undo|when|lines|status|all|log [times]")]
+#[error("usage: tsb_runs PLAN LOG TICKS ticks|undo|when|lines|status|all|log [times]")]
 pub struct BadWords;
 
 /// What the words ask for, after the program's name.

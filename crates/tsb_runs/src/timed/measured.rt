@@ -1,7 +1,7 @@
 //! What is measured.
 
-use crate::counted::Counted;
-use crate::watches::watches;
+use crate::timed::counted::Counted;
+use crate::timed::watches::watches;
 use anyhow::Result;
 use std::alloc::AllocError;
 use std::time::Instant;

@@ -1,5 +1,5 @@
-//! Runs the whole bench on a random log, to be timed from outside: `tsb_speed PLAN LOG TICKS KIND`. PLAN is the file of
-//! a plan, LOG the number of a random log, and TICKS how many ticks of it there are. KIND is one of
+//! Runs of the whole bench on a random log, timed from outside: `tsb_runs PLAN LOG TICKS KIND`. PLAN is the file of a
+//! plan, LOG the number of a random log, and TICKS how many ticks of it there are. KIND is one of
 //!
 //! - `ticks`: they pass;
 //! - `undo`: they pass, and each is taken back;
@@ -9,8 +9,7 @@
 //! - `all`: these five, one after the other;
 //! - `log`: the log is written.
 //!
-//! What was counted is written, and with a fifth word, `times`, also how long it took. Without words nothing is done.
-#![tactic(auto)]
+//! What was counted is written, and with a fifth word, `times`, also how long it took.
 
 mod asked;
 mod counted;
@@ -19,30 +18,24 @@ mod random;
 mod random_log;
 mod watches;
 
-use crate::asked::{Asked, Kind, read_words};
-use crate::measured::Measured;
-use crate::random_log::random_log;
+use crate::timed::asked::{Asked, Kind, read_words};
+use crate::timed::measured::Measured;
+use crate::timed::random_log::random_log;
 use anyhow::{Context, Result};
+use std::fs;
 use std::io::{self, Write};
-use std::{env, fs};
 use tsb_text::{Log, read_log, read_plan};
 
-fn main(rt: HostRuntime) -> Result<()> {
-    let mut words = Vec::new(rt.alloc());
-    for word in env::args(&rt)? {
-        words.push(word)?;
-    }
-    if words.len() < 2 {
-        return Ok(());
-    }
-    let asked = read_words(&words[1..])?;
+/// Does what the words ask for, after the program's name.
+pub fn timed(rt: &HostRuntime, words: &[String]) -> Result<()> {
+    let asked = read_words(words)?;
     let text = random_log(rt.alloc(), asked.log, asked.ticks)?;
     if asked.kind == Kind::Log {
-        io::writer(&rt).write_all(&text)?;
+        io::writer(rt).write_all(&text)?;
         return Ok(());
     }
     let log = read_log(rt.alloc(), &text)?;
-    measure(&rt, &asked, &log)
+    measure(rt, &asked, &log)
 }
 
 /// Measures what was asked for.
