@@ -5,8 +5,8 @@
 Each run has its words, its input, and the exact bytes that it must write on standard output and on standard error, with
 the status that it must end with. Plans, logs and sessions, with what they are answered, are those of `examples/`; lines
 of faults are those of docs/use/MANUAL.md. The programs run in a folder that holds a copy of the examples and some files
-more, and that is taken away afterwards. The last session goes through all 6,000,000 ticks that there are, and so does
-PLAYER, the program tsb_runs, which plays and copies the bench, and counts what passes on a random log.
+more, and that is taken away afterwards. The last session goes through all 6,000,000 ticks that there are. PLAYER is the program
+tsb_runs: it plays through all ticks too and copies the bench, and it counts what passes on a random log.
 """
 import itertools
 import os
