@@ -37,7 +37,8 @@ use Rattle.tsb_text.specs.declared.kept.Other.{Other}
 use Rattle.tsb_live_text.specs.saved.Laws.{AreSpelled, CommandsAreRead, IsLamp, IsSpelled, IsUpTo, command_of, commands_at, steps}
 use Rattle.tsb_live_text.specs.saved.Saved.{commands_from, input_line, input_text, lamp_line, number_word, pedestrian_word, signal_word, step_text, switch_word}
 use Rattle.tsb_live_text.specs.saved.Says.{are_plain, is_plain}
-use Rattle.tsb_live_text.proofs.saved.PlainLemmas.{Plain, name-plain, name-short, number-plain, plain-is, plain-join}
+use Rattle.tsb_live_text.proofs.saved.PlainLemmas.{Plain, name-plain, number-plain, plain-is, plain-join}
+use Rattle.tsb_status_text.proofs.TextLemmas.{short_name}
 
 -- ## Words
 
@@ -246,7 +247,7 @@ unfolding command_of_five
 set-read s id v h index value =
     line-read (codes "set" ++ 32 ∷ (decimal s ++ 32 ∷ (name_of id.object ++ 32 ∷ (decimal id.index ++ 32 ∷ decimal v))))
     (codes "set" ∷ decimal s ∷ name_of id.object ∷ decimal id.index ∷ decimal v ∷ []) (commands.Set s id v)
-    (set-short (decimal s) (name_of id.object) (decimal id.index) (decimal v) (number-short s (omega (arith, h.1))) (name-short id.object) (number-short id.index index) (number-short v value))
+    (set-short (decimal s) (name_of id.object) (decimal id.index) (decimal v) (number-short s (omega (arith, h.1))) (short_name id.object) (number-short id.index index) (number-short v value))
     refl
     (set-words (decimal s) (name_of id.object) (decimal id.index) (decimal v) (number-word s (omega (arith, h.1))) (name-word id.object) (number-word id.index (omega (arith, index))) (number-word v (omega (arith, value))))
     (λ j. set_of (station-read s h j) (name-found id.object j) (number-read id.index index j) (number-read v value j))

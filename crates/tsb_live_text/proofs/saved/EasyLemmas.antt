@@ -17,6 +17,7 @@ use Rattle.tsb_live_text.specs.saved.Says.{are_plain, is_plain}
 use Rattle.tsb_live_text.proofs.saved.CommandLemmas.{apart, input-plain, step-plain}
 use Rattle.tsb_live_text.proofs.saved.PlainLemmas.{Plain, byte-escape, plain-is, row-plain}
 use Rattle.tsb_live_text.proofs.saved.SavedLemmas.{saved-bytes}
+use Rattle.tsb_lines.proofs.LineLemmas.{feedless-both}
 
 easy-join : (xs ys : List ℕ) → list_all is_easy xs ≡ true → list_all is_easy ys ≡ true → list_all is_easy (xs ++ ys) ≡ true
 easy-join xs ys p q = list_all-append is_easy xs ys ∙ and_from (list_all is_easy xs) (list_all is_easy ys) p q
@@ -54,10 +55,6 @@ commands-easy now (o ∷ os) t lt h =
 
 -- ## One line
 
-feedless-append : (xs ys : List ℕ) → HasNoFeed xs → HasNoFeed ys → HasNoFeed (xs ++ ys)
-feedless-append [] ys f g = g
-feedless-append (x ∷ xs) ys f g = (f.0, feedless-append xs ys f.1 g)
-
 -- the escape of a line feed, or a plain byte
 feed-feedless : HasNoFeed (escape_byte 10)
 unfolding escape_byte
@@ -75,7 +72,7 @@ escape-feedless : (bytes : List ℕ) → list_all is_easy bytes ≡ true → Has
 escape-feedless [] p = tt
 escape-feedless (b ∷ bs) p =
     let both = and_parts (is_easy b) (list_all is_easy bs) p in
-    feedless-append (escape_byte b) (escape bs) (byte-feedless b both.0) (escape-feedless bs both.1)
+    feedless-both (escape_byte b) (escape bs) (byte-feedless b both.0) (escape-feedless bs both.1)
 
 -- bytes of which none is a line feed, computed
 feedless : (bytes : List ℕ) → list_all (λ b. not (b == 10)) bytes ≡ true → HasNoFeed bytes
@@ -91,9 +88,9 @@ easy kept now lt h =
       log,
       commands,
       subst HasNoFeed (sym (saved-bytes kept now)) (
-          feedless-append (codes "{\"log\":\"") (escape (log_text kept.rows) ++ (codes "\",\"commands\":\"" ++ (escape (commands_text kept now) ++ codes "\"}"))) (feedless (codes "{\"log\":\"") refl)
-          (feedless-append (escape (log_text kept.rows)) (codes "\",\"commands\":\"" ++ (escape (commands_text kept now) ++ codes "\"}")) (escape-feedless (log_text kept.rows) log)
-          (feedless-append (codes "\",\"commands\":\"") (escape (commands_text kept now) ++ codes "\"}") (feedless (codes "\",\"commands\":\"") refl)
-          (feedless-append (escape (commands_text kept now)) (codes "\"}") (escape-feedless (commands_text kept now) commands) (feedless (codes "\"}") refl))))
+          feedless-both (codes "{\"log\":\"") (escape (log_text kept.rows) ++ (codes "\",\"commands\":\"" ++ (escape (commands_text kept now) ++ codes "\"}"))) (feedless (codes "{\"log\":\"") refl)
+          (feedless-both (escape (log_text kept.rows)) (codes "\",\"commands\":\"" ++ (escape (commands_text kept now) ++ codes "\"}")) (escape-feedless (log_text kept.rows) log)
+          (feedless-both (codes "\",\"commands\":\"") (escape (commands_text kept now) ++ codes "\"}") (feedless (codes "\",\"commands\":\"") refl)
+          (feedless-both (escape (commands_text kept now)) (codes "\"}") (escape-feedless (commands_text kept now) commands) (feedless (codes "\"}") refl))))
           ),
     )

@@ -13,6 +13,7 @@ use Rattle.tsb_text.specs.tsb_step.tsb_plan.Names.{name_of}
 use Rattle.tsb_text.specs.tsb_step.tsb_plan.declared.object.Object.{Object}
 use Rattle.tsb_live_text.specs.saved.Saved.{number_word}
 use Rattle.tsb_live_text.specs.saved.Says.{are_plain, is_plain}
+use Rattle.tsb_status_text.proofs.TextLemmas.{short_name}
 
 -- ## Which bytes are plain
 
@@ -34,10 +35,6 @@ one-plain b p = and_from (is_plain b) true p refl
 pub number-plain : (n : ℕ) → n < 2 ^ 64 → are_plain (decimal n) ≡ true
 number-plain = decimal_by_steps (λ (n : ℕ) (ds : List ℕ). are_plain ds ≡ true) (λ n lt. one-plain (48 + n) (digit-plain n lt))
     (λ n ds le h. plain-join ds ((48 + n % 10) ∷ []) h (one-plain (48 + n % 10) (digit-plain (n % 10) (omega arith))))
-
--- no name is long
-pub name-short : (o : Object) → length (name_of o) ≤ 28
-name-short o = search rules
 
 pub name-plain : (o : Object) → are_plain (name_of o) ≡ true
 name-plain o = search rules

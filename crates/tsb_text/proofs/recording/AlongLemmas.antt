@@ -21,6 +21,7 @@ use Rattle.tsb_text.specs.recording.Along.{noted_after, telling, told_along, wit
 use Rattle.tsb_text.specs.recording.Told.{Telling, event_tick, gone_back, mark_tick, without_later}
 use Rattle.tsb_text.proofs.recording.TickLemmas.{AreAt, at-none, at-more, at-of}
 use Rattle.tsb_text.proofs.recording.ToldLemmas.{AreBy, AreLater, by-none, by-more, later-none, later-more, by-append, by-front, by-stays, later-gone}
+use Rattle.tsb_text.proofs.kept.KeptLemmas.{same-now}
 
 -- ## Tick numbers
 
@@ -28,22 +29,6 @@ use Rattle.tsb_text.proofs.recording.ToldLemmas.{AreBy, AreLater, by-none, by-mo
 abbrev pub IsNoTick : Input → Type 0
 IsNoTick (Tick row) = ⊥
 IsNoTick i = Unit {0}
-
--- it leaves the tick number
-pub same-now : (s : State) (i : Input) → IsNoTick i → (step s i).now ≡ s.now
-unfolding step watched
-same-now s (Tick row) none = absurd none
-same-now s (Fault lamp) none = go (is_some s.trip)
-  where
-    go : (b : Bool) → (if b then record s { lamp = lamp } else watched s (record s { lamp = lamp })).now ≡ s.now
-    go true = refl
-    go false = refl
-same-now s Reset none = go (is_some s.trip)
-  where
-    go : (b : Bool) → (if b then restarted s else s).now ≡ s.now
-    go true = refl
-    go false = refl
-same-now s i none = refl
 
 no-less : (plan : Plan) (i : Input) (is : List Input) → (replay plan is).now ≤ (replay plan (i ∷ is)).now
 no-less plan i is = (ticks_are_counted plan).on (replay plan is) i

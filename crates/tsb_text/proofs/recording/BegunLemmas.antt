@@ -26,15 +26,9 @@ use Rattle.tsb_text.specs.declared.faults.OnFault.{OnFault}
 use Rattle.tsb_text.specs.recording.Ended.{Carries, IsBegun}
 use Rattle.tsb_text.specs.recording.Faults.{fault_text}
 use Rattle.tsb_text.specs.recording.Leaves.{Asked, Come, Does, End, Ends, Follows, Leaves, Steps, flow_after, quits, refusal_in, stop_at}
+use Rattle.tsb_text.proofs.TextLemmas.{right-input}
 
 -- ## Lines come to something
-
-right-input : (given : Setup) (is : List Input) (i : Input) → IsRight given.plan is (asks.Apply i) Took ⊎ ((e : Refusal) × IsRight given.plan is (asks.Apply i) (Refused e))
-right-input given is i = at (verdict (replay given.plan is) i) refl
-  where
-    at : (found : Option Refusal) → verdict (replay given.plan is) i ≡ found → IsRight given.plan is (asks.Apply i) Took ⊎ ((e : Refusal) × IsRight given.plan is (asks.Apply i) (Refused e))
-    at None e = inl e
-    at (Some x) e = inr (x, refuses (replay given.plan is) i x e)
 
 -- a right answer says what is left, and why it was refused
 asked : (given : Setup) (is : List Input) (cmd : Cmd) (a : Answer) → IsRight given.plan is cmd a → (refusal : Option Refusal) × (new : List Input) × Asked given is cmd refusal new

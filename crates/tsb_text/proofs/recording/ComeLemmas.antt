@@ -24,11 +24,9 @@ use Rattle.tsb_text.specs.Faults.{fault_words, shown, shown_byte}
 use Rattle.tsb_text.specs.recording.Faults.{fault_text}
 use Rattle.tsb_text.specs.recording.Leaves.{Come, Does, End, Ends, Follows, flow_after, quits, stop_at}
 use Rattle.tsb_text.specs.recording.Lines.{Course, TellsLine, says}
+use Rattle.tsb_text.proofs.TextLemmas.{reading-long}
 
 -- ## What is kept of a line reads as all of it
-
-reading-long : (line : List ℕ) → 200 < length line → reading line ≡ Bad
-reading-long line long = let lt : nat_lt 200 (length line) ≡ true = search (rules, long) in rw lt refl
 
 last-read : (line : List ℕ) → reading (kept 202 line) ≡ reading line
 last-read line = kept-tells reading 202 Bad (λ v long. reading-long v (omega (arith, long))) line
@@ -74,14 +72,6 @@ tells-same w given is n line other text flow new reads shows t = (
   t.3,
   t.4 ∙ ap (λ (r : Reading). flow_after (quits r) (stop_at w n t.0)) reads,
 )
-
--- a line with its line feed, and what stands after
-whole-line : (line more : List ℕ) → HasNoFeed line → lines_of (line ++ 10 ∷ more) ≡ without_return line ∷ lines_of more
-whole-line line more f = lines-joined line more f
-
--- and one without
-last-line : (line : List ℕ) → HasNoFeed line → lines_of line ≡ line ∷ []
-last-line line f = lines-alone line f
 
 -- ## A line
 
@@ -158,7 +148,7 @@ continues-line w form given line lines before answer then now f k told = record 
       tells-same w given then.end.inputs (suc (length lines)) (asked 202 line) (without_return line) answer On now.end (line-read line) (line-shown line)
       (told-given w given (suc (length lines)) (asked 202 line) answer On then now k.same k.way told) in
       let here : Come w given end (suc (length lines)) then.end.inputs (lines_of (line ++ 10 ∷ tail)) (answer ++ more) =
-      subst (λ (ls : List (List ℕ)). Come w given end (suc (length lines)) then.end.inputs ls (answer ++ more)) (sym (whole-line line tail f))
+      subst (λ (ls : List (List ℕ)). Come w given end (suc (length lines)) then.end.inputs ls (answer ++ more)) (sym (lines-joined line tail f))
       (on-comes w given (suc (length lines)) then.end.inputs (without_return line) answer now.end end (lines_of tail) more tells come) in
       let bytes : fed lines ++ (line ++ 10 ∷ tail) ≡ (fed lines ++ (line ++ 10 ∷ [])) ++ tail =
       ap (λ (v : List ℕ). fed lines ++ v) (sym (append_assoc line (10 ∷ []) tail)) ∙ sym (append_assoc (fed lines) (line ++ 10 ∷ []) tail) in
@@ -209,7 +199,7 @@ answered-come w form given bytes text last a =
     tells-same w given a.now.end.inputs a.number a.held h.rest a.answer a.flow last.end (ap reading h.kept ∙ last-read h.rest) (ap shown h.kept ∙ last-shown h.rest)
     (told-given w given a.number a.held a.answer a.flow a.now last k.same k.way a.told) in
     let here : Come w given last.end a.number a.now.end.inputs (lines_of (h.rest ++ [])) a.answer =
-    subst (λ (ls : List (List ℕ)). Come w given last.end a.number a.now.end.inputs ls a.answer) (sym (ap lines_of (append-nil h.rest) ∙ last-line h.rest h.unfinished))
+    subst (λ (ls : List (List ℕ)). Come w given last.end a.number a.now.end.inputs ls a.answer) (sym (ap lines_of (append-nil h.rest) ∙ lines-alone h.rest h.unfinished))
     (last-comes w given a.number a.now.end.inputs h.rest a.answer a.flow last.end tells) in
     let all : Come w given last.end 1 [] (lines_of (bytes ++ [])) (a.before ++ a.answer) =
     (heard-carries w form given bytes a.before a.number a.now a.held h).on last.end [] a.answer here in
@@ -230,7 +220,7 @@ over-come w form given bytes text last o =
       λ more.
           let after : List ℕ = o.more ++ more in
           let here : Come w given last.end o.number o.now.end.inputs (lines_of (h.rest ++ 10 ∷ after)) o.answer =
-          subst (λ (ls : List (List ℕ)). Come w given last.end o.number o.now.end.inputs ls o.answer) (sym (whole-line h.rest after h.unfinished))
+          subst (λ (ls : List (List ℕ)). Come w given last.end o.number o.now.end.inputs ls o.answer) (sym (lines-joined h.rest after h.unfinished))
           (over-comes w given o.number o.now.end.inputs (without_return h.rest) o.answer last.end (lines_of after) tells) in
           let all : Come w given last.end 1 [] (lines_of (o.front ++ 10 ∷ after)) (o.before ++ o.answer) =
           (heard-carries w form given o.front o.before o.number o.now o.held h).on last.end (10 ∷ after) o.answer here in

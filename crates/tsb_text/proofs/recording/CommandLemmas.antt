@@ -22,20 +22,20 @@ use Rattle.tsb_text.specs.declared.faults.OnFault.{OnFault}
 use Rattle.tsb_text.specs.recording.Leaves.{Asked, Come, Does, End, Ends, Follows, Leaves, Steps, flow_after, quits, stop_at}
 
 -- commands with right answers lead from some inputs to others
-record Leads (plan : Plan) (is new : List Input) : Type 0 where
-  cs : List Cmd
-  ans : List Answer
-  right : AreRightFrom plan is cs ans
-  left : new ≡ remaining_from plan is cs ans
+pub record Leads (plan : Plan) (is new : List Input) : Type 0 where
+  pub cs : List Cmd
+  pub ans : List Answer
+  pub right : AreRightFrom plan is cs ans
+  pub left : new ≡ remaining_from plan is cs ans
 
-stay : (plan : Plan) (is new : List Input) → new ≡ is → Leads plan is new
+pub stay : (plan : Plan) (is new : List Input) → new ≡ is → Leads plan is new
 stay plan is new same = record { cs = []; ans = []; right = tt; left = same }
 
-one : (plan : Plan) (is new : List Input) (c : Cmd) (a : Answer) → IsRight plan is c a → new ≡ remaining_after plan is c a → Leads plan is new
+pub one : (plan : Plan) (is new : List Input) (c : Cmd) (a : Answer) → IsRight plan is c a → new ≡ remaining_after plan is c a → Leads plan is new
 one plan is new c a right left = record { cs = c ∷ []; ans = a ∷ []; right = (right, tt); left = left }
 
 -- one command, and then others
-onto : (plan : Plan) (is last : List Input) (c : Cmd) (a : Answer) → IsRight plan is c a → Leads plan (remaining_after plan is c a) last → Leads plan is last
+pub onto : (plan : Plan) (is last : List Input) (c : Cmd) (a : Answer) → IsRight plan is c a → Leads plan (remaining_after plan is c a) last → Leads plan is last
 onto plan is last c a right rest = record { cs = c ∷ rest.cs; ans = a ∷ rest.ans; right = (right, rest.right); left = rest.left }
 
 both : (plan : Plan) (is new last : List Input) (cs : List Cmd) (ans : List Answer) → AreRightFrom plan is cs ans → new ≡ remaining_from plan is cs ans → Leads plan new last → Leads plan is last
@@ -45,7 +45,7 @@ both plan is new last (c ∷ cs) [] right left rest = absurd right
 both plan is new last (c ∷ cs) (a ∷ ans) right left rest =
     onto plan is last c a right.0 (both plan (remaining_after plan is c a) new last cs ans right.1 left rest)
 
-then : (plan : Plan) (is new last : List Input) → Leads plan is new → Leads plan new last → Leads plan is last
+pub then : (plan : Plan) (is new last : List Input) → Leads plan is new → Leads plan new last → Leads plan is last
 then plan is new last first rest = both plan is new last first.cs first.ans first.right first.left rest
 
 by-steps : (given : Setup) (n : ℕ) (is : List Input) (refusal : Option Refusal) (new : List Input) → Steps given is n refusal new → Leads given.plan is new
