@@ -13,7 +13,6 @@ use Rattle.tsb_text.specs.tsb_step.tsb_plan.Names.{name_of}
 use Rattle.tsb_text.specs.tsb_step.tsb_plan.declared.object.Object.{Object}
 use Rattle.tsb_live_text.specs.saved.Saved.{number_word}
 use Rattle.tsb_live_text.specs.saved.Says.{are_plain, is_plain}
-use Rattle.tsb_status_text.proofs.TextLemmas.{short_name}
 
 -- ## Which bytes are plain
 
