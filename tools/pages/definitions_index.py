@@ -26,7 +26,7 @@ MOST = 6
 
 DEFINITION = re.compile(r"\s*(?:abbrev|unfoldable) pub (\S+)|pub (?:record|data) (\S+)|pub (\S+) :")
 # (a crate's definitions may be named by way of one above it, which passes them on under the crate's name)
-GHOST_USE = re.compile(r"ghost use Rattle\.(?:\w+\.specs\.(?=tsb_))?(\w+)(?:\.specs)?\.(\w+)\.\{([^}]*)\}")
+GHOST_USE = re.compile(r"ghost use Rattle\.(?:\w+\.specs\.(?=tsb_))?(\w+)(?:\.specs)?\.((?:\w+\.)*\w+)\.\{([^}]*)\}")
 OWNER = re.compile(r"\s*(pub )?(?:pub\(\w+\) )?(?:const )?(?:fn|struct|trait|enum) (\w+)")
 IMPL = re.compile(r"(?:impl(?:<.*?>)?|pub trait) ([\w:<>, ]+ for )?(\w+)")
 
@@ -116,15 +116,21 @@ def crates() -> list[str]:
     return [line.split(":")[0] for line in lines if not line.startswith("#")]
 
 
+def module_name(crate: str, path: pathlib.Path) -> str:
+    """The name of a module within its crate, with that of its folder if it is in one."""
+    return ".".join(path.relative_to(pathlib.Path("crates", crate, "specs")).with_suffix("").parts)
+
+
 def table(crate: str, path: pathlib.Path, named: dict[Place, dict[str, None]]) -> list[str]:
     """The part of a module, which is empty where it has no public definition."""
     head, definitions = module(path)
     if not definitions:
         return []
-    lines = [f"### `{path.stem}`", "", *textwrap.wrap(f"{head}.", 120)] if head else [f"### `{path.stem}`"]
+    named_so = module_name(crate, path)
+    lines = [f"### `{named_so}`", "", *textwrap.wrap(f"{head}.", 120)] if head else [f"### `{named_so}`"]
     lines += ["", "| Definition | What it is | Contract of |", "|---|---|---|"]
     for name, said in definitions:
-        cells = [f"`{name}`", said, told(named.get((crate, path.stem, name), {}))]
+        cells = [f"`{name}`", said, told(named.get((crate, named_so, name), {}))]
         lines.append(re.sub(" +", " ", f"| {' | '.join(cells)} |"))
     return [*lines, ""]
 

@@ -46,11 +46,11 @@ TWICE = {
     "Events": {"tsb_events", "tsb_field_display"},
     "Found": {"tsb_events", "tsb_ring"},
     "Kind": {"tsb_field_diagram", "tsb_field_log", "tsb_history"},
-    "Line": {"tsb_review_text", "tsb_saved"},
-    "Mark": {"tsb_field_diagram", "tsb_record"},
+    "Line": {"tsb_live_text", "tsb_review_text"},
+    "Mark": {"tsb_field_diagram", "tsb_text"},
     "Asked": {"tsb_coord", "tsb_words"},
     "Next": {"tsb_plan_notes", "tsb_status"},
-    "Outcome": {"tsb_record", "tsb_ring"},
+    "Outcome": {"tsb_ring", "tsb_text"},
     "Place": {"tsb_breaches", "tsb_review"},
     "Reading": {"tsb_command_text", "tsb_field_streams"},
     "Refusal": {"tsb_program", "tsb_types"},
@@ -63,7 +63,7 @@ TWICE = {
     "Stop": {"tsb_plan_notes", "tsb_live_text"},
     "Watched": {"tsb_bench", "tsb_lines"},
 }
-UNPROVED = {"tsb_tests", "tsb_field_tests", "tsb_layer_runs", "tsb_runs", "tsb_speed"}
+UNPROVED = {"tsb_tests", "tsb_field_tests", "tsb_layer_runs", "tsb_runs"}
 
 # Numbers that are of something else.
 OTHERS = {

@@ -234,7 +234,7 @@ def pieces(program, wrong, runs=GOOD + BAD, lines=INPUTS + WAY_BACK):
 
 # --- commands that are played ---
 
-MEMORY_FOR_NONE = ["commands: memory"], ["play: memory"]
+MEMORY_FOR_NONE = ["words: memory"], ["commands: memory"], ["play: memory"]
 
 
 def played(program, number=0):
@@ -258,7 +258,7 @@ def plays(program, wrong):
             wanted.insert(place, "Refused(Memory)")
         found[kind] += 1
         wrong.compare(f"the player, request {number}", ended, (0, text_of(wanted), b""))
-    wrong += [f"memory was refused to no {kind}" for kind in ("commands", "play", "copy", "input") if not found[kind]]
+    wrong += [f"memory was refused to no {kind}" for kind in ("words", "commands", "play", "copy", "input") if not found[kind]]
 
 
 def main(words):

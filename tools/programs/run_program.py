@@ -5,8 +5,8 @@
 Each run has its words, its input, and the exact bytes that it must write on standard output and on standard error, with
 the status that it must end with. Plans, logs and sessions, with what they are answered, are those of `examples/`; lines
 of faults are those of docs/use/MANUAL.md. The programs run in a folder that holds a copy of the examples and some files
-more, and that is taken away afterwards. The last session goes through all 6,000,000 ticks that there are, and so does
-PLAYER, the program tsb_runs, which plays and copies the bench.
+more, and that is taken away afterwards. The last session goes through all 6,000,000 ticks that there are. PLAYER is the program
+tsb_runs: it plays through all ticks too and copies the bench, and it counts what passes on a random log.
 """
 import itertools
 import os
@@ -18,6 +18,8 @@ import tempfile
 import threading
 
 EXAMPLES = pathlib.Path("examples")
+# What the player counts where it times the bench on a random log.
+TIMED = pathlib.Path("crates/tsb_runs/data/timed.txt")
 USAGE = b"usage: tsb check PLAN or tsb run PLAN LOG\n"
 LIVE_USAGE = b"usage: tsb_live [--strict] PLAN\n"
 # What a program answers of its version, and what it says of a word that is nearly right.
@@ -273,6 +275,12 @@ def played_ticks(player):
     return [f"ticks that are played: {it}" for it in Run([], 0, wanted.encode(), b"", b"all ticks").differences(player, ".")]
 
 
+def timed_runs(player):
+    """What a run of the player over a random log counts otherwise."""
+    run = Run([str(EXAMPLES.resolve() / "quad.json"), "0", "2000", "all"], 0, TIMED.read_bytes())
+    return [f"a random log: {it}" for it in run.differences(player, ".")]
+
+
 def read_too_far(program):
     """Whether a session reads on after the byte that makes its commands too long: of a file, what is left stays there."""
     with tempfile.TemporaryFile() as commands:
@@ -329,8 +337,8 @@ def main(words):
         fill(folder)
         for path, run in runs:
             wrong += [f"{path.name} {run.words} {run.places or ''}: {it}" for it in run.differences(path, folder)]
-    wrong += longest_session(program) + read_too_far(program) + played_ticks(player)
-    print("\n".join(wrong) if wrong else f"program: {len(runs) + 3} runs as expected")
+    wrong += longest_session(program) + read_too_far(program) + played_ticks(player) + timed_runs(player)
+    print("\n".join(wrong) if wrong else f"program: {len(runs) + 4} runs as expected")
     return 1 if wrong else 0
 
 

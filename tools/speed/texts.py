@@ -23,7 +23,7 @@ VEHICLE, PEDESTRIAN, LAST_PEDESTRIAN = 8, 26, 32
 
 
 class Chance:
-    """The random numbers of crates/tsb_speed: xorshift64*."""
+    """The random numbers of crates/tsb_runs: xorshift64*."""
 
     def __init__(self, number: int) -> None:
         self.state = 0x9E37_79B9_7F4A_7C15 ^ number
@@ -41,7 +41,7 @@ class Chance:
 def random_log(number: int, ticks: int, detectors: int = 8) -> bytes:
     """The log of this number: so many vehicle detectors change every 3 to 10 seconds, pedestrian 2 every 20 to 120.
 
-    With 8 detectors it is the log that crates/tsb_speed makes.
+    With 8 detectors it is the log that crates/tsb_runs makes.
     """
     chance, row, found = Chance(number), bytearray(ROW), bytearray()
     due = [(1 + chance.below(100), place) for place in range(detectors + 1)]

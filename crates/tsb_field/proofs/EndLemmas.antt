@@ -25,13 +25,13 @@ use Rattle.tsb_field_display.specs.Remaining.{changes_in, last_in}
 use Rattle.tsb_field_display.specs.Stream.{ReadSo, ReplayRead}
 use Rattle.tsb_field_display.specs.declared.replay.Replay.{Replay}
 use Rattle.tsb_field_display.specs.declared.shown.Shown.{Shown}
-use Rattle.tsb_record.specs.declared.recording.RecordOptions.{RecordOptions}
+use Rattle.tsb_text.specs.declared.recording.RecordOptions.{RecordOptions}
 use Rattle.tsb_field_display.specs.Merge.{session_events}
 use Rattle.tsb_field_display.specs.Texts.{IsLog, LogWritten}
 use Rattle.tsb_field_display.specs.declared.events_error.EventsError.{EventsError}
 use Rattle.tsb_field_display.specs.declared.events_error.EventsError.TheVariants as events
 use Rattle.tsb_field_diagram.specs.Page.{diagram_text}
-use Rattle.tsb_record.specs.tsb_types.declared.event.Event.{Event}
+use Rattle.tsb_text.specs.tsb_types.declared.event.Event.{Event}
 use Rattle.tsb_field_streams.specs.declared.error.FilterError.{FilterError}
 use Rattle.tsb_field_streams.specs.declared.error.FilterError.TheVariants as filters
 use Rattle.tsb_field_streams.specs.FaultLines.{filter_fault}

@@ -4,5 +4,5 @@ pub mod EndLemmas
 pub mod ReportLemmas
 -- the lines of detectors
 pub mod TwiceLemmas
+
 -- a text of two parts
-pub mod ReviewLemmas

@@ -27,13 +27,13 @@ use Rattle.tsb_field_display.specs.declared.events_error.EventsError.TheVariants
 use Rattle.tsb_field_display.specs.Merge.{session_events}
 use Rattle.tsb_field_display.specs.Texts.{IsLog}
 use Rattle.tsb_field_display.specs.Ticks.{AreWritten}
-use Rattle.tsb_record.specs.Ended as recorded
+use Rattle.tsb_text.specs.recording.Ended as recorded
 use Rattle.tsb_text.specs.declared.faults.OnFault.{OnFault}
 use Rattle.tsb_text.specs.declared.faults.OnFault.TheVariants.{GoOn, Stop}
-use Rattle.tsb_record.specs.declared.recording.RecordOptions.{RecordOptions}
-use Rattle.tsb_record.specs.declared.recording.Outcome.{Outcome}
-use Rattle.tsb_record.specs.declared.recording.Outcome.TheVariants as outcomes
-use Rattle.tsb_record.specs.tsb_types.declared.event.Event.{Event}
+use Rattle.tsb_text.specs.declared.recording.RecordOptions.{RecordOptions}
+use Rattle.tsb_text.specs.declared.recording.Outcome.{Outcome}
+use Rattle.tsb_text.specs.declared.recording.Outcome.TheVariants as outcomes
+use Rattle.tsb_text.specs.tsb_types.declared.event.Event.{Event}
 use Rattle.tsb_text.specs.Answers.{Setup}
 use Rattle.tsb_text.specs.Blame.{Blames}
 use Rattle.tsb_text.specs.declared.error.SessionError.{SessionError}

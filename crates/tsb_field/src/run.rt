@@ -26,8 +26,7 @@ use tsb_program::{
     Failure, Files, ReadError, Status, Watched, fail, log_of, plan_or_place, refuse_log,
     refuse_plan, tell_input_end,
 };
-use tsb_record::{LogForm, OnFault, Outcome, RecordOptions, record};
-use tsb_text::Checked;
+use tsb_text::{Checked, LogForm, OnFault, Outcome, RecordOptions, record};
 use tsb_words::field_files::{Asked, RecordManner, read_words};
 use tsb_words::near::field_near;
 use tsb_words::pages::field_page;

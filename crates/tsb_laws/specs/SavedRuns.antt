@@ -3,8 +3,8 @@
 -- It is proved, as the contract of a function that does nothing (src/one_text.rt).
 use Rattle.std.specs.Prelude.{◌≡◌, ℕ, List, [], ◌∷◌, ◌++◌}
 use Rattle.tsb_command_text.specs.declared.command.Command.{Command}
-use Rattle.tsb_kept.specs.Kept.{kept_of}
-use Rattle.tsb_saved.specs.Taken.{saved_commands}
+use Rattle.tsb_text.specs.kept.Kept.{kept_of}
+use Rattle.tsb_live_text.specs.saved.Taken.{saved_commands}
 use Rattle.tsb_step.specs.declared.inputs.Input.{Input}
 use Rattle.tsb_step.specs.tsb_plan.Plan.{Plan}
 use Rattle.tsb_step.specs.Runs.{AreTaken}

@@ -45,9 +45,9 @@ pub fn live_runs_write_one_text()
 ///
 /// Needs: that each of the inputs was taken, as those of a live run were (`live_inputs_are_taken`).
 /// Not said: that memory suffices for them again; that the saved texts are read as this log and these commands, which
-/// laws of tsb_saved say.
-/// Mistake: ticks come before the inputs that came first, `takes_the_tick_first` of tsb_saved (`would_come_last`).
-/// Witness: `takes_both` of Mistakes of tsb_saved, a reset and a tick from power-up.
+/// laws of tsb_live_text say.
+/// Mistake: ticks come before the inputs that came first, `takes_the_tick_first` of tsb_live_text (`would_come_last`).
+/// Witness: `takes_both` of Mistakes of tsb_live_text, a reset and a tick from power-up.
 pub fn saved_runs_are_sessions()
     ensures { SavedRunsAreSessions }
 {}

@@ -50,34 +50,9 @@ use Rattle.tsb_text.specs.declared.faults.OnFault.TheVariants.{GoOn}
 use Rattle.std.specs.Prelude.{codes}
 use Rattle.std.proofs.Common.{Some, None, length}
 use Rattle.tsb_live_text.specs.Live.{AsksLive, Leaves, Live, Obeys, Reads, Says, begun, besides, echo_of, present, setup, stopped_at, with_inputs, with_row, with_stop}
+use Rattle.tsb_text.proofs.recording.CommandLemmas.{Leads, one, onto, stay, then}
 
 -- ## What remains
-
--- commands with right answers lead from some inputs to others
-record Leads (plan : Plan) (is new : List Input) : Type 0 where
-  cs : List Cmd
-  ans : List Answer
-  right : AreRightFrom plan is cs ans
-  left : new ≡ remaining_from plan is cs ans
-
-stay : (plan : Plan) (is new : List Input) → new ≡ is → Leads plan is new
-stay plan is new same = record { cs = []; ans = []; right = tt; left = same }
-
-one : (plan : Plan) (is new : List Input) (c : Cmd) (a : Answer) → IsRight plan is c a → new ≡ remaining_after plan is c a → Leads plan is new
-one plan is new c a right left = record { cs = c ∷ []; ans = a ∷ []; right = (right, tt); left = left }
-
-onto : (plan : Plan) (is last : List Input) (c : Cmd) (a : Answer) → IsRight plan is c a → Leads plan (remaining_after plan is c a) last → Leads plan is last
-onto plan is last c a right rest = record { cs = c ∷ rest.cs; ans = a ∷ rest.ans; right = (right, rest.right); left = rest.left }
-
-both : (plan : Plan) (is new last : List Input) (cs : List Cmd) (ans : List Answer) → AreRightFrom plan is cs ans → new ≡ remaining_from plan is cs ans → Leads plan new last → Leads plan is last
-both plan is new last [] [] right left rest = subst (λ (x : List Input). Leads plan x last) left rest
-both plan is new last [] (a ∷ ans) right left rest = absurd right
-both plan is new last (c ∷ cs) [] right left rest = absurd right
-both plan is new last (c ∷ cs) (a ∷ ans) right left rest =
-    onto plan is last c a right.0 (both plan (remaining_after plan is c a) new last cs ans right.1 left rest)
-
-then : (plan : Plan) (is new last : List Input) → Leads plan is new → Leads plan new last → Leads plan is last
-then plan is new last first rest = both plan is new last first.cs first.ans first.right first.left rest
 
 by-ticks : (given : Setup) (b : Besides) (n : ℕ) (is : List Input) (text : List ℕ) (refusal : Option Refusal) (new : List Input) → TakesTicks given b is n text refusal new → Leads given.plan is new
 by-ticks given b zero is text refusal new t = stay given.plan is new t.2

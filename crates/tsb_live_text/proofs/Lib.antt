@@ -1,3 +1,4 @@
+pub mod saved
 pub mod ChangeLemmas
 pub mod LiveLemmas
 pub mod EndLemmas

@@ -4,7 +4,7 @@ use Rattle.std.specs.declared.option.Option.{Option}
 use Rattle.std.specs.declared.result.Result.{Result}
 use Rattle.tsb_bench.specs.Held.{Held, state_of, whole}
 use Rattle.tsb_command_text.specs.declared.command.Command.{Command}
-use Rattle.tsb_kept.specs.Kept.{Keeping, kept_of, nothing_kept}
+use Rattle.tsb_text.specs.kept.Kept.{Keeping, kept_of, nothing_kept}
 use Rattle.tsb_lines.specs.declared.writes.WriteError.{WriteError}
 use Rattle.tsb_status_text.specs.PlanLine.{plan_text}
 use Rattle.tsb_step.specs.declared.inputs.Input.{Input}

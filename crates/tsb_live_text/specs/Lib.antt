@@ -1,3 +1,5 @@
+-- what `save` answers
+pub mod saved
 -- what a live run has come to, and what is answered to each line
 pub mod Live
 -- ticks of which only the changes are told

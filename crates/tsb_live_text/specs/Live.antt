@@ -1,8 +1,8 @@
 -- What a live run has come to, and what it answers to each line.
 use Rattle.std.specs.Prelude.{◌≡◌, ◌⊎◌, ℕ, List, [], ◌++◌, Bool, true, false, take, Option, Some, None, codes, option_map}
-use Rattle.tsb_kept.specs.Changed.{last_change}
+use Rattle.tsb_text.specs.kept.Changed.{last_change}
 use Rattle.tsb_log_text.specs.RowInputs.{value_of}
-use Rattle.tsb_kept.specs.Kept.{kept_of}
+use Rattle.tsb_text.specs.kept.Kept.{kept_of}
 use Rattle.tsb_types.specs.Sets.{all_off}
 use Rattle.tsb_types.specs.declared.refusal.Refusal.{Refusal}
 use Rattle.tsb_types.specs.declared.refusal.Refusal.TheVariants.{Memory}
@@ -24,7 +24,7 @@ use Rattle.tsb_command_text.specs.declared.live_command.LiveReading.TheVariants.
 use Rattle.tsb_command_text.specs.LiveReadings.{live_reading}
 use Rattle.tsb_status_text.specs.EditsLine.{edits_text}
 use Rattle.tsb_status_text.specs.PlanLine.{plan_text}
-use Rattle.tsb_saved.specs.Saved.{saved_text}
+use Rattle.tsb_live_text.specs.saved.Saved.{saved_text}
 use Rattle.tsb_status_text.specs.StatusText.{status_text}
 use Rattle.tsb_text.specs.Answers.{Setup, display_line, refused_line, when_line}
 use Rattle.tsb_text.specs.declared.rows.Rows.TheVariants.{Held}

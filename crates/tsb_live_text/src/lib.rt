@@ -6,7 +6,9 @@
 mod changes;
 pub mod laws;
 mod run;
+pub mod saved;
 pub mod stop;
 
 pub use run::{BYTES, live};
+pub use saved::say_saved;
 pub use stop::Stop;

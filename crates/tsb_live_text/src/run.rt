@@ -7,12 +7,13 @@ ghost use Rattle.tsb_objects.specs.Checked.{checked_plan};
 ghost use Rattle.tsb_command_text.specs.declared.live_command.LiveCommand.TheVariants as asks;
 ghost use Rattle.tsb_text.specs.Blame.{Blames};
 ghost use Rattle.tsb_text.specs.Faults.{fault_words};
-ghost use Rattle.tsb_saved.specs.Saved.{saved_text};
+ghost use Rattle.tsb_live_text.specs.saved.Saved.{saved_text};
 ghost use Rattle.tsb_live_text.specs.Live.{AsksLive, Live as LiveState, Obeys, Reads, echo_of, fault_by, flow_in, stop_in};
 ghost use Rattle.tsb_live_text.specs.LiveEnded.{LiveEnded, ended_with};
 ghost use Rattle.tsb_live_text.specs.Standing.{Does, StandsLive, TellsOnce, TellsPlan};
 
 use crate::changes::changes;
+use crate::say_saved;
 use crate::stop::{Stop, front_of, stop_at};
 use arrayvec::ArrayVec;
 use std::alloc::Global;
@@ -22,7 +23,6 @@ use tsb_command_text::{Command, LiveCommand, LiveReading, live_reading_of};
 use tsb_dialog::{Answers, DialogError, Flow, Pending, Watched, WriteError, converse};
 use tsb_display_text::LineMaker;
 use tsb_objects::{Checked, Refusal};
-use tsb_saved::say_saved;
 use tsb_status_text::{edits_line, plan_line, status_line};
 use tsb_text::{
     Course, LineFault, Mode, OnFault, Rows, SessionError, fault_words, obey, when_line,

@@ -16,6 +16,7 @@ use Rattle.tsb_log_text.specs.Laws.{heeded}
 use Rattle.tsb_log_text.specs.declared.log.LogRow.{LogRow}
 use Rattle.tsb_log_text.proofs.LawLemmas.{the-rows, heed-row}
 use Rattle.tsb_log_text.specs.LogText.{AreRows, IsRow, mark, marks, set_marks, row_line, log_text}
+use Rattle.tsb_lines.proofs.LineLemmas.{feedless-both}
 
 -- ## Digits
 
@@ -59,11 +60,6 @@ line-read r is =
     ∙ ap (λ (o : Option ℕ). row_with (Some r.tick) (inputs_with (Some r.row.vehicles.word) o (list_in_digits (set_marks 4 r.row.preempts)))) p
     ∙ ap (λ (o : Option ℕ). row_with (Some r.tick) (inputs_with (Some r.row.vehicles.word) (Some r.row.pedestrians.word) o)) n
 
--- none of its bytes ends it
-feedless-append : (xs ys : List ℕ) → HasNoFeed xs → HasNoFeed ys → HasNoFeed (xs ++ ys)
-feedless-append [] ys f g = g
-feedless-append (x ∷ xs) ys f g = (f.0, feedless-append xs ys f.1 g)
-
 mark-feedless : (b : Bool) → mark b ≡ 10 → ⊥
 mark-feedless true e = cc
 mark-feedless false e = cc
@@ -85,11 +81,11 @@ space-feedless e = cc
 line-feedless : (r : LogRow) → HasNoFeed (row_line r)
 unfolding row_line
 line-feedless r =
-    feedless-append (seven_digits r.tick) (32 ∷ set_marks 16 r.row.vehicles ++ (32 ∷ set_marks 8 r.row.pedestrians ++ (32 ∷ set_marks 4 r.row.preempts))) (tick-feedless r.tick) (
+    feedless-both (seven_digits r.tick) (32 ∷ set_marks 16 r.row.vehicles ++ (32 ∷ set_marks 8 r.row.pedestrians ++ (32 ∷ set_marks 4 r.row.preempts))) (tick-feedless r.tick) (
       space-feedless,
-      feedless-append (set_marks 16 r.row.vehicles) (32 ∷ set_marks 8 r.row.pedestrians ++ (32 ∷ set_marks 4 r.row.preempts)) (marks-feedless 16 (λ k. has_number r.row.vehicles (suc k))) (
+      feedless-both (set_marks 16 r.row.vehicles) (32 ∷ set_marks 8 r.row.pedestrians ++ (32 ∷ set_marks 4 r.row.preempts)) (marks-feedless 16 (λ k. has_number r.row.vehicles (suc k))) (
         space-feedless,
-        feedless-append (set_marks 8 r.row.pedestrians) (32 ∷ set_marks 4 r.row.preempts) (marks-feedless 8 (λ k. has_number r.row.pedestrians (suc k)))
+        feedless-both (set_marks 8 r.row.pedestrians) (32 ∷ set_marks 4 r.row.preempts) (marks-feedless 8 (λ k. has_number r.row.pedestrians (suc k)))
             (space-feedless, marks-feedless 4 (λ k. has_number r.row.preempts (suc k))),
       ),
     )

@@ -25,7 +25,8 @@ use Rattle.tsb_plan_text.specs.PlanErrors.{Error}
 use Rattle.tsb_plan_text.specs.PlanText.{index_named, whole_number, with_entry, with_table, with_member, with_members}
 use Rattle.tsb_status_text.specs.PlanLine.{is_all_zeros, version_for}
 use Rattle.tsb_status_text.proofs.FoundLemmas.{data_table, not_version, plan_members, put_entries, put_entry, put_object, put_objects, version_alone, whole_small}
-use Rattle.tsb_status_text.proofs.JsonLemmas.{AreSmall, few_indices}
+use Rattle.tsb_status_text.proofs.JsonLemmas.{AreSmall}
+use Rattle.tsb_status_text.proofs.TextLemmas.{few_indices}
 
 -- the plan that a reading gives, with as many phases and sides as one before
 pub record Accepted (r : Result Plan Error) (before : Plan) : Type 0 where

@@ -23,7 +23,8 @@ use Rattle.tsb_plan.specs.Versions.{number_of}
 use Rattle.tsb_plan_text.specs.PlanText.{whole_number}
 use Rattle.tsb_plan_text.specs.PlanTextSays.{number_at, number_for}
 use Rattle.tsb_status_text.specs.PlanLine.{entries, is_all_zeros, members_of, plan_json, table, version_for, with_object}
-use Rattle.tsb_status_text.proofs.JsonLemmas.{AreSmall, few_indices, few_versions}
+use Rattle.tsb_status_text.proofs.JsonLemmas.{AreSmall, few_versions}
+use Rattle.tsb_status_text.proofs.TextLemmas.{few_indices}
 
 -- ## The value
 

@@ -25,21 +25,16 @@ use Rattle.tsb_plan.specs.Objects.{objects, indices}
 use Rattle.tsb_plan.specs.Plan.{Plan}
 use Rattle.tsb_plan.specs.Versions.{number_of}
 use Rattle.tsb_status_text.specs.PlanLine.{entries, is_all_zeros, members_of, plan_json, plan_text, table, version_for, with_object}
+use Rattle.tsb_status_text.proofs.TextLemmas.{few_indices, short_name}
 
 -- each value has at most 16 bits
 abbrev pub AreSmall : Plan → Type 0
 AreSmall plan = (o : Object) (i : ℕ) → plan.value o i < 65536
 
-pub few_indices : (o : Object) → indices o ≤ 128
-few_indices o = search rules
-
 pub few_versions : (v : Version) → number_of v ≤ 3
 few_versions One = omega arith
 few_versions Two = omega arith
 few_versions Three = omega arith
-
-short_name : (o : Object) → length (name_of o) ≤ 28
-short_name o = search rules
 
 name_ascii : (o : Object) → are_ascii (name_of o) ≡ true
 name_ascii o = search rules

@@ -24,9 +24,7 @@ use Rattle.tsb_status_text.specs.PlanLine.{is_all_zeros, plan_text, version_for}
 use Rattle.tsb_status_text.proofs.AcceptLemmas.{IsAsInPlan, members_accepted, plan_good, version-as-in-plan, version-has-all}
 use Rattle.tsb_status_text.proofs.FoundLemmas.{plan_data, plan_members, value_there, version_there, zero_there}
 use Rattle.tsb_status_text.proofs.JsonLemmas.{AreSmall, read_text, text_short, text_utf8}
-
-greatest_small : (o : Object) → greatest o ≤ 65535
-greatest_small o = search rules
+use Rattle.tsb_status_text.proofs.TextLemmas.{greatest_small}
 
 small : (plan : Plan) → IsWhole plan → AreSmall plan
 small plan whole = λ o i. omega (arith, whole.ranged o i, greatest_small o)

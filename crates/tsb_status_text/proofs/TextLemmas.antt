@@ -94,7 +94,7 @@ pub record IsShort (e : Edit) : Type 0 where
   pub index : e.id.index < 1000
   pub value : e.value < 100000
 
-short_name : (o : Object) → length (name_of o) ≤ 28
+pub short_name : (o : Object) → length (name_of o) ≤ 28
 short_name o = search rules
 
 short_state : (s : DeskState) → length (state_name s) ≤ 11
@@ -145,18 +145,19 @@ line-short desk owner each few =
 
 -- ## Edits of a desk
 
-fits_object : (o : Object) → indices o ≤ 128
-fits_object o = search rules
+-- no object has many indices, nor greater values than 16 bits hold
+pub few_indices : (o : Object) → indices o ≤ 128
+few_indices o = search rules
 
-fits_value : (o : Object) → greatest o ≤ 65535
-fits_value o = search rules
+pub greatest_small : (o : Object) → greatest o ≤ 65535
+greatest_small o = search rules
 
 short_taken : (e : Edit) → put_refusal e.id e.value ≡ None → IsShort e
 short_taken e taken =
     let has : has_index e.id.object e.id.index ≡ true = grind (arith, taken) in
     let to : e.id.index ≤ indices e.id.object = grind (arith, nat_tests, has) in
     let most : e.value ≤ greatest e.id.object = grind (arith, nat_tests, taken) in
-    record { index = omega (arith, to, fits_object e.id.object); value = omega (arith, most, fits_value e.id.object) }
+    record { index = omega (arith, to, few_indices e.id.object); value = omega (arith, most, greatest_small e.id.object) }
 
 pub all-short : (es : List Edit) → All (λ e. put_refusal e.id e.value ≡ None) es → All IsShort es
 all-short [] h = All-nil IsShort

@@ -1,3 +1,4 @@
+pub mod kept
 pub mod WatchLemmas
 pub mod TextLemmas
 pub mod ObeyLemmas
@@ -7,4 +8,5 @@ pub mod AnswerLemmas
 pub mod ReplyLemmas
 pub mod HeardLemmas
 pub mod EndedLemmas
+pub mod recording
 pub use Rattle.tsb_objects.proofs.tsb_rules as tsb_rules

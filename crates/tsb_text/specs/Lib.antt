@@ -1,3 +1,5 @@
+-- the inputs of a run that remain, kept so that they can be given again
+pub mod kept
 -- the rows that ticks take
 pub mod Rows
 -- what is answered to each command
@@ -20,9 +22,14 @@ pub mod Ended
 pub mod Blame
 -- the line of that fault
 pub mod EndLines
+-- the record of a run
+pub mod recording
 -- the names of crates below, for those above
 pub use Rattle.tsb_dialog.specs.Said as Written
 pub use Rattle.tsb_lines.specs as tsb_lines
+pub use Rattle.tsb_log_text.specs as tsb_log_text
+pub use Rattle.tsb_step.specs as tsb_step
+pub use Rattle.tsb_types.specs as tsb_types
 pub use Rattle.tsb_objects.specs.tsb_plan as tsb_plan
 pub use Rattle.tsb_objects.specs.tsb_rules as tsb_rules
 pub use Rattle.tsb_objects.specs as tsb_objects

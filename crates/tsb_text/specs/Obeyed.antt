@@ -11,8 +11,8 @@ use Rattle.tsb_bench.specs.tsb_step.Runs.{replay}
 use Rattle.tsb_dialog.specs.Said.{Wrote}
 use Rattle.tsb_bench.specs.tsb_history.declared.kinds.Kind.{Kind}
 use Rattle.tsb_bench.specs.tsb_history.declared.kinds.Kind.TheVariants as kinds
-use Rattle.tsb_kept.specs.declared.kept.Other.{Other}
-use Rattle.tsb_kept.specs.Kept.{Keeping, gone_back, kept_of, last_row}
+use Rattle.tsb_text.specs.declared.kept.Other.{Other}
+use Rattle.tsb_text.specs.kept.Kept.{Keeping, gone_back, kept_of, last_row}
 use Rattle.tsb_lines.specs.declared.writes.WriteError.{WriteError}
 use Rattle.tsb_log_text.specs.declared.log.LogRow.{LogRow}
 use Rattle.tsb_objects.specs.tsb_plan.Plan.{Plan}

@@ -10,7 +10,7 @@ use Rattle.tsb_bench.specs.tsb_step.Play.{Cmd, IsRight, remaining_after}
 use Rattle.tsb_bench.specs.tsb_step.Runs.{replay}
 use Rattle.tsb_display_text.specs.Line.{tick_field}
 use Rattle.tsb_dialog.specs.Said.{with_feed}
-use Rattle.tsb_kept.specs.Kept.{last_row}
+use Rattle.tsb_text.specs.kept.Kept.{last_row}
 use Rattle.tsb_objects.specs.tsb_types.declared.event.Event.{Event}
 use Rattle.tsb_objects.specs.tsb_types.declared.refusal.Refusal.{Refusal}
 use Rattle.tsb_text.specs.declared.task.Task.{Task}

@@ -4,17 +4,18 @@ ghost use Rattle.tsb_bench.specs.Held.{state_of, whole};
 ghost use Rattle.tsb_bench.specs.tsb_history.History.{Change};
 ghost use Rattle.tsb_bench.specs.tsb_step.Past.{earlier};
 ghost use Rattle.tsb_bench.specs.tsb_step.Step.{last_tick};
-ghost use Rattle.tsb_kept.specs.Kept.{with_input};
+ghost use Rattle.tsb_text.specs.kept.Kept.{with_input};
 ghost use Rattle.tsb_objects.specs.tsb_types.declared.refusal.Refusal.TheVariants.{Memory};
 ghost use Rattle.tsb_bench.specs.tsb_step.declared.inputs.Input.{Input as InputValue};
 ghost use Rattle.tsb_dialog.specs.Blame.{AfterCalls};
 ghost use Rattle.tsb_dialog.specs.Said.{SaidUntilFault};
-ghost use Rattle.tsb_kept.specs.Kept.{nothing_kept};
+ghost use Rattle.tsb_text.specs.kept.Kept.{nothing_kept};
 ghost use Rattle.tsb_log_text.specs.declared.log.LogRow.{LogRow};
 ghost use Rattle.tsb_text.specs.declared.course.Mode.TheVariants as modes;
 ghost use Rattle.tsb_text.specs.Answers.{Setup, display_line};
 ghost use Rattle.tsb_text.specs.Obeyed.{Answered, Forgets, ForgetsNewest, Stands, Took, mode_with, news_in};
 
+use crate::Kept;
 use crate::events::say_events;
 use crate::lines::shown_line;
 use std::alloc::Global;
@@ -24,7 +25,6 @@ use tsb_bench::{Answer, Bench, Cmd, Input, Kind, Noted, answer};
 use tsb_dialog::{Pending, Watched, WriteError};
 use tsb_display_text::{LineBytes, LineMaker};
 use tsb_events::Events;
-use tsb_kept::Kept;
 use tsb_objects::Refusal;
 
 /// What is done with the inputs that a bench takes, besides.

@@ -38,7 +38,7 @@ use Rattle.tsb_field_display.specs.Shows.{AreApart, nothing_lit}
 use Rattle.tsb_field_display.proofs.HeadLemmas.{Shows, line-shows}
 use Rattle.tsb_field_display.proofs.LawLemmas.{tell-the-heads}
 use Rattle.tsb_field_display.proofs.LetterLemmas.{apart-overlaps, apart-pedestrians}
-use Rattle.tsb_record.specs.Along.{noted_after, told_along}
+use Rattle.tsb_text.specs.recording.Along.{noted_after, told_along}
 use Rattle.tsb_laws.specs.Told.{RunsTellTheHeads, is_of_line, shown_in, signals}
 use Rattle.tsb_laws.proofs.events.LineLemmas.{Sees, by_line, lines-same, lines_of}
 use Rattle.tsb_laws.proofs.events.SayLemmas.{at-head, differs, silent}

@@ -3,8 +3,8 @@ use Rattle.std.proofs.Common.{ℕ, zero, suc, List, [], ◌∷◌, ◌++◌, ref
 use Rattle.tsb_command_text.specs.declared.command.Command.{Command}
 use Rattle.tsb_command_text.specs.declared.command.Command.TheVariants.{Step, Begin, Set, Verify, Commit, Abort, Pattern, Preempt, Fault, Reset}
 use Rattle.tsb_dialog.specs.Said.{with_feed}
-use Rattle.tsb_saved.specs.Taken.{TakeAll, Takes, TakesInput, TakesTicks, saved_commands}
-use Rattle.tsb_saved.proofs.TakenLemmas.{ends-alike}
+use Rattle.tsb_live_text.specs.saved.Taken.{TakeAll, Takes, TakesInput, TakesTicks, saved_commands}
+use Rattle.tsb_live_text.proofs.saved.TakenLemmas.{ends-alike}
 use Rattle.tsb_step.specs.declared.inputs.Input.{Input}
 use Rattle.tsb_step.specs.declared.inputs.Input.TheVariants as inputs
 use Rattle.tsb_step.specs.Runs.{AreTaken, replay}

@@ -1,10 +1,10 @@
 use Rattle.std.proofs.Common.{◌≡◌, ◌∙◌, ap, refl, rules, subst, codes, None}
 use Rattle.tsb_bench.specs.Held.{state_of}
-use Rattle.tsb_kept.specs.Changed.{last_change}
+use Rattle.tsb_text.specs.kept.Changed.{last_change}
 use Rattle.tsb_log_text.specs.RowInputs.{value_of}
-use Rattle.tsb_kept.specs.Kept.{kept_of}
+use Rattle.tsb_text.specs.kept.Kept.{kept_of}
 use Rattle.tsb_status_text.specs.EditsLine.{edits_text}
-use Rattle.tsb_saved.specs.Saved.{saved_text}
+use Rattle.tsb_live_text.specs.saved.Saved.{saved_text}
 use Rattle.tsb_step.specs.State.{State}
 use Rattle.tsb_step.specs.Status.{status}
 use Rattle.tsb_status.specs.Alike.{Alike}

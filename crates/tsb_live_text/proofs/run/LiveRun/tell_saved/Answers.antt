@@ -3,7 +3,7 @@ use Rattle.std.proofs.lemmas.Result.{err_from_is_err_and}
 use Rattle.tsb_bench.specs.Held.{Held}
 use Rattle.tsb_dialog.specs.Said.{with_feed}
 use Rattle.tsb_dialog.proofs.SaidLemmas.{said-more}
-use Rattle.tsb_saved.specs.Saved.{saved_text}
+use Rattle.tsb_live_text.specs.saved.Saved.{saved_text}
 use Rattle.tsb_live_text.proofs.LiveLemmas.{cut-more, cut-same, said-same}
 use Rattle.tsb_live_text.proofs.run.LiveRun.tell_saved.Goals as goal
 

@@ -1,0 +1,43 @@
+-- The saved log is read as the rows that are kept.
+use Rattle.std.proofs.Common.{◌≡◌, ◌+◌, ◌≤◌, Bool, true, false, List, [], ◌∷◌, ◌++◌, if◌then◌else◌, sym, subst, arith, append-nil}
+use Rattle.json.proofs.Printed.Trees.{document-print}
+use Rattle.tsb_text.specs.tsb_types.declared.limits.TheConstants.{TICKS}
+use Rattle.tsb_text.specs.tsb_step.tsb_plan.Plan.{Plan}
+use Rattle.tsb_step.specs.declared.inputs.Input.{Input}
+use Rattle.tsb_step.specs.declared.inputs.Input.TheVariants.{Tick}
+use Rattle.tsb_step.specs.Runs.{replay}
+use Rattle.tsb_step.proofs.ClearLemmas.{one_later}
+use Rattle.tsb_log_text.specs.LogText.{AreRows, IsRow}
+use Rattle.tsb_log_text.specs.declared.log.LogRow.{LogRow}
+use Rattle.tsb_log_text.proofs.TextLemmas.{text-read}
+use Rattle.tsb_text.specs.kept.Kept.{is_same_row, kept_of, row_kept}
+use Rattle.tsb_text.proofs.kept.KeptLemmas.{no-less}
+use Rattle.tsb_text.proofs.kept.LawLemmas.{kept-rise}
+use Rattle.tsb_live_text.specs.saved.Laws.{AreFit, AreTheirJson, LogsAreRead}
+use Rattle.tsb_live_text.specs.saved.Saved.{saved_json, saved_text}
+
+pub their-json : AreTheirJson
+unfolding saved_text
+their-json kept now = document-print (saved_json kept now) (tt, (tt, tt)) (omega arith)
+
+one-more : (rs : List LogRow) (r : LogRow) → AreRows rs → IsRow r → AreRows (rs ++ r ∷ [])
+one-more [] r all is = (is, tt)
+one-more (x ∷ xs) r all is = (all.0, one-more xs r all.1 is)
+
+kept-rows : (plan : Plan) (is : List Input) → AreFit is → (replay plan is).now ≤ TICKS → AreRows (kept_of plan is).rows
+kept-rows plan [] fit le = tt
+kept-rows plan (Tick row ∷ is) fit le =
+    let next : (replay plan (Tick row ∷ is)).now ≡ (replay plan is).now + 1 = one_later (replay plan is) row in
+    go (is_same_row row (row_kept (kept_of plan is))) (kept-rows plan is fit.1 (omega (arith, le, next)))
+  where
+    go : (b : Bool) → AreRows (kept_of plan is).rows → AreRows ((kept_of plan is).rows ++ (if b then [] else record { tick = (replay plan is).now + 1; row = row } ∷ []))
+    go true before = subst AreRows (sym (append-nil (kept_of plan is).rows)) before
+    go false before =
+        let next : (replay plan (Tick row ∷ is)).now ≡ (replay plan is).now + 1 = one_later (replay plan is) row in
+        one-more (kept_of plan is).rows (record { tick = (replay plan is).now + 1; row = row }) before (record { from_one = omega arith; within = omega (arith, le, next); fit = fit.0 })
+kept-rows plan (i ∷ is) fit le =
+    let less : (replay plan is).now ≤ (replay plan (i ∷ is)).now = no-less plan i is in
+    kept-rows plan is fit (omega (arith, le, less))
+
+pub logs-read : LogsAreRead
+logs-read plan is fit le short = text-read (kept_of plan is).rows (kept-rows plan is fit le) (kept-rise plan is) short

@@ -1,0 +1,117 @@
+-- Plain bytes stand for themselves in a string of JSON.
+use Rattle.std.proofs.Common.{◌≡◌, ◌∙◌, ℕ, ◌+◌, ◌/◌, ◌%◌, ◌<◌, ◌≤◌, ◌^◌, ◌&&◌, Bool, true, false, not, eqb, leb, zero, suc, List, [], ◌∷◌, ◌++◌, decimal, length, refl, sym, ap, arith, inl, inr, rules}
+use Rattle.std.proofs.lemmas.Bool.{and_from, and_parts, le-leb, leb-true, le-ltb, not-true, ne_eqb, true≢false}
+use Rattle.std.proofs.lemmas.Bool.Decides.{eqb_tells}
+use Rattle.std.proofs.lemmas.Fmt.{decimal_by_steps}
+use Rattle.std.proofs.lemmas.List.Folds.{list_all-append}
+use Rattle.json.specs.Print.{escape, escape_byte}
+use Rattle.tsb_lines.specs.Digits.{seven_digits}
+use Rattle.tsb_text.specs.tsb_types.Sets.{has_number}
+use Rattle.tsb_log_text.specs.LogText.{mark, marks, row_line, set_marks}
+use Rattle.tsb_log_text.specs.declared.log.LogRow.{LogRow}
+use Rattle.tsb_text.specs.tsb_step.tsb_plan.Names.{name_of}
+use Rattle.tsb_text.specs.tsb_step.tsb_plan.declared.object.Object.{Object}
+use Rattle.tsb_live_text.specs.saved.Saved.{number_word}
+use Rattle.tsb_live_text.specs.saved.Says.{are_plain, is_plain}
+
+-- ## Which bytes are plain
+
+pub plain-join : (xs ys : List ℕ) → are_plain xs ≡ true → are_plain ys ≡ true → are_plain (xs ++ ys) ≡ true
+plain-join xs ys p q = list_all-append is_plain xs ys ∙ and_from (are_plain xs) (are_plain ys) p q
+
+-- from 48 to 57
+digit-plain : (d : ℕ) → d < 10 → is_plain (48 + d) ≡ true
+digit-plain d lt =
+    let low : leb 32 (48 + d) ≡ true = le-leb 32 (48 + d) (omega arith) in
+    let high : leb (48 + d) 126 ≡ true = le-leb (48 + d) 126 (omega (arith, lt)) in
+    let quote : eqb (48 + d) 34 ≡ false = ne_eqb (48 + d) 34 (λ e. omega (arith, e)) in
+    let slash : eqb (48 + d) 92 ≡ false = ne_eqb (48 + d) 92 (λ e. omega (arith, e, lt)) in
+    rw (low, high, quote, slash) refl
+
+one-plain : (b : ℕ) → is_plain b ≡ true → are_plain (b ∷ []) ≡ true
+one-plain b p = and_from (is_plain b) true p refl
+
+pub number-plain : (n : ℕ) → n < 2 ^ 64 → are_plain (decimal n) ≡ true
+number-plain = decimal_by_steps (λ (n : ℕ) (ds : List ℕ). are_plain ds ≡ true) (λ n lt. one-plain (48 + n) (digit-plain n lt))
+    (λ n ds le h. plain-join ds ((48 + n % 10) ∷ []) h (one-plain (48 + n % 10) (digit-plain (n % 10) (omega arith))))
+
+pub name-plain : (o : Object) → are_plain (name_of o) ≡ true
+name-plain o = search rules
+
+pub word-plain : (n : ℕ) → n < 2 ^ 64 → are_plain (number_word n) ≡ true
+word-plain n lt = plain-join (32 ∷ []) (decimal n) refl (number-plain n lt)
+
+-- ## The line of a row
+
+tick-plain : (t : ℕ) → are_plain (seven_digits t) ≡ true
+tick-plain t =
+    rw (
+      digit-plain (t / 1000000 % 10) (omega arith),
+      digit-plain (t / 100000 % 10) (omega arith),
+      digit-plain (t / 10000 % 10) (omega arith),
+      digit-plain (t / 1000 % 10) (omega arith),
+      digit-plain (t / 100 % 10) (omega arith),
+      digit-plain (t / 10 % 10) (omega arith),
+      digit-plain (t / 1 % 10) (omega arith),
+    ) refl
+
+mark-plain : (b : Bool) → is_plain (mark b) ≡ true
+mark-plain true = refl
+mark-plain false = refl
+
+marks-plain : (n : ℕ) (on : ℕ → Bool) → are_plain (marks n on) ≡ true
+marks-plain zero on = refl
+marks-plain (suc n) on = and_from (is_plain (mark (on 0))) (are_plain (marks n (λ k. on (suc k)))) (mark-plain (on 0)) (marks-plain n (λ k. on (suc k)))
+
+space : (xs ys : List ℕ) → are_plain xs ≡ true → are_plain ys ≡ true → are_plain (xs ++ 32 ∷ ys) ≡ true
+space xs ys p q = plain-join xs (32 ∷ ys) p q
+
+pub row-plain : (r : LogRow) → are_plain (row_line r) ≡ true
+unfolding row_line
+row-plain r =
+    space (seven_digits r.tick) (set_marks 16 r.row.vehicles ++ 32 ∷ (set_marks 8 r.row.pedestrians ++ 32 ∷ set_marks 4 r.row.preempts)) (tick-plain r.tick)
+    (space (set_marks 16 r.row.vehicles) (set_marks 8 r.row.pedestrians ++ 32 ∷ set_marks 4 r.row.preempts) (marks-plain 16 (λ k. has_number r.row.vehicles (suc k)))
+    (space (set_marks 8 r.row.pedestrians) (set_marks 4 r.row.preempts) (marks-plain 8 (λ k. has_number r.row.pedestrians (suc k))) (marks-plain 4 (λ k. has_number r.row.preempts (suc k)))))
+
+-- ## They need no escape
+
+-- what a plain byte is
+pub record Plain (b : ℕ) : Type 0 where
+  pub low : 32 ≤ b
+  pub high : b ≤ 126
+  pub quote : b ≡ 34 → ⊥
+  pub slash : b ≡ 92 → ⊥
+
+pub plain-is : (b : ℕ) → is_plain b ≡ true → Plain b
+plain-is b p =
+    let all = and_parts (leb 32 b && leb b 126 && not (eqb b 34)) (not (eqb b 92)) p in
+    let first = and_parts (leb 32 b && leb b 126) (not (eqb b 34)) all.0 in
+    let range = and_parts (leb 32 b) (leb b 126) first.0 in
+    record {
+      low = leb-true 32 b range.0;
+      high = leb-true b 126 range.1;
+      quote = λ e. apart b 34 (not-true (eqb b 34) first.1) e;
+      slash = λ e. apart b 92 (not-true (eqb b 92) all.1) e;
+    }
+  where
+    apart : (a b : ℕ) → eqb a b ≡ false → a ≡ b → ⊥
+    apart a b differ same = elim (eqb_tells a b) [ inl z ↦ true≢false (sym z.0 ∙ differ) | inr off ↦ off.1 same ]
+
+pub byte-escape : (b : ℕ) → Plain b → escape_byte b ≡ b ∷ []
+unfolding escape_byte
+byte-escape b p =
+    let quote : eqb b 34 ≡ false = ne_eqb b 34 p.quote in
+    let slash : eqb b 92 ≡ false = ne_eqb b 92 p.slash in
+    let eight : eqb b 8 ≡ false = ne_eqb b 8 (λ e. omega (arith, e, p.low)) in
+    let twelve : eqb b 12 ≡ false = ne_eqb b 12 (λ e. omega (arith, e, p.low)) in
+    let feed : eqb b 10 ≡ false = ne_eqb b 10 (λ e. omega (arith, e, p.low)) in
+    let return : eqb b 13 ≡ false = ne_eqb b 13 (λ e. omega (arith, e, p.low)) in
+    let tab : eqb b 9 ≡ false = ne_eqb b 9 (λ e. omega (arith, e, p.low)) in
+    let low = le-ltb b 32 p.low in
+    rw (quote, slash, eight, twelve, feed, return, tab, low) refl
+
+pub plain-escape : (bytes : List ℕ) → are_plain bytes ≡ true → escape bytes ≡ bytes
+plain-escape [] p = refl
+plain-escape (b ∷ bs) p =
+    let both = and_parts (is_plain b) (are_plain bs) p in
+    ap (λ (v : List ℕ). v ++ escape bs) (byte-escape b (plain-is b both.0)) ∙ ap (λ (v : List ℕ). b ∷ v) (plain-escape bs both.1)

@@ -1,5 +1,0 @@
-use Rattle.tsb_record.proofs.CommandLemmas.{lines_leave_what_remains}
-use Rattle.tsb_record.proofs.laws.records_are_of_what_remains.Goals as goal
-
-pub returns : goal.returns
-returns c = lines_leave_what_remains

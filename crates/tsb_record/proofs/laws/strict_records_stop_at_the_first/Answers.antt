@@ -1,5 +1,0 @@
-use Rattle.tsb_record.proofs.StopLemmas as lemmas
-use Rattle.tsb_record.proofs.laws.strict_records_stop_at_the_first.Goals as goal
-
-pub returns : goal.returns
-returns c = lemmas.strict_records_stop_at_the_first

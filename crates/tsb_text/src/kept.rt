@@ -1,0 +1,156 @@
+//! The inputs that remain, which can be taken back.
+ghost use Rattle.std.specs.Prelude.{◌≡◌, ◌≤◌, ◌∷◌, ◌++◌, [], List, OnErr, OnOk};
+ghost use Rattle.tsb_step.specs.Step.{last_tick};
+ghost use Rattle.tsb_text.specs.kept.Kept.{gone_back, is_same_row, nothing_kept, other_tick, row_kept, row_tick, with_input, with_other, with_row};
+ghost use Rattle.tsb_text.specs.kept.Later.{without_later};
+ghost use Rattle.tsb_text.specs.declared.kept.Other.{Other};
+
+mod changed;
+pub mod laws;
+
+use crate::kept::changed::row_before;
+use std::alloc::{AllocError, Global};
+use std::marker::Model;
+use tsb_log_text::LogRow;
+use tsb_step::Input;
+use tsb_types::Row;
+
+/// An input that is no tick, and where it came.
+#[derive(Clone, Copy)]
+pub struct Other {
+    /// The number of the tick in force when it came: 0 to 6,000,000.
+    pub tick: u32,
+    /// The input.
+    pub input: Input,
+}
+
+/// The inputs of a run that remain, the oldest first: the rows of its ticks, as a log has them, and the inputs that are
+/// no ticks. A contract sees both.
+#[derive(Drop)]
+pub struct Kept {
+    rows: Vec<LogRow>,
+    others: Vec<Other>,
+}
+
+impl Model for Kept {
+    ghost use Rattle.tsb_text.specs.kept.Kept.{Keeping};
+
+    ghost Value = { Keeping };
+
+    ghost view = { λ a. record { rows = a.rows.items; others = a.others.items } };
+}
+
+impl Kept {
+    /// No input, which takes no memory.
+    pub fn new(alloc: Global) -> Kept
+        ensures { result ≡ nothing_kept }
+    {
+        Kept {
+            rows: Vec::new(alloc),
+            others: Vec::new(alloc),
+        }
+    }
+
+    /// A row for each tick whose inputs differ from those of the tick before it, the oldest first.
+    pub fn rows(&self) -> &[LogRow]
+        ensures { result.now ≡ self.now.rows }
+    {
+        &self.rows
+    }
+
+    /// The inputs that are no ticks, the oldest first.
+    pub fn others(&self) -> &[Other]
+        ensures { result.now ≡ self.now.others }
+    {
+        &self.others
+    }
+
+    /// The inputs of the last tick. All are off before the first.
+    pub fn last_row(&self) -> Row
+        ensures { result ≡ row_kept self.now }
+    {
+        row_before(&self.rows, self.rows.len())
+    }
+
+    /// Adds an input, where this tick was in force before it. The error is that memory ran out, and leaves what is kept
+    /// as it was.
+    pub fn add(&mut self, input: &Input, tick: u32) -> Result<(), AllocError>
+        requires in_time { tick ≤ last_tick }
+        ensures ok { OnOk result (self.new ≡ with_input input.now tick self.old) }
+        ensures err { OnErr result (self.new ≡ self.old) }
+    {
+        match input {
+            Input::Tick(row) => self.add_row(tick + 1, *row),
+            _ => self.add_other(tick, *input),
+        }
+    }
+
+    /// Adds a tick with these inputs on. The error is that memory ran out, and leaves what is kept as it was.
+    fn add_row(&mut self, tick: u32, row: Row) -> Result<(), AllocError>
+        ensures ok { OnOk result (self.new ≡ with_row tick row self.old) }
+        ensures err { OnErr result (self.new ≡ self.old) }
+    {
+        if is_same_row(&row, &self.last_row()) {
+            return Ok(());
+        }
+        self.rows.push(LogRow { tick, row })?;
+        Ok(())
+    }
+
+    /// Adds an input that is no tick, where this tick is in force. The error is that memory ran out, and leaves what is
+    /// kept as it was.
+    fn add_other(&mut self, tick: u32, input: Input) -> Result<(), AllocError>
+        ensures ok { OnOk result (self.new ≡ with_other tick input self.old) }
+        ensures err { OnErr result (self.new ≡ self.old) }
+    {
+        self.others.push(Other { tick, input })?;
+        Ok(())
+    }
+
+    /// Takes the newest input away that is no tick.
+    pub fn undo_other(&mut self)
+        ensures { (others : List Other) (last : Other) → self.old.others ≡ others ++ last ∷ []
+            → self.new ≡ record { rows = self.old.rows; others = others } }
+    {
+        let _ = self.others.pop();
+    }
+
+    /// Takes all inputs away that came later than a tick: ticks with a number above it, and others at those.
+    pub fn go_back(&mut self, tick: u32)
+        ensures { self.new ≡ gone_back tick self.old }
+    {
+        drop_later_rows(&mut self.rows, tick);
+        drop_later_others(&mut self.others, tick);
+    }
+}
+
+/// Whether two rows have the same inputs on.
+fn is_same_row(row: &Row, other: &Row) -> bool
+    ensures { result ≡ is_same_row row.now other.now }
+{
+    *row == *other
+}
+
+/// Drops the rows at the end that come later than a tick.
+fn drop_later_rows(rows: &mut Vec<LogRow>, tick: u32)
+    ensures { rows.new.items ≡ without_later row_tick tick rows.old.items }
+{
+    while let Some(last) = rows.last() {
+        if last.tick <= tick {
+            return;
+        }
+        let _ = rows.pop();
+    }
+}
+
+/// Drops the inputs at the end that came later than a tick.
+fn drop_later_others(others: &mut Vec<Other>, tick: u32)
+    ensures { others.new.items ≡ without_later other_tick tick others.old.items }
+{
+    while let Some(last) = others.last() {
+        if last.tick <= tick {
+            return;
+        }
+        let _ = others.pop();
+    }
+}

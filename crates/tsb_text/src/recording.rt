@@ -1,0 +1,196 @@
+//! The commands of a record: they are carried out, and what is refused is told.
+ghost use Rattle.std.specs.Prelude.{◌≡◌, ◌++◌, ℕ, List, OnOk, false, true};
+ghost use Rattle.tsb_objects.specs.Checked.{checked_plan};
+ghost use Rattle.tsb_dialog.specs.Blame.{AfterCalls};
+ghost use Rattle.tsb_dialog.specs.Said.{Said, Wrote};
+ghost use Rattle.tsb_text.specs.Blame.{Blames};
+ghost use Rattle.tsb_text.specs.recording.Ended.{Ended};
+ghost use Rattle.tsb_text.specs.recording.Faults.{fault_text};
+ghost use Rattle.tsb_text.specs.recording.Leaves.{flow_after, quits};
+ghost use Rattle.tsb_text.specs.recording.Recording.{IsOutcome, session_fault};
+
+mod faults;
+pub mod laws;
+mod recorder;
+mod told;
+
+pub use crate::recording::faults::FaultyLine;
+use crate::recording::faults::{fault_line, stop_at};
+use crate::recording::recorder::Recorder;
+pub use crate::recording::told::{Mark, Told};
+use crate::{COMMANDS, LineFault, OnFault, SessionError};
+use std::alloc::Global;
+use std::io::{Read, Write};
+use tsb_bench::Bench;
+use tsb_command_text::{Command, Reading, reading_of};
+use tsb_dialog::{Answers, DialogError, Flow, Pending, Watched, WriteError, converse};
+use tsb_log_text::Log;
+use tsb_objects::Checked;
+use tsb_step::log_form::LogForm;
+use tsb_types::Event;
+
+/// What is asked of a record.
+#[derive(Clone, Copy)]
+pub struct RecordOptions {
+    /// What becomes of it at a line that is no command, or that is refused.
+    pub on_fault: OnFault,
+    /// Its form.
+    pub form: LogForm,
+}
+
+/// What came of the commands of a record.
+#[derive(Drop)]
+pub enum Outcome {
+    /// They came to their end: the events of the inputs that remain, the oldest first.
+    Events(Vec<Event>),
+    /// This line ended a strict record. It is the first that is no command, or that was refused.
+    Stopped(FaultyLine),
+}
+
+/// What carries out the commands of a record: the bench with what was told, and the log that its ticks take their rows
+/// from.
+#[derive(Drop)]
+struct Recording<'a> {
+    recorder: Recorder,
+    log: &'a Log,
+    on_fault: OnFault,
+    /// The line that ended the record, once it has come.
+    stop: Option<FaultyLine>,
+}
+
+impl Answers for Recording<'_> {
+    ghost use Rattle.std.specs.Prelude.{◌≡◌};
+    ghost use Rattle.tsb_bench.specs.Held.{whole};
+    ghost use Rattle.tsb_text.specs.recording.Lines.{Course, says};
+    ghost use Rattle.tsb_text.specs.recording.Recording.{Stands};
+
+    ghost State = { Course };
+
+    ghost stands = { λ r s. Stands s.given r.log.now (whole r.recorder.bench) r.recorder.told.told s.end.inputs × (r.on_fault ≡ s.on_fault) × (r.recorder.told.told.form ≡ s.form) × (r.stop ≡ s.end.stop) };
+
+    ghost says = { says };
+
+    fn answer<W: Write>(
+        &mut self,
+        number: u32,
+        line: &[u8],
+        pending: &mut Pending,
+        writer: &mut Watched<W>,
+    ) -> Result<Flow, WriteError> {
+        let reading = reading_of(line);
+        let is_quit = quits(&reading);
+        let fault = self.recorder.carry_out(self.log, reading);
+        self.stop = stop_at(self.on_fault, number, fault);
+        tell(number, line, &fault, pending, writer)?;
+        Ok(flow_after(is_quit, self.stop))
+    }
+}
+
+/// Whether a line that reads so is `quit`.
+fn quits(reading: &Reading) -> bool
+    ensures { result ≡ quits reading.now }
+{
+    match reading {
+        Reading::Do(Command::Quit) => true,
+        _ => false,
+    }
+}
+
+/// Whether a record goes on after a line, which is `quit` or not, and ended it or did not.
+fn flow_after(is_quit: bool, stop: Option<FaultyLine>) -> Flow
+    ensures { result ≡ flow_after is_quit stop }
+{
+    match (is_quit, stop) {
+        (false, None) => Flow::On,
+        _ => Flow::Over,
+    }
+}
+
+/// Tells of a line by its number, where something is wrong with it.
+fn tell<W: Write>(
+    number: u32,
+    line: &[u8],
+    fault: &Option<LineFault>,
+    pending: &mut Pending,
+    writer: &mut Watched<W>,
+) -> Result<(), WriteError>
+    ensures ok { OnOk result (Said (W.contents writer.old.device) (W.contents writer.new.device) pending.old pending.new (fault_text number line.now fault.now)) }
+    ensures front { Wrote (W.contents writer.old.device) (W.contents writer.new.device) pending.old pending.new (λ said. (rest : List ℕ) × (fault_text number line.now fault.now ≡ said ++ rest)) }
+    ensures blame { writer.old.failed ≡ false → AfterCalls result writer.new.failed }
+{
+    match fault {
+        Some(fault) => pending.add(writer, fault_line(number, line, *fault).as_bytes()),
+        None => Ok(()),
+    }
+}
+
+/// The fault of a record whose dialog ended with this one.
+fn session_fault(fault: DialogError) -> SessionError
+    ensures { result ≡ session_fault fault }
+{
+    match fault {
+        DialogError::Read => SessionError::Read,
+        DialogError::Write => SessionError::Write,
+        DialogError::TooLarge => SessionError::TooLarge,
+    }
+}
+
+/// What a record gives that this line has ended, or none.
+fn outcome_of(recorder: Recorder, stop: Option<FaultyLine>) -> Outcome
+    ensures { IsOutcome result stop recorder.told.told.events }
+{
+    match stop {
+        Some(line) => {
+            drop(recorder);
+            Outcome::Stopped(line)
+        }
+        None => Outcome::Events(recorder.into_events()),
+    }
+}
+
+/// The record of a run: reads commands as a session of `tsb run` does, carries them out, and gives the events of the
+/// inputs that remain, the oldest first. The bench begins at power-up with the plan, and its ticks take the rows of the
+/// log. A line `quit` ends the commands, and nothing more is read.
+///
+/// Each line that is no command, or that is refused, is told on `errors` by a line, `command 12: pattern 99: refused E9
+/// NoSuchPattern` or `command 12: patern 1: bad command`: the number is that of its line, from 1, and lines that are
+/// skipped count too. Of its own text at most 200 bytes are told, with `?` for each that is no printable ASCII. What is
+/// told goes out before the next read. The first such line ends a strict record (`OnFault::Stop`), which has no events
+/// then, and nothing more is read. What a command only asks is not answered. The events are those of a log of the form
+/// that is asked for (`LogForm`).
+///
+/// A fault ends the record; what was told until then is a prefix of what is to be told. `Read` comes exactly where a read
+/// has failed, and `Write` exactly where a write or a flush has. `TooLarge` comes where there is a byte after the first 16 MiB, once the whole lines within them were carried out, and `Memory` where there is none for
+/// the bench at power-up: nothing was read then. Where there is none for the events of an input it is refused with E1.
+pub fn record<R: Read, E: Write>(
+    alloc: Global,
+    plan: Checked,
+    log: &Log,
+    options: RecordOptions,
+    reader: &mut Watched<R>,
+    errors: &mut Watched<E>,
+) -> Result<Outcome, SessionError>
+    requires reads { reader.old.failed ≡ false }
+    requires writes { errors.old.failed ≡ false }
+    requires flushed { errors.old.flushed ≡ true }
+    ensures ended { Ended result options.on_fault options.form (record { plan = checked_plan plan; log = log.now })
+        (R.remaining reader.old.device) (R.remaining reader.new.device) (E.contents errors.old.device) (E.contents errors.new.device) }
+    ensures blame { Blames result reader.new.failed errors.new.failed errors.new.flushed }
+{
+    let Ok(bench) = Bench::power_up(alloc, plan) else {
+        return Err(SessionError::Memory);
+    };
+    let mut recording = Recording {
+        recorder: Recorder::new(alloc, bench, options.form),
+        log,
+        on_fault: options.on_fault,
+        stop: None,
+    };
+    match converse(&mut recording, COMMANDS, reader, errors) {
+        Ok(()) => Ok(outcome_of(recording.recorder, recording.stop)),
+        Err(fault) => {
+            drop(recording);
+            Err(session_fault(fault))
+        }
+    }
+}

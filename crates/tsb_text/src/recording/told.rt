@@ -1,0 +1,153 @@
+//! The events of inputs, which can be taken back.
+ghost use Rattle.std.specs.Prelude.{◌≡◌, ◌⊎◌, ◌<◌, ◌∷◌, ◌++◌, [], List, OnErr, OnOk, length, take};
+ghost use Rattle.tsb_text.specs.recording.Told.{gone_back, nothing_told, with_events, with_mark, without_later, event_tick, mark_tick};
+ghost use Rattle.tsb_text.specs.recording.Along.{Wants, with_input};
+ghost use Rattle.tsb_text.specs.declared.recording.told.Mark.{Mark};
+
+use std::alloc::{AllocError, Global};
+use std::marker::Model;
+use tsb_step::Input;
+use tsb_step::log_form::LogForm;
+use tsb_types::Event;
+
+/// Where an input came that is no tick.
+#[derive(Clone, Copy, Default)]
+pub struct Mark {
+    /// The number of the tick in force.
+    pub tick: u32,
+    /// How many events there were before it.
+    pub events: usize,
+}
+
+/// The events of the inputs that remain, the oldest first. A contract sees the form of the log, the events and the
+/// marks, one for each input that is no tick. It also sees for how many more of them there is memory.
+#[derive(Drop)]
+pub struct Told {
+    form: LogForm,
+    events: Vec<Event>,
+    marks: Vec<Mark>,
+}
+
+impl Model for Told {
+    ghost use Rattle.std.specs.Prelude.{◌-◌, vec_capacity, vec_len};
+    ghost use Rattle.tsb_text.specs.recording.Told.{Kept};
+
+    ghost Value = { Kept };
+
+    ghost view = { λ a. record {
+      told = record { form = a.form; events = a.events.items; marks = a.marks.items };
+      event_room = vec_capacity a.events - vec_len a.events;
+      mark_room = vec_capacity a.marks - vec_len a.marks;
+    } };
+}
+
+impl Told {
+    /// Nothing, in a log of this form. It takes no memory.
+    pub fn new(alloc: Global, form: LogForm) -> Told
+        ensures { result.told ≡ nothing_told form }
+    {
+        Told {
+            form,
+            events: Vec::new(alloc),
+            marks: Vec::new(alloc),
+        }
+    }
+
+    /// The form of the log.
+    pub fn form(&self) -> LogForm
+        ensures { result ≡ self.now.told.form }
+    {
+        self.form
+    }
+
+    /// All events, the oldest first.
+    pub fn into_events(self) -> Vec<Event>
+        ensures { result.items ≡ self.told.events }
+    {
+        let Told { events, marks, .. } = self;
+        drop(marks);
+        events
+    }
+
+    /// Adds the events of an input, where this tick was in force before it. The error is that memory ran out, which
+    /// comes only where there was no room for them, and leaves all as it was.
+    pub fn add(&mut self, input: &Input, tick: u32, news: &[Event]) -> Result<(), AllocError>
+        ensures ok { OnOk result (self.new.told ≡ with_input input.now tick news.now self.old.told) }
+        ensures err { OnErr result (self.new.told ≡ self.old.told) }
+        ensures wanting { OnErr result (Wants input.now news.now self.old) }
+        ensures form { self.new.told.form ≡ self.old.told.form }
+    {
+        match input {
+            Input::Tick(_) => self.add_tick(news),
+            _ => self.add_input(tick, news),
+        }
+    }
+
+    /// Adds the events of a tick. The error is that memory ran out, and leaves all as it was.
+    fn add_tick(&mut self, news: &[Event]) -> Result<(), AllocError>
+        ensures ok { OnOk result (self.new.told ≡ with_events news.now self.old.told) }
+        ensures err { OnErr result (self.new.told ≡ self.old.told) }
+        ensures wanting { OnErr result (self.old.event_room < length news.now) }
+        ensures form { self.new.told.form ≡ self.old.told.form }
+    {
+        self.events.extend_from_slice(news)
+    }
+
+    /// Adds the events of an input that is no tick, where this tick is in force. The error is that memory ran out, and
+    /// leaves all as it was.
+    fn add_input(&mut self, tick: u32, news: &[Event]) -> Result<(), AllocError>
+        ensures ok { OnOk result (self.new.told ≡ with_mark tick news.now self.old.told) }
+        ensures err { OnErr result (self.new.told ≡ self.old.told) }
+        ensures wanting { OnErr result ((self.old.event_room < length news.now) ⊎ (self.old.mark_room ≡ 0)) }
+        ensures form { self.new.told.form ≡ self.old.told.form }
+    {
+        let events = self.events.len();
+        self.marks.reserve(1)?;
+        self.events.extend_from_slice(news)?;
+        let _ = self.marks.push(Mark { tick, events });
+        Ok(())
+    }
+
+    /// Takes back the events of the newest input, which is no tick.
+    pub fn undo_input(&mut self)
+        ensures undone { (marks : List Mark) (mark : Mark) → self.old.told.marks ≡ marks ++ mark ∷ []
+            → self.new.told ≡ record { form = self.old.told.form; events = take mark.events self.old.told.events; marks = marks } }
+        ensures form { self.new.told.form ≡ self.old.told.form }
+    {
+        if let Some(mark) = self.marks.pop() {
+            self.events.truncate(mark.events);
+        }
+    }
+
+    /// Takes back the events of all inputs that came later than a tick: with a tick number above it.
+    pub fn go_back(&mut self, tick: u32)
+        ensures { self.new.told ≡ gone_back tick self.old.told }
+    {
+        drop_later_events(&mut self.events, tick);
+        drop_later_marks(&mut self.marks, tick);
+    }
+}
+
+/// Drops the events at the end that come later than a tick.
+fn drop_later_events(events: &mut Vec<Event>, tick: u32)
+    ensures { events.new.items ≡ without_later event_tick tick events.old.items }
+{
+    while let Some(last) = events.last() {
+        if last.tick <= tick {
+            return;
+        }
+        let _ = events.pop();
+    }
+}
+
+/// Drops the marks at the end that come later than a tick.
+fn drop_later_marks(marks: &mut Vec<Mark>, tick: u32)
+    ensures { marks.new.items ≡ without_later mark_tick tick marks.old.items }
+{
+    while let Some(last) = marks.last() {
+        if last.tick <= tick {
+            return;
+        }
+        let _ = marks.pop();
+    }
+}
