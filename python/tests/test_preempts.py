@@ -1,5 +1,5 @@
 """How long a train waits for its track green, whatever its moment: the recipe of
-docs/FIELD.md, where rings serve what they are committed to, and where they choose anew."""
+docs/use/FIELD.md, where rings serve what they are committed to, and where they choose anew."""
 
 import itertools
 import json
@@ -8,7 +8,7 @@ from pathlib import Path
 import pytest
 from tsb import programs
 
-# The moments that are tried: behind each of these ticks the train's input comes on.
+# The moments that are tried: the train's input comes on in the tick after each of these.
 MOMENTS = range(1, 901)
 # A try lasts for so many ticks.
 TRIED = 300

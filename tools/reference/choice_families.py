@@ -34,7 +34,7 @@ def with_preempts(rng, plan):
 
 
 def a_plan(reference, rng):
-    """A plan of version 3 that breaks no rule, with preempts of which some choose anew."""
+    """A plan of version 3 that breaks no rule, some of whose preempts choose anew."""
     while True:
         is_quad = rng.random() < 0.7
         plan = quick_quad(reference) if is_quad else brisk(reference.even.hexa(rng))

@@ -452,10 +452,11 @@ module _ (now t : ℕ) (plan : Plan) (desk : Desk) (lamp : Option Lamp) (row : R
   sight x = record (shown_of x) { pedestrian = pedestrian_part s; tripped = false }
 
   lasting_by : (x : State) → some_lasts x.plan (sight x) ≡ is_lasting x
-  unfolding some_lasts lasts run_from
+  unfolding some_lasts lasts run_from sight
   lasting_by x = refl
 
   sights_same : heads_laws.AreAlike (sight (after_moves u row)) (sight (after_moves s row))
+  unfolding sight
   sights_same = record {
     interval = λ p from to.
         sym (ap (λ (f : ℕ → phase.Phase). (f p).interval) phases_then) ∙ same-interval t now r.phases p ∙ ap (λ (x : State). interval x p) here;

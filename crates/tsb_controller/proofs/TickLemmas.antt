@@ -350,10 +350,11 @@ module _ (now : ℕ) (plan : Plan) (desk : Desk) (lamp : Option Lamp) (row : Row
     seen_after x = record (shown_of (after_moves t row)) { pedestrian = pedestrian_of x; tripped = false }
 
     lasting_alike : (x : Pedestrians) → some_lasts plan (seen_after x) ≡ is_lasting (after_moves t row)
-    unfolding some_lasts lasts run_from
+    unfolding some_lasts lasts run_from moves seen_after
     lasting_alike x = refl
 
     lasting_is : (b : Bool) → TellsLasting plan moved_rows b → b ≡ is_lasting (after_moves t row)
+    unfolding seen_after moves
     lasting_is b h =
         h.told s.pedestrians false
         ∙ some_lasts-same plan (shown_by h.intervals s.pedestrians h.ring_1 h.ring_2 false) (seen_after s.pedestrians) placed.count alike_then

@@ -6,7 +6,7 @@ ghost use Rattle.tsb_phase.specs.Cells as phases;
 ghost use Rattle.tsb_ring.specs.Cells as rings;
 ghost use Rattle.tsb_step.specs.Step.{last_tick};
 ghost use Rattle.tsb_step.specs.tsb_types.Sets.{has};
-ghost use Rattle.tsb_controller.specs.Found.{IsSensed, IsMoved, IsGivenUp, IsGivenUpOutside, LeavesAllButRings, TellsLasting};
+ghost use Rattle.tsb_controller.specs.Found.{IsSensed, IsMoved, IsGivenUp, IsGivenUpFor, IsGivenUpOutside, LeavesAllButRings, TellsLasting};
 ghost use Rattle.tsb_controller.specs.Rows.{AreBy};
 ghost use Rattle.tsb_controller.specs.Promises.{IsTicked};
 
@@ -114,7 +114,22 @@ impl Controller {
         ensures kept { kept_of self.new ≡ kept_of self.old }
         ensures opened { IsOpen self.new }
     {
-        if let Some(target) = sensed.chosen_anew(plan) {
+        self.give_up_for(sensed.chosen_anew(plan), plan);
+    }
+
+    /// The rings give up what they are committed to outside these phases, if a preempt chooses them, and no overlap
+    /// lasts through a clearance by a commitment.
+    #[inline(always)]
+    fn give_up_for(&mut self, target: Option<PhaseSet>, plan: &Checked)
+        requires opened { IsOpen self.old }
+        requires rings_by { rings.IsBy (rows_of self.old).rings }
+        ensures given { IsGivenUpFor target (checked_plan plan.now) (rows_of self.old) (rows_of self.new) }
+        ensures rings_by { rings.IsBy (rows_of self.new).rings }
+        ensures rest { LeavesAllButRings (rows_of self.old) (rows_of self.new) }
+        ensures kept { kept_of self.new ≡ kept_of self.old }
+        ensures opened { IsOpen self.new }
+    {
+        if let Some(target) = target {
             self.give_up_outside(target, plan);
         }
     }

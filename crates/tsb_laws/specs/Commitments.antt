@@ -59,8 +59,8 @@ abbrev pub StartsWithin : Plan → List Input → ℕ → ℕ → List Input →
 StartsWithin plan base c limit later =
     HasStarted plan base c limit later ⊎ ((replay plan (later ++ base)).now < (replay plan base).now + limit)
 
--- Outside a crossing the commitment that is made as a green ends starts within that time, whatever inputs come, unless
--- the controller trips before, or a preempt is in service that chooses anew.
+-- Outside a crossing the commitment that is made as a green ends starts within that time, whatever inputs come. This
+-- needs that the controller does not trip before, and that no preempt that chooses anew is in service.
 abbrev pub CommitmentsAreServed : Type 0
 CommitmentsAreServed = (plan : Plan) (is later : List Input) (row : Row) (p : ℕ) (r : Ring) (c : ℕ) → IsConsistent plan →
     plan.phase_count ≤ 16 → AreTaken plan (later ++ (Tick row ∷ is)) → IsUntripped plan (Tick row ∷ is) later →

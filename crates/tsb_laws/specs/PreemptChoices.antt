@@ -1,8 +1,8 @@
 -- Preempts that choose anew reach their stages sooner: no ring serves what it was committed to before. So the time of a stage
--- is that of a worksheet. It takes the larger of two rows, of a conflicting vehicle (least green, yellow change, red
--- clearance) and of a conflicting pedestrian (walk, pedestrian clearance, yellow change, red clearance), and ticks in which
--- the rings move. Each law here is the contract of a function in src/operation.rt. Times are in tenths of a second, which are
--- ticks.
+-- is that of a worksheet. It takes the larger of two rows, and ticks in which the rings move. One row is of a conflicting
+-- vehicle: least green, yellow change, red clearance. The other is of a conflicting pedestrian: walk, pedestrian clearance,
+-- yellow change, red clearance. Each law here is the contract of a function in src/operation.rt. Times are in tenths of a
+-- second, which are ticks.
 use Rattle.std.specs.Prelude.{◌≡◌, ℕ, ◌+◌, ◌<◌, ◌≤◌, Bool, true, false, not, ◌&&◌, max, List, ◌∷◌, ◌++◌, Some, ◌⊎◌}
 use Rattle.tsb_step.specs.tsb_types.declared.row.Row.{Row}
 use Rattle.tsb_step.specs.tsb_types.declared.stage.Stage.{Stage}
@@ -39,8 +39,8 @@ pub record ChoiceTakesAtMost (plan : Plan) (base : List Input) (n g w c v : ℕ)
 abbrev pub time_by_choice : ℕ → ℕ → ℕ → ℕ → ℕ
 time_by_choice g w c v = max (max w (g + 1)) v + c + 4
 
--- A preempt that chooses anew, and stays in a stage, has all phases of it Green within that time, from any moment of the
--- stage on, whatever inputs come, unless the controller trips before.
+-- A preempt that chooses anew, and stays in a stage, has all phases of it Green within that time. It counts from any
+-- moment of the stage on, whatever inputs come, unless the controller trips before.
 abbrev pub ChosenStagesAreReached : Type 0
 ChosenStagesAreReached = (plan : Plan) (base later : List Input) (n : ℕ) (stage : Stage) (g w c v : ℕ) → IsConsistent plan →
     plan.phase_count ≤ 16 → AreTaken plan (later ++ base) → IsUntripped plan base later → HasChosen plan base later →

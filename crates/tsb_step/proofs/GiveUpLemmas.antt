@@ -62,7 +62,7 @@ gives_by s row h =
 
 -- ## In any tick
 
--- what is so of the rings that have acted, and of those that have given up what strays, is so of the rings after the tick
+-- a fact of the rings that have acted, and of those that have given up what strays, holds of the rings after the tick
 pub by_rings : (P : rings.State → Type 0) (s : State) (row : Row) → P (after_moves s row).rings →
     P (given_up s.plan (target s row) (after_moves s row).rings) → P (next s row).rings
 unfolding new_rings

@@ -120,7 +120,7 @@ StartsAfterRedRevert = OfEveryUntrippedRun (λ plan is. (row : Row) (p : ℕ) �
     (((replay plan is).phases p).red_revert ≡ Off)
     ⊎ (red_revert (replay plan is).plan p ≤ suc (held_for (λ s. not (is_green (interval s p) || is_yellow (interval s p))) plan is)))
 
--- the commitment of the ring stands over the input, or its phase turns Green
+-- the ring keeps its commitment over the input, or its phase turns Green
 abbrev pub StandsOrStarts : State → Input → Ring → ℕ → Type 0
 StandsOrStarts s i r c = ((step s i).rings.commitment r ≡ Some c) ⊎ ((interval s c ≢ Green) × (interval (step s i) c ≡ Green))
 
@@ -130,8 +130,8 @@ abbrev pub CommitmentsStandInRuns : Type 0
 CommitmentsStandInRuns = OfEveryRun (λ s. (i : Input) (r : Ring) (c : ℕ) → s.trip ≡ None → is_choosing (step s i) ≡ false →
     s.rings.commitment r ≡ Some c → StandsOrStarts s i r c)
 
--- while the controller has not tripped: where a preempt is in service in a tick that chooses anew, it wants the phase of
--- each commitment that there is after the tick, or an overlap lasts through a clearance by a commitment
+-- while the controller has not tripped. A preempt in service that chooses anew wants the phase of each commitment after
+-- the tick, unless an overlap lasts through a clearance by a commitment
 abbrev pub CommitmentsAreWanted : Type 0
 CommitmentsAreWanted = OfEveryRun (λ s. (row : Row) (r : Ring) (c : ℕ) → s.trip ≡ None → is_anew s.plan (service s row) ≡ true →
     (step s (Tick row)).rings.commitment r ≡ Some c → (must_end s row c ≡ false) ⊎ (is_lasting (step s (Tick row)) ≡ true))
@@ -141,7 +141,7 @@ pub record ShowsTheSame (s t : State) : Type 0 where
   pub phases : t.phases ≡ s.phases
   pub overlap : (o : ℕ) → IsOverlap o → overlap_head t.plan (shown t) o ≡ overlap_head s.plan (shown s) o
 
--- so it is in each tick
+-- each tick of every run does
 abbrev pub GivingUpShowsNothing : Type 0
 GivingUpShowsNothing = OfEveryRun (λ s. (row : Row) → ShowsTheSame (after_moves s row) (next s row))
 
