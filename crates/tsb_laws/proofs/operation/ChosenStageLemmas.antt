@@ -269,5 +269,5 @@ chosen_dwells plan is later row n g w c v t limit ok few taken dark begins on he
         inr (earlier d (replay plan (later ++ base)).now ((replay plan base).now + limit)
         (near_some times (stage_phases (replay plan (later ++ base)).plan n Dwell) (replay plan (later ++ base)).plan (replay plan (later ++ base)).phases (replay plan (later ++ base)).rings d was) l)
     go (to_track h d was l) = inr (early (d + t) b (replay plan (later ++ base)).now ((replay plan base).now + limit) (takes_some g w c v) l)
-    go (in_track h lit l) = inr (early t b (replay plan (later ++ base)).now ((replay plan base).now + limit) (takes_some g w c v) l)
+    go (in_track h greens l) = inr (early t b (replay plan (later ++ base)).now ((replay plan base).now + limit) (takes_some g w c v) l)
     go (timed x e h k timer l) = inr (early (t - (k + 1)) b (replay plan (later ++ base)).now ((replay plan base).now + limit) (takes_some g w c v) l)

@@ -209,9 +209,6 @@ module _ (plan : Plan) (base : List Input) (k j h : ℕ) (r : Ring) (c : ℕ) (o
     in_time = (let some = less.some in let clock = one_later (replay plan (later ++ base)) row in let before = was.in_time in omega (arith, some, clock, before));
   }
     where
-      seen : view (replay plan (Tick row ∷ (later ++ base))) ≡ view (after_moves (replay plan (later ++ base)) row)
-      seen = view_then (replay plan (later ++ base)) row dark quiet
-
       outer : (callable (replay plan (later ++ base)) row c ≡ true) × ((is_some (runs (replay plan (later ++ base))) && is_none (service (replay plan (later ++ base)) row)) ≡ true)
       outer = and_parts (callable (replay plan (later ++ base)) row c) (is_some (runs (replay plan (later ++ base))) && is_none (service (replay plan (later ++ base)) row)) out
 
@@ -219,6 +216,9 @@ module _ (plan : Plan) (base : List Input) (k j h : ℕ) (r : Ring) (c : ℕ) (o
       quiet =
           none_is (service (replay plan (later ++ base)) row)
           (and_parts (is_some (runs (replay plan (later ++ base)))) (is_none (service (replay plan (later ++ base)) row)) outer.1).1
+
+      seen : view (replay plan (Tick row ∷ (later ++ base))) ≡ view (after_moves (replay plan (later ++ base)) row)
+      seen = view_then (replay plan (later ++ base)) row dark quiet
 
       enabled : is_enabled (replay plan (later ++ base)).plan c ≡ true
       enabled = callable_enabled (replay plan (later ++ base)) row c outer.0

@@ -341,7 +341,7 @@ pub arrives : (t : Limits) (plan : Plan) (is : List Input) (row : Row) (n : ℕ)
     Arrives t plan (Tick row ∷ is) n stage (d - 1)
 arrives t plan is row n stage ok few taken dark held within d was =
     elim (nearer s row (stage_phases s.plan n stage) n here t within d was) [
-      | inl lit ↦ inl (then_lit s row n stage dark lit)
+      | inl green ↦ inl (then_lit s row n stage dark green)
       | inr closer ↦ inr (then_near s row n stage dark t (d - 1)
           (near_then t (stage_phases s.plan n stage) s row (d - 1) here.asks (enabled_next s row here.good here.on).promised closer))
     ]
