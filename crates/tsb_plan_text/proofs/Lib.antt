@@ -4,3 +4,4 @@ pub mod RiseLemmas
 pub mod SaysLemmas
 pub mod TableLemmas
 pub mod TextLemmas
+pub mod TreeLemmas

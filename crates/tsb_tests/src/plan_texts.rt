@@ -263,6 +263,73 @@ fn a_text_of_the_limit_is_judged(rt: HostRuntime) {
     assert!(rt; all_padded_are_answered(rt.alloc(), &wanted));
 }
 
+/// Whether this is what reading answers for a text of so many pieces between a start and an end, with blanks up to a
+/// length.
+fn filled_is_answered(
+    alloc: Global,
+    parts: (&str, &str, &str),
+    times: usize,
+    len: usize,
+    line: &str,
+) -> bool {
+    match filled(alloc, parts, times) {
+        Ok(text) => padded_is_answered(alloc, text.as_str(), len, line),
+        Err(_) => false,
+    }
+}
+
+/// A text of so many pieces between a start and an end.
+fn filled(alloc: Global, parts: (&str, &str, &str), times: usize) -> Result<String, AllocError> {
+    let (start, piece, end) = parts;
+    let mut text = String::from_str(alloc, start)?;
+    for _ in 0..times {
+        text.push_str(piece)?;
+    }
+    text.push_str(end)?;
+    Ok(text)
+}
+
+/// A tree of 54,525,952 bytes, as they are counted, is made, and none of 32 bytes more: 900 bytes an object, 160 a
+/// name, 176 an array and 32 a number.
+#[test]
+fn a_tree_of_the_limit_is_made(rt: HostRuntime) {
+    let start = r#"{"a":[{},{},{},"#;
+    let most = (start, "[],", "0]}");
+    let more = (start, "[],", "0,0]}");
+    assert!(rt; filled_is_answered(rt.alloc(), most, 309_784, 0, "plan: version"));
+    assert!(rt; filled_is_answered(rt.alloc(), more, 309_784, 0, "memory"));
+}
+
+/// 120 objects in one another, and a comma.
+fn objects_in_one_another(alloc: Global) -> Result<String, AllocError> {
+    let ends = filled(alloc, ("", "}", ","), 120)?;
+    let mut text = filled(alloc, ("", r#"{"":"#, "0"), 120)?;
+    text.push_str(ends.as_str())?;
+    Ok(text)
+}
+
+/// A text of 256 KiB is read whatever its tree takes: here 434 times 120 objects in one another.
+#[test]
+fn a_short_text_is_read_whatever_its_tree_takes(rt: HostRuntime) {
+    let piece = objects_in_one_another(rt.alloc()).expect(&rt, "memory");
+    let parts = (r#"{"a":["#, piece.as_str(), "0]}");
+    assert!(rt; filled_is_answered(rt.alloc(), parts, 434, 262_144, "plan: version"));
+    assert!(rt; filled_is_answered(rt.alloc(), parts, 434, 262_145, "memory"));
+}
+
+/// Of a plan's own tables for an object there is one at a time.
+#[test]
+fn own_tables_take_little(rt: HostRuntime) {
+    let own = ("{", r#""phaseWalk":{},"#, r#""a":0}"#);
+    let other = ("{", r#""phaseWall":{},"#, r#""a":0}"#);
+    let inner = (r#"{"a":{"#, r#""phaseWalk":{},"#, r#""a":0}}"#);
+    let before = (r#"{"phaseWalk":["#, "{},", "0]}");
+    assert!(rt; filled_is_answered(rt.alloc(), own, 60_000, 0, "plan: version"));
+    assert!(rt; filled_is_answered(rt.alloc(), other, 60_000, 0, "memory"));
+    assert!(rt; filled_is_answered(rt.alloc(), inner, 60_000, 0, "memory"));
+    assert!(rt; filled_is_answered(rt.alloc(), before, 100_000, 0, "memory"));
+}
+
 #[test]
 fn bytes_that_are_no_text_are_not_json(rt: HostRuntime) {
     let text = [b'"', 255, b'"'];
