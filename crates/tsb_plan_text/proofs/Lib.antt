@@ -4,4 +4,3 @@ pub mod RiseLemmas
 pub mod SaysLemmas
 pub mod TableLemmas
 pub mod TextLemmas
-pub mod TreeLemmas

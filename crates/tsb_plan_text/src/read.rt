@@ -28,7 +28,7 @@ const VERSION: &str = "version";
 /// The plan that the text gives, checked.
 ///
 /// An `Err` is the text's first fault, in the order of `PlanError`, or `Memory`, which may come in place of the plan
-/// and of any fault but `TooLarge`. It always comes for a text of over 256 KiB whose tree would take over 52 MiB. Where
+/// and of any fault but `TooLarge`. It always comes for a text of over 256 KiB whose tree would take over 64 MiB. Where
 /// a member or an index comes twice in a table, the last counts.
 #[inline(never)]
 #[tactic(auto, unfolding(crate::specs::PlanText::reading))]
@@ -86,11 +86,12 @@ fn read_short(alloc: Global, text: &[u8]) -> Result<Checked, PlanError>
 
 /// Makes an empty plan the one that a text gives, whether it meets the rules or not.
 fn read_json(alloc: Global, text: &[u8], plan: &mut Plan) -> Result<(), PlanError>
+    requires { length text.now ≤ 1048576 }
     ensures makes { plan_of plan.old ≡ empty
         → Makes result (plan_of plan.new) (or_fault (data_of text.now) not_json data_plan) }
     ensures heavy { has_room text.now ≡ false → result ≡ Err PlanError.Memory }
 {
-    if !has_room(alloc, text)? {
+    if !has_room(text) {
         return Err(PlanError::Memory);
     }
     let value = parse(alloc, text)?;
