@@ -17,6 +17,8 @@ import sys
 import tempfile
 import threading
 
+from tools.speed import kit
+
 EXAMPLES = pathlib.Path("examples")
 # What the player counts where it times the bench on a random log.
 TIMED = pathlib.Path("crates/tsb_runs/data/timed.txt")
@@ -31,6 +33,14 @@ INPUT = READ + b"standard input\n"
 CAUSES = {"folder": b": a folder"} | dict.fromkeys(["", "help", "none.json", "none.log"], b": no such file")
 OK, RULE, NOT_JSON = b"plan ok\n", b"plan: rule K8\n", b"plan: not JSON\n"
 LONGEST_PLAN, LONGEST_COMMANDS = 1 << 20, 16 << 20
+MEMORY = b"memory\n"
+
+# What reading a plan may take of memory, in MiB, and texts that make large trees: the first is read, the others aren't.
+MOST_MEMORY = 64
+SMALL_PARTS = {
+    "small_arrays": (b"[0],", 250_000), "deep_arrays": (b"[" * 120 + b"0" + b"]" * 120 + b",", 4_300),
+    "small_objects": (b'{"":0},', 140_000), "deep_objects": (b'{"":' * 120 + b"0" + b"}" * 120 + b",", 1_700),
+}
 
 # A name beyond ASCII.
 TWELVE = "zw\u00f6lf.json"
@@ -155,6 +165,11 @@ def file_runs():
         yield Run(["check", path], 0, OK)
     yield Run(["check", "many_members.json"], 1, b"plan: a: no such object\n")
     yield Run(["check", "many_values.json"], 1, b"plan: phaseWalk: not a table\n")
+    first, *others = SMALL_PARTS
+    yield Run(["check", f"{first}.json"], 1, b"plan: a: no such object\n")
+    for name in others:
+        yield Run(["check", f"{name}.json"], 3, b"", MEMORY)
+        yield Run(["run", f"{name}.json", "empty.log"], 3, b"", MEMORY, b"step 1\n")
     yield Run(["run", "two.json", "many.log"], 0, line("0000001", "-G-R").encode(), b"", b"step 1\n")
     yield Run(["run", "two.json", "many_and_first.log"], 1, b"", f"log line {MANY + 1}: tick order\n".encode(), b"step 1\n")
     yield Run(["run", "two.json", "many_and_bad.log"], 1, b"", f"log line {MANY + 1}: malformed\n".encode(), b"step 1\n")
@@ -300,11 +315,19 @@ def long_texts(folder):
         ("many_versions", b"{", b'"version":2,', 87_000, b""), ("many_members", b"{", b'"a":[],', 140_000, b""),
         ("many_indices", b'{"phaseWalk":{', b'"2":1,', 170_000, b'"2":0},'),
         ("many_values", b'{"phaseWalk":[', b"0,", 500_000, b"0],"),
+        *((name, b'{"a":[', piece, times, b"0],") for name, (piece, times) in SMALL_PARTS.items()),
     ]:
         (folder / f"{name}.json").write_bytes(start + piece * times + end + rest)
     rows = "".join(f"{tick:07} {tick % 2}000000000000000 00000000 0000\n" for tick in range(1, MANY + 1)).encode()
     for name, end in [("many", b""), ("many_and_first", b"0000001 0000000000000000 00000000 0000\n"), ("many_and_bad", b"what\n")]:
         (folder / f"{name}.log").write_bytes(rows + end)
+
+
+def too_much_memory(program, folder):
+    """What reads plan texts of small parts in over MOST_MEMORY."""
+    runs = {name: kit.Run((str(program), "check", str(folder / f"{name}.json"))) for name in SMALL_PARTS}
+    taken = {name: kit.memory_of(run, (1, 3)) for name, run in runs.items()}
+    return [f"{name}: {least:.1f} MiB are taken" for name, least in taken.items() if least > MOST_MEMORY]
 
 
 def fill(folder):
@@ -337,8 +360,10 @@ def main(words):
         fill(folder)
         for path, run in runs:
             wrong += [f"{path.name} {run.words} {run.places or ''}: {it}" for it in run.differences(path, folder)]
+        wrong += too_much_memory(program, folder)
     wrong += longest_session(program) + read_too_far(program) + played_ticks(player) + timed_runs(player)
-    print("\n".join(wrong) if wrong else f"program: {len(runs) + 4} runs as expected")
+    print("
+".join(wrong) if wrong else f"program: {len(runs) + 4 + len(SMALL_PARTS)} runs as expected")
     return 1 if wrong else 0
 
 

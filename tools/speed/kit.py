@@ -116,8 +116,8 @@ def counts(counted: Sequence[Counted], unit: float = 1) -> list[str]:
     return [rounded(it / unit) for it in values] + ([ratio(*values)] if len(values) == 2 else [])
 
 
-def memory_of(run: Run) -> float:
-    """The greatest resident memory of a run that reads a file, in MiB.
+def memory_of(run: Run, ends: Sequence[int] = ENDS) -> float:
+    """The greatest resident memory of a run that reads a file, and ends with one of these, in MiB.
 
     Of what starts a run its memory counts too, so a shell does it, and leaves it to this process.
     """
@@ -130,7 +130,7 @@ def memory_of(run: Run) -> float:
             given = pathlib.Path(copy.name)
         subprocess.run(["sh", "-c", LEAVING, "sh", given, run.told, *run.words], check=True)
         _, status, used = os.wait4(-1, 0)
-    if os.waitstatus_to_exitcode(status) not in ENDS:
+    if os.waitstatus_to_exitcode(status) not in ends:
         sys.exit(f"{run.words} ended with {os.waitstatus_to_exitcode(status)}")
     return used.ru_maxrss / 1024
 

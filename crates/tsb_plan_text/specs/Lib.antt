@@ -1,5 +1,7 @@
 -- the errors of a plan text, and when an answer is right
 pub mod PlanErrors
+-- what the tree of a text takes of memory
+pub mod TreeSize
 -- the plan of a text or its first error, member after member
 pub mod PlanText
 -- the same plan told number by number, without how it is read

@@ -17,7 +17,8 @@ use tsb_objects::{Object, Rule};
 #[derive(Debug, Drop, Error)]
 #[error("{}", self.line())]
 pub enum PlanError {
-    /// There is no memory to read the text or to report its fault. The text may have any fault but `TooLarge`, or none.
+    /// There is no memory to read the text or to report its fault, or its tree would take too much. The text may have
+    /// any fault but `TooLarge`, or none.
     Memory,
     /// The text is longer than `LIMIT`.
     TooLarge,

@@ -11,6 +11,7 @@ mod listed;
 mod numbers;
 mod read;
 mod rules;
+mod tree;
 
 pub use error::{PlanError, PlanLine};
 pub use read::{LIMIT, read_plan, read_unchecked};

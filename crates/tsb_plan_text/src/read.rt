@@ -1,5 +1,5 @@
 //! Plan texts.
-ghost use Rattle.std.specs.Prelude.{◌≡◌, ◌<◌, ◌≤◌, ◌↔◌, ◌⊎◌, length, Ok, Err, IfOk};
+ghost use Rattle.std.specs.Prelude.{◌≡◌, ◌<◌, ◌≤◌, ◌↔◌, ◌⊎◌, false, length, Ok, Err, IfOk};
 ghost use Rattle.serde_json.specs.Errors.{IsMemory};
 ghost use Rattle.serde_json.specs.View.{view, members_view};
 ghost use Rattle.tsb_objects.specs.Checked.{checked_plan};
@@ -7,11 +7,13 @@ ghost use Rattle.tsb_plan.specs.Plan.{empty};
 ghost use Rattle.tsb_plan.specs.PlanOf.{plan_of};
 ghost use Rattle.tsb_plan_text.specs.PlanErrors.{Gives, Makes, not_json};
 ghost use Rattle.tsb_plan_text.specs.PlanTextSays.{Says};
+ghost use Rattle.tsb_plan_text.specs.TreeSize.{has_room};
 ghost use Rattle.tsb_plan_text.specs.PlanText.{drafted, reading, data_plan, or_fault, with_member, with_members, data_of};
 
 use crate::error::PlanError;
 use crate::listed::Listed;
 use crate::numbers::version_of;
+use crate::tree::has_room;
 use serde_json::{Error, Map, Value};
 use std::alloc::Global;
 use tsb_objects::{Checked, Plan, Version, check};
@@ -26,7 +28,8 @@ const VERSION: &str = "version";
 /// The plan that the text gives, checked.
 ///
 /// An `Err` is the text's first fault, in the order of `PlanError`, or `Memory`, which may come in place of the plan
-/// and of any fault but `TooLarge`. Where a member or an index comes twice in a table, the last counts.
+/// and of any fault but `TooLarge`. It always comes for a text of over 256 KiB whose tree would take over 64 MiB. Where
+/// a member or an index comes twice in a table, the last counts.
 #[inline(never)]
 #[tactic(auto, unfolding(crate::specs::PlanText::reading))]
 pub fn read_plan(alloc: Global, text: &[u8]) -> Result<Checked, PlanError>
@@ -40,6 +43,9 @@ pub fn read_plan(alloc: Global, text: &[u8]) -> Result<Checked, PlanError>
 
     // Whatever memory there is.
     ensures too_large { (result ≡ Err PlanError.TooLarge) ↔ (1048576 < length text.now) }
+
+    // `Memory` comes for a text with too large a tree, also where there is memory for it.
+    ensures heavy { length text.now ≤ 1048576 → has_room text.now ≡ false → result ≡ Err PlanError.Memory }
 {
     if text.len() > LIMIT {
         return Err(PlanError::TooLarge);
@@ -53,7 +59,8 @@ pub fn read_plan(alloc: Global, text: &[u8]) -> Result<Checked, PlanError>
 /// An `Err` is as that of `read_plan`, but never `Rule`.
 #[tactic(auto, unfolding(crate::specs::PlanText::drafted))]
 pub fn read_unchecked(alloc: Global, text: &[u8]) -> Result<Plan, PlanError>
-    ensures { Gives plan_of result (drafted text.now) }
+    ensures reads { Gives plan_of result (drafted text.now) }
+    ensures heavy { length text.now ≤ 1048576 → has_room text.now ≡ false → result ≡ Err PlanError.Memory }
 {
     if text.len() > LIMIT {
         return Err(PlanError::TooLarge);
@@ -68,7 +75,8 @@ pub fn read_unchecked(alloc: Global, text: &[u8]) -> Result<Plan, PlanError>
 #[tactic(auto, unfolding(crate::specs::PlanText::reading, crate::specs::PlanText::checked))]
 fn read_short(alloc: Global, text: &[u8]) -> Result<Checked, PlanError>
     requires { length text.now ≤ 1048576 }
-    ensures { Gives checked_plan result (reading text.now) }
+    ensures reads { Gives checked_plan result (reading text.now) }
+    ensures heavy { has_room text.now ≡ false → result ≡ Err PlanError.Memory }
 {
     let mut plan = Plan::empty();
     read_json(alloc, text, &mut plan)?;
@@ -78,9 +86,14 @@ fn read_short(alloc: Global, text: &[u8]) -> Result<Checked, PlanError>
 
 /// Makes an empty plan the one that a text gives, whether it meets the rules or not.
 fn read_json(alloc: Global, text: &[u8], plan: &mut Plan) -> Result<(), PlanError>
-    ensures { plan_of plan.old ≡ empty
+    requires { length text.now ≤ 1048576 }
+    ensures makes { plan_of plan.old ≡ empty
         → Makes result (plan_of plan.new) (or_fault (data_of text.now) not_json data_plan) }
+    ensures heavy { has_room text.now ≡ false → result ≡ Err PlanError.Memory }
 {
+    if !has_room(text) {
+        return Err(PlanError::Memory);
+    }
     let value = parse(alloc, text)?;
     read_value(alloc, &value, plan)
 }

@@ -271,6 +271,51 @@ fn a_text_of_the_limit_is_judged(rt: HostRuntime) {
     assert!(rt; all_padded_are_answered(rt.alloc(), &wanted));
 }
 
+/// Whether this is what reading answers for a text of so many pieces between a start and an end.
+fn filled_is_answered(alloc: Global, parts: (&str, &str, &str), times: usize, line: &str) -> bool {
+    match filled(alloc, parts, times) {
+        Ok(text) => is_answered(alloc, text.as_str(), line),
+        Err(_) => false,
+    }
+}
+
+/// A text of so many pieces between a start and an end.
+fn filled(alloc: Global, parts: (&str, &str, &str), times: usize) -> Result<String, AllocError> {
+    let (start, piece, end) = parts;
+    let mut text = String::from_str(alloc, start)?;
+    for _ in 0..times {
+        text.push_str(piece)?;
+    }
+    text.push_str(end)?;
+    Ok(text)
+}
+
+/// A tree of 67,108,864 bytes, as they are counted, is made, and none of a value more: 900 bytes for a brace, 176 for a
+/// bracket, 128 for a colon, 32 for a comma and 16 for a quote.
+#[test]
+fn a_tree_of_the_limit_is_made(rt: HostRuntime) {
+    let start = r#"{"a":[{},{},{},"#;
+    let most = (start, "[],", "0,0,0,0,0,0,0,0,0,0]}");
+    let more = (start, "[],", "0,0,0,0,0,0,0,0,0,0,0]}");
+    assert!(rt; filled_is_answered(rt.alloc(), most, 322_618, "plan: version"));
+    assert!(rt; filled_is_answered(rt.alloc(), more, 322_618, "memory"));
+}
+
+/// A text of 256 KiB is read whatever is in it. In a longer one bytes within a string count as well.
+#[test]
+fn a_short_text_is_read_whatever_is_in_it(rt: HostRuntime) {
+    let parts = (r#"{"a":""#, "{", r#""}"#);
+    assert!(rt; filled_is_answered(rt.alloc(), parts, 262_136, "plan: version"));
+    assert!(rt; filled_is_answered(rt.alloc(), parts, 262_137, "memory"));
+}
+
+/// A plan whose table comes again and again is read.
+#[test]
+fn one_table_again_and_again_is_read(rt: HostRuntime) {
+    let parts = ("{", r#""phaseWalk":{"2":4},"#, r#""version":1}"#);
+    assert!(rt; filled_is_answered(rt.alloc(), parts, 52_000, "plan: rule K1"));
+}
+
 #[test]
 fn bytes_that_are_no_text_are_not_json(rt: HostRuntime) {
     let text = [b'"', 255, b'"'];
