@@ -2,6 +2,7 @@
 
 import importlib
 import random
+import warnings
 from pathlib import Path
 
 import pandas as pd
@@ -255,6 +256,24 @@ def test_moments_that_are_moments_already() -> None:
     for of in (plain, plain.dt.tz_localize("Etc/GMT+7")):
         assert forms.moments_of(of).equals(plain)
     assert forms.moments_of(pd.Series([], dtype=object)).dtype == "datetime64[ns]"
+
+
+@pytest.mark.parametrize(
+    "text, zone",
+    [
+        ("2026-11-22T07:00:00Z", "Z"), ("2026-11-22 07:00:00.5-07", "-07"),
+        ("11/22/2026 7:00:00 AM+05:30", None), ("2026-11-22 07:00:00,5 UTC", "UTC"),
+        ("2026-11-22 07:00:00", None), ("11-22-2026 07:00:00", None), ("1795330803", None),
+        ("2026-11-22 07:00:00+0530", "+0530"),
+    ],
+)  # fmt: skip
+def test_a_zone_is_told(text: str, zone: str | None) -> None:
+    """That it counts for nothing, once for all rows."""
+    with warnings.catch_warnings(record=True) as told:
+        warnings.simplefilter("always")
+        moments(text, text)
+    wanted = f"the zone {zone} of times is passed over: what clocks show counts"
+    assert [str(it.message) for it in told] == ([] if zone is None else [wanted])
 
 
 @pytest.mark.parametrize(

@@ -1,6 +1,7 @@
 """Tables of lines, events, logs and exports, there and back."""
 
 import re
+import warnings
 from pathlib import Path
 
 import numpy as np
@@ -200,6 +201,51 @@ def test_log_of_a_file(examples: Path, tmp_path: Path) -> None:
     with pytest.raises(Error, match="events line 2: time: "):
         path.write_text(path.read_text().replace("2026-11-22 ", ""))
         frames.log_of_export(path, START)
+
+
+@pytest.mark.parametrize("text", ["07:00:00", "7:00", "", "11/22/2026 07:00:00"])
+def test_a_start_that_is_no_time(text: str) -> None:
+    """It is named, by its word."""
+    export = frames.export_of_events(frames.of_events([Event(33, 82, 4)]), START, "7")
+    said = f"^start: '{text}' is no time as 2026-11-22 07:00:00$"
+    with pytest.raises(Error, match=said):
+        frames.log_of_export(export, text)
+    with pytest.raises(Error, match=said):
+        frames.events_of_export(export, text)
+
+
+def test_starts_of_an_export() -> None:
+    """Without seconds, or with parts of one."""
+    export = frames.export_of_events(frames.of_events([Event(33, 82, 4)]), START, "7")
+    for text, tick in (
+        ("2026-11-22 07:00", 33), ("2026-11-22T07:00:00", 33), ("2026-11-22 07:00:03.2", 1),
+        ("2026-11-22 06:59:50", 133), ("2026-11-22", 252033),
+    ):  # fmt: skip
+        assert frames.log_of_export(export, text).ticks == (tick,)
+        assert frames.events_of_export(export, text)["tick"].to_list() == [tick]
+
+
+def test_words_that_lead_nowhere(tmp_path: Path) -> None:
+    """They are named, and not the usage of another program."""
+    export = frames.export_of_events(frames.of_events([Event(33, 82, 4)]), START, "7")
+    with pytest.raises(Error, match=r"^--device=7 --vehicle=4=17: docs/use/FIELD.md has"):
+        frames.log_of_export(export, START, "7", vehicles={4: 17})
+
+
+def test_a_file_of_several_devices(tmp_path: Path) -> None:
+    """That they are taken as one is told, of a file as of a table; of one device, or of
+    a file without devices, nothing is."""
+    path = tmp_path / "e.csv"
+    text = "SignalID,Timestamp,EventCode,EventParam\n7,2026-11-22 07:00:00,82,4\n"
+    path.write_text(f"{text}8,2026-11-22 07:00:01,81,4\n")
+    with pytest.warns(UserWarning, match="^rows of 2 devices are taken as one$"):
+        assert frames.log_of_export(path, START).ticks == (1, 11)
+    path.write_text("Time,Code,Param\n2026-11-22 07:00:00,82,4\n")
+    with warnings.catch_warnings():
+        warnings.simplefilter("error")
+        assert frames.log_of_export(path, START).ticks == (1,)
+        path.write_text(text)
+        assert frames.log_of_export(path, START).ticks == (1,)
 
 
 def test_what_acts_twice(examples: Path, tmp_path: Path) -> None:

@@ -130,6 +130,13 @@ def test_long_lines_and_odd_ones(examples: Path) -> None:
             for call in (bench.step, bench.changes, bench.back, bench.seek):
                 with pytest.raises(tsb.OutOfRange, match="is a whole one"):
                     call(count)  # type: ignore[operator]
+        for on in (4, ["a"], [1.5], [None]):
+            with pytest.raises(tsb.OutOfRange, match="give numbers of inputs as .1, 4."):
+                bench.tick(vehicles=on)  # type: ignore[arg-type]
+        for row in (1, None, b"0001000000000000 00000000 0000"):
+            with pytest.raises(tsb.OutOfRange, match="is no row of 16, 8 and 4 digits"):
+                bench.ticks([row])  # type: ignore[list-item]
+        assert bench.now == 0
         assert len(bench.step(np.int64(3))) == 3 and bench.now == 3  # type: ignore
 
 

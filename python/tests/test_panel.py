@@ -967,9 +967,9 @@ def test_too_many_pages(examples: Path, tmp_path: Path) -> None:
     ("words", "said"),
     [
         (["two_short_yellow.json"], "plan: rule K8: .*cure: give tenths: 40 for 4.0 s"),
-        (["blank.json"], "plan: not JSON"),
+        (["blank.json"], "blank.json: plan: not JSON"),
         (["none.json"], "none.json: No such file"),
-        (["quad.json", "tick_zero.log"], "log line 1: malformed"),
+        (["quad.json", "tick_zero.log"], "tick_zero.log: log line 1: malformed"),
         (["quad.json", "--layout", "quad.json"], "quad.json: the layout: version"),
     ],
 )

@@ -162,6 +162,18 @@ def test_hands_behind_a_cut_and_pulses_beside_one_another() -> None:
     assert found == [(row({1, 2}), 9), (row({1}), 7), (ALL_OFF, 4)]
 
 
+def test_a_pulse_that_ends_with_what_is_taken() -> None:
+    """It leaves nothing behind: no row of no ticks, and none of less."""
+    tape = Tape()
+    tape.grasp(0, place("vehicle", 1), Hand(True, 5))
+    assert list(tape.next_rows(0, 5)) == [(row({1}), 5)]
+    tape.take(tape.next_rows(0, 5))
+    tape.grasp(5, place("vehicle", 2), Hand(True))
+    assert list(tape.next_rows(5, 3)) == [(row({2}), 3)]
+    tape.take(tape.next_rows(5, 3))
+    assert tape.taken(1, 8) == Log((1, 6), (row({1}), row({2})))
+
+
 def test_inputs_that_are_no_ticks() -> None:
     """By their ticks; those at a cut stay, those after it go."""
     tape, on, off = Tape(), Switch(1, "on"), Switch(1, "off")

@@ -2,6 +2,7 @@
 
 import inspect
 import signal
+import warnings
 from collections.abc import Iterator
 from dataclasses import replace
 from pathlib import Path
@@ -9,7 +10,7 @@ from typing import Any
 
 import pandas as pd
 import pytest
-from tsb import Error, Log, Plan, PlanFault, ProgramDied, measures, programs
+from tsb import Error, Log, Plan, PlanFault, ProgramDied, measures, programs, tasks
 from tsb.processes import local
 from tsb.sumo import Intersection, Loop, crossroads, read_trips, summary
 from tsb.sumo.command import log_of
@@ -73,6 +74,14 @@ def told(events: pd.DataFrame, plan: Plan) -> pd.DataFrame:
 def full(events: pd.DataFrame, plan: Plan) -> pd.DataFrame:
     """A measure that meets a full disk, somewhere."""
     raise OSError(28, "No space left on device")
+
+
+def tells(events: pd.DataFrame, plan: Plan) -> pd.DataFrame:
+    """A measure that tells something, twice, and what is for nobody."""
+    for it in ("this is told", "and this", "this is told"):
+        warnings.warn(it, stacklevel=1)
+    warnings.warn("of a program", DeprecationWarning, stacklevel=1)
+    return events
 
 
 def fails(events: pd.DataFrame, plan: Plan) -> pd.DataFrame:
@@ -146,14 +155,73 @@ def test_what_went_wrong_with_a_run(day: Day, tmp_path: Path) -> None:
     """The line of a full disk names the folder, that of a missing file the file."""
     out = tmp_path / "out"
     out.mkdir()
-    assert tried(day, str(out), "x", ["splits"]) is None and len(list(out.iterdir())) == 1
+    assert tried(day, str(out), "x", ["splits"]) == (None, ())
+    assert len(list(out.iterdir())) == 1
     said = "No space left on device"
-    assert tried(day, str(out), "y", [full]) == f"{out}: {said}"
+    assert tried(day, str(out), "y", [full]) == (f"{out}: {said}", ())
     gone = replace(day, source=str(tmp_path / "gone.log"))
-    assert tried(gone, str(out), "y", [told]) == f"{gone.source}: No such file or directory"
+    missing = "No such file or directory"
+    assert tried(gone, str(out), "y", [told]) == (f"{gone.source}: {missing}", ())
     none = tmp_path / "none"
-    assert tried(day, str(none), "y", [told]) == f"{none}: No such file or directory"
-    assert tried(day, str(out), "y", [fails]) == "ValueError: it fails"
+    assert tried(day, str(none), "y", [told]) == (f"{none}: {missing}", ())
+    assert tried(day, str(out), "y", [fails]) == ("ValueError: it fails", ())
+    notes = ("this is told", "and this")
+    assert tried(day, str(out), "z", [tells]) == (None, notes)
+    assert tried(day, str(out), "y", [tells, fails]) == ("ValueError: it fails", notes)
+
+
+ROWS = "SignalID,Timestamp,EventCode,EventParam\n"
+
+
+def test_what_is_told_of_a_day(
+    day: Day, one: Any, tmp_path: Path, capsys: pytest.CaptureFixture[str]
+) -> None:
+    """Rows of several devices have to name one. A gap and what is left out are told,
+    with the file, of each run; and a day is read once for many plans."""
+    path = tmp_path / "2026-11-22.csv"
+    clocks = [("7", "00:00:00.0", 82), ("8", "00:00:01.0", 82), ("7", "09:00:00.0", 81)]
+    lines = [f"{of},2026-11-22 {at},{code},2\n" for of, at, code in clocks]
+    path.write_text(ROWS + "".join([*lines, "7,2026-11-22 09:00:00.0,82,40\n"]))
+    both = replace(day, source=str(path))
+    with pytest.raises(Error, match="2026-11-22.csv: rows of 2 devices: name one by --d"):
+        list(both.tables([told]))
+    seven = replace(both, device="7")
+    gap = "no row from 2026-11-22 00:00:00 to 2026-11-22 09:00:00: what changed in"
+    before = tasks._log_of_day.cache_info().hits
+    for name in ("x", "y"):
+        fault, notes = tried(seven, str(tmp_path), name, [told])
+        assert fault is None and len(notes) == 2
+        assert "2026-11-22.csv: left out: 0 rows of other devices, 1 event" in notes[0]
+        assert notes[1].startswith(f"2026-11-22.csv: {gap}")
+    assert tasks._log_of_day.cache_info().hits == before + 1
+    # a device has no gap that it was not there for
+    assert tried(replace(both, device="8"), str(tmp_path), "z", [told]) == (None, ())
+    asked: Any = {"seconds": 10, "device": "7"}
+    with pytest.warns(UserWarning, match=f"^2026-11-22.csv: {gap}"):
+        sweep([day.plan], [path], ["greens"], one, **asked)
+    words = [day.plan, "--days", str(path), "--seconds", "10", "--out", str(tmp_path)]
+    assert main([*words, "--device", "7", "--workers", "1"]) == 0
+    assert f"2026-11-22.csv: {gap}" in capsys.readouterr().err
+    assert main([*words, "--workers", "1"]) == 1
+    assert "rows of 2 devices: name one by --device" in capsys.readouterr().err
+
+
+@pytest.mark.parametrize(
+    "begin, is_read",
+    [("07:00", True), ("2026-11-22 07:00", True), ("7:00", False), ("7", False)],
+)
+def test_when_a_day_begins(
+    day: Day, tmp_path: Path, begin: str, is_read: bool
+) -> None:
+    """Seconds may be left out; what is no time is named with its word."""
+    path = tmp_path / "2026-11-22.csv"
+    path.write_text(f"{ROWS}7,2026-11-22 07:00:00.0,82,4\n")
+    of = replace(day, source=str(path), begin=begin)
+    if is_read:
+        assert of._log() == Log.of([(1, "0001000000000000 00000000 0000")])
+    else:
+        with pytest.raises(Error, match=f"^--begin: '2026-11-22 {begin}' is no time as"):
+            of._log()
 
 
 @pytest.fixture
@@ -309,7 +377,7 @@ def test_the_words_of_a_sweep(capsys: pytest.CaptureFixture[str]) -> None:
     for words in (["a.json"], ["--out", "o"], ["a.json", "--out", "o", "--workers", "0"]):
         with pytest.raises(SystemExit):
             _words().parse_args(words)
-    assert "--workers: invalid" in capsys.readouterr().err
+    assert "--workers: invalid whole number above 0 value: '0'" in capsys.readouterr().err
     assert workers_of("1") == 1 and workers_of("12") == 12
     for text in ("0", "-1", "x"):
         with pytest.raises(ValueError):

@@ -18,6 +18,7 @@ import ast
 import contextlib
 import copy
 import itertools
+import json
 import os
 import pathlib
 import random
@@ -31,6 +32,7 @@ from tools import TOP
 
 PYTHON = TOP / "python"
 SECONDS = 60  # of a processor, that the tests of a mutant have at most
+LONGER, MORE = 3, 3  # a mutant has so many times what they take without one, and so many seconds beside it
 SLOWER = 10  # times that they may take by the clock, on a machine that does much else
 HAND, PARTS = ["tests/test_boundaries.py"], ["tests/test_parts_by_hand.py"]
 # The tests of each module that can notice a mistake in it: fast ones first.
@@ -278,21 +280,40 @@ def replaced(room: pathlib.Path, module: str, text: str):
         mine.symlink_to(was)
 
 
-def tried(room: pathlib.Path, module: str, text: str, seconds: float, tests: list[str]) -> bool:
-    """Whether tests notice a text in the place of a module."""
+class Fastest:
+    """A plugin of pytest that runs first what took least before, and keeps what each test takes."""
+
+    def __init__(self, room: pathlib.Path) -> None:
+        self._kept = room / "took.json"
+        self._before = json.loads(self._kept.read_text()) if self._kept.exists() else {}
+        self._took: dict[str, float] = {}
+
+    def pytest_collection_modifyitems(self, items: list) -> None:
+        items.sort(key=lambda it: self._before.get(it.nodeid, 0))
+
+    def pytest_runtest_logreport(self, report) -> None:
+        self._took[report.nodeid] = self._took.get(report.nodeid, 0) + report.duration
+
+    def pytest_sessionfinish(self) -> None:
+        if not self._before:
+            self._kept.write_text(json.dumps(self._took))
+
+
+def tried(room: pathlib.Path, module: str, text: str, seconds: float, tests: list[str]) -> tuple[bool, float]:
+    """Whether tests notice a text in the place of a module, and the processor seconds that they took."""
     with replaced(room, module, text):
         child = os.fork()
         if child == 0:
             os._exit(_tested(room, tests, seconds))
         until = time.monotonic() + SLOWER * seconds
         while time.monotonic() < until:
-            done, status = os.waitpid(child, os.WNOHANG)
+            done, status, spent = os.wait4(child, os.WNOHANG)
             if done:
-                return status != 0
+                return status != 0, spent.ru_utime + spent.ru_stime
             time.sleep(0.02)
         os.killpg(child, signal.SIGKILL)
         os.waitpid(child, 0)
-        return True
+        return True, seconds
 
 
 def _tested(room: pathlib.Path, tests: list[str], seconds: float) -> int:
@@ -314,10 +335,11 @@ def _tested(room: pathlib.Path, tests: list[str], seconds: float) -> int:
     sys.dont_write_bytecode = False
     import pytest
 
-    words = ["-x", "-q", "-p", "no:cacheprovider", "-p", "no:warnings", f"--basetemp={room}/tests",
-             "-c", str(PYTHON / "pyproject.toml"), f"--rootdir={PYTHON}"]
+    # (nobody reads what a failed test says, and to compare long texts for it takes long)
+    words = ["-x", "-q", "-p", "no:cacheprovider", "-p", "no:warnings", "--tb=no", "--assert=plain",
+             f"--basetemp={room}/tests", "-c", str(PYTHON / "pyproject.toml"), f"--rootdir={PYTHON}"]
     try:
-        return int(pytest.main([*words, *(str(PYTHON / it) for it in tests)]))
+        return int(pytest.main([*words, *(str(PYTHON / it) for it in tests)], plugins=[Fastest(room)]))
     except BaseException:
         return 1
 
@@ -336,11 +358,12 @@ def main() -> int:
                   {**os.environ, "PYTHONHASHSEED": "0"})
     modules = QUICK if given.modules == ["quick"] else given.modules or [*TESTS]
     # (what all forks have)
-    import hypothesis, numpy, pandas, pytest  # noqa: E401, F401
+    import hypothesis, jinja2, matplotlib.figure, numpy, pandas, pytest  # noqa: E401, F401
 
     # (what a mutant fails by is not kept, or the tests of the package itself would begin with it, and may stop there;
-    # examples are the same each time, so that figures are)
-    hypothesis.settings.register_profile("mutants", database=None, derandomize=True)
+    # examples are the same each time, so that figures are; one that fails is enough, and no shorter one is looked for)
+    hypothesis.settings.register_profile("mutants", database=None, derandomize=True,
+                                         phases=(hypothesis.Phase.explicit, hypothesis.Phase.generate))
     hypothesis.settings.load_profile("mutants")
 
     every = [(it, *mutant) for it in modules for mutant in mutants(it)]
@@ -350,11 +373,14 @@ def main() -> int:
     used = dict.fromkeys(test for module in dict.fromkeys(it[0] for it in found) for test in TESTS[module])
     counts = {module: [0, 0] for module in modules}
     with laid_over() as room:
-        if tried(room, modules[0], path_of(modules[0]).read_text(encoding="utf-8"), 10 * given.seconds, [*used]):
+        as_it_is = path_of(modules[0]).read_text(encoding="utf-8")
+        fails, spent = tried(room, modules[0], as_it_is, 10 * given.seconds, [*used])
+        if fails:
             print("the tests fail as the modules are\n0 passed, 1 failed")
             return 1
+        seconds = min(given.seconds, LONGER * spent + MORE)
         for module, name, text in found:
-            is_killed = tried(room, module, text, given.seconds, TESTS[module])
+            is_killed, _ = tried(room, module, text, seconds, TESTS[module])
             counts[module][not is_killed] += 1
             if not is_killed:
                 print(f"survives: {name}", flush=True)
