@@ -12,6 +12,7 @@ from hypothesis import HealthCheck, given, settings
 from hypothesis import strategies as some
 
 from tsb import Error, Event, Log, Plan, frames, measures
+from tsb.cycles import _told
 from tsb.report.differences import Difference, differences, of_counts, of_means
 from tsb.report.numbers import Numbers, period_of
 from tsb.report.page import _facts
@@ -292,6 +293,14 @@ def test_cycles_of_free_operation_at_its_ends() -> None:
     assert rows(measures.cycles(events)) == [(2, 9, None, 0.7)]
 
 
+def test_states_of_a_counter_in_their_order() -> None:
+    """By tick, and within one as the events come."""
+    states = [(10, 150, it % 5) for it in range(40)] + [(5, 150, it % 4) for it in range(40)]
+    told = _told(table(*states))
+    assert told.ticks.tolist() == [5] * 40 + [10] * 40
+    assert told.states.tolist() == [it % 4 for it in range(40)] + [it % 5 for it in range(40)]
+
+
 def test_greens_in_cycles_at_their_ends() -> None:
     """A green in the last tick of a cycle is of it, one at its end of the next; those
     before the first and after the last are of none."""
@@ -345,6 +354,14 @@ def test_parts_of_a_second_are_kept(tmp_path: Path, text: str) -> None:
     pd.testing.assert_frame_equal(frames.read_export(path), export, check_dtype=False)
 
 
+def test_rows_of_one_moment_act_in_their_order() -> None:
+    """Of a table that is not in the order of time: what comes last holds."""
+    many = [(33, 82 - it % 2, 4) for it in range(61)]
+    export = frames.export_of_events(table(*many, (5, 82, 2)), START, "7")
+    log = frames.log_of_export(export, START)
+    assert log.ticks == (5, 33) and log.rows[1] == "0101000000000000 00000000 0000"
+
+
 def test_an_export_from_a_start_on() -> None:
     """The moment itself is tick 1, what is before it is left out, and so are the
     rows of other devices."""
@@ -380,6 +397,7 @@ def test_a_gap_in_an_export_is_told() -> None:
     told = "no row from 2026-11-22 {} to 2026-11-22 {}: what changed in between is not known"
     assert of("07:15:00", "07:00:00") == told.format("07:00:00", "07:15:00")
     assert of("03:00:00", "12:00:00", "02:00:00") == told.format("03:00:00", "12:00:00")
+    assert of("03:00:00", "03:00:01", "12:00:00") == told.format("03:00:01", "12:00:00")
 
 
 def row_of(number: int) -> str:

@@ -106,6 +106,54 @@ def test_an_export_without_a_column_says_which(tmp_path: Path) -> None:
         frames.read_export(path)
 
 
+def test_files_that_are_no_export(
+    tmp_path: Path, monkeypatch: pytest.MonkeyPatch
+) -> None:
+    """One with a byte 0, and one that is too large: just so large is read."""
+    path = tmp_path / "export.csv"
+    text = EXPORTS["usual"].encode()
+    path.write_bytes(text + b"\0")
+    with pytest.raises(Error, match="export.csv: it has a byte 0, as no CSV has"):
+        frames.read_export(path)
+    path.write_bytes(text)
+    assert (frames.LONGEST, len(frames.read_export(path))) == (1 << 30, 1)
+    monkeypatch.setattr(frames, "PIECE", 7)
+    monkeypatch.setattr(frames, "LONGEST", len(text))
+    assert len(frames.read_export(path)) == 1
+    path.write_bytes(text + b"\n")
+    with pytest.raises(Error, match="export.csv: too large: over 0 GiB: cut it by days"):
+        frames.read_export(path)
+
+
+def test_what_is_left_out_is_told() -> None:
+    """How many rows, and the first of them; a warning names who asked."""
+    time = "2026-11-22T07:00:03Z"
+    table = pd.DataFrame(
+        [(time, 1, 2), (time, 131, "x"), (time, 7, -1)], columns=["Time", "Code", "Param"]
+    )
+    said = "left out: {} whose parameter is no whole number, first line {}: {}"
+    for rows, told in (
+        (table.iloc[:1], None),
+        (table.iloc[:2], said.format("1 row", 1, "'x'")),
+        (table, said.format("2 rows", 1, "'x'")),
+        (table.iloc[[0, 2]], said.format("1 row", 2, "'-1'")),
+    ):
+        with pytest.warns(UserWarning) as warned:
+            found = frames.export_of_table(rows)
+        zone = "the zone Z of times is passed over: what clocks show counts"
+        said_of = [str(it.message) for it in warned]
+        assert said_of == [*([told] if told else []), zone]
+        assert {it.filename for it in warned} == {__file__} and len(found) == 1
+    two = frames.export_of_table(table.iloc[:1].assign(Time="2026-11-22 07:00:03"))
+    two = pd.concat([two.assign(device="7", code=82), two.assign(device="8")])
+    with pytest.warns(UserWarning, match="^rows of 2 devices are taken as one$") as warned:
+        frames.log_of_export(two, START)
+    assert [it.filename for it in warned] == [__file__]
+    with pytest.warns(UserWarning, match="^left out: 1 rows of other devices") as warned:
+        frames.log_of_export(two, START, "7")
+    assert [it.filename for it in warned] == [__file__]
+
+
 def test_parquet(tmp_path: Path) -> None:
     """Parquet is read where pyarrow is, and elsewhere the message says what to do."""
     path = tmp_path / "export.parquet"

@@ -6,6 +6,7 @@ import subprocess
 from collections.abc import Iterator
 from dataclasses import replace
 from pathlib import Path
+from typing import Any
 
 import numpy as np
 import pandas as pd
@@ -16,7 +17,7 @@ from hypothesis import strategies as some
 from tsb import Bench, NoSuchTick, Refused
 from tsb.lines import Display
 from tsb.panel.keep import GIVEN_MOST, Source
-from tsb.panel.marks import MARKS_MOST, Watched
+from tsb.panel.marks import MARKS_MOST, Watched, walk_back
 from tsb.manual import LAST_TICK
 from tsb.panel.requests import (
     BadRequest,
@@ -92,6 +93,42 @@ def test_the_newest_marks_are_kept() -> None:
     of = Watched("trip", 0, ticks=list(range(MARKS_MOST)))
     of.add(MARKS_MOST)
     assert len(of.ticks) == MARKS_MOST and of.ticks[0] == 1 and of.ticks[-1] == MARKS_MOST
+
+
+class Changes:
+    """In place of a bench: values that changed at these ticks, up to the tick `now`."""
+
+    def __init__(self, at: dict[int, list[int]], now: int) -> None:
+        self.at, self.now = at, now
+
+    def when(self, _watch: str, number: int) -> int | None:
+        """The tick of the last change of a value."""
+        return max((it for it in self.at[number] if it <= self.now), default=None)
+
+    def seek(self, tick: int) -> None:
+        """Goes back."""
+        assert 0 <= tick <= self.now
+        self.now = tick
+
+
+TICKS = some.lists(some.integers(0, 9), max_size=6)
+
+
+@given(some.tuples(TICKS, TICKS), some.integers(-1, 9), some.integers(1, 12))
+@settings(max_examples=40, deadline=None)
+def test_changes_are_found_by_going_back(
+    at: tuple[list[int], list[int]], low: int, most: int
+) -> None:
+    """The newest so many ticks with a change after a tick, of all values; the bench is
+    left before the first of them, as far as there is such a tick."""
+    bench: Any = Changes(dict(enumerate(at, 1)), 9)
+    watched = [Watched("interval", it) for it in (1, 2)]
+    walk_back(bench, watched, low, most)
+    found = sorted({it for of in at for it in of if it > low})[-most:]
+    assert [it.ticks for it in watched] == [
+        [it for it in found if it in of] for of in at
+    ]
+    assert bench.now == min((it for it in found if it), default=10) - 1
 
 
 # The tape
@@ -236,6 +273,19 @@ def test_shares_where_a_run_ends_in_a_column() -> None:
     always = Track(first)
     always.add([], 9)
     assert always.picture(View(0, 9, 1))["heads"][0]["shares"] == [100]
+
+
+def test_few_changes_in_view_are_bands() -> None:
+    """However many there were before it: two columns for a band."""
+    first = Display(0, "G" + "-" * 15, "-" * 16, "----", 0, None)
+    track = Track(first)
+    for tick in range(1, 21):
+        letter = "GR"[tick % 2]
+        track.add([first._replace(tick=tick, vehicles=letter + "-" * 15)], tick)
+    for columns, name in ((4, "bands"), (3, "shares")):
+        (shown,) = track.picture(View(19, 20, columns))["heads"]
+        assert [*shown] == ["head", name]
+    assert track.picture(View(19, 20, 4))["heads"][0]["bands"] == [[19, "R"], [20, "G"]]
 
 
 def test_a_picture_of_a_track() -> None:
@@ -545,6 +595,9 @@ def test_causes_of_spells() -> None:
         found = peers.spells(theirs, ours)
         assert [it.cause for it in found] == [cause]
         assert peers.causes(found) == {cause: 1}
+    # before the first tick all is red
+    (first,) = peers.spells(["YRRRRRRR"], ["RRRRRRRR"])
+    assert (first.begin, first.cause, first.theirs) == (1, "end", "1Y")
 
 
 def test_returns_to_the_left_turn_of_a_ring() -> None:

@@ -193,7 +193,7 @@ def moments_of(times: "pd.Series[Any]") -> "pd.Series[Any]":
             told = np.array(times.to_list(), dtype="datetime64[ns]")
             return pd.Series(told, times.index)
     forms = [it for it in _ORDERS if not _clocked(times.iloc[:1], it).isna().any()]
-    if len(forms) > 1 and forms[0] != "year":
+    if len(forms) > 1:
         raise Error(_fault(times, 0, "can be read with its month or its day first"))
     if forms:
         found = _clocked(times, forms[0])
