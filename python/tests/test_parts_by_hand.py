@@ -471,6 +471,52 @@ def test_marks_of_a_run(run: Run) -> None:
     assert [it.ticks for it in run.watched] == ticks
 
 
+def test_marks_of_what_is_taken_again(run: Run) -> None:
+    """Those of ticks that lie ahead of where the mark was made."""
+    run.grasp(Hold("vehicle", 4, True))
+    run.advance(95)
+    run.go(60)
+    run.mark(Mark("interval", 2, True))
+    assert run.watched[0].ticks == [1, 51]
+    run.go(95)
+    assert run.watched[0].ticks == [1, 51, 81, 91]
+    run.go(52)
+    run.give(NoLamp())
+    assert run.undo() == "fault" and run.watched[0].ticks == [1, 51]
+
+
+def test_places_of_a_broken_rule(run: Run) -> None:
+    """Those of the last verify, of the rule that is asked for; also of an edit that the
+    plan's own version has not."""
+    for it in (Begin(1), Set(1, "phaseYellowChange", 2, 20), Set(1, "phaseRedRevert", 4, 1)):
+        run.give(it)
+    assert run.places("K8") == []
+    assert run.verify(Verify(1)) == "rule K8"
+    assert run.places("K8") == ["phase 2: its yellow is 2 s, under 3 s"]
+    assert run.places("K9") == run.places(None) == []
+    run.give(Set(1, "overlapAcrossRings", 1, 1))
+    run.verify(Verify(1))
+    assert run.places("K8") == ["phase 2: its yellow is 2 s, under 3 s"]
+    run.give(Set(1, "phaseYellowChange", 2, 30))
+    assert run.verify(Verify(1)) == "ok" and run.places("K8") == []
+
+
+def test_ticks_that_are_refused_are_not_taken(
+    run: Run, monkeypatch: pytest.MonkeyPatch
+) -> None:
+    """The run is at the tick before all of them, as what was taken is."""
+    run.advance(5)
+
+    def refused(_count: int) -> None:
+        run.bench.step(3)
+        raise Refused("refused E1 Memory", "a tick")
+
+    monkeypatch.setattr(run.bench, "changes", refused)
+    with pytest.raises(Refused):
+        run.advance(20)
+    assert run.now == run.tape.end == 5
+
+
 def test_a_run_that_is_begun_again(run: Run) -> None:
     """All that was given is given again, up to the tick at which it was."""
     run.give(Pattern(1))

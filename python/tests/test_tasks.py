@@ -189,7 +189,9 @@ def test_what_is_told_of_a_day(
     gap = "no row from 2026-11-22 00:00:00 to 2026-11-22 09:00:00: what changed in"
     before = tasks._log_of_day.cache_info().hits
     for name in ("x", "y"):
-        fault, notes = tried(seven, str(tmp_path), name, [told])
+        with warnings.catch_warnings():  # (whatever else is done with warnings)
+            warnings.simplefilter("ignore")
+            fault, notes = tried(seven, str(tmp_path), name, [told])
         assert fault is None and len(notes) == 2
         assert "2026-11-22.csv: left out: 0 rows of other devices, 1 event" in notes[0]
         assert notes[1].startswith(f"2026-11-22.csv: {gap}")

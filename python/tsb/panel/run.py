@@ -157,7 +157,6 @@ class Run:
             for it in self.watched:
                 it.cut(self.now - 1)
             self._see_input()
-        self._see_plan()
         return kind
 
     def drop(self) -> int:
