@@ -488,7 +488,10 @@ def test_marks_of_what_is_taken_again(run: Run) -> None:
 def test_places_of_a_broken_rule(run: Run) -> None:
     """Those of the last verify, of the rule that is asked for; also of an edit that the
     plan's own version has not."""
-    for it in (Begin(1), Set(1, "phaseYellowChange", 2, 20), Set(1, "phaseRedRevert", 4, 1)):
+    edits: list[Given] = [
+        Begin(1), Set(1, "phaseYellowChange", 2, 20), Set(1, "phaseRedRevert", 4, 1)
+    ]  # fmt: skip
+    for it in edits:
         run.give(it)
     assert run.places("K8") == []
     assert run.verify(Verify(1)) == "rule K8"

@@ -70,6 +70,7 @@ SHIFT = "shares are differences of what it moves by one"
 SHORTER = "a shorter way to the same"
 ANYWAY = "it is written over, or none, in any case"
 BELOW = "numpy takes any number below 0 as -1"
+AGAIN = "marks that are known are found again"
 LATER = "all differences are sorted afterwards"
 EQUAL = {
     "measures walk_waits: 1 -> 2": "no event has a code below 0",
@@ -121,8 +122,10 @@ EQUAL = {
     "panel.run advance: min(2 * piece, PIECE) -> max(2 * piece, PIECE)": PIECES,
     "panel.run advance: 2 -> 3": PIECES,
     "panel.run _take_again: begun + 1 -> begun - 1": "the row that holds then is the same one",
-    "panel.run _see_input: max(it.until, self.now) -> min(it.until, self.now)": "marks that are known are found again",
+    "panel.run _see_input: max(it.until, self.now) -> min(it.until, self.now)": AGAIN,
     "panel.run mark: 1 -> 2": "no tick is below 0",
+    "panel.run _find_marks: for it in self.watched if it.until < end -> for it in self.watched": AGAIN,
+    "panel.run _find_marks: it.until < end -> it.until <= end": AGAIN,
     "panel.run _take: count > again -> count >= again": NO_TICKS,
     "panel.track __init__: 0 -> 1 (2)": SHIFT,
     "panel.track put: 0 -> 1": SHIFT,
