@@ -355,7 +355,7 @@ def test_parts_of_a_second_are_kept(tmp_path: Path, text: str) -> None:
 
 
 def test_rows_of_one_moment_act_in_their_order() -> None:
-    """Of a table that is not in the order of time: what comes last holds."""
+    """In a table that is not in the order of time, too: what comes last holds."""
     many = [(33, 82 - it % 2, 4) for it in range(61)]
     export = frames.export_of_events(table(*many, (5, 82, 2)), START, "7")
     log = frames.log_of_export(export, START)
@@ -672,7 +672,7 @@ def test_an_actuation_behind_the_length_of_a_cycle() -> None:
 
 
 def test_what_ran_before_the_events_is_not_known() -> None:
-    """Of a run that was observed, up to its first code 131; a bench begins free."""
+    """Where a run was observed, up to its first code 131; a bench begins free."""
     bench = numbers((5, 1, 2), (300, 131, 1), (300, 132, 30), (400, 7, 2))
     for events, known in ((bench.run.events, 300), (table((5, 1, 2)), 1001)):
         run = replace(bench.run, events=events)
@@ -740,7 +740,7 @@ def test_shares_and_means_need_both() -> None:
 
 
 def test_shares_of_actuations_and_of_cycles() -> None:
-    """Of each run its own; the mean cycle where both have one."""
+    """Each run has its own; a mean cycle is there where both have one."""
     crossings = [(100 * k, 31, 1) for k in range(1, 6)]
     green = [(110, 1, 2), (150, 7, 2)]
     a = numbers(*crossings, *green, *((it, 82, 2) for it in (120, 130, 160, 170)))

@@ -281,8 +281,8 @@ def test_words_that_lead_nowhere(tmp_path: Path) -> None:
 
 
 def test_a_file_of_several_devices(tmp_path: Path) -> None:
-    """That they are taken as one is told, of a file as of a table; of one device, or of
-    a file without devices, nothing is."""
+    """A warning says that they are taken as one, of a file as of a table. There is none
+    for one device, or for a file without devices."""
     path = tmp_path / "e.csv"
     text = "SignalID,Timestamp,EventCode,EventParam\n7,2026-11-22 07:00:00,82,4\n"
     path.write_text(f"{text}8,2026-11-22 07:00:01,81,4\n")

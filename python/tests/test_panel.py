@@ -260,6 +260,7 @@ def test_a_call_is_clicked_and_green_comes(page: Page) -> None:
     assert page.text("ring-1-1") == "1.1 s"
     page.go(91)
     assert page.lit("P4") == "G" and page.has("phase-4", "G")
+    assert page.text("clock") == "0:00:09.0"  # (that of its event)
     page.click("tick-back")
     assert page.tick == 90 and page.lit("P4") == "R"
     assert "it starts in the next tick" in page.text("wait-4")

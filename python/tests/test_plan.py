@@ -134,14 +134,14 @@ def test_values_out_of_range_are_told_at_once() -> None:
     ],
 )  # fmt: skip
 def test_a_value_that_is_no_value(name: str, value: Any, said: str) -> None:
-    """It is told how one is written."""
+    """The message has how one is written."""
     with pytest.raises(tsb.OutOfRange) as told:
         Plan()[name][1] = value
     assert str(told.value) == said
 
 
 def test_where_a_text_stops_being_json(tmp_path: Path) -> None:
-    """As the programs tell it, by line and column."""
+    """As the programs have it, by line and column."""
     for text, place in (
         ('{\n  "version" 2}', "line 2, column 13: expecting ':' delimiter"),
         ("\ufeff{}", "line 1, column 1: a byte order mark"),

@@ -77,7 +77,7 @@ def full(events: pd.DataFrame, plan: Plan) -> pd.DataFrame:
 
 
 def tells(events: pd.DataFrame, plan: Plan) -> pd.DataFrame:
-    """A measure that tells something, twice, and what is for nobody."""
+    """A measure that warns twice, and of what is for nobody."""
     for it in ("this is told", "and this", "this is told"):
         warnings.warn(it, stacklevel=1)
     warnings.warn("of a program", DeprecationWarning, stacklevel=1)
@@ -176,8 +176,8 @@ ROWS = "SignalID,Timestamp,EventCode,EventParam\n"
 def test_what_is_told_of_a_day(
     day: Day, one: Any, tmp_path: Path, capsys: pytest.CaptureFixture[str]
 ) -> None:
-    """Rows of several devices have to name one. A gap and what is left out are told,
-    with the file, of each run; and a day is read once for many plans."""
+    """One of several devices has to be named. Each run has notes of a gap and of what is
+    left out, with the file; and a day is read once for many plans."""
     path = tmp_path / "2026-11-22.csv"
     clocks = [("7", "00:00:00.0", 82), ("8", "00:00:01.0", 82), ("7", "09:00:00.0", 81)]
     lines = [f"{of},2026-11-22 {at},{code},2\n" for of, at, code in clocks]

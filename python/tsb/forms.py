@@ -39,7 +39,7 @@ _CLOCKED = (
     r"(?:[.,](\d{0,9}))?(?: |(?i: (am|pm))|(?i: utc))?"
     r"(?:Z|[-+](?:[01]?\d|2[0-3])(?::?[0-5]\d)?)?"
 )
-# A zone behind a clock.
+# A clock with a zone.
 _ZONE = re.compile(r".*:\d\d(?:[.,]\d*)? ?(Z|(?i:utc)|[-+]\d{1,2}(?::?\d\d)?)")
 _SINCE_1970 = r"(\d{1,10})(?:[.,](\d{0,9}))?|(\d{4,13})"
 # Where year, month and day are among the three numbers of a day.

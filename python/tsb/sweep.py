@@ -43,7 +43,7 @@ from tsb.tasks import (
     tried,
 )
 
-#: The name of a run, and what is told of it.
+#: The name of a run, with its fault and its notes.
 Ended = tuple[str, Told]
 SUMMARY = "all_runs.txt"  # in the folder of results, the tables of all runs
 
@@ -185,7 +185,7 @@ class Runs:
         self.kept = kept.whole(self._folder, self.names)
         self.missing = [it for it in self.names if it not in self.kept]
         self.failures: dict[str, str] = {}
-        self.notes: list[str] = []  # what is told of the runs that were done
+        self.notes: list[str] = []  # on the runs that were done
 
     def run(self, client: Any) -> None:
         """Runs what is missing, on processes of this machine or on those of Dask."""
@@ -205,7 +205,7 @@ class Runs:
         return self.names[name], str(self._folder), name, self._measures
 
     def _here(self, workers: Processes) -> Generator[Ended, None, None]:
-        """The names of the runs, each with what is told of it."""
+        """The names of the runs, each with its fault and its notes."""
         for it in self._measures:
             if not isinstance(it, str) and _is_of_session(it):
                 what = "write this measure into a module, which processes can import"

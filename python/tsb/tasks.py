@@ -26,7 +26,7 @@ from tsb.rows import Log
 AnyPath = str | PathLike[str]
 #: A measure by its name in `tsb.measures`, or a function of events and their plan.
 Measure = str | Callable[[pd.DataFrame, Plan], pd.DataFrame]
-#: What went wrong with a run, if something did, and what else is to be told of it.
+#: What went wrong with a run, if something did, and the notes on it.
 Told = tuple[str | None, tuple[str, ...]]
 
 POWER_UP = "2000-01-01 00:00:00"  # when tick 1 begins, where no day says it
@@ -93,8 +93,8 @@ class Day:
 def _log_of_day(
     path: str, changed: int, start: str, device: str | None
 ) -> tuple[Log, tuple[str, ...]]:
-    """The inputs of a day of events, and what is to be told of it. It is read once for
-    many plans."""
+    """The inputs of a day of events, and the notes on it. It is read once for many
+    plans."""
     with warnings.catch_warnings(record=True) as told:
         warnings.simplefilter("always", UserWarning)
         export = read_export(path)
@@ -269,7 +269,7 @@ def one_run(task: Task, folder: str, name: str, measures: Sequence[Measure]) -> 
 
 
 def tried(task: Task, folder: str, name: str, measures: Sequence[Measure]) -> Told:
-    """Runs a task as `one_run`: what went wrong, or None, and what else is told."""
+    """Runs a task as `one_run`: what went wrong, or None, and the notes on it."""
     with warnings.catch_warnings(record=True) as told:
         warnings.simplefilter("always", UserWarning)
         fault = _fault_of(task, folder, name, measures)

@@ -125,6 +125,10 @@ EQUAL = {
     "panel.run _see_input: max(it.until, self.now) -> min(it.until, self.now)": AGAIN,
     "panel.run mark: 1 -> 2": "no tick is below 0",
     "panel.run _find_marks: for it in self.watched if it.until < end -> for it in self.watched": AGAIN,
+    "panel.run _find_marks: end - begun -> end + begun": "there are no more changes than ticks",
+    "panel.run _find_marks: self.now < end -> self.now <= end": NO_TICKS,
+    "panel.run _find_marks: self.bench.follow(self.tape.taken(self.now + 1, end)) -> pass":
+        "the rows that are followed hold still",
     "panel.run _find_marks: it.until < end -> it.until <= end": AGAIN,
     "panel.run _take: count > again -> count >= again": NO_TICKS,
     "panel.track __init__: 0 -> 1 (2)": SHIFT,

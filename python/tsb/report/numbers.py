@@ -159,7 +159,7 @@ class Numbers:
 
     @cached_property
     def known_from(self) -> int:
-        """The first tick of which it is known whether a pattern runs, and which."""
+        """The first tick from which on it is known whether a pattern runs, and which."""
         run = self.run
         told = run.events.loc[run.events["code"] == PATTERN, "tick"]
         if not run.is_observed:

@@ -23,8 +23,8 @@ INPUTS = (81, 82, 89, 90, 102, 104)
 class Run:
     """A run: its name, its events (`tick`, `code`, `parameter`) up to its last tick,
     the time at which tick 1 begins, the plan that says which detector calls which
-    phase (or None), and how it came about, a line for each fact. Of one that
-    `is_observed` it is not known what ran before its first event of it."""
+    phase (or None), and how it came about, a line for each fact. Where it
+    `is_observed`, nobody knows what ran before its first event of that."""
 
     name: str
     events: pd.DataFrame
