@@ -3,6 +3,7 @@ ticks, pulses of one tick, gaps of just a time."""
 
 import os
 import subprocess
+import tempfile
 from collections.abc import Iterator
 from dataclasses import replace
 from pathlib import Path
@@ -14,7 +15,7 @@ import pytest
 from hypothesis import given, settings
 from hypothesis import strategies as some
 
-from tsb import Bench, NoSuchTick, Refused
+from tsb import Bench, Error, NoSuchTick, Refused
 from tsb.lines import Display
 from tsb.panel.keep import GIVEN_MOST, Source
 from tsb.panel.marks import MARKS_MOST, Watched, walk_back
@@ -485,6 +486,32 @@ def test_marks_of_what_is_taken_again(run: Run) -> None:
     assert run.undo() == "fault" and run.watched[0].ticks == [1, 51]
 
 
+def test_what_a_watch_takes_back_is_taken_again(run: Run, examples: Path) -> None:
+    """In the ticks and with the rows that there were: a pulse of one tick too, at which
+    the watched value changes."""
+    plain = Run(Source.read(examples / "quad.json", None))
+    run.mark(Mark("input", 4, True))
+    for it in (run, plain):
+        it.advance(5)
+        it.grasp(Pulse("vehicle", 4, 1))
+        it._take(60)
+        assert it.now == 65
+    assert run.watched[0].ticks == [6, 7]
+    assert run.bench.status == plain.bench.status
+    assert run.bench.when("call", 4) == plain.bench.when("call", 4) == 6
+    plain.close()
+
+
+def test_a_reset_that_ends_a_trip(run: Run) -> None:
+    """It is known which did."""
+    run.give(Reset())
+    run.advance(60)
+    run.give(Lamp("P4", "G"))
+    run.advance(90)
+    run.give(Reset())
+    assert [it.ended_trip for it in run.tape.given] == [False, False, True]
+
+
 def test_places_of_a_broken_rule(run: Run) -> None:
     """Those of the last verify, of the rule that is asked for; also of an edit that the
     plan's own version has not."""
@@ -532,6 +559,35 @@ def test_a_run_that_is_begun_again(run: Run) -> None:
     assert (run.now, run.bench.show().line, run.tape.given) == (50, line, given)
     run.advance(51)
     assert run.now == 51
+
+
+def test_benches_that_are_left_are_ended(
+    run: Run, monkeypatch: pytest.MonkeyPatch
+) -> None:
+    """The old one where the run was begun again, the new one where it was not."""
+    run.advance(5)
+    opened: list[Bench] = [run.bench]
+    monkeypatch.setattr(Source, "open", lambda it: _kept(opened, it))
+    run.again()
+    assert run.bench is opened[1] and opened[0]._talk._in.closed
+
+    def fails(_target: int) -> None:
+        raise Error("it fails")
+
+    monkeypatch.setattr(run, "_take_again", fails)
+    with pytest.raises(Error, match="it fails"):
+        run.again()
+    assert run.bench is opened[1] and opened[2]._talk._in.closed
+    assert not opened[1]._talk._in.closed and run.bench.show().tick == 5
+
+
+def _kept(opened: list[Bench], source: Source) -> Bench:
+    """A bench on the plan of a source, which is kept."""
+    with tempfile.NamedTemporaryFile(suffix=".json") as file:
+        file.write(source.plan)
+        file.flush()
+        opened.append(Bench(file.name, events=False))
+    return opened[-1]
 
 
 def test_marks_after_an_undo(examples: Path) -> None:

@@ -80,7 +80,7 @@ def tells(events: pd.DataFrame, plan: Plan) -> pd.DataFrame:
     """A measure that warns twice, and of what is for nobody."""
     for it in ("this is told", "and this", "this is told"):
         warnings.warn(it, stacklevel=1)
-    warnings.warn("of a program", DeprecationWarning, stacklevel=1)
+    warnings.warn("of a program", RuntimeWarning, stacklevel=1)
     return events
 
 
@@ -107,6 +107,30 @@ def test_a_day_of_inputs(day: Day, plan: Path, log: Path) -> None:
     (pattern,) = dict(replace(day, pattern=1).tables([told])).values()
     assert [1, 131, 1] in pattern.to_numpy().tolist()
     assert [1, 131, 1] not in wanted.to_numpy().tolist()
+
+
+def test_records_of_each_kind(examples: Path) -> None:
+    """Without a word calls of recalls and outputs are in none."""
+    plan, log = examples / "main_and_oak.json", Log.read(examples / "hour_of_traffic.log")
+    plain = recorded(plan, log, "step 600\n", recalls=False, outputs=False)
+    for words in ({"recalls": True}, {"outputs": True}):
+        assert not recorded(plan, log, "step 600\n", **words).equals(plain)
+        assert not record(plan, log, 60, **words).equals(plain)
+    assert recorded(plan, log, "step 600\n").equals(plain)
+    assert record(plan, log, 60).equals(plain)
+
+
+def named(events: pd.DataFrame, plan: Plan) -> pd.DataFrame:
+    """A measure whose rows have a name and a number."""
+    index = pd.MultiIndex.from_tuples([("a", 1)], names=["which", None])
+    return pd.DataFrame({"count": [len(events)]}, index)
+
+
+def test_rows_that_have_names(day: Day) -> None:
+    """Names are columns; numbers of rows that have no name are not."""
+    tables = dict(day.tables([named, told]))
+    assert "which" in tables["named"].columns
+    assert list(tables["told"].columns) == ["tick", "code", "parameter"]
 
 
 def test_a_day_of_events(day: Day, plan: Path, log: Path, tmp_path: Path) -> None:
@@ -239,7 +263,8 @@ def traffic(tmp_path: Path) -> Traffic:
 @pytest.mark.parametrize("pattern", [0, 1])
 def test_a_run_of_traffic(traffic: Traffic, tmp_path: Path, pattern: int) -> None:
     """Its trips and its events are those of a loop of so many seconds."""
-    seed = Seed(str(tmp_path / "free.json"), traffic, 1, 30, pattern)
+    seconds = 60 if pattern else 30  # (the pattern shows at 38.4 s)
+    seed = Seed(str(tmp_path / "free.json"), traffic, 1, seconds, pattern)
     assert seed.reads == [
         str(tmp_path / it)
         for it in ("free.json", "net.xml", "mapping.json", "1.rou.xml", "detectors.xml")
@@ -254,12 +279,12 @@ def test_a_run_of_traffic(traffic: Traffic, tmp_path: Path, pattern: int) -> Non
     ) as loop:  # fmt: skip
         if pattern:
             loop.benches[at.tls].set_pattern(pattern)
-        loop.run(300)
+        loop.run(10 * seconds)
         rows = log_of(loop.rows(at.tls))
     wanted = summary(read_trips(trips)).rename_axis("kind").reset_index()
     pd.testing.assert_frame_equal(tables["trips"], wanted)
     assert wanted["under_way"].sum() > 3
-    recorded = record(seed.plan, rows, 30, pattern, recalls=True)
+    recorded = record(seed.plan, rows, seconds, pattern, recalls=True)
     pd.testing.assert_frame_equal(tables["told"], recorded)
     alone = dict(seed.tables(["terminations"]))
     assert list(alone) == ["terminations"]

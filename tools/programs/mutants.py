@@ -100,6 +100,7 @@ EQUAL = {
     "forms _clocked: 1000 -> 1001": "a table has no moment before 1677",
     "forms _clocked: 0 -> 1 (3)": ANYWAY,
     "forms _since_1970: 0 -> 1 (4)": ANYWAY,
+    "tasks _measured: if not measures: return -> if False: return": "it gives nothing in any case",
     "tasks _log: 2 -> 3": "it names a line of the package in any case",
     "report.numbers _cycle_lengths: False -> True": NAMED,
     "report.numbers _cycle_lengths: ticks < it.end -> ticks <= it.end": ANYWAY,
@@ -129,6 +130,7 @@ EQUAL = {
     "panel.run _find_marks: self.now < end -> self.now <= end": NO_TICKS,
     "panel.run _find_marks: self.bench.follow(self.tape.taken(self.now + 1, end)) -> pass":
         "the rows that are followed hold still",
+    "panel.run _find_marks: self.now + 1 -> self.now - 1": "the row that holds then is the same one",
     "panel.run _find_marks: it.until < end -> it.until <= end": AGAIN,
     "panel.run _take: count > again -> count >= again": NO_TICKS,
     "panel.track __init__: 0 -> 1 (2)": SHIFT,

@@ -247,7 +247,6 @@ class Run:
             bench.close()
             raise
         was.close()
-        self._see_plan()
 
 
 def is_tripped(status: Status) -> bool:
