@@ -155,13 +155,22 @@ def test_a_day_of_events(day: Day, plan: Path, log: Path, tmp_path: Path) -> Non
     assert found.iloc[0].to_list() == [1, code, parameter]
 
 
-def test_what_a_record_is_refused_by(plan: Path, tmp_path: Path) -> None:
+def test_what_a_record_is_refused_by(
+    plan: Path, tmp_path: Path, monkeypatch: pytest.MonkeyPatch
+) -> None:
     bad = tmp_path / "bad.json"
     bad.write_text('{"version": 2}\n')
     with pytest.raises(PlanFault, match="plan: rule K1"):
         recorded(bad, Log(), "step 1\n")
     with pytest.raises(ProgramDied, match="refused E9"):
         recorded(plan, Log(), "pattern 9\n")
+    # what is said of a record that ends well is a fault too
+    other = tmp_path / "tsb_field"
+    other.write_text("#!/bin/sh\necho odd >&2\n")
+    other.chmod(0o755)
+    monkeypatch.setenv("TSB_BIN", str(tmp_path))
+    with pytest.raises(Error, match="quad.json: odd$"):
+        recorded(plan, Log(), "step 1\n")
 
 
 def test_the_table_of_a_run(day: Day, tmp_path: Path) -> None:

@@ -1,6 +1,6 @@
 """Small mistakes in modules of the package, and whether its tests notice them.
 
-    python3 -m tools.programs.mutants [--sample N] [--seed S] [--seconds S] [--least N] [MODULE ..]
+    python3 -m tools.programs.mutants [--sample N] [--seed S] [--name TEXT ..] [--seconds S] [--least N] [MODULE ..]
 
 Each mutant is one change of a module's syntax tree: a comparison turned or moved by its
 boundary; a number one more; a sum or a product turned; a branch or a statement dropped;
@@ -101,6 +101,7 @@ EQUAL = {
     "forms _clocked: 0 -> 1 (3)": ANYWAY,
     "forms _since_1970: 0 -> 1 (4)": ANYWAY,
     "tasks _measured: if not measures: return -> if False: return": "it gives nothing in any case",
+    "tasks one_run: True -> False": "rows are written without their numbers",
     "tasks _log: 2 -> 3": "it names a line of the package in any case",
     "report.numbers _cycle_lengths: False -> True": NAMED,
     "report.numbers _cycle_lengths: ticks < it.end -> ticks <= it.end": ANYWAY,
@@ -394,6 +395,7 @@ def main() -> int:
     words.add_argument("modules", nargs="*", choices=[[], *TESTS, "quick"], metavar="MODULE")
     words.add_argument("--sample", type=int, help="so many mutants of all of the modules")
     words.add_argument("--seed", type=int, default=1)
+    words.add_argument("--name", action="append", default=[], help="those mutants alone whose names have this")
     words.add_argument("--seconds", type=float, default=SECONDS)
     words.add_argument("--least", type=int, default=0, help="how many have to be noticed, where not all")
     given = words.parse_args()
@@ -416,6 +418,8 @@ def main() -> int:
     if unknown := [it for it in EQUAL if it.split()[0] in modules and it not in {mutant[1] for mutant in every}]:
         print(f"no mutants are any more: {unknown}\n0 passed, 1 failed")
         return 1
+    if given.name:
+        found = [it for it in found if any(name in it[1] for name in given.name)]
     if given.sample:
         found = random.Random(given.seed).sample(found, min(given.sample, len(found)))
     used = dict.fromkeys(test for module in dict.fromkeys(it[0] for it in found) for test in TESTS[module])
@@ -432,7 +436,7 @@ def main() -> int:
             counts[module][not is_killed] += 1
             if not is_killed:
                 print(f"survives: {name}", flush=True)
-    if not given.sample:
+    if not given.sample and not given.name:
         for module, (killed, survive) in counts.items():
             equal = sum(it[0] == module for it in every) - killed - survive
             print(f"| `{module}` | {killed + survive + equal} | {killed} | {equal} | {survive} |")
