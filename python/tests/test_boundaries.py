@@ -18,6 +18,7 @@ from tsb.report.numbers import Numbers, period_of
 from tsb.report.page import _facts
 from tsb.report.runs import Run, moment, of_plan, of_rows, with_inputs_of
 from tsb.report.sections import _lengths
+from tsb.report.sources import _rows
 from tsb.spread import percentile
 from tsb.told import by_tick, ordered
 
@@ -516,6 +517,14 @@ def test_a_run_of_a_plan(examples: Path) -> None:
         of("step 5\npattern 9\n", None)
 
 
+def test_rows_of_an_export_with_a_gap(tmp_path: Path) -> None:
+    """A report says where it has none, with the file's name."""
+    path = tmp_path / "day.csv"
+    frames.write_export(of_street((0, 1, 2), (1, 7, 2), (901, 1, 2), (902, 7, 2)), path)
+    with pytest.warns(UserWarning, match="^day.csv: no row from 2026-11-22 07:00:01 to "):
+        assert len(_rows(path, None)) == 4
+
+
 def test_rows_out_of_order_are_in_order_in_a_run() -> None:
     """So the planned split is that of the last time, and not of the last row."""
     told = of_street((5.0, 135, 30), (1.0, 135, 20), (0.0, 1, 2), (9.0, 7, 2), (9.5, 12, 2))
@@ -673,7 +682,9 @@ def test_an_actuation_behind_the_length_of_a_cycle() -> None:
 
 def test_what_ran_before_the_events_is_not_known() -> None:
     """Where a run was observed, up to its first code 131; a bench begins free."""
-    bench = numbers((5, 1, 2), (300, 131, 1), (300, 132, 30), (400, 7, 2))
+    bench = numbers(
+        (5, 1, 2), (300, 131, 1), (300, 132, 30), (390, 131, 1), (400, 7, 2)
+    )  # fmt: skip
     for events, known in ((bench.run.events, 300), (table((5, 1, 2)), 1001)):
         run = replace(bench.run, events=events)
         assert Numbers(run).known_from == 0

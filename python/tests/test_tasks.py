@@ -220,6 +220,9 @@ def test_what_is_told_of_a_day(
         list(both.tables([told]))
     seven = replace(both, device="7")
     gap = "no row from 2026-11-22 00:00:00 to 2026-11-22 09:00:00: what changed in"
+    with warnings.catch_warnings():  # (where nobody asks, they are kept all the same)
+        warnings.simplefilter("ignore")
+        list(seven.tables([told]))
     before = tasks._log_of_day.cache_info().hits
     for name in ("x", "y"):
         with warnings.catch_warnings():  # (whatever else is done with warnings)
@@ -228,7 +231,7 @@ def test_what_is_told_of_a_day(
         assert fault is None and len(notes) == 2
         assert "2026-11-22.csv: left out: 0 rows of other devices, 1 event" in notes[0]
         assert notes[1].startswith(f"2026-11-22.csv: {gap}")
-    assert tasks._log_of_day.cache_info().hits == before + 1
+    assert tasks._log_of_day.cache_info().hits == before + 2
     # a device has no gap that it was not there for
     assert tried(replace(both, device="8"), str(tmp_path), "z", [told]) == (None, ())
     asked: Any = {"seconds": 10, "device": "7"}

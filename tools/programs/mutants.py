@@ -41,7 +41,7 @@ TESTS = {
     "cycles": [*HAND, "tests/test_cycles.py"],
     "frames": [*HAND, "tests/test_frames.py"],
     "forms": ["tests/test_forms.py"],
-    "tasks": ["tests/test_tasks.py"],
+    "tasks": ["tests/test_tasks.py", "tests/test_sweep.py::test_a_run_is_told_by_all_that_is_asked"],
     "sweep": ["tests/test_tasks.py", *(f"tests/test_sweep.py::{it}" for it in (
         "test_what_processes_cannot_find", "test_the_command_on_a_cluster_that_runs_already",
         "test_parts_that_a_dead_process_left_go", "test_a_sweep_that_is_stopped_leaves_nothing"))],
