@@ -8,13 +8,17 @@ from pathlib import Path
 import numpy as np
 import pandas as pd
 import pytest
-from hypothesis import given, settings
+from hypothesis import HealthCheck, given, settings
 from hypothesis import strategies as some
 
 from tsb import Error, Event, Log, Plan, frames, measures
+from tsb.cycles import _told
 from tsb.report.differences import Difference, differences, of_counts, of_means
 from tsb.report.numbers import Numbers, period_of
-from tsb.report.runs import Run, moment, of_rows, with_inputs_of
+from tsb.report.page import _facts
+from tsb.report.runs import Run, moment, of_plan, of_rows, with_inputs_of
+from tsb.report.sections import _lengths
+from tsb.report.sources import _rows
 from tsb.spread import percentile
 from tsb.told import by_tick, ordered
 
@@ -290,6 +294,14 @@ def test_cycles_of_free_operation_at_its_ends() -> None:
     assert rows(measures.cycles(events)) == [(2, 9, None, 0.7)]
 
 
+def test_states_of_a_counter_in_their_order() -> None:
+    """By tick, and within one as the events come."""
+    states = [(10, 150, it % 5) for it in range(40)] + [(5, 150, it % 4) for it in range(40)]
+    told = _told(table(*states))
+    assert told.ticks.tolist() == [5] * 40 + [10] * 40
+    assert told.states.tolist() == [it % 4 for it in range(40)] + [it % 5 for it in range(40)]
+
+
 def test_greens_in_cycles_at_their_ends() -> None:
     """A green in the last tick of a cycle is of it, one at its end of the next; those
     before the first and after the last are of none."""
@@ -343,6 +355,14 @@ def test_parts_of_a_second_are_kept(tmp_path: Path, text: str) -> None:
     pd.testing.assert_frame_equal(frames.read_export(path), export, check_dtype=False)
 
 
+def test_rows_of_one_moment_act_in_their_order() -> None:
+    """In a table that is not in the order of time, too: what comes last holds."""
+    many = [(33, 82 - it % 2, 4) for it in range(61)]
+    export = frames.export_of_events(table(*many, (5, 82, 2)), START, "7")
+    log = frames.log_of_export(export, START)
+    assert log.ticks == (5, 33) and log.rows[1] == "0101000000000000 00000000 0000"
+
+
 def test_an_export_from_a_start_on() -> None:
     """The moment itself is tick 1, what is before it is left out, and so are the
     rows of other devices."""
@@ -378,6 +398,7 @@ def test_a_gap_in_an_export_is_told() -> None:
     told = "no row from 2026-11-22 {} to 2026-11-22 {}: what changed in between is not known"
     assert of("07:15:00", "07:00:00") == told.format("07:00:00", "07:15:00")
     assert of("03:00:00", "12:00:00", "02:00:00") == told.format("03:00:00", "12:00:00")
+    assert of("03:00:00", "03:00:01", "12:00:00") == told.format("03:00:01", "12:00:00")
 
 
 def row_of(number: int) -> str:
@@ -390,7 +411,10 @@ ROW = some.integers(0, (1 << 28) - 1).map(row_of)
 
 
 @given(some.lists(some.tuples(some.integers(1, 6_000_000), ROW), max_size=8))
-@settings(max_examples=15, deadline=None)
+@settings(
+    max_examples=15, deadline=None,
+    suppress_health_check=[HealthCheck.too_slow, HealthCheck.data_too_large],
+)  # fmt: skip
 def test_logs_there_and_back(entries: list[tuple[int, str]]) -> None:
     log = Log.of(sorted(dict(entries).items()))
     made = frames.of_log(log)
@@ -462,6 +486,43 @@ def test_an_event_in_the_last_tick_counts() -> None:
     for text in ("nothing", "NaT", ""):
         with pytest.raises(Error, match="is no time as 2026-11-22 07:00:00"):
             moment(text)
+
+
+def test_rows_of_one_moment_stay_in_their_order() -> None:
+    """In a run of rows, and in one that has the inputs of another: those come last."""
+    events = [(1.0, 1 + it * 37 % 60, it) for it in range(60)]
+    run = of_rows(Path("s.csv"), of_street(*events), START, None, None)
+    assert rows(run.events) == [(11, code, of) for _, code, of in events]
+    cars = [(11, 82, it * 37 % 60) for it in range(60)]
+    bench = replace(run, events=table(*cars), is_observed=False)
+    both = with_inputs_of(run, bench)
+    assert rows(both.events) == rows(run.events) + cars and both.is_observed
+
+
+def test_a_run_of_a_plan(examples: Path) -> None:
+    """It has the ticks that it is said to have, or up to its last event."""
+
+    def of(commands: str, ticks: int | None, path: str = "quad.json") -> Run:
+        log = Log.of([(10, "0001000000000000 00000000 0000")])
+        return of_plan("x", examples / path, log, START, commands, ticks, ["more"], True)
+
+    run = of("step 500\n", None)
+    assert run.ticks == run.events["tick"].max() > 90 and run.plan is not None
+    assert (run.name, run.plan.version, run.is_observed) == ("x", 2, False)
+    assert run.facts == ["plan quad.json, on the bench from power-up", "more"]
+    assert of("step 500\n", 777).ticks == 777
+    none = of("", None, "first_plan.json")
+    assert none.ticks == 0 and none.events.empty
+    with pytest.raises(Error, match=r"quad.json: command 2: pattern 9: refused E9 \w+$"):
+        of("step 5\npattern 9\n", None)
+
+
+def test_rows_of_an_export_with_a_gap(tmp_path: Path) -> None:
+    """A report says where it has none, with the file's name."""
+    path = tmp_path / "day.csv"
+    frames.write_export(of_street((0, 1, 2), (1, 7, 2), (901, 1, 2), (902, 7, 2)), path)
+    with pytest.warns(UserWarning, match="^day.csv: no row from 2026-11-22 07:00:01 to "):
+        assert len(_rows(path, None)) == 4
 
 
 def test_rows_out_of_order_are_in_order_in_a_run() -> None:
@@ -570,8 +631,9 @@ def test_planned_splits_in_any_order() -> None:
     assert rows(of.programmed)[0][1] == 20.0
     for code in (133, 150):
         assert numbers((1, code, 50))._planned().empty
-    many = [(5, 135, it) for it in range(1, 90)]
-    assert rows(numbers(*many, *SERVICE).splits[["planned_s"]]) == [(89.0,)]
+    many = numbers(*((5, 135, it) for it in range(1, 90)), *SERVICE)
+    assert many._planned()["planned_s"].to_list() == list(range(1, 90))
+    assert rows(many.splits[["planned_s"]]) == [(89.0,)]
 
 
 def test_the_85th_of_a_hundred_services() -> None:
@@ -606,6 +668,35 @@ def test_actuations_by_parts_of_a_cycle() -> None:
         (2, 1, 2, 0, 0), (2, 20, 2, 0, 0), (4, 1, 0, 0, 1)
     ]  # fmt: skip
     assert of.coordinated == [2, 4]
+
+
+def test_an_actuation_behind_the_length_of_a_cycle() -> None:
+    """While the counter comes into step by longer cycles, it is of the last part."""
+    of = numbers(
+        (1, 131, 1), (1, 132, 10), (1, 133, 0), (1, 150, 2), (100, 150, 5), (199, 82, 2),
+        (200, 82, 2), (230, 82, 2), (240, 150, 5), (240, 82, 2), (400, 7, 4),
+    )  # fmt: skip
+    assert of.arriving["in_cycle_s"].to_list() == [9.9, 10.0, 13.0, 0.0]
+    assert rows(of.folded.reset_index()) == [(2, 1, 0, 0, 1), (2, 20, 0, 0, 3)]
+
+
+def test_what_ran_before_the_events_is_not_known() -> None:
+    """Where a run was observed, up to its first code 131; a bench begins free."""
+    bench = numbers(
+        (5, 1, 2), (300, 131, 1), (300, 132, 30), (390, 131, 1), (400, 7, 2)
+    )  # fmt: skip
+    for events, known in ((bench.run.events, 300), (table((5, 1, 2)), 1001)):
+        run = replace(bench.run, events=events)
+        assert Numbers(run).known_from == 0
+        assert Numbers(replace(run, is_observed=True)).known_from == known
+    told = "pattern 1 (cycle 30 s, offset 0 s)"
+    for observed, first in ((False, "free operation"), (True, "not known")):
+        of = Numbers(replace(bench.run, is_observed=observed))
+        assert dict(_facts(of))["operation"] == f"{first}, {told}"
+    crossings = [(100, 31, 1), (200, 31, 1), (300, 31, 1), (300, 131, 254), (420, 31, 1)]
+    street = Numbers(replace(bench.run, events=table(*crossings), is_observed=True))
+    lengths = _lengths(street).reset_index()[["pattern", "count", "longest"]]
+    assert rows(lengths) == [("free", 1, 12.0), ("not known", 2, 10.0)]
 
 
 def test_coordinated_phases() -> None:
@@ -657,6 +748,21 @@ def test_shares_and_means_need_both() -> None:
     assert ("split, mean", "phase 2") not in {
         (it.what, it.of) for it in differences(numbers(*two), numbers(*slow[:5]))
     }
+
+
+def test_shares_of_actuations_and_of_cycles() -> None:
+    """Each run has its own; a mean cycle is there where both have one."""
+    crossings = [(100 * k, 31, 1) for k in range(1, 6)]
+    green = [(110, 1, 2), (150, 7, 2)]
+    a = numbers(*crossings, *green, *((it, 82, 2) for it in (120, 130, 160, 170)))
+    slow = [(150 * k, 31, 1) for k in range(1, 4)]
+    b = numbers(*slow, *green, *((it, 82, 2) for it in (120, 160, 170, 180)), (451, 1, 2))
+    found = {(it.what, it.of): (it.a, it.b) for it in differences(a, b)}
+    assert found["actuations on green", "phase 2"] == (0.5, 0.25)
+    assert found["cycles without a green", "phase 2"] == (0.75, 1.0)
+    assert found["cycle, mean", "all"] == (10.0, 15.0)
+    alone = {it.what for it in differences(a, numbers(*green))}
+    assert "cycle, mean" not in alone and "cycles without a green" not in alone
 
 
 def test_the_order_of_differences() -> None:

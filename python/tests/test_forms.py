@@ -2,6 +2,7 @@
 
 import importlib
 import random
+import warnings
 from pathlib import Path
 
 import pandas as pd
@@ -177,7 +178,8 @@ USUAL = ["DeviceId", "Timestamp", "EventId", "Parameter"]
 def test_lines_of_an_export() -> None:
     """Comments and empty lines count as lines, and are none of its rows."""
     usual = columned("")[0]
-    assert len(usual) == 4 and columned("# nothing", "  ", "\t")[0] == usual
+    assert usual == ["SignalID", "Timestamp", "EventCode", "EventParam"]
+    assert columned("# nothing", "  ", "\t")[0] == usual
     assert columned("# a", "", ROW, " ", f"{ROW}\r", "#", ROW) == (
         usual, {3: FIELDS, 5: FIELDS, 7: FIELDS}
     )  # fmt: skip
@@ -208,6 +210,7 @@ def test_what_parts_fields() -> None:
         assert forms._separator(mark.join(names)) == mark
         assert forms._separator(mark.join("abc")) == mark
         assert forms._separator(f"{mark.join(names)}{mark}x,y;z\tw") == mark
+        assert forms._separator(f"{mark.join(names)}{mark}x,y,z") == mark
     assert forms._separator("a,b,c;d;e") == "," and forms._separator("a;b") == ","
     assert forms._separator("a,b;c;d") == ";"
     assert forms._has_three("a,b,c") and forms._has_three("a\tb\tc")
@@ -230,6 +233,7 @@ def test_fields_of_lines() -> None:
     with pytest.raises(Error, match="the export is no CSV: a quote is out of place"):
         forms._fields({1: 'a,"b', 2: 'c",d'}, ",")
     assert forms._fields({1: "NA,null"}, ",").to_numpy().tolist() == [["NA", "null"]]
+    assert forms._fields({1: "e"}, ",").shape == (1, 1)
 
 
 def test_places_of_columns() -> None:
@@ -237,6 +241,8 @@ def test_places_of_columns() -> None:
     assert forms.places_of(["x", "param", "Event_ID", "TIME stamp", "event-id"]) == {
         "time": 3, "code": 2, "parameter": 1
     }  # fmt: skip
+    twice = ["Param", "Time", "Code", "Timestamp", "Event Code", "Event Param"]
+    assert forms.places_of(twice) == {"time": 1, "code": 2, "parameter": 0}
     with pytest.raises(Error, match="the export has no column "):
         forms.places_of(["Timestamp", "Parameter"])
 
@@ -252,9 +258,30 @@ def moments(*texts: str) -> list[str]:
 def test_moments_that_are_moments_already() -> None:
     """A zone is passed over: what the clock shows counts."""
     plain = pd.to_datetime(pd.Series(["2026-11-22 07:00:00", "2026-11-22 07:00:01"]))
-    for of in (plain, plain.dt.tz_localize("Etc/GMT+7")):
-        assert forms.moments_of(of).equals(plain)
+    with warnings.catch_warnings():
+        warnings.simplefilter("error")
+        assert forms.moments_of(plain).equals(plain)
+    with pytest.warns(UserWarning, match="^the zone Etc/GMT.7 of times is passed over"):
+        assert forms.moments_of(plain.dt.tz_localize("Etc/GMT+7")).equals(plain)
     assert forms.moments_of(pd.Series([], dtype=object)).dtype == "datetime64[ns]"
+
+
+@pytest.mark.parametrize(
+    "text, zone",
+    [
+        ("2026-11-22T07:00:00Z", "Z"), ("2026-11-22 07:00:00.5-07", "-07"),
+        ("11/22/2026 7:00:00 AM+05:30", None), ("2026-11-22 07:00:00,5 UTC", "UTC"),
+        ("2026-11-22 07:00:00", None), ("11-22-2026 07:00:00", None), ("1795330803", None),
+        ("2026-11-22 07:00:00+0530", "+0530"),
+    ],
+)  # fmt: skip
+def test_a_zone_is_told(text: str, zone: str | None) -> None:
+    """That it counts for nothing, once for all rows."""
+    with warnings.catch_warnings(record=True) as told:
+        warnings.simplefilter("always")
+        moments(text, text)
+    wanted = f"the zone {zone} of times is passed over: what clocks show counts"
+    assert [str(it.message) for it in told] == ([] if zone is None else [wanted])
 
 
 @pytest.mark.parametrize(
@@ -295,8 +322,9 @@ def test_days() -> None:
     for text in ("2026-02-30 07:00:00", "2026-13-01 07:00:00", "22/13/2026 7:00:00", "x"):
         with pytest.raises(Error, match="line 5: time .* is no time as 2026-11-22 07:00"):
             moments(text)
-    with pytest.raises(Error, match="line 6: time '2026-02-30 07:00:00' is no time of the"):
-        moments("2026-02-28 07:00:00", "2026-02-30 07:00:00")
+    for text in ("2026-02-30 07:00:00", "2026-02-28 07:00", "NaT"):
+        with pytest.raises(Error, match=f"line 6: time '{text}' is no time of the form"):
+            moments("2026-02-28 07:00:00", text)
 
 
 def test_seconds_since_1970() -> None:
@@ -306,7 +334,8 @@ def test_seconds_since_1970() -> None:
         "2262-04-11 23:47:15",
     ]  # fmt: skip
     # (a table has no later moments)
-    for late in ("9223372036", "9999999999", "9999999999999"):
+    assert moments("9223372035999") == ["2262-04-11 23:47:15.999000"]
+    for late in ("9223372036", "9999999999", "9223372036000", "9999999999999"):
         with pytest.raises(Error, match=f"line 5: time '{late}' is no time of the form"):
             moments(late)
     assert moments("17953308032", "1795330803200") == [

@@ -1,6 +1,7 @@
 """Tables of lines, events, logs and exports, there and back."""
 
 import re
+import warnings
 from pathlib import Path
 
 import numpy as np
@@ -105,6 +106,54 @@ def test_an_export_without_a_column_says_which(tmp_path: Path) -> None:
         frames.read_export(path)
 
 
+def test_files_that_are_no_export(
+    tmp_path: Path, monkeypatch: pytest.MonkeyPatch
+) -> None:
+    """One with a byte 0, and one that is too large: just so large is read."""
+    path = tmp_path / "export.csv"
+    text = EXPORTS["usual"].encode()
+    path.write_bytes(text + b"\0")
+    with pytest.raises(Error, match="export.csv: it has a byte 0, as no CSV has"):
+        frames.read_export(path)
+    path.write_bytes(text)
+    assert (frames.LONGEST, len(frames.read_export(path))) == (1 << 30, 1)
+    monkeypatch.setattr(frames, "PIECE", 7)
+    monkeypatch.setattr(frames, "LONGEST", len(text))
+    assert len(frames.read_export(path)) == 1
+    path.write_bytes(text + b"\n")
+    with pytest.raises(Error, match="export.csv: too large: over 0 GiB: cut it by days"):
+        frames.read_export(path)
+
+
+def test_what_is_left_out_is_told() -> None:
+    """How many rows, and the first of them; a warning names who asked."""
+    time = "2026-11-22T07:00:03Z"
+    table = pd.DataFrame(
+        [(time, 1, 2), (time, 131, "x"), (time, 7, -1)], columns=["Time", "Code", "Param"]
+    )
+    said = "left out: {} whose parameter is no whole number, first line {}: {}"
+    for rows, told in (
+        (table.iloc[:1], None),
+        (table.iloc[:2], said.format("1 row", 1, "'x'")),
+        (table, said.format("2 rows", 1, "'x'")),
+        (table.iloc[[0, 2]], said.format("1 row", 2, "'-1'")),
+    ):
+        with pytest.warns(UserWarning) as warned:
+            found = frames.export_of_table(rows)
+        zone = "the zone Z of times is passed over: what clocks show counts"
+        said_of = [str(it.message) for it in warned]
+        assert said_of == [*([told] if told else []), zone]
+        assert {it.filename for it in warned} == {__file__} and len(found) == 1
+    two = frames.export_of_table(table.iloc[:1].assign(Time="2026-11-22 07:00:03"))
+    two = pd.concat([two.assign(device="7", code=82), two.assign(device="8")])
+    with pytest.warns(UserWarning, match="^rows of 2 devices are taken as one$") as warned:
+        frames.log_of_export(two, START)
+    assert [it.filename for it in warned] == [__file__]
+    with pytest.warns(UserWarning, match="^left out: 1 rows of other devices") as warned:
+        frames.log_of_export(two, START, "7")
+    assert [it.filename for it in warned] == [__file__]
+
+
 def test_parquet(tmp_path: Path) -> None:
     """Parquet is read where pyarrow is, and elsewhere the message says what to do."""
     path = tmp_path / "export.parquet"
@@ -200,6 +249,51 @@ def test_log_of_a_file(examples: Path, tmp_path: Path) -> None:
     with pytest.raises(Error, match="events line 2: time: "):
         path.write_text(path.read_text().replace("2026-11-22 ", ""))
         frames.log_of_export(path, START)
+
+
+@pytest.mark.parametrize("text", ["07:00:00", "7:00", "", "11/22/2026 07:00:00"])
+def test_a_start_that_is_no_time(text: str) -> None:
+    """It is named, by its word."""
+    export = frames.export_of_events(frames.of_events([Event(33, 82, 4)]), START, "7")
+    said = f"^start: '{text}' is no time as 2026-11-22 07:00:00$"
+    with pytest.raises(Error, match=said):
+        frames.log_of_export(export, text)
+    with pytest.raises(Error, match=said):
+        frames.events_of_export(export, text)
+
+
+def test_starts_of_an_export() -> None:
+    """Without seconds, or with parts of one."""
+    export = frames.export_of_events(frames.of_events([Event(33, 82, 4)]), START, "7")
+    for text, tick in (
+        ("2026-11-22 07:00", 33), ("2026-11-22T07:00:00", 33), ("2026-11-22 07:00:03.2", 1),
+        ("2026-11-22 06:59:50", 133), ("2026-11-22", 252033),
+    ):  # fmt: skip
+        assert frames.log_of_export(export, text).ticks == (tick,)
+        assert frames.events_of_export(export, text)["tick"].to_list() == [tick]
+
+
+def test_words_that_lead_nowhere(tmp_path: Path) -> None:
+    """They are named, and not the usage of another program."""
+    export = frames.export_of_events(frames.of_events([Event(33, 82, 4)]), START, "7")
+    with pytest.raises(Error, match=r"^--device=7 --vehicle=4=17: docs/use/FIELD.md has"):
+        frames.log_of_export(export, START, "7", vehicles={4: 17})
+
+
+def test_a_file_of_several_devices(tmp_path: Path) -> None:
+    """A warning says that they are taken as one, of a file as of a table. There is none
+    for one device, or for a file without devices."""
+    path = tmp_path / "e.csv"
+    text = "SignalID,Timestamp,EventCode,EventParam\n7,2026-11-22 07:00:00,82,4\n"
+    path.write_text(f"{text}8,2026-11-22 07:00:01,81,4\n")
+    with pytest.warns(UserWarning, match="^rows of 2 devices are taken as one$"):
+        assert frames.log_of_export(path, START).ticks == (1, 11)
+    path.write_text("Time,Code,Param\n2026-11-22 07:00:00,82,4\n")
+    with warnings.catch_warnings():
+        warnings.simplefilter("error")
+        assert frames.log_of_export(path, START).ticks == (1,)
+        path.write_text(text)
+        assert frames.log_of_export(path, START).ticks == (1,)
 
 
 def test_what_acts_twice(examples: Path, tmp_path: Path) -> None:

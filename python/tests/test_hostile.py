@@ -123,6 +123,8 @@ def test_a_preempt_that_no_plan_has(examples: Path) -> None:
 
 def test_long_lines_and_odd_ones(examples: Path) -> None:
     with Bench(examples / "quad.json") as bench:
+        watch = threading.Timer(60, bench.kill)  # (one that waits for ever ends so)
+        watch.start()
         for line in ("begin " + "1" * 200_000, "begin \ud800", "begin \u0661"):
             with pytest.raises(tsb.BadCommand):
                 bench.give(line)
@@ -130,7 +132,15 @@ def test_long_lines_and_odd_ones(examples: Path) -> None:
             for call in (bench.step, bench.changes, bench.back, bench.seek):
                 with pytest.raises(tsb.OutOfRange, match="is a whole one"):
                     call(count)  # type: ignore[operator]
+        for on in (4, ["a"], [1.5], [None]):
+            with pytest.raises(tsb.OutOfRange, match="give numbers of inputs as .1, 4."):
+                bench.tick(vehicles=on)  # type: ignore[arg-type]
+        for row in (1, None, b"0001000000000000 00000000 0000"):
+            with pytest.raises(tsb.OutOfRange, match="is no row of 16, 8 and 4 digits"):
+                bench.ticks([row])  # type: ignore[list-item]
+        assert bench.now == 0
         assert len(bench.step(np.int64(3))) == 3 and bench.now == 3  # type: ignore
+        watch.cancel()
 
 
 def test_many_open_files(examples: Path) -> None:

@@ -219,6 +219,31 @@ def test_programs_that_no_plan_can_be_made_of(
         program.read()
 
 
+def test_notes_are_by_phase(program: Program) -> None:
+    """Whatever their numbers are; and the plan is one of version 2."""
+    state = program.phases[2]["state"]
+    program.phases = {
+        it: {"state": state, "yellow": "2.0", "maxDur": "20.5"} for it in (16, 2)
+    }
+    program.keys = {"ring1": "16,2", "barrierPhases": "2", "barrier2Phases": "16"}
+    program.keys |= {"coordinate-mode": "true", "coordinatePhases": "16"}
+    draft = program.read()
+    for word in ("a yellow of", "split of"):
+        assert [it.split()[1] for it in noted(draft, word)] == ["2:", "16:"]
+    assert draft.plan.version == 2 and draft.plan.sequence(1, 1) == [16, 2]
+
+
+def test_a_phase_without_a_link_of_its_own(program: Program, at: Intersection) -> None:
+    """What phases share is the first one's by number, wherever it is described; one
+    that has nothing then is not mapped."""
+    mine = at.mapping.phases[2]
+    program.phases[5]["state"] = program.phases[2]["state"]
+    program.phases = dict(reversed(program.phases.items()))
+    mapping = program.read().mapping
+    assert mapping.phases[2] == mine and 5 not in mapping.phases
+    assert mapping.permissive[5] == mine
+
+
 def test_phases_of_no_ring_in_their_order(program: Program) -> None:
     program.keys |= {"ring1": "2,4", "ring2": "6,7"}
     assert noted(program.read(), "in no ring") == [
@@ -228,7 +253,7 @@ def test_phases_of_no_ring_in_their_order(program: Program) -> None:
 
 @pytest.mark.parametrize(
     "more, offset, behind",
-    [({}, "", 35), ({}, ' offset="12"', 35), ({"controllerType": "Type170"}, "", 5)],
+    [({}, "", 36), ({}, ' offset="12"', 36), ({"controllerType": "Type170"}, "", 6)],
 )
 def test_a_pattern_is_read(
     program: Program, more: dict[str, str], offset: str, behind: int
@@ -241,14 +266,14 @@ def test_a_pattern_is_read(
     }  # fmt: skip
     program.offset = offset
     for phase in program.phases.values():
-        phase |= {"maxDur": "30", "yellow": "3.5", "red": "1.5"}
+        phase |= {"maxDur": "30", "yellow": "4.0", "red": "2.0"}
     program.phases[4]["maxDur"] = "20.2"
     del program.phases[8]["maxDur"]
     draft = program.read()
     plan = draft.plan
-    assert [plan["splitTime"][1, it] for it in (2, 4, 8)] == [35, 26, 55]
+    assert [plan["splitTime"][1, it] for it in (2, 4, 8)] == [36, 27, 56]
     assert noted(draft, "whole seconds") == [
-        "phase 4: split of 25.2 s is 26 s: whole seconds"
+        "phase 4: split of 26.2 s is 27 s: whole seconds"
     ]
     assert plan["phaseMaximum1"][4] == 21
     assert plan["patternOffsetTime"][1] == (12 if offset else 0) + behind

@@ -260,6 +260,7 @@ def test_a_call_is_clicked_and_green_comes(page: Page) -> None:
     assert page.text("ring-1-1") == "1.1 s"
     page.go(91)
     assert page.lit("P4") == "G" and page.has("phase-4", "G")
+    assert page.text("clock") == "0:00:09.0"  # (that of its event)
     page.click("tick-back")
     assert page.tick == 90 and page.lit("P4") == "R"
     assert "it starts in the next tick" in page.text("wait-4")
@@ -967,9 +968,9 @@ def test_too_many_pages(examples: Path, tmp_path: Path) -> None:
     ("words", "said"),
     [
         (["two_short_yellow.json"], "plan: rule K8: .*cure: give tenths: 40 for 4.0 s"),
-        (["blank.json"], "plan: not JSON"),
+        (["blank.json"], "blank.json: plan: not JSON"),
         (["none.json"], "none.json: No such file"),
-        (["quad.json", "tick_zero.log"], "log line 1: malformed"),
+        (["quad.json", "tick_zero.log"], "tick_zero.log: log line 1: malformed"),
         (["quad.json", "--layout", "quad.json"], "quad.json: the layout: version"),
     ],
 )

@@ -3,9 +3,11 @@ ticks, pulses of one tick, gaps of just a time."""
 
 import os
 import subprocess
+import tempfile
 from collections.abc import Iterator
 from dataclasses import replace
 from pathlib import Path
+from typing import Any
 
 import numpy as np
 import pandas as pd
@@ -13,10 +15,10 @@ import pytest
 from hypothesis import given, settings
 from hypothesis import strategies as some
 
-from tsb import Bench, NoSuchTick, Refused
+from tsb import Bench, Error, NoSuchTick, Refused
 from tsb.lines import Display
 from tsb.panel.keep import GIVEN_MOST, Source
-from tsb.panel.marks import MARKS_MOST, Watched
+from tsb.panel.marks import MARKS_MOST, Watched, walk_back
 from tsb.manual import LAST_TICK
 from tsb.panel.requests import (
     BadRequest,
@@ -94,6 +96,42 @@ def test_the_newest_marks_are_kept() -> None:
     assert len(of.ticks) == MARKS_MOST and of.ticks[0] == 1 and of.ticks[-1] == MARKS_MOST
 
 
+class Changes:
+    """In place of a bench: values that changed at these ticks, up to the tick `now`."""
+
+    def __init__(self, at: dict[int, list[int]], now: int) -> None:
+        self.at, self.now = at, now
+
+    def when(self, _watch: str, number: int) -> int | None:
+        """The tick of the last change of a value."""
+        return max((it for it in self.at[number] if it <= self.now), default=None)
+
+    def seek(self, tick: int) -> None:
+        """Goes back."""
+        assert 0 <= tick <= self.now
+        self.now = tick
+
+
+TICKS = some.lists(some.integers(0, 9), max_size=6)
+
+
+@given(some.tuples(TICKS, TICKS), some.integers(-1, 9), some.integers(1, 12))
+@settings(max_examples=40, deadline=None)
+def test_changes_are_found_by_going_back(
+    at: tuple[list[int], list[int]], low: int, most: int
+) -> None:
+    """The newest so many ticks with a change after a tick, of all values; the bench is
+    left before the first of them, as far as there is such a tick."""
+    bench: Any = Changes(dict(enumerate(at, 1)), 9)
+    watched = [Watched("interval", it) for it in (1, 2)]
+    walk_back(bench, watched, low, most)
+    found = sorted({it for of in at for it in of if it > low})[-most:]
+    assert [it.ticks for it in watched] == [
+        [it for it in found if it in of] for of in at
+    ]
+    assert bench.now == min((it for it in found if it), default=10) - 1
+
+
 # The tape
 
 
@@ -162,6 +200,18 @@ def test_hands_behind_a_cut_and_pulses_beside_one_another() -> None:
     assert found == [(row({1, 2}), 9), (row({1}), 7), (ALL_OFF, 4)]
 
 
+def test_a_pulse_that_ends_with_what_is_taken() -> None:
+    """It leaves nothing behind: no row of no ticks, and none of less."""
+    tape = Tape()
+    tape.grasp(0, place("vehicle", 1), Hand(True, 5))
+    assert list(tape.next_rows(0, 5)) == [(row({1}), 5)]
+    tape.take(tape.next_rows(0, 5))
+    tape.grasp(5, place("vehicle", 2), Hand(True))
+    assert list(tape.next_rows(5, 3)) == [(row({2}), 3)]
+    tape.take(tape.next_rows(5, 3))
+    assert tape.taken(1, 8) == Log((1, 6), (row({1}), row({2})))
+
+
 def test_inputs_that_are_no_ticks() -> None:
     """By their ticks; those at a cut stay, those after it go."""
     tape, on, off = Tape(), Switch(1, "on"), Switch(1, "off")
@@ -224,6 +274,19 @@ def test_shares_where_a_run_ends_in_a_column() -> None:
     always = Track(first)
     always.add([], 9)
     assert always.picture(View(0, 9, 1))["heads"][0]["shares"] == [100]
+
+
+def test_few_changes_in_view_are_bands() -> None:
+    """However many there were before it: two columns for a band."""
+    first = Display(0, "G" + "-" * 15, "-" * 16, "----", 0, None)
+    track = Track(first)
+    for tick in range(1, 21):
+        letter = "GR"[tick % 2]
+        track.add([first._replace(tick=tick, vehicles=letter + "-" * 15)], tick)
+    for columns, name in ((4, "bands"), (3, "shares")):
+        (shown,) = track.picture(View(19, 20, columns))["heads"]
+        assert [*shown] == ["head", name]
+    assert track.picture(View(19, 20, 4))["heads"][0]["bands"] == [[19, "R"], [20, "G"]]
 
 
 def test_a_picture_of_a_track() -> None:
@@ -409,6 +472,81 @@ def test_marks_of_a_run(run: Run) -> None:
     assert [it.ticks for it in run.watched] == ticks
 
 
+def test_marks_of_what_is_taken_again(run: Run) -> None:
+    """Those of ticks that lie ahead of where the mark was made."""
+    run.grasp(Hold("vehicle", 4, True))
+    run.advance(95)
+    run.go(60)
+    run.mark(Mark("interval", 2, True))
+    assert run.watched[0].ticks == [1, 51]
+    run.go(95)
+    assert run.watched[0].ticks == [1, 51, 81, 91]
+    run.go(52)
+    run.give(NoLamp())
+    assert run.undo() == "fault" and run.watched[0].ticks == [1, 51]
+
+
+def test_what_a_watch_takes_back_is_taken_again(run: Run, examples: Path) -> None:
+    """In the ticks and with the rows that there were: a pulse of one tick too, at which
+    the watched value changes."""
+    plain = Run(Source.read(examples / "quad.json", None))
+    run.mark(Mark("input", 4, True))
+    for it in (run, plain):
+        it.advance(5)
+        it.grasp(Pulse("vehicle", 4, 1))
+        it._take(60)
+        assert it.now == 65
+    assert run.watched[0].ticks == [6, 7]
+    assert run.bench.status == plain.bench.status
+    assert run.bench.when("call", 4) == plain.bench.when("call", 4) == 6
+    plain.close()
+
+
+def test_a_reset_that_ends_a_trip(run: Run) -> None:
+    """It is known which did."""
+    run.give(Reset())
+    run.advance(60)
+    run.give(Lamp("P4", "G"))
+    run.advance(90)
+    run.give(Reset())
+    assert [it.ended_trip for it in run.tape.given] == [False, False, True]
+
+
+def test_places_of_a_broken_rule(run: Run) -> None:
+    """Those of the last verify, of the rule that is asked for; also of an edit that the
+    plan's own version has not."""
+    edits: list[Given] = [
+        Begin(1), Set(1, "phaseYellowChange", 2, 20), Set(1, "phaseRedRevert", 4, 1)
+    ]  # fmt: skip
+    for it in edits:
+        run.give(it)
+    assert run.places("K8") == []
+    assert run.verify(Verify(1)) == "rule K8"
+    assert run.places("K8") == ["phase 2: its yellow is 2 s, under 3 s"]
+    assert run.places("K9") == run.places(None) == []
+    run.give(Set(1, "overlapAcrossRings", 1, 1))
+    run.verify(Verify(1))
+    assert run.places("K8") == ["phase 2: its yellow is 2 s, under 3 s"]
+    run.give(Set(1, "phaseYellowChange", 2, 30))
+    assert run.verify(Verify(1)) == "ok" and run.places("K8") == []
+
+
+def test_ticks_that_are_refused_are_not_taken(
+    run: Run, monkeypatch: pytest.MonkeyPatch
+) -> None:
+    """The run is at the tick before all of them, as what was taken is."""
+    run.advance(5)
+
+    def refused(_count: int) -> None:
+        run.bench.step(3)
+        raise Refused("refused E1 Memory", "a tick")
+
+    monkeypatch.setattr(run.bench, "changes", refused)
+    with pytest.raises(Refused):
+        run.advance(20)
+    assert run.now == run.tape.end == 5
+
+
 def test_a_run_that_is_begun_again(run: Run) -> None:
     """All that was given is given again, up to the tick at which it was."""
     run.give(Pattern(1))
@@ -421,6 +559,35 @@ def test_a_run_that_is_begun_again(run: Run) -> None:
     assert (run.now, run.bench.show().line, run.tape.given) == (50, line, given)
     run.advance(51)
     assert run.now == 51
+
+
+def test_benches_that_are_left_are_ended(
+    run: Run, monkeypatch: pytest.MonkeyPatch
+) -> None:
+    """The old one where the run was begun again, the new one where it was not."""
+    run.advance(5)
+    opened: list[Bench] = [run.bench]
+    monkeypatch.setattr(Source, "open", lambda it: _kept(opened, it))
+    run.again()
+    assert run.bench is opened[1] and opened[0]._talk._in.closed
+
+    def fails(_target: int) -> None:
+        raise Error("it fails")
+
+    monkeypatch.setattr(run, "_take_again", fails)
+    with pytest.raises(Error, match="it fails"):
+        run.again()
+    assert run.bench is opened[1] and opened[2]._talk._in.closed
+    assert not opened[1]._talk._in.closed and run.bench.show().tick == 5
+
+
+def _kept(opened: list[Bench], source: Source) -> Bench:
+    """A bench on the plan of a source, which is kept."""
+    with tempfile.NamedTemporaryFile(suffix=".json") as file:
+        file.write(source.plan)
+        file.flush()
+        opened.append(Bench(file.name, events=False))
+    return opened[-1]
 
 
 def test_marks_after_an_undo(examples: Path) -> None:
@@ -533,6 +700,9 @@ def test_causes_of_spells() -> None:
         found = peers.spells(theirs, ours)
         assert [it.cause for it in found] == [cause]
         assert peers.causes(found) == {cause: 1}
+    # before the first tick all is red
+    (first,) = peers.spells(["YRRRRRRR"], ["RRRRRRRR"])
+    assert (first.begin, first.cause, first.theirs) == (1, "end", "1Y")
 
 
 def test_returns_to_the_left_turn_of_a_ring() -> None:

@@ -3,6 +3,7 @@
 import json
 from datetime import timedelta
 from pathlib import Path
+from typing import Any
 
 import pandas as pd
 import pytest
@@ -116,6 +117,42 @@ def test_values_out_of_range_are_told_at_once() -> None:
     ):
         plan["phaseRing"][2] = 1.0  # type: ignore[assignment]
     assert "phaseWalk" not in plan.text
+
+
+@pytest.mark.parametrize(
+    "name, value, said",
+    [
+        ("phasePassage", "4.0 s", "phasePassage: '4.0 s' is a text: 0 to 255 (tenths of"
+         " a second); seconds are tsb.seconds(4.0)"),
+        ("preemptDwellPhase", "4,7", "preemptDwellPhase: '4,7' is a text: 0 to 65535"
+         " (list of phases); a list of phases is {4, 7}"),
+        ("phaseRing", "1", "phaseRing: '1' is a text: 0 to 2 (1 or 2, 0 for none)"),
+        ("preemptDwellPhase", [None], "preemptDwellPhase: [None] is no list: 0 to 65535"
+         " (list of phases); a list of phases is {4, 7}"),
+        ("preemptDwellPhase", None, "preemptDwellPhase: None is no list: 0 to 65535"
+         " (list of phases); a list of phases is {4, 7}"),
+    ],
+)  # fmt: skip
+def test_a_value_that_is_no_value(name: str, value: Any, said: str) -> None:
+    """The message has how one is written."""
+    with pytest.raises(tsb.OutOfRange) as told:
+        Plan()[name][1] = value
+    assert str(told.value) == said
+
+
+def test_where_a_text_stops_being_json(tmp_path: Path) -> None:
+    """As the programs have it, by line and column."""
+    for text, place in (
+        ('{\n  "version" 2}', "line 2, column 13: expecting ':' delimiter"),
+        ("\ufeff{}", "line 1, column 1: a byte order mark"),
+        ("", "line 1, column 1: expecting value"),
+    ):
+        with pytest.raises(tsb.PlanFault) as told:
+            Plan.of_text(text)
+        assert (told.value.line, told.value.place) == ("plan: not JSON", place)
+    with pytest.raises(tsb.PlanFault) as told:
+        Plan.of_text("[" * 100_000)
+    assert (told.value.line, told.value.place) == ("plan: not JSON", None)
 
 
 def test_numbers_of_tables_are_values() -> None:

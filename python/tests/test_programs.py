@@ -96,6 +96,18 @@ def test_a_folder_that_is_not_there_is_told(tmp_path: Path) -> None:
     assert done.stderr == f"tsb: TSB_BIN: there is no folder {tmp_path}/none\n"
 
 
+@pytest.mark.parametrize("words", [[], ["--version"], ["new", "--help"]])
+def test_nobody_reads_on(words: list[str]) -> None:
+    """As behind `head`: it ends without a word."""
+    ends = os.pipe()
+    os.close(ends[0])
+    done = subprocess.run(
+        [sys.executable, "-m", "tsb", *words], stdout=ends[1], stderr=subprocess.PIPE
+    )
+    os.close(ends[1])
+    assert (done.returncode, done.stderr) == (141, b"")
+
+
 def test_a_program_that_ends_badly() -> None:
     """Its status and what it said are told."""
     with pytest.raises(tsb.ProgramDied) as told:

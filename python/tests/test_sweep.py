@@ -424,6 +424,27 @@ def test_what_processes_cannot_find(plans: list[Path], days: list[Path]) -> None
         sweep(plans[:1], days[:1], [lambda events, plan: events], client, **HOURS)
 
 
+def test_a_file_is_written_through(
+    tmp_path: Path, monkeypatch: pytest.MonkeyPatch
+) -> None:
+    """To the disk before it is renamed, and its name after it."""
+    done: list[str] = []
+    replace, fsync = os.replace, os.fsync
+
+    def synced(file: int) -> None:
+        done.append(Path(f"/proc/self/fd/{file}").resolve().suffix)
+        fsync(file)
+
+    def renamed(*words: Any) -> None:
+        done.append("renamed")
+        replace(*words)
+
+    monkeypatch.setattr(os, "fsync", synced)
+    monkeypatch.setattr(os, "replace", renamed)
+    kept.write(tmp_path / "table", b"whole")
+    assert done == [".part", "renamed", ""]
+
+
 def writes_slowly(folder: str) -> None:
     """Work that takes a second in the middle of writing a file."""
 
@@ -445,7 +466,9 @@ def test_a_file_that_is_being_written_leaves_no_part(tmp_path: Path) -> None:
     with local(1) as workers:
         thread = threading.Thread(target=work)
         thread.start()
+        until = time.monotonic() + 60
         while not (tmp_path / "begun").exists():
+            assert time.monotonic() < until, "it is not written through to the disk"
             time.sleep(0.01)
     thread.join()
     assert {it.name for it in tmp_path.iterdir()} == {"begun", "table"}

@@ -2,6 +2,7 @@
 
 import inspect
 import signal
+import warnings
 from collections.abc import Iterator
 from dataclasses import replace
 from pathlib import Path
@@ -9,7 +10,7 @@ from typing import Any
 
 import pandas as pd
 import pytest
-from tsb import Error, Log, Plan, PlanFault, ProgramDied, measures, programs
+from tsb import Error, Log, Plan, PlanFault, ProgramDied, measures, programs, tasks
 from tsb.processes import local
 from tsb.sumo import Intersection, Loop, crossroads, read_trips, summary
 from tsb.sumo.command import log_of
@@ -75,6 +76,14 @@ def full(events: pd.DataFrame, plan: Plan) -> pd.DataFrame:
     raise OSError(28, "No space left on device")
 
 
+def tells(events: pd.DataFrame, plan: Plan) -> pd.DataFrame:
+    """A measure that warns twice, and of what is for nobody."""
+    for it in ("this is told", "and this", "this is told"):
+        warnings.warn(it, stacklevel=1)
+    warnings.warn("of a program", RuntimeWarning, stacklevel=1)
+    return events
+
+
 def fails(events: pd.DataFrame, plan: Plan) -> pd.DataFrame:
     raise ValueError("it fails")
 
@@ -100,6 +109,30 @@ def test_a_day_of_inputs(day: Day, plan: Path, log: Path) -> None:
     assert [1, 131, 1] not in wanted.to_numpy().tolist()
 
 
+def test_records_of_each_kind(examples: Path) -> None:
+    """Without a word calls of recalls and outputs are in none."""
+    plan, log = examples / "main_and_oak.json", Log.read(examples / "hour_of_traffic.log")
+    plain = recorded(plan, log, "step 600\n", recalls=False, outputs=False)
+    for words in ({"recalls": True}, {"outputs": True}):
+        assert not recorded(plan, log, "step 600\n", **words).equals(plain)
+        assert not record(plan, log, 60, **words).equals(plain)
+    assert recorded(plan, log, "step 600\n").equals(plain)
+    assert record(plan, log, 60).equals(plain)
+
+
+def named(events: pd.DataFrame, plan: Plan) -> pd.DataFrame:
+    """A measure whose rows have a name and a number."""
+    index = pd.MultiIndex.from_tuples([("a", 1)], names=["which", None])
+    return pd.DataFrame({"count": [len(events)]}, index)
+
+
+def test_rows_that_have_names(day: Day) -> None:
+    """Names are columns; numbers of rows that have no name are not."""
+    tables = dict(day.tables([named, told]))
+    assert "which" in tables["named"].columns
+    assert list(tables["told"].columns) == ["tick", "code", "parameter"]
+
+
 def test_a_day_of_events(day: Day, plan: Path, log: Path, tmp_path: Path) -> None:
     """By its name, or by a whole time; a clock alone needs a day's name."""
     words = ["record", "--from=2026-11-22 07:00:00", "--device=7", str(plan), str(log)]
@@ -122,13 +155,22 @@ def test_a_day_of_events(day: Day, plan: Path, log: Path, tmp_path: Path) -> Non
     assert found.iloc[0].to_list() == [1, code, parameter]
 
 
-def test_what_a_record_is_refused_by(plan: Path, tmp_path: Path) -> None:
+def test_what_a_record_is_refused_by(
+    plan: Path, tmp_path: Path, monkeypatch: pytest.MonkeyPatch
+) -> None:
     bad = tmp_path / "bad.json"
     bad.write_text('{"version": 2}\n')
     with pytest.raises(PlanFault, match="plan: rule K1"):
         recorded(bad, Log(), "step 1\n")
     with pytest.raises(ProgramDied, match="refused E9"):
         recorded(plan, Log(), "pattern 9\n")
+    # what is said of a record that ends well is a fault too
+    other = tmp_path / "tsb_field"
+    other.write_text("#!/bin/sh\necho odd >&2\n")
+    other.chmod(0o755)
+    monkeypatch.setenv("TSB_BIN", str(tmp_path))
+    with pytest.raises(Error, match="quad.json: odd$"):
+        recorded(plan, Log(), "step 1\n")
 
 
 def test_the_table_of_a_run(day: Day, tmp_path: Path) -> None:
@@ -146,14 +188,78 @@ def test_what_went_wrong_with_a_run(day: Day, tmp_path: Path) -> None:
     """The line of a full disk names the folder, that of a missing file the file."""
     out = tmp_path / "out"
     out.mkdir()
-    assert tried(day, str(out), "x", ["splits"]) is None and len(list(out.iterdir())) == 1
+    assert tried(day, str(out), "x", ["splits"]) == (None, ())
+    assert len(list(out.iterdir())) == 1
     said = "No space left on device"
-    assert tried(day, str(out), "y", [full]) == f"{out}: {said}"
+    assert tried(day, str(out), "y", [full]) == (f"{out}: {said}", ())
     gone = replace(day, source=str(tmp_path / "gone.log"))
-    assert tried(gone, str(out), "y", [told]) == f"{gone.source}: No such file or directory"
+    missing = "No such file or directory"
+    assert tried(gone, str(out), "y", [told]) == (f"{gone.source}: {missing}", ())
     none = tmp_path / "none"
-    assert tried(day, str(none), "y", [told]) == f"{none}: No such file or directory"
-    assert tried(day, str(out), "y", [fails]) == "ValueError: it fails"
+    assert tried(day, str(none), "y", [told]) == (f"{none}: {missing}", ())
+    assert tried(day, str(out), "y", [fails]) == ("ValueError: it fails", ())
+    notes = ("this is told", "and this")
+    assert tried(day, str(out), "z", [tells]) == (None, notes)
+    assert tried(day, str(out), "y", [tells, fails]) == ("ValueError: it fails", notes)
+
+
+ROWS = "SignalID,Timestamp,EventCode,EventParam\n"
+
+
+def test_what_is_told_of_a_day(
+    day: Day, one: Any, tmp_path: Path, capsys: pytest.CaptureFixture[str]
+) -> None:
+    """One of several devices has to be named. Each run has notes of a gap and of what is
+    left out, with the file; and a day is read once for many plans."""
+    path = tmp_path / "2026-11-22.csv"
+    clocks = [("7", "00:00:00.0", 82), ("8", "00:00:01.0", 82), ("7", "09:00:00.0", 81)]
+    lines = [f"{of},2026-11-22 {at},{code},2\n" for of, at, code in clocks]
+    path.write_text(ROWS + "".join([*lines, "7,2026-11-22 09:00:00.0,82,40\n"]))
+    both = replace(day, source=str(path))
+    with pytest.raises(Error, match="2026-11-22.csv: rows of 2 devices: name one by --d"):
+        list(both.tables([told]))
+    seven = replace(both, device="7")
+    gap = "no row from 2026-11-22 00:00:00 to 2026-11-22 09:00:00: what changed in"
+    with warnings.catch_warnings():  # (where nobody asks, they are kept all the same)
+        warnings.simplefilter("ignore")
+        list(seven.tables([told]))
+    before = tasks._log_of_day.cache_info().hits
+    for name in ("x", "y"):
+        with warnings.catch_warnings():  # (whatever else is done with warnings)
+            warnings.simplefilter("ignore")
+            fault, notes = tried(seven, str(tmp_path), name, [told])
+        assert fault is None and len(notes) == 2
+        assert "2026-11-22.csv: left out: 0 rows of other devices, 1 event" in notes[0]
+        assert notes[1].startswith(f"2026-11-22.csv: {gap}")
+    assert tasks._log_of_day.cache_info().hits == before + 2
+    # a device has no gap that it was not there for
+    assert tried(replace(both, device="8"), str(tmp_path), "z", [told]) == (None, ())
+    asked: Any = {"seconds": 10, "device": "7"}
+    with pytest.warns(UserWarning, match=f"^2026-11-22.csv: {gap}"):
+        sweep([day.plan], [path], ["greens"], one, **asked)
+    words = [day.plan, "--days", str(path), "--seconds", "10", "--out", str(tmp_path)]
+    assert main([*words, "--device", "7", "--workers", "1"]) == 0
+    assert f"2026-11-22.csv: {gap}" in capsys.readouterr().err
+    assert main([*words, "--workers", "1"]) == 1
+    assert "rows of 2 devices: name one by --device" in capsys.readouterr().err
+
+
+@pytest.mark.parametrize(
+    "begin, is_read",
+    [("07:00", True), ("2026-11-22 07:00", True), ("7:00", False), ("7", False)],
+)
+def test_when_a_day_begins(
+    day: Day, tmp_path: Path, begin: str, is_read: bool
+) -> None:
+    """Seconds may be left out; what is no time is named with its word."""
+    path = tmp_path / "2026-11-22.csv"
+    path.write_text(f"{ROWS}7,2026-11-22 07:00:00.0,82,4\n")
+    of = replace(day, source=str(path), begin=begin)
+    if is_read:
+        assert of._log() == Log.of([(1, "0001000000000000 00000000 0000")])
+    else:
+        with pytest.raises(Error, match=f"^--begin: '2026-11-22 {begin}' is no time as"):
+            of._log()
 
 
 @pytest.fixture
@@ -169,7 +275,8 @@ def traffic(tmp_path: Path) -> Traffic:
 @pytest.mark.parametrize("pattern", [0, 1])
 def test_a_run_of_traffic(traffic: Traffic, tmp_path: Path, pattern: int) -> None:
     """Its trips and its events are those of a loop of so many seconds."""
-    seed = Seed(str(tmp_path / "free.json"), traffic, 1, 30, pattern)
+    seconds = 60 if pattern else 30  # (the pattern shows at 38.4 s)
+    seed = Seed(str(tmp_path / "free.json"), traffic, 1, seconds, pattern)
     assert seed.reads == [
         str(tmp_path / it)
         for it in ("free.json", "net.xml", "mapping.json", "1.rou.xml", "detectors.xml")
@@ -184,12 +291,12 @@ def test_a_run_of_traffic(traffic: Traffic, tmp_path: Path, pattern: int) -> Non
     ) as loop:  # fmt: skip
         if pattern:
             loop.benches[at.tls].set_pattern(pattern)
-        loop.run(300)
+        loop.run(10 * seconds)
         rows = log_of(loop.rows(at.tls))
     wanted = summary(read_trips(trips)).rename_axis("kind").reset_index()
     pd.testing.assert_frame_equal(tables["trips"], wanted)
     assert wanted["under_way"].sum() > 3
-    recorded = record(seed.plan, rows, 30, pattern, recalls=True)
+    recorded = record(seed.plan, rows, seconds, pattern, recalls=True)
     pd.testing.assert_frame_equal(tables["told"], recorded)
     alone = dict(seed.tables(["terminations"]))
     assert list(alone) == ["terminations"]
@@ -309,7 +416,7 @@ def test_the_words_of_a_sweep(capsys: pytest.CaptureFixture[str]) -> None:
     for words in (["a.json"], ["--out", "o"], ["a.json", "--out", "o", "--workers", "0"]):
         with pytest.raises(SystemExit):
             _words().parse_args(words)
-    assert "--workers: invalid" in capsys.readouterr().err
+    assert "--workers: invalid whole number above 0 value: '0'" in capsys.readouterr().err
     assert workers_of("1") == 1 and workers_of("12") == 12
     for text in ("0", "-1", "x"):
         with pytest.raises(ValueError):

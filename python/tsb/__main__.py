@@ -20,6 +20,7 @@ from tsb.options import nearest
 
 # Modules with a function `main(words)`, which gives the status to end with.
 COMMANDS = ("new", "sumo", "sweep", "panel", "report")
+CLOSED = 141  # the status where nobody reads any more: 128 and SIGPIPE
 
 
 def commands() -> Iterator[tuple[str, str]]:
@@ -91,6 +92,8 @@ def main(words: list[str]) -> int:
     except Error as fault:
         print(fault, file=sys.stderr)
         return 1
+    except BrokenPipeError:
+        raise
     except OSError as fault:
         where = fault.filename or name
         print(f"{shown(where)}: {fault.strerror or fault}", file=sys.stderr)
@@ -102,8 +105,15 @@ def main(words: list[str]) -> int:
 
 
 def console() -> int:
-    """The command `tsb-py` of an installed package."""
-    return main(sys.argv[1:])
+    """The command `tsb-py` of an installed package. Where nobody reads on, as behind
+    `head`, it ends without a word, with the status that a shell has for that."""
+    try:
+        status = main(sys.argv[1:])
+        sys.stdout.flush()
+    except BrokenPipeError:
+        os.dup2(os.open(os.devnull, os.O_WRONLY), sys.stdout.fileno())
+        return CLOSED
+    return status
 
 
 if __name__ == "__main__":

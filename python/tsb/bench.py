@@ -182,7 +182,7 @@ class Bench:
         """A tick for each row (`tsb.row`), all sent ahead: what the heads showed."""
         given = list(rows)
         for row in given:
-            if not ROW.fullmatch(row):
+            if not isinstance(row, str) or not ROW.fullmatch(row):
                 raise OutOfRange(f"{row!r} is no row of 16, 8 and 4 digits")
         return self._block("".join(f"{row}\n" for row in given))
 

@@ -7,6 +7,7 @@ moments. What cannot be read is an `Error` that names its line.
 
 import io
 import re
+import warnings
 from collections.abc import Iterable
 from contextlib import suppress
 from typing import Any
@@ -38,6 +39,8 @@ _CLOCKED = (
     r"(?:[.,](\d{0,9}))?(?: |(?i: (am|pm))|(?i: utc))?"
     r"(?:Z|[-+](?:[01]?\d|2[0-3])(?::?[0-5]\d)?)?"
 )
+# A clock with a zone.
+_ZONE = re.compile(r".*:\d\d(?:[.,]\d*)? ?(Z|(?i:utc)|[-+]\d{1,2}(?::?\d\d)?)")
 _SINCE_1970 = r"(\d{1,10})(?:[.,](\d{0,9}))?|(\d{4,13})"
 # Where year, month and day are among the three numbers of a day.
 _ORDERS = {"year": (0, 1, 2), "month": (2, 0, 1), "day": (2, 1, 0)}
@@ -178,15 +181,19 @@ def moments_of(times: "pd.Series[Any]") -> "pd.Series[Any]":
     if times.empty:
         return times.astype("datetime64[ns]")
     if times.dtype.kind == "M":
-        clocks = times if times.dt.tz is None else times.dt.tz_localize(None)
-        return clocks.astype("datetime64[ns]")
+        if times.dt.tz is None:
+            return times.astype("datetime64[ns]")
+        _tell_zone(str(times.dt.tz))
+        return times.dt.tz_localize(None).astype("datetime64[ns]")
     times, first = times.astype(str).str.strip(), str(times.iloc[0]).strip()
+    if zone := _ZONE.fullmatch(first):
+        _tell_zone(zone[1])
     if times.str.fullmatch(_PLAIN).all():
         with suppress(ValueError):  # (of a day that the calendar lacks)
             told = np.array(times.to_list(), dtype="datetime64[ns]")
             return pd.Series(told, times.index)
     forms = [it for it in _ORDERS if not _clocked(times.iloc[:1], it).isna().any()]
-    if len(forms) > 1 and forms[0] != "year":
+    if len(forms) > 1:
         raise Error(_fault(times, 0, "can be read with its month or its day first"))
     if forms:
         found = _clocked(times, forms[0])
@@ -198,6 +205,12 @@ def moments_of(times: "pd.Series[Any]") -> "pd.Series[Any]":
         at = int(found.isna().to_numpy().argmax())
         raise Error(_fault(times, at, f"is no time of the form of {first!r}"))
     return found
+
+
+def _tell_zone(zone: str) -> None:
+    """Tells that a zone counts for nothing."""
+    what = f"the zone {zone} of times is passed over: what clocks show counts"
+    warnings.warn(what, stacklevel=4)
 
 
 def _fault(times: "pd.Series[str]", at: int, what: str) -> str:

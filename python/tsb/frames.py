@@ -15,6 +15,7 @@ after the start that is given.
 
 import warnings
 from collections.abc import Iterable, Mapping
+from contextlib import suppress
 from os import PathLike, fspath
 from pathlib import Path
 from subprocess import CompletedProcess
@@ -35,6 +36,7 @@ from tsb.rows import PEDESTRIANS, PREEMPTS, VEHICLES, Log
 TENTH = np.timedelta64(100, "ms")
 GAP = pd.Timedelta(minutes=15)  # of an export: without a row for so long is told
 EVENT = ["tick", "code", "parameter"]
+BAD_WORDS = 2  # the status of a program that has bad words
 
 # Of each kind of head, the place of its first letter in a line, how many there are,
 # and its letters.
@@ -248,7 +250,7 @@ def events_of_export(
 ) -> pd.DataFrame:
     """The events of an export from a start on, whose tick 1 it is; with a device,
     those of it alone. Rows of several devices are an `Error` where none is named."""
-    since = export["time"].to_numpy("datetime64[ns]") - np.datetime64(start, "ns")
+    since = export["time"].to_numpy("datetime64[ns]") - moment(start)
     counts = (since >= np.timedelta64(0)) & (
         device is None or export["device"] == device
     )
@@ -257,6 +259,16 @@ def events_of_export(
     ticks = since[counts] // TENTH + 1
     found = export.loc[counts, ["code", "parameter"]].assign(tick=ticks)
     return found[EVENT].reset_index(drop=True)
+
+
+def moment(text: str, word: str = "start") -> np.datetime64:
+    """The moment of a text as `2026-11-22 07:00:00`; `Error` where it is none, by the
+    name of the word that gave it."""
+    with suppress(ValueError):
+        found = np.datetime64(text, "ns")
+        if not np.isnat(found):
+            return found
+    raise Error(f"{word}: {text!r} is no time as 2026-11-22 07:00:00")
 
 
 def gap_told(export: pd.DataFrame) -> str | None:
@@ -290,8 +302,8 @@ def log_of_export(
     Without an event of an input from the start on it is an error, unless it may be
     empty. Where the events are those of detector outputs, `as_outputs` is the file of
     the session's plan: a warning tells each detector whose delay or extension acts
-    twice."""
-    words = ["log", f"--from={start}"]
+    twice. So does one of rows of several devices, where none is named."""
+    words = ["log", f"--from={_spelled(moment(start))}"]
     words += ["--allow-empty"] if allow_empty else []
     words += [] if device is None else [f"--device={device}"]
     words += [] if as_outputs is None else [f"--as-outputs={fspath(as_outputs)}"]
@@ -302,10 +314,23 @@ def log_of_export(
     try:
         done = _logged(words, export)
     except ProgramDied as died:
-        raise Error(died.stderr.strip()) from None
+        raise Error(_refused(words[2:], died)) from None
     if left_out := done.stderr.decode().strip():
         warnings.warn(left_out, stacklevel=2)
     return Log.of_text(done.stdout)
+
+
+def _refused(words: list[str], died: ProgramDied) -> str:
+    """What `tsb_field log` says of an export, or of these words."""
+    if died.status != BAD_WORDS:
+        return died.stderr.strip()
+    return f"{' '.join(words)}: docs/use/FIELD.md has the ranges of these words"
+
+
+def _spelled(time: np.datetime64) -> str:
+    """A moment as the programs read it."""
+    text = str(np.datetime_as_string(time, unit="ns")).replace("T", " ")
+    return text.rstrip("0").rstrip(".")
 
 
 def _logged(
@@ -313,16 +338,26 @@ def _logged(
 ) -> CompletedProcess[bytes]:
     """The run of `tsb_field log` on an export: on the bytes of a file as they are,
     unless it is Parquet or its rows are not in the order of time."""
+    names_one = any(it.startswith("--device=") for it in words)
     if not isinstance(export, pd.DataFrame):
         if Path(export).suffix != ".parquet":
             try:
-                return programs.run("tsb_field", words, read(export, LONGEST))
+                done = programs.run("tsb_field", words, read(export, LONGEST))
+                if not names_one:
+                    with suppress(Error):  # (the program has read it)
+                        _tell_devices(read_export(export))
+                return done
             except ProgramDied as died:
                 if ": time order: " not in died.stderr:
                     raise
         export = read_export(export)
-    several = export["device"].nunique()
-    if several > 1 and not any(it.startswith("--device=") for it in words):
-        warnings.warn(f"rows of {several} devices are taken as one", stacklevel=3)
+    if not names_one:
+        _tell_devices(export)
     ordered = export.sort_values("time", kind="stable")
     return programs.run("tsb_field", words, _csv(ordered))
+
+
+def _tell_devices(export: pd.DataFrame) -> None:
+    """Tells of rows of several devices."""
+    if (several := export["device"].nunique()) > 1:
+        warnings.warn(f"rows of {several} devices are taken as one", stacklevel=4)

@@ -12,7 +12,7 @@ from os import PathLike
 from pathlib import Path
 from typing import Any
 
-from tsb.errors import NoSuchObject, OutOfRange, PlanFault, shown
+from tsb.errors import NOT_JSON, NoSuchObject, OutOfRange, PlanFault, shown
 from tsb.files import up_to
 from tsb.manual import OBJECTS
 from tsb.programs import run
@@ -91,6 +91,14 @@ class Values(MutableMapping[int, int]):
         return phases_of(self[index])
 
 
+def _place(fault: Exception) -> str:
+    """Where a text stops being JSON, as a second line, if that is known."""
+    if not isinstance(fault, json.JSONDecodeError):
+        return ""
+    what = "a byte order mark" if "BOM" in fault.msg else fault.msg.lower()
+    return f"\nplan line {fault.lineno}, column {fault.colno}: {what}"
+
+
 class Plan:
     """A plan. `plan["phaseYellowChange"][2] = tsb.seconds(4)` changes a value; what
     is never given is 0. `version` is that of its text, 1, 2 or 3."""
@@ -109,8 +117,8 @@ class Plan:
             raise PlanFault("plan: too large")
         try:
             told = json.loads(text)
-        except (ValueError, RecursionError):
-            raise PlanFault("plan: not JSON") from None
+        except (ValueError, RecursionError) as fault:
+            raise PlanFault(NOT_JSON + _place(fault)) from None
         if not isinstance(told, dict):
             raise PlanFault("plan: not a table")
         version = told.pop("version", None)

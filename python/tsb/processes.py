@@ -19,7 +19,7 @@ from contextlib import ExitStack, contextmanager
 from multiprocessing import get_context
 from multiprocessing.connection import Connection
 from pathlib import Path
-from typing import Any
+from typing import Any, TypeVar
 
 from tsb.errors import Error
 from tsb.kept import WRITING
@@ -29,9 +29,10 @@ RETRIES = 2  # times that work is tried again whose process died
 # A new process begins with what it is sent, and with nothing of this one.
 _CONTEXT = get_context("spawn")
 
+T = TypeVar("T")
 Words = tuple[Any, ...]
-#: What does some work: it says what went wrong, or None.
-Does = Callable[..., str | None]
+#: The words of some work, what it gave, and what went wrong where it gave nothing.
+Ended = tuple[Words, T | None, str | None]
 
 
 class Processes:
@@ -55,11 +56,12 @@ class Processes:
         return self._all[-1]
 
     def done(
-        self, does: Does, work: Iterable[Words]
-    ) -> Iterator[tuple[Words, str | None]]:
-        """Does all the work, in any order: its words, and what went wrong."""
+        self, does: Callable[..., T], work: Iterable[Words]
+    ) -> Iterator[Ended[T]]:
+        """Does all the work, in any order: its words, what it gave, and what went
+        wrong."""
         left = deque((words, RETRIES) for words in work)
-        under_way: dict[_Given, tuple[ProcessPoolExecutor, Words, int]] = {}
+        under_way: dict[Future[T], tuple[ProcessPoolExecutor, Words, int]] = {}
         while left or under_way:
             while left and self._free:
                 words, tries = left.popleft()
@@ -72,7 +74,8 @@ class Processes:
                 if has_died and tries:
                     left.append((words, tries - 1))
                 else:
-                    yield words, _said(future)
+                    fault = _said(future)
+                    yield words, None if fault else future.result(), fault
 
     def _another(self, dead: ProcessPoolExecutor) -> ProcessPoolExecutor:
         """One in place of a process that died."""
@@ -81,7 +84,9 @@ class Processes:
         self._all.remove(dead)
         return self._one()
 
-    def _given(self, does: Does, words: Words) -> tuple[ProcessPoolExecutor, "_Given"]:
+    def _given(
+        self, does: Callable[..., T], words: Words
+    ) -> tuple[ProcessPoolExecutor, Future[T]]:
         """Gives work to a process that is free, or to another where that one died."""
         worker = self._free.pop()
         # (Ctrl-C at a terminal is for this process alone: what it starts has it
@@ -102,14 +107,11 @@ class Processes:
         self._alive.close()
 
 
-_Given = Future[str | None]
-
-
-def _said(future: _Given) -> str | None:
+def _said(future: Future[Any]) -> str | None:
     """What went wrong with work, if something did."""
     fault = future.exception()
     if fault is None:
-        return future.result()
+        return None
     if isinstance(fault, BrokenProcessPool):
         return f"its process died, {RETRIES + 1} times"
     return f"{type(fault).__name__}: {fault}"

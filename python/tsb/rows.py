@@ -8,6 +8,7 @@ import re
 from bisect import bisect_right
 from collections.abc import Iterable, Iterator
 from dataclasses import dataclass
+from operator import index
 from os import PathLike
 from pathlib import Path
 
@@ -33,7 +34,12 @@ def digits(on: On, count: int) -> str:
             raise OutOfRange(f"{on!r}: at most {count} digits 0 or 1")
         return on.ljust(count, "0")
     found = ["0"] * count
-    for number in on:
+    try:
+        numbers = [index(number) for number in on]
+    except TypeError:
+        what = "numbers of inputs as [1, 4], or a digit for each"
+        raise OutOfRange(f"{on!r}: give {what}") from None
+    for number in numbers:
         if not 1 <= number <= count:
             raise OutOfRange(f"there is no input {number}: 1 to {count}")
         found[number - 1] = "1"

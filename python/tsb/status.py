@@ -100,6 +100,13 @@ class Wait:
     lack: str | None = None
     left: int | None = None
 
+    @property
+    def words(self) -> str:
+        """What it waits for, as the front panel says it."""
+        from tsb.panel.words import wait
+
+        return wait(self)
+
 
 @dataclass(frozen=True)
 class Desk:

@@ -13,6 +13,7 @@ import signal
 import sys
 import tempfile
 import uuid
+import warnings
 from collections.abc import Generator, Iterable, Iterator, Mapping, Sequence
 from contextlib import contextmanager, nullcontext
 from dataclasses import asdict
@@ -35,15 +36,15 @@ from tsb.tasks import (
     Measure,
     Seed,
     Task,
+    Told,
     Traffic,
     key_of,
     name_of,
-    one_run,
     tried,
 )
 
-#: The name of a run, and what went wrong with it.
-Ended = tuple[str, str | None]
+#: The name of a run, with its fault and its notes.
+Ended = tuple[str, Told]
 SUMMARY = "all_runs.txt"  # in the folder of results, the tables of all runs
 
 
@@ -93,6 +94,8 @@ def sweep(
             with nullcontext(client) if client is not None else local() as workers:
                 found.run(workers)
         table = found.table()
+    for note in found.notes:
+        warnings.warn(note, stacklevel=2)
     if found.failures:
         raise SweepFailed(found.failures, table)
     return table
@@ -182,15 +185,17 @@ class Runs:
         self.kept = kept.whole(self._folder, self.names)
         self.missing = [it for it in self.names if it not in self.kept]
         self.failures: dict[str, str] = {}
+        self.notes: list[str] = []  # on the runs that were done
 
     def run(self, client: Any) -> None:
         """Runs what is missing, on processes of this machine or on those of Dask."""
         own = isinstance(client, Processes)
         done = self._here(client) if own else self._by_dask(client)
         try:
-            for name, said in progress(done, "sweep", len(self.missing)):
-                if said is not None:
-                    self.failures[name] = said
+            for name, (fault, notes) in progress(done, "sweep", len(self.missing)):
+                if fault is not None:
+                    self.failures[name] = fault
+                self.notes += [it for it in notes if it not in self.notes]
         finally:
             done.close()
             self.kept = kept.whole(self._folder, self.names)
@@ -200,28 +205,30 @@ class Runs:
         return self.names[name], str(self._folder), name, self._measures
 
     def _here(self, workers: Processes) -> Generator[Ended, None, None]:
-        """The names of the runs, each with what went wrong."""
+        """The names of the runs, each with its fault and its notes."""
         for it in self._measures:
             if not isinstance(it, str) and _is_of_session(it):
                 what = "write this measure into a module, which processes can import"
                 raise Error(f"{name_of(it)}: {what}")
         work = [self._words(it) for it in self.missing]
-        for words, said in workers.done(tried, work):
-            yield words[2], said
+        for words, told, fault in workers.done(tried, work):
+            yield words[2], told or (fault, ())
 
     def _by_dask(self, client: Any) -> Generator[Ended, None, None]:
         """As `_here`, on a cluster."""
         waiting = {
             client.submit(
-                one_run, *self._words(it),
+                tried, *self._words(it),
                 key=f"tsb {it} {uuid.uuid4().hex}", retries=RETRIES,
             ): it
             for it in self.missing
         }  # fmt: skip
         for future in _dask().as_completed(list(waiting)):
-            fault = None if future.status == "finished" else future.exception()
-            said = None if fault is None else f"{type(fault).__name__}: {fault}"
-            yield waiting[future], said
+            if future.status == "finished":
+                yield waiting[future], future.result()
+            else:
+                fault = future.exception()
+                yield waiting[future], (f"{type(fault).__name__}: {fault}", ())
 
     def table(self) -> pd.DataFrame:
         """The tables of all that is done, as one: whole numbers stay whole where a
@@ -276,6 +283,8 @@ def main(words: Sequence[str]) -> int:
     print(
         f"{len(tasks) - failed} runs done, {new - failed} of them now, {failed} failed"
     )
+    for note in found.notes:
+        print(note, file=sys.stderr)
     for said, names in _by_fault(found.failures).items():
         print(f"{', '.join(names)}: {said}", file=sys.stderr)
     text: str = found.table().to_csv(index=False)
@@ -353,6 +362,9 @@ def workers_of(text: str) -> int:
     if number < 1:
         raise ValueError
     return number
+
+
+workers_of.__name__ = "whole number above 0"  # (as argparse tells a bad one)
 
 
 @contextmanager

@@ -5,7 +5,8 @@ import io
 import json
 import re
 import tempfile
-from collections.abc import Callable, Iterator, Sequence
+import warnings
+from collections.abc import Callable, Iterable, Iterator, Sequence
 from dataclasses import dataclass
 from functools import lru_cache
 from os import PathLike
@@ -17,7 +18,7 @@ import pandas as pd
 from tsb import kept, programs
 from tsb.errors import Error, PlanFault, ProgramDied
 from tsb.files import word
-from tsb.frames import events_of_export, log_of_export
+from tsb.frames import events_of_export, gap_told, log_of_export, moment, read_export
 from tsb.measures import MEASURES
 from tsb.plan import Plan
 from tsb.rows import Log
@@ -25,6 +26,8 @@ from tsb.rows import Log
 AnyPath = str | PathLike[str]
 #: A measure by its name in `tsb.measures`, or a function of events and their plan.
 Measure = str | Callable[[pd.DataFrame, Plan], pd.DataFrame]
+#: What went wrong with a run, if something did, and the notes on it.
+Told = tuple[str | None, tuple[str, ...]]
 
 POWER_UP = "2000-01-01 00:00:00"  # when tick 1 begins, where no day says it
 DATE = re.compile(r"\d{4}-\d{2}-\d{2}")
@@ -71,14 +74,43 @@ class Day:
     def _log(self) -> Log:
         if Path(self.source).suffix == ".log":
             return Log.read(self.source)
-        return log_of_export(self.source, self._start(), self.device)
+        changed = Path(self.source).stat().st_mtime_ns
+        log, notes = _log_of_day(self.source, changed, self._start(), self.device)
+        for it in notes:
+            warnings.warn(f"{Path(self.source).name}: {it}", stacklevel=2)
+        return log
 
     def _start(self) -> str:
-        if DATE.match(self.begin):
-            return self.begin
-        if not DATE.fullmatch(self.name):
-            raise Error(f"{self.source}: name it by its day, or begin with a date")
-        return f"{self.name} {self.begin}"
+        start = self.begin
+        if not DATE.match(start):
+            if not DATE.fullmatch(self.name):
+                raise Error(f"{self.source}: name it by its day, or begin with a date")
+            start = f"{self.name} {start}"
+        return str(moment(start, "--begin"))
+
+
+@lru_cache(maxsize=4)
+def _log_of_day(
+    path: str, changed: int, start: str, device: str | None
+) -> tuple[Log, tuple[str, ...]]:
+    """The inputs of a day of events, and the notes on it. It is read once for many
+    plans."""
+    with warnings.catch_warnings(record=True) as told:
+        warnings.simplefilter("always", UserWarning)
+        export = read_export(path)
+        if device is not None:
+            export = export[export["device"] == device]
+        if (several := export["device"].nunique()) > 1:
+            raise Error(f"{path}: rows of {several} devices: name one by --device")
+        gap = gap_told(export)
+        log = log_of_export(export, start, device)
+    return log, (*_notes(told), *([gap] if gap else []))
+
+
+def _notes(told: Iterable[warnings.WarningMessage]) -> tuple[str, ...]:
+    """What warnings say that are for a person, each once."""
+    found = [str(it.message) for it in told if it.category is UserWarning]
+    return tuple(dict.fromkeys(found))
 
 
 @dataclass(frozen=True)
@@ -236,7 +268,15 @@ def one_run(task: Task, folder: str, name: str, measures: Sequence[Measure]) -> 
     return kept.keep(Path(folder), name, text.encode()).name
 
 
-def tried(
+def tried(task: Task, folder: str, name: str, measures: Sequence[Measure]) -> Told:
+    """Runs a task as `one_run`: what went wrong, or None, and the notes on it."""
+    with warnings.catch_warnings(record=True) as told:
+        warnings.simplefilter("always", UserWarning)
+        fault = _fault_of(task, folder, name, measures)
+    return fault, _notes(told)
+
+
+def _fault_of(
     task: Task, folder: str, name: str, measures: Sequence[Measure]
 ) -> str | None:
     """Runs a task as `one_run`: what went wrong, or None."""

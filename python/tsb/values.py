@@ -83,11 +83,20 @@ def number_of(what: Object, value: Value, version: int = 2) -> int:
         raise OutOfRange(told + f"; seconds are tsb.seconds({value})" * bool(what.time))
     elif isinstance(value, timedelta):
         found = _units(what, value)
+    elif isinstance(value, str):
+        raise OutOfRange(f"{what.name}: {value!r} is a text: {_said(what, version)}")
     else:
-        found = _sum(what, value)
+        found = _sum(what, value, version)
     if not 0 <= found <= what.most(version):
         raise OutOfRange(f"{what.name}: {found} is not in {what.range(version)}")
     return found
+
+
+def _said(what: Object, version: int) -> str:
+    """What a value of an object is, as Python has it."""
+    form = "; a list of phases is {4, 7}" if what.is_list else ""
+    form = "; seconds are tsb.seconds(4.0)" if what.time else form
+    return what.range(version) + form
 
 
 def _units(what: Object, value: timedelta) -> int:
@@ -101,11 +110,15 @@ def _units(what: Object, value: timedelta) -> int:
     return count
 
 
-def _sum(what: Object, phases: Iterable[int]) -> int:
+def _sum(what: Object, phases: Iterable[int], version: int) -> int:
     """The number of a list of phases."""
     if not what.is_list:
         raise OutOfRange(f"{what.name} is no list of phases: {what.range()}")
-    members = set(map(int, phases))
+    try:
+        members = set(map(int, phases))
+    except (TypeError, ValueError):
+        what_is = _said(what, version)
+        raise OutOfRange(f"{what.name}: {phases!r} is no list: {what_is}") from None
     if wrong := [it for it in members if not 1 <= it <= 16]:
         raise OutOfRange(f"{what.name}: there is no phase {wrong[0]}")
     return sum(1 << (it - 1) for it in members)

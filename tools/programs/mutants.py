@@ -1,6 +1,6 @@
 """Small mistakes in modules of the package, and whether its tests notice them.
 
-    python3 -m tools.programs.mutants [--sample N] [--seed S] [--seconds S] [--least N] [MODULE ..]
+    python3 -m tools.programs.mutants [--sample N] [--seed S] [--name TEXT ..] [--seconds S] [--least N] [MODULE ..]
 
 Each mutant is one change of a module's syntax tree: a comparison turned or moved by its
 boundary; a number one more; a sum or a product turned; a branch or a statement dropped;
@@ -18,6 +18,7 @@ import ast
 import contextlib
 import copy
 import itertools
+import json
 import os
 import pathlib
 import random
@@ -31,6 +32,7 @@ from tools import TOP
 
 PYTHON = TOP / "python"
 SECONDS = 60  # of a processor, that the tests of a mutant have at most
+LONGER, MORE = 3, 3  # a mutant has so many times what they take without one, and so many seconds beside it
 SLOWER = 10  # times that they may take by the clock, on a machine that does much else
 HAND, PARTS = ["tests/test_boundaries.py"], ["tests/test_parts_by_hand.py"]
 # The tests of each module that can notice a mistake in it: fast ones first.
@@ -38,8 +40,8 @@ TESTS = {
     "measures": [*HAND, "tests/test_measures.py", "tests/test_cycles.py"],
     "cycles": [*HAND, "tests/test_cycles.py"],
     "frames": [*HAND, "tests/test_frames.py"],
-    "forms": [*HAND, "tests/test_forms.py"],
-    "tasks": ["tests/test_tasks.py"],
+    "forms": ["tests/test_forms.py"],
+    "tasks": ["tests/test_tasks.py", "tests/test_sweep.py::test_a_run_is_told_by_all_that_is_asked"],
     "sweep": ["tests/test_tasks.py", *(f"tests/test_sweep.py::{it}" for it in (
         "test_what_processes_cannot_find", "test_the_command_on_a_cluster_that_runs_already",
         "test_parts_that_a_dead_process_left_go", "test_a_sweep_that_is_stopped_leaves_nothing"))],
@@ -65,17 +67,52 @@ NAMED = "columns are taken by name"
 PIECES = "how many ticks are taken at a time, which nothing tells"
 NO_TICKS = "it takes 0 ticks then"
 SHIFT = "shares are differences of what it moves by one"
+SHORTER = "a shorter way to the same"
+ANYWAY = "it is written over, or none, in any case"
+BELOW = "numpy takes any number below 0 as -1"
+AGAIN = "marks that are known are found again"
+LATER = "all differences are sorted afterwards"
 EQUAL = {
     "measures walk_waits: 1 -> 2": "no event has a code below 0",
     "measures arriving: 'stable' -> 'quicksort'": SORTED,
     "measures counted: all_of > 0 -> all_of >= 0": "0 of 0 is not known either way",
-    "cycles cycles: False -> True": NAMED,
-    "cycles in_cycle: False -> True": NAMED,
     "cycles _stretches: False -> True": NAMED,
     "cycles is_in_step: 0 -> 1": "in step is the state before the first, by either number",
     "cycles _told: 2 -> 3": "no tick is below 0",
     "cycles greens_a_cycle: False -> True": "without cycles no place is 0 or more",
-    "panel.tape _with_hands: if not hands: return row -> if False: return row": "a shorter way to the same row",
+    "measures _ask: for code, number in moment if code in ASKS -> for code, number in moment":
+        "other codes turn nothing on or off",
+    "frames : 1 -> 2": PIECES,
+    "frames : 20 -> 21": PIECES,
+    "frames of_lines: 1 -> 2": BELOW,
+    "frames of_log: 1 -> 2": BELOW,
+    "frames of_lines: 256 -> 257": "a byte is 255 at most",
+    "frames of_lines: 1 -> 2 (2)": "a head has no other letter",
+    "frames of_lines: 0 -> 1": "all four are digits, or all are hyphens",
+    "frames to_lines: 0 -> 1": ANYWAY,
+    "forms numbers_of: if column.dtype.kind in 'iu': return column.astype('Int64').where(c.. -> if False: return "
+    "column.astype('Int64').where(column.between(0, LAR..": SHORTER,
+    "forms moments_of: if times.str.fullmatch(_PLAIN).all(): with suppress(ValueError): to.. -> if False: with "
+    "suppress(ValueError): told = np.array(times.to_list(..": SHORTER,
+    "forms moments_of: _clocked(times.iloc[:1], it).isna().any() -> _clocked(times.iloc[:1], it).isna().all()":
+        "of one time",
+    "forms _clocked: day[0] >= 1000 -> day[0] > 1000": "a table has no moment before 1677",
+    "forms _clocked: 1000 -> 1001": "a table has no moment before 1677",
+    "forms _clocked: 0 -> 1 (3)": ANYWAY,
+    "forms _since_1970: 0 -> 1 (4)": ANYWAY,
+    "tasks _measured: if not measures: return -> if False: return": "it gives nothing in any case",
+    "tasks one_run: True -> False": "rows are written without their numbers",
+    "tasks _log: 2 -> 3": "it names a line of the package in any case",
+    "report.numbers _cycle_lengths: False -> True": NAMED,
+    "report.numbers _cycle_lengths: ticks < it.end -> ticks <= it.end": ANYWAY,
+    "report.numbers _waited: on.min() -> on.max()": "a phase has one wait at most that goes on",
+    "report.differences of_counts: a + b -> a - b": "equal counts differ by 0 in any case",
+    "report.differences _keys: sorted({*map(int, a.index), *map(int, b.index)}) -> list({*map(int, a.index), "
+    "*map(int, b.index)})": LATER,
+    "report.differences _pairs: sorted({int(k) for it in known for k in it[name].unique()}) -> list({int(k) for it in "
+    "known for k in it[name].unique()})": LATER,
+    "report.runs with_inputs_of: True -> False": "rows are numbered anew afterwards",
+    "panel.tape _with_hands: if not hands: return row -> if False: return row": SHORTER,
     "panel.run : 500 -> 501": PIECES,
     "panel.run : 20000 -> 20001": PIECES,
     "panel.run : 1 -> 2": "serials are only compared",
@@ -87,12 +124,23 @@ EQUAL = {
     "panel.run advance: min(2 * piece, PIECE) -> max(2 * piece, PIECE)": PIECES,
     "panel.run advance: 2 -> 3": PIECES,
     "panel.run _take_again: begun + 1 -> begun - 1": "the row that holds then is the same one",
+    "panel.run _see_input: max(it.until, self.now) -> min(it.until, self.now)": AGAIN,
+    "panel.run mark: 1 -> 2": "no tick is below 0",
+    "panel.run _find_marks: for it in self.watched if it.until < end -> for it in self.watched": AGAIN,
+    "panel.run _find_marks: end - begun -> end + begun": "there are no more changes than ticks",
+    "panel.run _find_marks: self.now < end -> self.now <= end": NO_TICKS,
+    "panel.run _find_marks: self.bench.follow(self.tape.taken(self.now + 1, end)) -> pass":
+        "the rows that are followed hold still",
+    "panel.run _find_marks: self.now + 1 -> self.now - 1": "the row that holds then is the same one",
+    "panel.run _find_marks: it.until < end -> it.until <= end": AGAIN,
     "panel.run _take: count > again -> count >= again": NO_TICKS,
     "panel.track __init__: 0 -> 1 (2)": SHIFT,
     "panel.track put: 0 -> 1": SHIFT,
     "panel.track shares: 0 -> 1": "it is overwritten",
     "panel.track shares: 1 -> 2 (3)": "it stands behind all edges",
+    "panel.track add: it.tick >= self.end -> it.tick > self.end": "a tick that is known shows the same",
     "panel.track cut: tick < self.end -> tick <= self.end": "nothing lies behind the end",
+    "sumo.nema _whole: abs(whole - value) > 1e-09 -> abs(whole - value) >= 1e-09": "no time is just so near to a whole one",
     "sumo.peers answers: False -> True": "a bench that keeps events answers the same",
     "sumo.peers _next_green: 4 -> 5": "phase 5 is no through phase",
 }
@@ -278,21 +326,40 @@ def replaced(room: pathlib.Path, module: str, text: str):
         mine.symlink_to(was)
 
 
-def tried(room: pathlib.Path, module: str, text: str, seconds: float, tests: list[str]) -> bool:
-    """Whether tests notice a text in the place of a module."""
+class Fastest:
+    """A plugin of pytest that runs first what took least before, and keeps what each test takes."""
+
+    def __init__(self, room: pathlib.Path) -> None:
+        self._kept = room / "took.json"
+        self._before = json.loads(self._kept.read_text()) if self._kept.exists() else {}
+        self._took: dict[str, float] = {}
+
+    def pytest_collection_modifyitems(self, items: list) -> None:
+        items.sort(key=lambda it: self._before.get(it.nodeid, 0))
+
+    def pytest_runtest_logreport(self, report) -> None:
+        self._took[report.nodeid] = self._took.get(report.nodeid, 0) + report.duration
+
+    def pytest_sessionfinish(self) -> None:
+        if not self._before:
+            self._kept.write_text(json.dumps(self._took))
+
+
+def tried(room: pathlib.Path, module: str, text: str, seconds: float, tests: list[str]) -> tuple[bool, float]:
+    """Whether tests notice a text in the place of a module, and the processor seconds that they took."""
     with replaced(room, module, text):
         child = os.fork()
         if child == 0:
             os._exit(_tested(room, tests, seconds))
         until = time.monotonic() + SLOWER * seconds
         while time.monotonic() < until:
-            done, status = os.waitpid(child, os.WNOHANG)
+            done, status, spent = os.wait4(child, os.WNOHANG)
             if done:
-                return status != 0
+                return status != 0, spent.ru_utime + spent.ru_stime
             time.sleep(0.02)
         os.killpg(child, signal.SIGKILL)
         os.waitpid(child, 0)
-        return True
+        return True, seconds
 
 
 def _tested(room: pathlib.Path, tests: list[str], seconds: float) -> int:
@@ -314,10 +381,11 @@ def _tested(room: pathlib.Path, tests: list[str], seconds: float) -> int:
     sys.dont_write_bytecode = False
     import pytest
 
-    words = ["-x", "-q", "-p", "no:cacheprovider", "-p", "no:warnings", f"--basetemp={room}/tests",
-             "-c", str(PYTHON / "pyproject.toml"), f"--rootdir={PYTHON}"]
+    # (nobody reads what a failed test says, and to compare long texts for it takes long)
+    words = ["-x", "-q", "-p", "no:cacheprovider", "-p", "no:warnings", "--tb=no", "--assert=plain",
+             f"--basetemp={room}/tests", "-c", str(PYTHON / "pyproject.toml"), f"--rootdir={PYTHON}"]
     try:
-        return int(pytest.main([*words, *(str(PYTHON / it) for it in tests)]))
+        return int(pytest.main([*words, *(str(PYTHON / it) for it in tests)], plugins=[Fastest(room)]))
     except BaseException:
         return 1
 
@@ -327,6 +395,7 @@ def main() -> int:
     words.add_argument("modules", nargs="*", choices=[[], *TESTS, "quick"], metavar="MODULE")
     words.add_argument("--sample", type=int, help="so many mutants of all of the modules")
     words.add_argument("--seed", type=int, default=1)
+    words.add_argument("--name", action="append", default=[], help="those mutants alone whose names have this")
     words.add_argument("--seconds", type=float, default=SECONDS)
     words.add_argument("--least", type=int, default=0, help="how many have to be noticed, where not all")
     given = words.parse_args()
@@ -336,29 +405,38 @@ def main() -> int:
                   {**os.environ, "PYTHONHASHSEED": "0"})
     modules = QUICK if given.modules == ["quick"] else given.modules or [*TESTS]
     # (what all forks have)
-    import hypothesis, numpy, pandas, pytest  # noqa: E401, F401
+    import hypothesis, jinja2, matplotlib.figure, numpy, pandas, pytest  # noqa: E401, F401
 
     # (what a mutant fails by is not kept, or the tests of the package itself would begin with it, and may stop there;
-    # examples are the same each time, so that figures are)
-    hypothesis.settings.register_profile("mutants", database=None, derandomize=True)
+    # examples are the same each time, so that figures are; one that fails is enough, and no shorter one is looked for)
+    hypothesis.settings.register_profile("mutants", database=None, derandomize=True,
+                                         phases=(hypothesis.Phase.explicit, hypothesis.Phase.generate))
     hypothesis.settings.load_profile("mutants")
 
     every = [(it, *mutant) for it in modules for mutant in mutants(it)]
     found = [it for it in every if it[1] not in EQUAL]
+    if unknown := [it for it in EQUAL if it.split()[0] in modules and it not in {mutant[1] for mutant in every}]:
+        print(f"no mutants are any more: {unknown}\n0 passed, 1 failed")
+        return 1
+    if given.name:
+        found = [it for it in found if any(name in it[1] for name in given.name)]
     if given.sample:
         found = random.Random(given.seed).sample(found, min(given.sample, len(found)))
     used = dict.fromkeys(test for module in dict.fromkeys(it[0] for it in found) for test in TESTS[module])
     counts = {module: [0, 0] for module in modules}
     with laid_over() as room:
-        if tried(room, modules[0], path_of(modules[0]).read_text(encoding="utf-8"), 10 * given.seconds, [*used]):
+        as_it_is = path_of(modules[0]).read_text(encoding="utf-8")
+        fails, spent = tried(room, modules[0], as_it_is, 10 * given.seconds, [*used])
+        if fails:
             print("the tests fail as the modules are\n0 passed, 1 failed")
             return 1
+        seconds = min(given.seconds, LONGER * spent + MORE)
         for module, name, text in found:
-            is_killed = tried(room, module, text, given.seconds, TESTS[module])
+            is_killed, _ = tried(room, module, text, seconds, TESTS[module])
             counts[module][not is_killed] += 1
             if not is_killed:
                 print(f"survives: {name}", flush=True)
-    if not given.sample:
+    if not given.sample and not given.name:
         for module, (killed, survive) in counts.items():
             equal = sum(it[0] == module for it in every) - killed - survive
             print(f"| `{module}` | {killed + survive + equal} | {killed} | {equal} | {survive} |")

@@ -9,7 +9,7 @@ from collections.abc import Coroutine, Sequence
 from contextlib import suppress
 from pathlib import Path
 
-from tsb.errors import Error, shown
+from tsb.errors import Error, LogFault, PlanFault, shown
 from tsb.options import Words
 from tsb.panel.keep import Keep, Source
 from tsb.panel.layout import Layout
@@ -49,16 +49,30 @@ def port(text: str) -> int:
     return number
 
 
+port.__name__ = "port"  # (as argparse tells a bad one)
+
+
 def main(words: Sequence[str]) -> int:
     """Serves a panel until it is interrupted; the status to end with."""
     given = _words().parse_args(words)
     try:
-        source = Source.read(given.plan, given.log)
+        source = _source(given.plan, given.log)
         layout = None if given.layout is None else Layout.read(given.layout)
-        source.open().close()
         return asyncio.run(_serve(source, Keep(given.runs.resolve()), layout, given))
     except OSError as fault:
         raise Error(f"{fault.filename or 'panel'}: {fault.strerror}") from None
+
+
+def _source(plan: Path, log: Path | None) -> Source:
+    """What a run begins with; `Error` names the file that is refused."""
+    try:
+        source = Source.read(plan, log)
+        source.open().close()
+    except PlanFault as fault:
+        raise Error(f"{plan}: {fault}") from None
+    except LogFault as fault:
+        raise Error(f"{log}: {fault}") from None
+    return source
 
 
 async def _serve(

@@ -157,7 +157,6 @@ class Run:
             for it in self.watched:
                 it.cut(self.now - 1)
             self._see_input()
-        self._see_plan()
         return kind
 
     def drop(self) -> int:
@@ -248,7 +247,6 @@ class Run:
             bench.close()
             raise
         was.close()
-        self._see_plan()
 
 
 def is_tripped(status: Status) -> bool:

@@ -11,7 +11,7 @@ import pandas as pd
 from tsb import measures
 from tsb.plan import Plan
 from tsb.report.runs import Run
-from tsb.told import CAUSES, OTHER, WALK
+from tsb.told import CAUSES, OTHER, PATTERN, WALK
 
 ENDS = [*CAUSES.values(), OTHER]
 SHOWN = ["green", "yellow", "red"]
@@ -156,6 +156,15 @@ class Numbers:
             known = [pd.NA, *told["planned_s"].where(told["planned_s"] > 0)]
             found[begins.index] = pd.array([known[it] for it in place], "Float64")
         return found
+
+    @cached_property
+    def known_from(self) -> int:
+        """The first tick from which on it is known whether a pattern runs, and which."""
+        run = self.run
+        told = run.events.loc[run.events["code"] == PATTERN, "tick"]
+        if not run.is_observed:
+            return 0
+        return run.ticks + 1 if told.empty else int(told.min())
 
     @cached_property
     def patterns(self) -> pd.DataFrame:

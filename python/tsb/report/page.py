@@ -38,7 +38,8 @@ def _facts(numbers: Numbers) -> list[tuple[str, str]]:
     run = numbers.run
     begin, end = run.time(1), run.time(run.ticks + 1)
     stretches = [
-        "free operation" if it.pattern is pd.NA
+        "not known" if it.begin < numbers.known_from
+        else "free operation" if it.pattern is pd.NA
         else f"pattern {it.pattern} (cycle {it.cycle_s} s, offset {it.offset_s} s)"
         for it in numbers.patterns.itertuples(index=False)
     ]  # fmt: skip

@@ -7,6 +7,7 @@ from pathlib import Path
 import numpy as np
 import pandas as pd
 
+from tsb import frames
 from tsb.errors import Error, PlanFault, ProgramDied
 from tsb.frames import events_of_export
 from tsb.plan import Plan
@@ -22,7 +23,8 @@ INPUTS = (81, 82, 89, 90, 102, 104)
 class Run:
     """A run: its name, its events (`tick`, `code`, `parameter`) up to its last tick,
     the time at which tick 1 begins, the plan that says which detector calls which
-    phase (or None), and how it came about, a line for each fact."""
+    phase (or None), and how it came about, a line for each fact. Where it
+    `is_observed`, nobody knows what ran before its first event of that."""
 
     name: str
     events: pd.DataFrame
@@ -30,6 +32,7 @@ class Run:
     ticks: int
     plan: Plan | None
     facts: Sequence[str] = field(default=())
+    is_observed: bool = False
 
     @property
     def phases(self) -> Mapping[int, int]:
@@ -43,13 +46,7 @@ class Run:
 
 def moment(text: str) -> np.datetime64:
     """The moment of a text as `2026-11-22 07:00:00`."""
-    try:
-        found = np.datetime64(text, "ns")
-    except ValueError:
-        raise Error(f"--from: {text!r} is no time as 2026-11-22 07:00:00") from None
-    if np.isnat(found):
-        raise Error(f"--from: {text!r} is no time as 2026-11-22 07:00:00")
-    return found
+    return frames.moment(text, "--from")
 
 
 def whole_minutes(tick: int) -> int:
@@ -114,6 +111,7 @@ def of_rows(
         last,
         plan,
         [f"events of {path.name}"],
+        is_observed=True,
     )
 
 
@@ -130,4 +128,5 @@ def with_inputs_of(street: Run, bench: Run) -> Run:
         street.ticks,
         bench.plan,
         [*street.facts, "inputs as the bench has them"],
+        street.is_observed,
     )

@@ -179,8 +179,10 @@ def cycles(both: Both) -> Section:
 
 def _lengths(numbers: Numbers) -> pd.DataFrame:
     """How long the cycles of each pattern are."""
-    by = numbers.cycles["pattern"].astype(object)
+    cycles = numbers.cycles
+    by = cycles["pattern"].astype(object)
     named = by.where(by.notna(), "free").map(str)
+    named = named.mask(cycles["begin"] < numbers.known_from, "not known")
     return spread(numbers.cycles["cycle_s"], named)
 
 

@@ -85,10 +85,11 @@ def _inputs(given: argparse.Namespace) -> tuple[Log, pd.DataFrame]:
     """The log that plans run on, and the rows of the export that it is of."""
     if given.log is not None:
         return _log(given.log), pd.DataFrame()
+    start = str(moment(given.begin))
     rows = _rows(given.export, given.device)
     try:
         log = log_of_export(
-            rows, given.begin, vehicles=dict(given.vehicle),
+            rows, start, vehicles=dict(given.vehicle),
             pedestrians=dict(given.pedestrian), preempts=dict(given.preempt),
         )  # fmt: skip
     except Error as fault:

@@ -157,7 +157,7 @@ export class Diagram {
     pen.font = "11px system-ui, sans-serif";
     pen.textAlign = "center";
     pen.textBaseline = "bottom";
-    for (let tick = Math.ceil(picture.first / step) * step; tick <= picture.last; tick += step) {
+    for (let tick = Math.ceil((picture.first - 1) / step) * step + 1; tick <= picture.last; tick += step) {
       const x = Math.round(this.x(tick)) + 0.5;
       pen.beginPath();
       pen.moveTo(x, y);

@@ -41,12 +41,12 @@ export function mark(node, name, on) {
 /** A time in tenths of a second, as 3.2 s. */
 export const seconds = (tenths) => (tenths === null ? "–" : `${(tenths / 10).toFixed(1)} s`);
 
-/** A tick as hours, minutes, seconds and tenths. */
+/** The time at which a tick begins, as event logs have it: hours, minutes, seconds and tenths. */
 export function clock(tick) {
   const two = (number) => String(number).padStart(2, "0");
-  const whole = Math.floor(tick / 10);
+  const tenths = Math.max(tick - 1, 0), whole = Math.floor(tenths / 10);
   const parts = [Math.floor(whole / 3600), two(Math.floor(whole / 60) % 60), two(whole % 60)];
-  return `${parts.join(":")}.${tick % 10}`;
+  return `${parts.join(":")}.${tenths % 10}`;
 }
 
 /** A press that is held, with the pointer or with space and enter: `down`, then `up`. */
