@@ -12,7 +12,7 @@ use Rattle.tsb_objects.specs.tsb_rules.Rules.{first_broken}
 use Rattle.tsb_coord.specs.Coordinated.{counter, local, local_in, residue_of_difference, is_at_force_off, asks_force_off, asks_recycle, is_pattern, forces_off, recycles}
 use Rattle.tsb_coord.specs.Correction.{Correction, in_step, ahead_by, within_cycle, ahead_in, counted_tick, local_now, steps_twice_in, steps_twice, forces, comes_to_force_off, is_in_step, lets_walk_again, ahead_with, ahead_from, begun, selected_correction}
 use Rattle.tsb_coord.specs.Laws.{IsAtMostBehind, most_steps, CountsInStep, IsLongEnough}
-use Rattle.tsb_coord.proofs.LocalLemmas.{counter_moves_on, difference_moves_on, in_range, its_parts}
+use Rattle.tsb_coord.proofs.LocalLemmas.{counter_moves_on, difference_moves_on, in_range, its_parts, or_false, runs_now}
 use Rattle.tsb_coord.proofs.AheadLemmas.{rest_grows, rest_stays, rest_goes_on, once_by, none_by, some_cycle, below_by, start_by, IsOn, on_by, arrives_by}
 
 -- ## How far it is ahead in a tick
@@ -40,10 +40,6 @@ at_once plan None c t mode = refl
 at_once plan (Some n) c t mode = ap (λ o. ahead_by o plan n (within_cycle plan n c) (t - c.since)) mode
 
 -- ## What is asked once it is in step
-
-or_false : (b : Bool) → (b || false) ≡ b
-or_false true = refl
-or_false false = refl
 
 -- it takes no two steps
 pub no_second_step : (plan : Plan) (runs : Option ℕ) (c : Correction) (t : ℕ) → ahead_in plan runs c (t - 1) ≡ 0 → steps_twice_in plan runs c t ≡ false
@@ -115,25 +111,22 @@ counts_in_step plan selected c t u there later =
 
 -- ## A pattern that runs
 
-pub runs_then : (plan : Plan) (n : ℕ) → is_used plan n ≡ true → running plan (Some n) ≡ Some n
-runs_then plan n used = ap (λ (b : Bool). if b then Some n else None) used
-
 local_then : (plan : Plan) (n : ℕ) (c : Correction) (t : ℕ) → is_used plan n ≡ true → local_now plan (Some n) c t ≡ Some (counter plan n (t + ahead_in plan (Some n) c t))
-local_then plan n c t used = ap (λ o. local_in plan (t + ahead_in plan o c t) o) (runs_then plan n used)
+local_then plan n c t used = ap (λ o. local_in plan (t + ahead_in plan o c t) o) (runs_now plan n used)
 
 in_step_then : (plan : Plan) (n : ℕ) (c : Correction) (t : ℕ) → is_used plan n ≡ true → (ahead_in plan (Some n) c t == 0) ≡ true → is_in_step plan (Some n) c t ≡ true
-in_step_then plan n c t used there = ap (λ o. ahead_in plan o c t == 0) (runs_then plan n used) ∙ there
+in_step_then plan n c t used there = ap (λ o. ahead_in plan o c t == 0) (runs_now plan n used) ∙ there
 
 -- what it asks where it was in step before, by the counter in step
 pub forces_then : (plan : Plan) (n : ℕ) (c : Correction) (t p : ℕ) → is_used plan n ≡ true → (ahead_in plan (Some n) c (t - 1) == 0) ≡ true →
     forces plan (Some n) c t p ≡ forces_off plan (Some n) (Some (counter plan n t)) p
 forces_then plan n c t p used before =
-    forces_in_step plan (Some n) c t p (in_step_then plan n c (t - 1) used before) ∙ ap (λ o. forces_off plan o (local_in plan t o) p) (runs_then plan n used)
+    forces_in_step plan (Some n) c t p (in_step_then plan n c (t - 1) used before) ∙ ap (λ o. forces_off plan o (local_in plan t o) p) (runs_now plan n used)
 
 pub walks_then : (plan : Plan) (n : ℕ) (c : Correction) (t p : ℕ) → is_used plan n ≡ true → (ahead_in plan (Some n) c (t - 1) == 0) ≡ true →
     lets_walk_again plan (Some n) c t p ≡ recycles plan (Some n) (Some (counter plan n t)) p
 walks_then plan n c t p used before =
-    walks_in_step plan (Some n) c t p (in_step_then plan n c (t - 1) used before) ∙ ap (λ o. recycles plan o (local_in plan t o) p) (runs_then plan n used)
+    walks_in_step plan (Some n) c t p (in_step_then plan n c (t - 1) used before) ∙ ap (λ o. recycles plan o (local_in plan t o) p) (runs_now plan n used)
 
 step_then : (plan : Plan) (n : ℕ) (c : Correction) (t : ℕ) → correction_limit plan ≤ 50 →
     IsOn (correction_mode plan) (cycle plan n) (ahead_in plan (Some n) c t) (ahead_in plan (Some n) c (t + 1))
@@ -213,7 +206,7 @@ comes_into_step plan none n c t is limited low long =
     let whole : ahead_in plan (Some n) c t ≡ ahead_by (correction_mode plan) plan n c (t - c.since) =
     ap (λ a. ahead_by (correction_mode plan) plan n (record { since = c.since; ahead = a }) (t - c.since)) (mod-eq_of_lt low) in
     let arrived : ahead_in plan (Some n) c t ≡ 0 = whole ∙ arrives_by (correction_mode plan) plan n c (t - c.since) limited low long in
-    eq-eqb (ahead_in plan (running plan (Some n)) c t) 0 (ap (λ o. ahead_in plan o c t) (runs_then plan n used) ∙ arrived)
+    eq-eqb (ahead_in plan (running plan (Some n)) c t) 0 (ap (λ o. ahead_in plan o c t) (runs_now plan n used) ∙ arrived)
 
 -- ## The selection
 

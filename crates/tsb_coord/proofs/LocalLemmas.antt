@@ -188,11 +188,11 @@ pub at_instant_asks : (plan : Plan) (t : ℕ) (selected : Option ℕ) (p : ℕ) 
 at_instant_asks plan t selected p at =
     ap (λ (b : Bool). b || (is_forced_late plan (running plan selected) (local plan t selected) p || is_in_permissive_time plan t selected p)) at
 
-or_false : (b : Bool) → (b || false) ≡ b
+pub or_false : (b : Bool) → (b || false) ≡ b
 or_false true = refl
 or_false false = refl
 
-never_late : (m : ℕ) (at from : Option ℕ) → is_late m at from None ≡ false
+pub never_late : (m : ℕ) (at from : Option ℕ) → is_late m at from None ≡ false
 never_late m None from = refl
 never_late m (Some l) None = refl
 never_late m (Some l) (Some i) = refl
@@ -312,7 +312,7 @@ same_end plan none n c d parts is counted = go (leads_and_lags plan n) refl
 local_now : (plan : Plan) (n t : ℕ) → is_used plan n ≡ true → local plan t (Some n) ≡ Some (counter plan n t)
 local_now plan n t used = rw used refl
 
-runs_now : (plan : Plan) (n : ℕ) → is_used plan n ≡ true → running plan (Some n) ≡ Some n
+pub runs_now : (plan : Plan) (n : ℕ) → is_used plan n ≡ true → running plan (Some n) ≡ Some n
 runs_now plan n used = rw used refl
 
 pub ends_with_its_split : (plan : Plan) → first_broken plan ≡ None → (n t p c : ℕ) → is_pattern plan n ≡ true →

@@ -1,3 +1,2 @@
-mod InstantLemmas
 pub use Rattle.tsb_plan.proofs as tsb_plan
 pub use Rattle.tsb_types.proofs as tsb_types

@@ -50,7 +50,7 @@ zeros-take (suc k) (p ∷ ps) h =
     let parts = and_parts (p == 0) (is_zeros ps) h in
     rw (parts.0, zeros-take k ps parts.1) refl
 
-or_kept : (a b c : Bool) → (b ≡ true → c ≡ true) → (a || b) ≡ true → (a || c) ≡ true
+pub or_kept : (a b c : Bool) → (b ≡ true → c ≡ true) → (a || b) ≡ true → (a || c) ≡ true
 or_kept true b c keep h = refl
 or_kept false b c keep h = keep h
 

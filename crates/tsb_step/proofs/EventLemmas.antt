@@ -45,7 +45,7 @@ one-told (Some Gap) h = refl
 one-told (Some Maximum) h = refl
 one-told (Some ForceOff) h = refl
 
-none-of : (o : Option ℕ) → is_none o ≡ true → o ≡ None
+pub none-of : (o : Option ℕ) → is_none o ≡ true → o ≡ None
 none-of None h = refl
 none-of (Some n) h = absurd cc
 

@@ -36,7 +36,7 @@ served_together s good = sound_is_safe s.plan (interval s) s.rings (symmetric s.
 -- ## Right of way
 
 -- a vehicle head that is green or yellow is of a phase in service
-shows_service : (on : Bool) (i : Interval) → gives_way (if on then aspect_of i else aspects.Dark) ≡ true → in_service i ≡ true
+pub shows_service : (on : Bool) (i : Interval) → gives_way (if on then aspect_of i else aspects.Dark) ≡ true → in_service i ≡ true
 shows_service true Red h = absurd (false≢true h)
 shows_service true Green h = refl
 shows_service true Yellow h = refl
@@ -44,21 +44,21 @@ shows_service true RedClear h = absurd (false≢true h)
 shows_service false i h = absurd (false≢true h)
 
 -- a pedestrian head in walk or clearance is of a phase that is not in DontWalk
-shows_walk : (on : Bool) (x : PedestrianInterval) → lets_walk (if on then pedestrian_aspect_of x else pedestrian_aspects.Dark) ≡ true →
+pub shows_walk : (on : Bool) (x : PedestrianInterval) → lets_walk (if on then pedestrian_aspect_of x else pedestrian_aspects.Dark) ≡ true →
     x ≡ DontWalk → ⊥
 shows_walk false x h e = false≢true h
 shows_walk true DontWalk h e = false≢true h
 shows_walk true Walk h e = cc
 shows_walk true PedestrianClear h e = cc
 
-walks_in_service : (s : State) → IsGood s → (p : ℕ) → lets_walk (pedestrian_head s.plan (shown s) p) ≡ true → in_service (interval s p) ≡ true
+pub walks_in_service : (s : State) → IsGood s → (p : ℕ) → lets_walk (pedestrian_head s.plan (shown s) p) ≡ true → in_service (interval s p) ≡ true
 walks_in_service s good p h =
     elim (cases_Bool (is_green (interval s p))) [
       | inl e ↦ serves-green (interval s p) e
       | inr e ↦ absurd (shows_walk (has_pedestrian_head s.plan (shown s) p) (pedestrian_part s p) h (good.walks p e))
     ]
 
-way_in_service : (s : State) → IsGood s → (p : ℕ) → has_right_of_way (ordered s.plan (shown s)) p ≡ true → in_service (interval s p) ≡ true
+pub way_in_service : (s : State) → IsGood s → (p : ℕ) → has_right_of_way (ordered s.plan (shown s)) p ≡ true → in_service (interval s p) ≡ true
 way_in_service s good p h =
     elim (or_cases (gives_way (vehicle_head s.plan (shown s) p)) (lets_walk (pedestrian_head s.plan (shown s) p)) h) [
       | inl k ↦ shows_service (is_enabled s.plan p) (interval s p) k

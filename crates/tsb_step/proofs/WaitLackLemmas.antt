@@ -269,7 +269,7 @@ not-told-ready s row q h =
       | inr e ↦ e
     ]
 
-interval-as-told : (s : State) (row : Row) (q : ℕ) → (rings_given s row).interval q ≡ interval s q
+pub interval-as-told : (s : State) (row : Row) (q : ℕ) → (rings_given s row).interval q ≡ interval s q
 unfolding rings_given
 interval-as-told s row q = refl
 

@@ -34,7 +34,8 @@ use Rattle.tsb_laws.proofs.operation.TurnListLemmas.{turns_later}
 use Rattle.tsb_laws.proofs.operation.TurnRingLemmas.{Candidate, candidate_is, Goes, Wishes, goes, crosses, wishes, starts_none, starts_picked, Delays, clearing, reverting, starts_or_waits, picks_idle, picks_green, stays_beside, last_started, last_stays, promise_kept, promise_stays, promise_made, none_promised}
 use Rattle.tsb_laws.proofs.operation.TurnStepLemmas.{clear_left, back_left, green_left, green_most, clear_most, back_most, IsLeft, committed, serving_green, idle, in_order, IsFairTick, fair, listed, some_phase, once, told_ready, told_over, told_reverted, serves_it, serves_none, served_is, given_green, ended_ready, starts_nothing, starts_it, ends_none, conflicts}
 use Rattle.tsb_laws.proofs.operation.TickLemmas.{dark_is}
-use Rattle.tsb_laws.proofs.operation.BarrierWishLemmas.{picks_cross, joins_green, joins_idle, ended_is, cross_keeps, picks_clearing, clears_over_one, given_interval, cleared_is, cleared_red}
+use Rattle.tsb_laws.proofs.operation.BarrierWishLemmas.{picks_cross, joins_green, joins_idle, ended_is, cross_keeps, picks_clearing, clears_over_one, cleared_is, cleared_red}
+use Rattle.tsb_step.proofs.WaitLackLemmas.{interval-as-told}
 
 -- as before, or it clears with no commitment, as where a preempt has ended its green
 pub data Remains (k : ℕ) (s : State) (r : Ring) (n : ℕ) : Type 0 where
@@ -305,7 +306,7 @@ module _ (s : State) (row : Row) (tick : IsFairTick s row) (away : is_called_els
       joins_now : want_of s.plan s.rings (rings_given s row) r ≡ Some Cross → ready s row p ≡ true → Nears k s row r n
       joins_now w f =
           joined (bound_for (on_then (ended_none s row p (cross_keeps s.plan s.rings (rings_given s row) r p own w none)) (picks_cross s.plan s.rings (rings_given s row) r w) n (omega (arith, all))))
-          (joins_green s.plan s.rings (rings_given s row) r p at_it (given_interval s row p ∙ green) (ready_is true f) w) w
+          (joins_green s.plan s.rings (rings_given s row) r p at_it (interval-as-told s row p ∙ green) (ready_is true f) w) w
 
       go : Wishes s.plan s.rings (rings_given s row) (fair s row tick) r → (b : Bool) → ready s row p ≡ b → Nears k s row r n
       go (goes it) true f = leaves_for it f
@@ -374,7 +375,7 @@ module _ (s : State) (row : Row) (tick : IsFairTick s row) (away : is_called_els
       start = starts_none s.plan s.rings (rings_given s row) (fair s row tick) r p e at_it
 
       dark_given : is_green ((rings_given s row).interval p) ≡ false
-      dark_given = ap is_green (given_interval s row p) ∙ dark
+      dark_given = ap is_green (interval-as-told s row p) ∙ dark
 
       promise : (after_moves s row).rings.commitment r ≡ None
       promise =

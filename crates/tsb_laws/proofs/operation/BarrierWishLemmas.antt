@@ -69,10 +69,6 @@ unfolding moves
 no_end_at s row r p own w none =
     false_from_ne_true _ (λ h. true≢false (sym (ended_is s.plan s.rings (rings_given s row) p h) ∙ cross_keeps s.plan s.rings (rings_given s row) r p own w none))
 
-pub given_interval : (s : State) (row : Row) (p : ℕ) → (rings_given s row).interval p ≡ interval s p
-unfolding rings_given
-given_interval s row p = refl
-
 -- ## A ring that clears with no commitment
 
 -- a ring that clears wants nothing, and takes nothing

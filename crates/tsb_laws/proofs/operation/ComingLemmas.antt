@@ -23,12 +23,11 @@ use Rattle.tsb_step.specs.Signs.{local, watched, IsInStep}
 use Rattle.tsb_step.specs.Step.{with_lamp, reset, step}
 use Rattle.tsb_step.specs.Runs.{replay, AreTaken}
 use Rattle.tsb_step.specs.Laws.{IsConsistent}
-use Rattle.tsb_step.proofs.ClearLemmas.{plan_stays}
+use Rattle.tsb_step.proofs.ClearLemmas.{plan_stays, pattern_stays, correction_stays}
 use Rattle.tsb_step.proofs.GoodLemmas.{good_run}
 use Rattle.tsb_laws.specs.CoordinatedGreens.{HasGoneOn}
 use Rattle.tsb_laws.specs.InStep.{keeps_in_step, HasComeSince}
 use Rattle.tsb_laws.proofs.safety.StretchLemmas.{taken_before}
-use Rattle.tsb_laws.proofs.operation.CoordinatedRunLemmas.{pattern_stays, correction_stays}
 use Rattle.tsb_laws.proofs.operation.SelectionLemmas.{is_selected, once_so}
 
 -- ## As far ahead as a selection finds it

@@ -22,7 +22,7 @@ use Rattle.tsb_step.specs.Runs.{replay, AreTaken}
 use Rattle.tsb_step.specs.Laws.{IsConsistent}
 use Rattle.tsb_step.specs.Good.{IsGood}
 use Rattle.tsb_step.specs.TimeLaws.{is_tick}
-use Rattle.tsb_step.proofs.ClearLemmas.{phases_then, one_later, plan_stays}
+use Rattle.tsb_step.proofs.ClearLemmas.{phases_then, one_later, plan_stays, pattern_stays, correction_stays}
 use Rattle.tsb_step.proofs.GoodLemmas.{good_run}
 use Rattle.tsb_step.proofs.TellLemmas.{starts_no_green, is_in_green}
 use Rattle.tsb_laws.specs.Stretches.{IsUntripped}
@@ -34,25 +34,9 @@ use Rattle.tsb_laws.proofs.operation.PhaseTimeLemmas.{left, walking_in, left_mos
 use Rattle.tsb_laws.proofs.operation.PressedRunLemmas.{timed_run, is_one, not_ended}
 use Rattle.tsb_laws.proofs.operation.InStepLemmas.{same_forces}
 use Rattle.tsb_laws.proofs.operation.CoordinatedForceLemmas.{forcing_left, pattern_left, IsAhead, Forces, forces_down, presses_down, ready_then}
-use Rattle.tsb_laws.proofs.operation.TickLemmas.{none_is}
+use Rattle.tsb_step.proofs.EventLemmas.{none-of}
 
 -- ## Inputs that leave plan and pattern, and how its local counter comes into step
-
-pub pattern_stays : (s : State) (row : Row) → (step s (Tick row)).pattern ≡ s.pattern
-unfolding step watched
-pattern_stays s row = go (is_some s.trip)
-  where
-    go : (b : Bool) → (if b then record s { now = s.now + 1 } else (if b then next s row else watched s (next s row))).pattern ≡ s.pattern
-    go true = refl
-    go false = refl
-
-pub correction_stays : (s : State) (row : Row) → (step s (Tick row)).correction ≡ s.correction
-unfolding step watched
-correction_stays s row = go (is_some s.trip)
-  where
-    go : (b : Bool) → (if b then record s { now = s.now + 1 } else (if b then next s row else watched s (next s row))).correction ≡ s.correction
-    go true = refl
-    go false = refl
 
 -- an input that is no tick, and neither selects a pattern nor commits
 pub record Leaves (s after : State) (p : ℕ) : Type 0 where
@@ -99,7 +83,7 @@ pressed_parts s row p h =
     let outer = and_parts (is_green (interval s p) && conflict s row p) (is_some (runs s) && is_none (service s row)) h in
     let inner = and_parts (is_green (interval s p)) (conflict s row p) outer.0 in
     let other = and_parts (is_some (runs s)) (is_none (service s row)) outer.1 in
-    record { green = is_in_green (interval s p) inner.0; conflict = inner.1; runs = other.0; quiet = none_is (service s row) other.1 }
+    record { green = is_in_green (interval s p) inner.0; conflict = inner.1; runs = other.0; quiet = none-of (service s row) other.1 }
 
 module _ (plan : Plan) (base : List Input) (f p n a b : ℕ) (ok : IsConsistent plan) (few : plan.phase_count ≤ 16)
     (comes : forces (replay plan base).plan (replay plan base).pattern (replay plan base).correction f p ≡ true) (later_than : (replay plan base).now < f)

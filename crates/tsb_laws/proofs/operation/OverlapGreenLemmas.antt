@@ -23,7 +23,7 @@ use Rattle.tsb_step.specs.Signs.{shown, display}
 use Rattle.tsb_step.specs.Step.{step}
 use Rattle.tsb_step.specs.Good.{IsGood}
 use Rattle.tsb_step.proofs.ClearLemmas.{plan_stays}
-use Rattle.tsb_step.proofs.OverlapLemmas.{kept_in, on_in, IsOf, keeps, crossed, Turned, turned}
+use Rattle.tsb_step.proofs.OverlapLemmas.{kept_in, on_in, IsOf, keeps, crossed, Turned, turned, and_both}
 use Rattle.tsb_laws.specs.CrossingGreens.{IsCalm}
 use Rattle.tsb_laws.specs.OverlapPhases.{EndsAGreen, GoesOver, StaysGreen}
 use Rattle.tsb_laws.proofs.heads.LitLemmas.{dark_by_overlap}
@@ -88,9 +88,6 @@ clearing_serves Yellow h = refl
 clearing_serves RedClear h = refl
 clearing_serves Green h = refl
 clearing_serves Red h = absurd (false≢true h)
-
-and_both : (a b : Bool) → a ≡ true → b ≡ true → (a && b) ≡ true
-and_both a b h k = rw (h, k) refl
 
 kept_over : (s : State) (o : ℕ) → IsGood s → GoesOver s o → kept_in s o ≡ true
 kept_over s o good it =

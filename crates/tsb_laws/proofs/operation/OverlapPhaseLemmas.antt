@@ -20,7 +20,7 @@ use Rattle.tsb_step.specs.tsb_heads.Monitoring.{gives_way, lets_walk, has_right_
 use Rattle.tsb_step.specs.State.{State, interval, pedestrian_part}
 use Rattle.tsb_step.specs.Signs.{shown, display}
 use Rattle.tsb_step.specs.Good.{IsGood}
-use Rattle.tsb_step.proofs.SafeLemmas.{served_together}
+use Rattle.tsb_step.proofs.SafeLemmas.{served_together, shows_service, shows_walk, walks_in_service, way_in_service}
 use Rattle.tsb_laws.specs.OverlapPhases.{GoesWithPhases}
 use Rattle.tsb_laws.proofs.heads.LitLemmas.{flashes_no_way, yellow_serves}
 
@@ -105,35 +105,7 @@ carries s o h = go (is_some s.trip) h
     go true x = absurd (flashes_no_way (overlap_head s.plan (shown s) o) x)
     go false x = head_carries s o x
 
--- ## Right of way is of phases in service
-
-vehicle_serves : (on : Bool) (i : Interval) → gives_way (if on then aspect_of i else aspects.Dark) ≡ true → in_service i ≡ true
-vehicle_serves true Red h = absurd (false≢true h)
-vehicle_serves true Green h = refl
-vehicle_serves true Yellow h = refl
-vehicle_serves true RedClear h = absurd (false≢true h)
-vehicle_serves false i h = absurd (false≢true h)
-
-walker_walks : (on : Bool) (x : PedestrianInterval) → lets_walk (if on then pedestrian_aspect_of x else pedestrian_aspects.Dark) ≡ true →
-    x ≡ DontWalk → ⊥
-walker_walks false x h e = false≢true h
-walker_walks true DontWalk h e = false≢true h
-walker_walks true Walk h e = cc
-walker_walks true PedestrianClear h e = cc
-
-walker_serves : (s : State) → IsGood s → (q : ℕ) → lets_walk (pedestrian_head s.plan (shown s) q) ≡ true → in_service (interval s q) ≡ true
-walker_serves s good q h =
-    elim (cases_Bool (is_green (interval s q))) [
-      | inl e ↦ serves-green (interval s q) e
-      | inr e ↦ absurd (walker_walks (has_pedestrian_head s.plan (shown s) q) (pedestrian_part s q) h (good.walks q e))
-    ]
-
-ordered_serves : (s : State) → IsGood s → (q : ℕ) → has_right_of_way (ordered s.plan (shown s)) q ≡ true → in_service (interval s q) ≡ true
-ordered_serves s good q h =
-    elim (or_cases (gives_way (vehicle_head s.plan (shown s) q)) (lets_walk (pedestrian_head s.plan (shown s) q)) h) [
-      | inl k ↦ vehicle_serves (is_enabled s.plan q) (interval s q) k
-      | inr k ↦ walker_serves s good q k
-    ]
+-- ## Flashing heads give no right of way
 
 flash_gives_no_way : (s : State) (q : ℕ) → has_right_of_way (flashing (ordered s.plan (shown s))) q ≡ true → ⊥
 flash_gives_no_way s q h =
@@ -149,7 +121,7 @@ way_serves s good q h = go (is_some s.trip) h
     go : (b : Bool) → has_right_of_way (if b then flashing (ordered s.plan (shown s)) else ordered s.plan (shown s)) q ≡ true →
         in_service (interval s q) ≡ true
     go true x = absurd (flash_gives_no_way s q x)
-    go false x = ordered_serves s good q x
+    go false x = way_in_service s good q x
 
 -- ## So the overlap goes with what is in service
 

@@ -30,9 +30,10 @@ use Rattle.tsb_laws.proofs.operation.PressedRunLemmas.{is_one}
 use Rattle.tsb_laws.proofs.operation.TurnListLemmas.{turns_later, still_later}
 use Rattle.tsb_laws.proofs.operation.TurnRingLemmas.{Candidate, candidate_is, candidate, Goes, starts_none, starts_picked, Delays, clearing, reverting, starts_or_waits, picks_idle, picks_green, stays_outside, stays_beside, last_started, last_stays, promise_kept, promise_stays, promise_made, none_promised}
 use Rattle.tsb_laws.proofs.operation.TurnStepLemmas.{clear_left, back_left, green_left, green_most, clear_most, back_most, IsLeft, committed, serving_green, idle, IsComing, Comes, served, comes, IsFairTick, fair, listed, some_phase, once, apart, conflicts, told_callable, told_ready, told_over, told_reverted, serves_it, serves_none, served_is, given_green, ended_ready, starts_nothing, starts_it, ends_none, in_order}
-use Rattle.tsb_laws.proofs.operation.BarrierWishLemmas.{IsAtBarrier, picks_cross, joins_green, joins_idle, no_end_at, given_interval}
+use Rattle.tsb_laws.proofs.operation.BarrierWishLemmas.{IsAtBarrier, picks_cross, joins_green, joins_idle, no_end_at}
 use Rattle.tsb_laws.proofs.operation.PassedListLemmas.{Looks, ahead, across, around, looks}
 use Rattle.tsb_laws.proofs.operation.TickLemmas.{dark_is}
+use Rattle.tsb_step.proofs.WaitLackLemmas.{interval-as-told}
 
 -- nothing is left to it: it may go on at once, or start at once
 pub data Stands (w : ℕ) (s : State) (r : Ring) (n : ℕ) : Type 0 where
@@ -347,7 +348,7 @@ module _ (s : State) (row : Row) (tick : IsFairTick s row) (none : begins s.plan
           (may_end p (promise_then ∙ picks_cross s.plan s.rings (rings_given s row) r w) own_p (rw (no_start, green, no_end) refl) (omega (arith, lower, g)) (omega (arith, same)))
           (record {
             wants = w;
-            joins = joins_green s.plan s.rings (rings_given s row) r p at_it (given_interval s row p ∙ green) (ready_is true f) w;
+            joins = joins_green s.plan s.rings (rings_given s row) r p at_it (interval-as-told s row p ∙ green) (ready_is true f) w;
             away = away;
           })
         where

@@ -28,7 +28,7 @@ use Rattle.tsb_step.specs.Tick.{service, runs, hold, recycle, conflict, phases_g
 use Rattle.tsb_step.specs.Runs.{replay, AreTaken}
 use Rattle.tsb_step.specs.Laws.{IsConsistent}
 use Rattle.tsb_step.specs.Good.{IsGood}
-use Rattle.tsb_step.proofs.ClearLemmas.{phases_then, one_later, plan_stays}
+use Rattle.tsb_step.proofs.ClearLemmas.{phases_then, one_later, plan_stays, pattern_stays}
 use Rattle.tsb_step.proofs.GoodLemmas.{good_run}
 use Rattle.tsb_step.proofs.TellLemmas.{starts_no_green}
 use Rattle.tsb_laws.specs.Stretches.{IsUntripped}
@@ -41,7 +41,7 @@ use Rattle.tsb_laws.proofs.operation.PhaseTimeLemmas.{left, Runs, IsTimed}
 use Rattle.tsb_laws.proofs.operation.PressedGreenLemmas.{pressed_left, initial_most, rests_not, walks_not, walks_no_more, presses_down_quiet}
 use Rattle.tsb_laws.proofs.operation.PressedRunLemmas.{timed_run, pressed_most, is_one, not_ended}
 use Rattle.tsb_laws.proofs.operation.CoordinatedForceLemmas.{ended_by_none, told_conflict}
-use Rattle.tsb_laws.proofs.operation.CoordinatedRunLemmas.{pattern_stays, Leaves, leaves, IsPressed, pressed_parts}
+use Rattle.tsb_laws.proofs.operation.CoordinatedRunLemmas.{Leaves, leaves, IsPressed, pressed_parts}
 
 -- ## Plan and pattern
 

@@ -25,7 +25,7 @@ use Rattle.tsb_step.specs.Tick.{service, runs, recycle, conflict, phases_given, 
 use Rattle.tsb_laws.specs.ServedCalls.{is_free, longest_maximum, longest_initial}
 use Rattle.tsb_laws.proofs.safety.DueLemmas.{not_reached}
 use Rattle.tsb_laws.proofs.operation.PhaseTimeLemmas.{left, walking_in, Runs, IsTimed}
-use Rattle.tsb_laws.proofs.operation.TickLemmas.{none_is}
+use Rattle.tsb_step.proofs.EventLemmas.{none-of}
 
 -- the ticks in which a green will not be ready: m and i are its longest maximum and initial, a and b its walk and its
 -- pedestrian clearance
@@ -202,7 +202,7 @@ no_preempt false o h = refl
 
 pub free_parts : (s : State) (row : Row) → is_free s row ≡ true → (service s row ≡ None) × (runs s ≡ None)
 free_parts s row h =
-    let both = and_parts (is_none (service s row)) (is_none (runs s)) h in (none_is (service s row) both.0, none_is (runs s) both.1)
+    let both = and_parts (is_none (service s row)) (is_none (runs s)) h in (none-of (service s row) both.0, none-of (runs s) both.1)
 
 -- no walk begins within the green of a phase that has no pedestrian recycle in this tick
 pub walks_not : (s : State) (row : Row) (p : ℕ) → recycle s p ≡ false → walks_again (phases_given s row) p (phase_read s p) ≡ false

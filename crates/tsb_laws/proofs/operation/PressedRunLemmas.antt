@@ -32,6 +32,7 @@ use Rattle.tsb_laws.proofs.safety.StretchLemmas.{dark_now, Goes, ticks, stays, g
 use Rattle.tsb_laws.proofs.safety.DueLemmas.{largest_now, largest_more, count_run}
 use Rattle.tsb_laws.proofs.operation.PhaseTimeLemmas.{left, walking_in, IsTimed, left_most, walking_most}
 use Rattle.tsb_laws.proofs.operation.PressedGreenLemmas.{pressed_left, pressed_unforced, presses_down, not_ready_yet}
+use Rattle.tsb_step.proofs.StandLemmas.{keeps_reset}
 
 -- ## Timers that run
 
@@ -49,16 +50,9 @@ timed_run plan is ok taken dark p =
 
 -- ## An input that is no tick
 
-pub reset_none : (s : State) → s.trip ≡ None → reset s ≡ s
-reset_none s dark = go (is_some s.trip) (ap is_some dark)
-  where
-    go : (b : Bool) → b ≡ false → (if b then restarted s else s) ≡ s
-    go true h = absurd (true≢false h)
-    go false h = refl
-
 reset_phase : (s : State) (p : ℕ) → s.trip ≡ None → (step s inputs.Reset).phases p ≡ s.phases p
 unfolding step
-reset_phase s p dark = ap (λ (x : State). x.phases p) (reset_none s dark)
+reset_phase s p dark = ap (λ (x : State). x.phases p) (keeps_reset s dark)
 
 -- it leaves all of a phase but its forced latch
 pub phase_stays : {A : Type 0} (of : Phase → A) → ((x : Phase) (b : Bool) → of (record x { forced = b }) ≡ of x) → (s : State) (i : Input) (p : ℕ) →

@@ -32,7 +32,7 @@ use Rattle.tsb_step.specs.Runs.{replay, AreTaken}
 use Rattle.tsb_step.specs.Laws.{IsConsistent}
 use Rattle.tsb_step.specs.Good.{IsGood}
 use Rattle.tsb_step.specs.TimeLaws.{is_tick}
-use Rattle.tsb_step.proofs.ClearLemmas.{phases_then, one_later, plan_stays}
+use Rattle.tsb_step.proofs.ClearLemmas.{phases_then, one_later, plan_stays, pattern_stays, correction_stays}
 use Rattle.tsb_step.proofs.GoodLemmas.{good_run}
 use Rattle.tsb_step.proofs.TellLemmas.{starts_no_green}
 use Rattle.tsb_step.proofs.WaitedLemmas.{ended_was_ready}
@@ -43,16 +43,17 @@ use Rattle.tsb_laws.specs.RecycledWalks.{WalksAgain, MayWalkAgain, RecyclesCalls
 use Rattle.tsb_laws.proofs.safety.StretchLemmas.{dark_now, taken_before}
 use Rattle.tsb_laws.proofs.safety.DueLemmas.{count_run}
 use Rattle.tsb_laws.proofs.safety.CoordinationLemmas.{ended_by_none}
-use Rattle.tsb_laws.proofs.operation.TickLemmas.{memories_then, phases_rest, none_is}
+use Rattle.tsb_laws.proofs.operation.TickLemmas.{memories_then, phases_rest}
 use Rattle.tsb_laws.proofs.operation.PhaseTimeLemmas.{walking_in, IsTimed}
 use Rattle.tsb_laws.proofs.operation.PressedGreenLemmas.{walks_down, walks_no_more}
 use Rattle.tsb_laws.proofs.operation.PressedRunLemmas.{timed_run, is_one}
 use Rattle.tsb_laws.proofs.operation.CoordinatedCallLemmas.{held_runs}
 use Rattle.tsb_laws.proofs.operation.InStepLemmas.{same_forces}
 use Rattle.tsb_laws.proofs.operation.CoordinatedForceLemmas.{ready_at_once}
-use Rattle.tsb_laws.proofs.operation.CoordinatedRunLemmas.{pattern_stays, correction_stays, Leaves, leaves}
+use Rattle.tsb_laws.proofs.operation.CoordinatedRunLemmas.{Leaves, leaves}
 use Rattle.tsb_laws.proofs.operation.RecycleTimeLemmas.{IsRecycled, recycled_so, recycled_by, fits_to}
 use Rattle.tsb_laws.proofs.operation.RecycledTickLemmas.{IsWalked, called_walks, Again, again_parts, part_goes_on, part_ends, again_walks}
+use Rattle.tsb_step.proofs.EventLemmas.{none-of}
 
 -- ## When it walks again
 
@@ -283,7 +284,7 @@ record Unheld (s : State) (row : Row) (p : ℕ) : Type 0 where
   awake : (rests_in_walk s.plan p && not (conflict s row p)) ≡ false
 
 unheld_parts : (s : State) (row : Row) (p : ℕ) → is_unheld s row p ≡ true → Unheld s row p
-unheld_parts s row p h = record { quiet = none_is (service s row) both.0; awake = is-off (rests_in_walk s.plan p && not (conflict s row p)) both.1 }
+unheld_parts s row p h = record { quiet = none-of (service s row) both.0; awake = is-off (rests_in_walk s.plan p && not (conflict s row p)) both.1 }
   where
     both : (is_none (service s row) ≡ true) × (not (rests_in_walk s.plan p && not (conflict s row p)) ≡ true)
     both = and_parts (is_none (service s row)) (not (rests_in_walk s.plan p && not (conflict s row p))) h

@@ -27,7 +27,7 @@ use Rattle.tsb_step.proofs.WaitedLemmas.{ended_has_lasted}
 use Rattle.tsb_step.proofs.tsb_rules.ConsistentLemmas.{is-off}
 use Rattle.tsb_step.proofs.tsb_phase.ReadyLemmas.{is_in_dont_walk}
 use Rattle.tsb_laws.proofs.operation.RecycleTimeLemmas.{unforced_now}
-use Rattle.tsb_laws.proofs.operation.TickLemmas.{none_is}
+use Rattle.tsb_step.proofs.EventLemmas.{none-of}
 
 -- who has a pedestrian call is enabled, and has a walk
 pub record IsWalked (plan : Plan) (p : ℕ) : Type 0 where
@@ -79,7 +79,7 @@ again_parts s row p h = record {
   not_now = unforced_now s p phase.1;
   called = called;
   long = (called_walks s row p called).long;
-  quiet = none_is (service s row) given.1;
+  quiet = none-of (service s row) given.1;
   unforced = is-off stands inner.1;
   now = walks_now s row p dark both.1;
 }

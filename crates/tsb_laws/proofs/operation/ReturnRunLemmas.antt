@@ -50,7 +50,7 @@ use Rattle.tsb_laws.proofs.operation.PatternGreenLemmas.{LastsInPattern, lasts_n
 use Rattle.tsb_laws.proofs.operation.ReturnStageLemmas.{IsOver, over_in, all_left, Stage, stage_now}
 use Rattle.tsb_laws.proofs.operation.PatternSideLemmas.{far_around}
 use Rattle.tsb_laws.proofs.operation.ReturnCrossLemmas.{IsOnWay, Further, further}
-use Rattle.tsb_laws.proofs.operation.TickLemmas.{none_is}
+use Rattle.tsb_step.proofs.EventLemmas.{none-of}
 
 -- ## What inputs leave
 
@@ -214,7 +214,7 @@ module _ (plan : Plan) (base : List Input) (k j h : ℕ) (r : Ring) (c : ℕ) (o
 
       quiet : service (replay plan (later ++ base)) row ≡ None
       quiet =
-          none_is (service (replay plan (later ++ base)) row)
+          none-of (service (replay plan (later ++ base)) row)
           (and_parts (is_some (runs (replay plan (later ++ base)))) (is_none (service (replay plan (later ++ base)) row)) outer.1).1
 
       seen : view (replay plan (Tick row ∷ (later ++ base))) ≡ view (after_moves (replay plan (later ++ base)) row)

@@ -29,7 +29,8 @@ use Rattle.tsb_laws.proofs.operation.BarrierStepLemmas.{ended_none, cleared_over
 use Rattle.tsb_laws.proofs.operation.RingPlaceLemmas.{View, view, order_of, IsAt, bound_to, in_green, at_rest, IsNear, settled, clearing_out}
 use Rattle.tsb_laws.proofs.operation.OpenTickLemmas.{IsOpenTick, fair, in_sequence, told_ready, told_over, told_reverted, listed, serves_it, serves_none, served_is, given_green, ended_ready, starts_nothing, starts_it, ends_none}
 use Rattle.tsb_laws.proofs.operation.TickLemmas.{dark_is}
-use Rattle.tsb_laws.proofs.operation.BarrierWishLemmas.{picks_cross, joins_green, joins_idle, cross_keeps, picks_clearing, clears_over_one, given_interval, cleared_is, cleared_red}
+use Rattle.tsb_laws.proofs.operation.BarrierWishLemmas.{picks_cross, joins_green, joins_idle, cross_keeps, picks_clearing, clears_over_one, cleared_is, cleared_red}
+use Rattle.tsb_step.proofs.WaitLackLemmas.{interval-as-told}
 
 -- a green that is not ready takes nothing
 picks_unready : (plan : Plan) (s : rings.State) (given : Given) (r : Ring) (p : ℕ) → serving plan given r ≡ Some p → given.ready p ≡ false → pick plan s given r ≡ None
@@ -247,7 +248,7 @@ module _ (longest : ℕ → ℕ) (Lasts : View → ℕ → ℕ → Type 0) where
             home_to x (longest x + k + 1) e l a g (inl (promise_to x w f)) (leaves_for x w (head (not_later (s.rings.last r) (order_of (view s) r)) x g) f) (omega arith)
         go (wants_across l a w) true f =
             at_barrier e l a (on_then (ended_none s row p (cross_keeps s.plan s.rings (rings_given s row) r p own w none)) (picks_cross s.plan s.rings (rings_given s row) r w))
-            (joins_green s.plan s.rings (rings_given s row) r p at_it (given_interval s row p ∙ green) (ready_is true f) w) w
+            (joins_green s.plan s.rings (rings_given s row) r p at_it (interval-as-told s row p ∙ green) (ready_is true f) w) w
         go (wants_rest l a g w) true f = rests e l a g
         go x false f = not_ready f
 
@@ -327,7 +328,7 @@ module _ (longest : ℕ → ℕ) (Lasts : View → ℕ → ℕ → Type 0) where
         start = starts_none s.plan s.rings (rings_given s row) (fair s row tick) r p e at_it
 
         dark_given : is_green ((rings_given s row).interval p) ≡ false
-        dark_given = ap is_green (given_interval s row p) ∙ dark
+        dark_given = ap is_green (interval-as-told s row p) ∙ dark
 
         promise : (after_moves s row).rings.commitment r ≡ None
         promise =

@@ -25,7 +25,8 @@ use Rattle.tsb_step.proofs.LeaveLemmas.{others_leave}
 use Rattle.tsb_step.proofs.TellLemmas.{is_in_green, starts_no_green}
 use Rattle.tsb_laws.specs.KeptCalls.{restarts}
 use Rattle.tsb_laws.specs.RunningMaximum.{maximum_of, IsBounded, MovesByAStep}
-use Rattle.tsb_laws.proofs.operation.TickLemmas.{none_is, phases_rest}
+use Rattle.tsb_laws.proofs.operation.TickLemmas.{phases_rest}
+use Rattle.tsb_step.proofs.EventLemmas.{none-of}
 
 -- ## Numbers
 
@@ -163,7 +164,7 @@ unfolding phases_given
 counted s row p dark h =
     let both = and_parts (is_ended (moves s row) p) (is_none (runs s) && is_none (service s row)) h in
     let rest = and_parts (is_none (runs s)) (is_none (service s row)) both.1 in
-    record { dark = dark; ended = both.0; freely = none_is (runs s) rest.0; alone = none_is (service s row) rest.1 }
+    record { dark = dark; ended = both.0; freely = none-of (runs s) rest.0; alone = none-of (service s row) rest.1 }
 
 moved_then : (s : State) (row : Row) (p : ℕ) → maximum_of (step s (Tick row)) p ≢ maximum_of s p → IsMoved s row p
 moved_then s row p h = go s.trip refl

@@ -18,11 +18,10 @@ use Rattle.tsb_step.specs.Signs.{local, watched, IsInStep}
 use Rattle.tsb_step.specs.Step.{with_lamp, reset, step}
 use Rattle.tsb_step.specs.Runs.{replay, AreTaken}
 use Rattle.tsb_step.specs.Laws.{IsConsistent}
-use Rattle.tsb_step.proofs.ClearLemmas.{stays_in_step}
+use Rattle.tsb_step.proofs.ClearLemmas.{stays_in_step, correction_stays}
 use Rattle.tsb_step.proofs.GoodLemmas.{good_run}
 use Rattle.tsb_laws.specs.CoordinatedGreens.{HasGoneOn}
 use Rattle.tsb_laws.specs.InStep.{selects_none, BeginsInStep, StaysInStep, GoesOnFrom}
-use Rattle.tsb_laws.proofs.operation.CoordinatedRunLemmas.{correction_stays}
 use Rattle.tsb_laws.proofs.operation.OptionLemmas.{begins_at_once}
 
 -- ## A selection in free operation, or with mode 0

@@ -35,10 +35,6 @@ dark_is Green h = absurd (true≢false h)
 dark_is Yellow h = refl
 dark_is RedClear h = refl
 
-pub none_is : (o : Option ℕ) → is_none o ≡ true → o ≡ None
-none_is None h = refl
-none_is (Some x) h = absurd (false≢true h)
-
 -- ## Memories
 
 -- after a tick of a controller that has not tripped

@@ -30,7 +30,7 @@ use Rattle.tsb_step.proofs.GiveUpLemmas.{keeps_rings, gives_none_unserved}
 use Rattle.tsb_step.proofs.GoodLemmas.{good_run}
 use Rattle.tsb_step.proofs.LeaveLemmas.{others_leave}
 use Rattle.tsb_step.proofs.SideRunLemmas.{sided_run}
-use Rattle.tsb_step.proofs.StandLemmas.{rings_then, keeps_lit}
+use Rattle.tsb_step.proofs.StandLemmas.{rings_then, keeps_lit, keeps_reset}
 use Rattle.tsb_step.proofs.TellLemmas.{is_in_green}
 use Rattle.tsb_step.proofs.tsb_phase.ReadLemmas.{is-red}
 use Rattle.tsb_step.proofs.YellowLemmas.{enabled_lit}
@@ -42,7 +42,7 @@ use Rattle.tsb_laws.proofs.safety.DueLemmas.{count_run, clipped_at}
 use Rattle.tsb_laws.proofs.safety.EnabledLemmas.{callable_no_green, enabled_run}
 use Rattle.tsb_laws.proofs.safety.SideSoughtLemmas.{none_first}
 use Rattle.tsb_laws.proofs.operation.CalmLemmas.{calm_run}
-use Rattle.tsb_laws.proofs.operation.PressedRunLemmas.{timed_run, reset_none, clock_stays}
+use Rattle.tsb_laws.proofs.operation.PressedRunLemmas.{timed_run, clock_stays}
 use Rattle.tsb_laws.proofs.operation.TurnStepLemmas.{green_unforced, clear_left, back_left, green_left, clear_most, back_most, green_most, IsLeft, committed, serving_green, idle, IsComing, Comes, served, comes, IsFairTick, one_tick}
 
 -- ## What is callable is enabled
@@ -83,14 +83,14 @@ kept_then s row dark free = record {
 
 reset_is : (s : State) → s.trip ≡ None → step s inputs.Reset ≡ s
 unfolding step
-reset_is s dark = reset_none s dark
+reset_is s dark = keeps_reset s dark
 
 plan_kept : (s : State) (i : Input) (q : ℕ) → is_tick i ≡ false → is_waiting q s i ≡ true → s.trip ≡ None → (step s i).plan ≡ s.plan
 unfolding step
 plan_kept s (inputs.Tick row) q t w dark = absurd (true≢false t)
 plan_kept s (inputs.Commit station) q t w dark = absurd (false≢true w)
 plan_kept s (inputs.Fault lamp) q t w dark = enabled_lit s lamp
-plan_kept s inputs.Reset q t w dark = ap (λ (x : State). x.plan) (reset_none s dark)
+plan_kept s inputs.Reset q t w dark = ap (λ (x : State). x.plan) (keeps_reset s dark)
 plan_kept s i q t w dark = refl
 
 rings_kept : (s : State) (i : Input) (q : ℕ) → is_tick i ≡ false → is_waiting q s i ≡ true → s.trip ≡ None → (step s i).rings ≡ s.rings
@@ -98,7 +98,7 @@ unfolding step
 rings_kept s (inputs.Tick row) q t w dark = absurd (true≢false t)
 rings_kept s (inputs.Commit station) q t w dark = absurd (false≢true w)
 rings_kept s (inputs.Fault lamp) q t w dark = keeps_lit s lamp
-rings_kept s inputs.Reset q t w dark = ap (λ (x : State). x.rings) (reset_none s dark)
+rings_kept s inputs.Reset q t w dark = ap (λ (x : State). x.rings) (keeps_reset s dark)
 rings_kept s i q t w dark = refl
 
 phase_kept : (s : State) (i : Input) (p : ℕ) → is_tick i ≡ false → s.trip ≡ None → (step s i).phases p ≡ record (s.phases p) { forced = ((step s i).phases p).forced }

@@ -17,6 +17,7 @@ use Rattle.tsb_step.proofs.tsb_ring.WaitLemmas.{first-passes, is_serving}
 use Rattle.tsb_step.proofs.tsb_ring.WantLemmas.{pick_free}
 use Rattle.tsb_step.proofs.tsb_ring.EntryLemmas.{begins_apart}
 use Rattle.tsb_laws.proofs.safety.RingLemmas.{ring_joins_not}
+use Rattle.tsb_step.proofs.OverlapLemmas.{starts_once}
 
 -- ## As it begins
 
@@ -66,10 +67,6 @@ held_back : (crossing completed alone : Bool) (c : ℕ) → crossing ≡ true �
     (if (if crossing then completed else alone) then Some c else None) ≡ None
 held_back crossing completed alone c e h = rw (e, h) refl
 
-let_go : (crossing completed alone : Bool) (c : ℕ) → crossing ≡ true → completed ≡ true →
-    (if (if crossing then completed else alone) then Some c else None) ≡ Some c
-let_go crossing completed alone c e h = rw (e, h) refl
-
 module _ (plan : Plan) (s : State) (given : Given) (yellow_done : ℕ → Bool) (symmetric : IsSymmetric plan) (sound : IsSound plan given.interval s) (ok : IsGiven plan given) (d : ℕ) (under_way : s.crossing ≡ Some d) where
   pub begins_no_more : begins plan s given ≡ false
   begins_no_more =
@@ -99,7 +96,7 @@ module _ (plan : Plan) (s : State) (given : Given) (yellow_done : ℕ → Bool) 
 
   pub starts_all : (r : Ring) (c : ℕ) → completes plan s given ≡ true → s.commitment r ≡ Some c → starting plan s given r ≡ Some c
   unfolding starting
-  starts_all r c h e = rw e (let_go (is_some s.crossing) (completes plan s given) (may_start plan given r (Some c)) c (ap is_some under_way) h)
+  starts_all r c h e = rw e (starts_once (is_some s.crossing) (completes plan s given) (may_start plan given r (Some c)) c (ap is_some under_way) h)
 
   -- the phases that start are those that some ring starts
   pub none_is_started : (p : ℕ) → completes plan s given ≡ false → is_started (moves plan s given) p ≡ false

@@ -115,12 +115,12 @@ first_maximum : acting_maximum by_first (Some 1) 3 None ≡ Some 200
 unfolding quad by_first
 first_maximum = refl
 
-second_maximum : acting_maximum by_second (Some 1) 3 None ≡ Some 300
+pub second_maximum : acting_maximum by_second (Some 1) 3 None ≡ Some 300
 unfolding quad by_second
 second_maximum = refl
 
 -- a coordinated phase has none
-none_of_coordinated : acting_maximum by_first (Some 1) 2 None ≡ None
+pub none_of_coordinated : acting_maximum by_first (Some 1) 2 None ≡ None
 unfolding quad by_first
 none_of_coordinated = refl
 
@@ -128,7 +128,7 @@ none_of_coordinated = refl
 abbrev pub grown : Plan
 grown = with_values by_first ((UnitMax2, 1, 1) ∷ (PhaseDynamicMaxLimit, 3, 40) ∷ (PhaseDynamicMaxStep, 3, 50) ∷ [])
 
-fixed_in_pattern : acting_maximum grown (Some 1) 3 (Some 350) ≡ Some 200
+pub fixed_in_pattern : acting_maximum grown (Some 1) 3 (Some 350) ≡ Some 200
 unfolding quad by_first
 fixed_in_pattern = refl
 

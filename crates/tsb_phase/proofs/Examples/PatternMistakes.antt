@@ -59,10 +59,6 @@ goes_over_its_split = refl
 abbrev pub maximum_of_all : Plan → ℕ → Option ℕ
 maximum_of_all plan p = maximum_by_mode plan p
 
-has_no_maximum : acting_maximum by_first (Some 1) 2 None ≡ None
-unfolding quad by_first
-has_no_maximum = refl
-
 would_have_one : maximum_of_all by_first 2 ≡ Some 200
 unfolding quad by_first
 would_have_one = refl
@@ -72,10 +68,6 @@ would_have_one = refl
 abbrev pub dynamic_in_pattern : Plan → ℕ → Option ℕ → Option ℕ
 dynamic_in_pattern plan p running = Some (maximum_in_use plan p running)
 
-is_fixed : acting_maximum grown (Some 1) 3 (Some 350) ≡ Some 200
-unfolding quad by_first
-is_fixed = refl
-
 would_have_grown : dynamic_in_pattern grown 3 (Some 350) ≡ Some 350
 unfolding quad by_first maximum_in_use
 would_have_grown = refl
@@ -84,10 +76,6 @@ would_have_grown = refl
 
 abbrev pub first_in_both_modes : Plan → ℕ → Option ℕ
 first_in_both_modes plan p = if plan.value CoordMaximumMode 1 == 0 then None else Some (10 * plan.value PhaseMaximum1 p)
-
-gives_second : acting_maximum by_second (Some 1) 3 None ≡ Some 300
-unfolding quad by_second
-gives_second = refl
 
 would_give_first : first_in_both_modes by_second 3 ≡ Some 200
 unfolding quad by_second

@@ -32,14 +32,13 @@ use Rattle.tsb_step.specs.Step.{step}
 use Rattle.tsb_step.specs.Tick.{preempts_given, new_service, service, runs, hold, forced, recycle, conflict, pedestrian_call, phases_given, phase_read, next}
 use Rattle.tsb_step.specs.Runs.{replay, AreTaken}
 use Rattle.tsb_step.specs.Laws.{IsConsistent, is_unlit}
-use Rattle.tsb_step.proofs.ClearLemmas.{one_later, plan_stays}
+use Rattle.tsb_step.proofs.ClearLemmas.{one_later, plan_stays, pattern_stays, correction_stays}
 use Rattle.tsb_step.proofs.Examples.Scenes.{opened, button}
 use Rattle.tsb_step.proofs.GoodLemmas.{good_run}
 use Rattle.tsb_step.proofs.TripLemmas.{faults_alone_trip}
 use Rattle.tsb_laws.specs.Stretches.{IsUntripped}
 use Rattle.tsb_laws.specs.CoordinatedGreens.{HasGoneOn}
 use Rattle.tsb_laws.specs.RecycledWalks.{WalksAgain, MayWalkAgain, is_unheld, is_unforced}
-use Rattle.tsb_laws.proofs.operation.CoordinatedRunLemmas.{pattern_stays, correction_stays}
 use Rattle.tsb_laws.proofs.operation.InStepLemmas.{forces_as}
 use Rattle.tsb_laws.proofs.operation.RecycleTimeLemmas.{IsRecycled, recycled_so}
 use Rattle.tsb_laws.proofs.operation.RecycledRunLemmas.{calls_are_recycled}

@@ -2,8 +2,8 @@ use Rattle.tsb_plan.specs.Parts.{cycle}
 use Rattle.tsb_plan.specs.Plan.{yellow_change, red_clear}
 use Rattle.tsb_plan.specs.PlanOf.{plan_of}
 use Rattle.tsb_objects.specs.Instants.{end_of}
-use Rattle.tsb_review.proofs.InstantLemmas.{from_residues}
 use Rattle.tsb_review.proofs.splits.instant_from.Goals as goal
+use Rattle.tsb_objects.proofs.InstantLemmas.{from_residues}
 
 pub returns : goal.returns
 returns c =
