@@ -362,8 +362,7 @@ def main(words):
             wrong += [f"{path.name} {run.words} {run.places or ''}: {it}" for it in run.differences(path, folder)]
         wrong += too_much_memory(program, folder)
     wrong += longest_session(program) + read_too_far(program) + played_ticks(player) + timed_runs(player)
-    print("
-".join(wrong) if wrong else f"program: {len(runs) + 4 + len(SMALL_PARTS)} runs as expected")
+    print("\n".join(wrong) if wrong else f"program: {len(runs) + 4 + len(SMALL_PARTS)} runs as expected")
     return 1 if wrong else 0
 
 
