@@ -357,10 +357,12 @@ def test_parts_of_a_second_are_kept(tmp_path: Path, text: str) -> None:
 
 def test_rows_of_one_moment_act_in_their_order() -> None:
     """In a table that is not in the order of time, too: what comes last holds."""
-    many = [(33, 82 - it % 2, 4) for it in range(61)]
-    export = frames.export_of_events(table(*many, (5, 82, 2)), START, "7")
+    many = [(33, code, it) for code in (82, 81, 82, 81) for it in range(1, 17)]
+    export = frames.export_of_events(table(*many, (33, 82, 4), (5, 82, 2)), START, "7")
     log = frames.log_of_export(export, START)
-    assert log.ticks == (5, 33) and log.rows[1] == "0101000000000000 00000000 0000"
+    assert log == Log.of([
+        (5, "0100000000000000 00000000 0000"), (33, "0001000000000000 00000000 0000")
+    ])  # fmt: skip
 
 
 def test_an_export_from_a_start_on() -> None:

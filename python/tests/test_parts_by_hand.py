@@ -12,7 +12,7 @@ from typing import Any
 import numpy as np
 import pandas as pd
 import pytest
-from hypothesis import given, settings
+from hypothesis import example, given, settings
 from hypothesis import strategies as some
 
 from tsb import Bench, Error, NoSuchTick, Refused
@@ -116,6 +116,7 @@ TICKS = some.lists(some.integers(0, 9), max_size=6)
 
 
 @given(some.tuples(TICKS, TICKS), some.integers(-1, 9), some.integers(1, 12))
+@example(([0], [3, 0]), -1, 12)
 @settings(max_examples=40, deadline=None)
 def test_changes_are_found_by_going_back(
     at: tuple[list[int], list[int]], low: int, most: int
