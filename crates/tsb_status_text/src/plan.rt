@@ -53,7 +53,7 @@ fn version_for(plan: &Plan) -> Version
     }
 }
 
-/// Whether version 2 tells all of these objects.
+/// Whether version 2 has each of these objects that is not all zeros.
 fn are_told(plan: &Plan, objects: &[Object]) -> bool
     ensures { result ≡ list_all (λ o. has_object Two o || is_all_zeros (plan_of plan.now) o) objects.now }
 {
