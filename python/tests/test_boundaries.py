@@ -360,9 +360,8 @@ def test_rows_of_one_moment_act_in_their_order() -> None:
     many = [(33, code, it) for code in (82, 81, 82, 81) for it in range(1, 17)]
     export = frames.export_of_events(table(*many, (33, 82, 4), (5, 82, 2)), START, "7")
     log = frames.log_of_export(export, START)
-    assert log == Log.of([
-        (5, "0100000000000000 00000000 0000"), (33, "0001000000000000 00000000 0000")
-    ])  # fmt: skip
+    assert log.ticks == (5, 33, 34)  # (what goes on and off in a tick is on in it)
+    assert log.rows[1:] == (row_of((1 << 28) - (1 << 12)), row_of(1 << 24))
 
 
 def test_an_export_from_a_start_on() -> None:
