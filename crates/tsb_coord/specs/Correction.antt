@@ -96,6 +96,10 @@ abbrev pub steps_twice_in : Plan → Option ℕ → Correction → ℕ → Bool
 steps_twice_in plan None c t = false
 steps_twice_in plan (Some n) c t = ahead_in plan (Some n) c t == (ahead_in plan (Some n) c (t - 1) + 1) % cycle plan n
 
+-- that of pattern n takes no step in tick t: it is a tick less far ahead than in the tick before
+abbrev pub stays_in : Plan → ℕ → Correction → ℕ → Bool
+stays_in plan n c t = ahead_in plan (Some n) c (t - 1) == ahead_in plan (Some n) c t + 1
+
 -- of the pattern that runs
 abbrev pub steps_twice : Plan → Option ℕ → Correction → ℕ → Bool
 steps_twice plan selected c t = steps_twice_in plan (running plan selected) c t

@@ -1,7 +1,7 @@
 -- How the local counter goes, for event logs: the state of the cycle, local zero, and the yield points of coordinated
--- phases. A counter that takes two steps in a tick comes to both places. That a state describes the counter, and not
--- the cycle's length, is the profile's own.
-use Rattle.std.specs.Prelude.{◌≡◌, ℕ, ◌+◌, ◌-◌, ◌%◌, ◌==◌, ◌≤◌, Bool, false, ◌&&◌, ◌||◌, if◌then◌else◌, List, Option, Some, None}
+-- phases. A counter that takes two steps in a tick comes to both places, and one that stays for another tick comes to
+-- none. That a state describes the counter, and not the cycle's length, is the profile's own.
+use Rattle.std.specs.Prelude.{◌≡◌, ℕ, ◌+◌, ◌-◌, ◌%◌, ◌==◌, ◌≤◌, Bool, true, false, not, ◌&&◌, ◌||◌, if◌then◌else◌, List, Option, Some, None}
 use Rattle.tsb_objects.specs.tsb_types.declared.event.TheConstants.{CYCLE_FREE, CYCLE_IN_STEP, CYCLE_ADDS, CYCLE_SUBTRACTS, CYCLE_DWELLS}
 use Rattle.tsb_objects.specs.tsb_types.declared.phase_set.PhaseSet.{PhaseSet}
 use Rattle.tsb_objects.specs.tsb_types.Sets.{has}
@@ -14,7 +14,7 @@ use Rattle.tsb_coord.specs.declared.cycle.CycleState.{CycleState}
 use Rattle.tsb_coord.specs.declared.cycle.CycleState.TheVariants.{Free, InStep, Adds, Subtracts, Dwells}
 use Rattle.tsb_coord.specs.Cells.{pattern_in, correction_in}
 use Rattle.tsb_coord.specs.Coordinated.{agree, counter, force_off}
-use Rattle.tsb_coord.specs.Correction.{Correction, ahead_in, is_slower_way, steps_twice_in}
+use Rattle.tsb_coord.specs.Correction.{Correction, ahead_in, is_slower_way, stays_in, steps_twice_in}
 
 -- the number of a state in an event
 abbrev pub number_of : CycleState → ℕ
@@ -40,20 +40,30 @@ state_in plan (Some n) c t = if ahead_in plan (Some n) c t == 0 then InStep else
 abbrev pub cycle_state : Plan → Option ℕ → Correction → ℕ → CycleState
 cycle_state plan selected c t = state_in plan (running plan selected) c t
 
--- a place that a counter was at first, if it was, is this instant
-abbrev pub is_first : Option ℕ → Option ℕ → Bool
-is_first None instant = false
-is_first (Some first) instant = agree (Some first) instant
-
 -- the tick in which a counter in step is where that of pattern n is in tick t
 abbrev pub counted : Plan → ℕ → Correction → ℕ → ℕ
 counted plan n c t = t + ahead_in plan (Some n) c t
 
+-- where that of pattern n comes to with a step, by the tick in which one in step is there; nowhere without a step
+abbrev pub place_by : Plan → ℕ → Bool → ℕ → Option ℕ
+place_by plan n true k = Some (counter plan n k)
+place_by plan n false k = None
+
+-- with its last step in tick t
+abbrev pub last_place : Plan → ℕ → Correction → ℕ → Option ℕ
+last_place plan n c t = place_by plan n (not (stays_in plan n c t)) (counted plan n c t)
+
+-- and with the first of two
+abbrev pub first_place : Plan → ℕ → Correction → ℕ → Option ℕ
+first_place plan n c t = place_by plan n (steps_twice_in plan (Some n) c t) (counted plan n c t - 1)
+
+-- one of two places is this instant
+abbrev pub is_either : Option ℕ → Option ℕ → Option ℕ → Bool
+is_either last first instant = agree last instant || agree first instant
+
 -- that of pattern n comes to an instant in tick t
 abbrev pub comes_to : Plan → ℕ → Correction → ℕ → Option ℕ → Bool
-comes_to plan n c t instant =
-    agree (Some (counter plan n (counted plan n c t))) instant
-    || (steps_twice_in plan (Some n) c t && agree (Some (counter plan n (counted plan n c t - 1))) instant)
+comes_to plan n c t instant = is_either (last_place plan n c t) (first_place plan n c t) instant
 
 -- to local zero
 abbrev pub zero_in : Plan → Option ℕ → Correction → ℕ → Bool
@@ -64,10 +74,14 @@ zero_in plan (Some n) c t = comes_to plan n c t (Some 0)
 abbrev pub comes_to_zero : Plan → Option ℕ → Correction → ℕ → Bool
 comes_to_zero plan selected c t = zero_in plan (running plan selected) c t
 
--- phase p is a coordinated phase, and it comes to the force-off instant of p
+-- phase p is a coordinated phase, and one of two places is the force-off instant of p
+abbrev pub yields_at : Plan → ℕ → Option ℕ → Option ℕ → ℕ → Bool
+yields_at plan n last first p = is_coordinated_now plan (Some n) p && is_either last first (force_off plan (Some n) p)
+
+-- that of pattern n comes there in tick t
 abbrev pub yield_in : Plan → Option ℕ → Correction → ℕ → ℕ → Bool
 yield_in plan None c t p = false
-yield_in plan (Some n) c t p = is_coordinated_now plan (Some n) p && comes_to plan n c t (force_off plan (Some n) p)
+yield_in plan (Some n) c t p = yields_at plan n (last_place plan n c t) (first_place plan n c t) p
 
 -- of the pattern that runs
 abbrev pub yields : Plan → Option ℕ → Correction → ℕ → ℕ → Bool

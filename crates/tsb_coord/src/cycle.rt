@@ -1,19 +1,18 @@
 //! How the local counter goes, for event logs: the state of the cycle, local zero and yield points.
-ghost use Rattle.std.specs.Prelude.{◌≡◌, ℕ, ◌+◌, ◌-◌, ◌≤◌, ◌||◌, ◌&&◌, true, Some, None, if◌then◌else◌};
+ghost use Rattle.std.specs.Prelude.{◌≡◌, ℕ, ◌+◌, ◌≤◌, true};
 ghost use Rattle.tsb_objects.specs.tsb_types.declared.limits.TheConstants.{TICKS};
 ghost use Rattle.tsb_objects.specs.tsb_types.Sets.{has};
 ghost use Rattle.tsb_objects.specs.tsb_plan.Parts.{correction_mode, is_used};
-ghost use Rattle.tsb_objects.specs.tsb_plan.Running.{is_coordinated_now};
 ghost use Rattle.tsb_objects.specs.Checked.{checked_plan};
 ghost use Rattle.tsb_coord.specs.Cells.{IsBy};
-ghost use Rattle.tsb_coord.specs.Coordinated.{agree, counter, force_off};
-ghost use Rattle.tsb_coord.specs.Correction.{ahead_in, steps_twice_in};
-ghost use Rattle.tsb_coord.specs.Cycle.{TellsCycle, TellsYields, TellsZero, is_first, number_of, way_in};
+ghost use Rattle.tsb_coord.specs.Coordinated.{agree};
+ghost use Rattle.tsb_coord.specs.Cycle.{TellsCycle, TellsYields, TellsZero, first_place, is_either, last_place, number_of, place_by, way_in, yields_at};
 
 use crate::coord::Coord;
 use crate::correction::{Correction, ahead_before, ahead_in};
 use crate::counting::{counter, cycle_of};
-use tsb_objects::{Checked, CorrectionMode, Pattern, Phase, PhaseSet};
+use tsb_objects::{Checked, CorrectionMode, Pattern, PhaseSet};
+use tsb_types::event::{CYCLE_ADDS, CYCLE_DWELLS, CYCLE_FREE, CYCLE_IN_STEP, CYCLE_SUBTRACTS};
 
 /// How the local counter of the pattern that runs goes: the states of the Indiana enumerations' code 150 (Coord cycle
 /// state change).
@@ -37,11 +36,11 @@ impl CycleState {
         ensures { result ≡ number_of self }
     {
         match self {
-            CycleState::Free => 0,
-            CycleState::InStep => 1,
-            CycleState::Adds => 2,
-            CycleState::Subtracts => 3,
-            CycleState::Dwells => 4,
+            CycleState::Free => CYCLE_FREE,
+            CycleState::InStep => CYCLE_IN_STEP,
+            CycleState::Adds => CYCLE_ADDS,
+            CycleState::Subtracts => CYCLE_SUBTRACTS,
+            CycleState::Dwells => CYCLE_DWELLS,
         }
     }
 }
@@ -66,105 +65,74 @@ fn way_of(plan: &Checked, n: Pattern, correction: Correction) -> CycleState
     }
 }
 
-/// Where the local counter is in a tick.
+/// Where the local counter comes to in a tick.
 #[derive(Clone, Copy)]
 struct Places {
-    /// Where it is at its end.
-    last: u32,
-    /// Where it was at the first of two steps, if it takes two.
+    /// Where it comes to with its last step, unless it stays for another tick.
+    last: Option<u32>,
+    /// Where it comes to with the first of two steps, if it takes two.
     first: Option<u32>,
 }
 
-/// Whether the local counter of a pattern takes two steps in tick `now`.
-fn steps_twice(plan: &Checked, n: Pattern, correction: Correction, now: u32) -> bool
+/// Where the local counter of a pattern comes to with a step, by the tick in which one in step is there. `None` without
+/// a step.
+fn place_by(plan: &Checked, n: Pattern, steps: bool, tick: u32) -> Option<u32>
     requires used { is_used (checked_plan plan.now) n ≡ true }
-    requires since { correction.since ≤ TICKS }
-    requires in_time { now ≤ TICKS }
-    ensures { result ≡ steps_twice_in (checked_plan plan.now) (Some n) correction now }
+    requires in_time { tick ≤ TICKS + 2550 }
+    ensures { result ≡ place_by (checked_plan plan.now) n steps tick }
 {
-    let before = ahead_before(plan, n, correction, now);
-    let ahead = ahead_in(plan, n, correction, now);
-    ahead == (before + 1) % cycle_of(plan, n)
-}
-
-/// Where the local counter of a pattern was at the first of two steps in tick `now`, if it takes two.
-fn first_step(plan: &Checked, n: Pattern, correction: Correction, now: u32) -> Option<u32>
-    requires used { is_used (checked_plan plan.now) n ≡ true }
-    requires since { correction.since ≤ TICKS }
-    requires in_time { now ≤ TICKS }
-    ensures { result ≡ (if steps_twice_in (checked_plan plan.now) (Some n) correction now
-        then Some (counter (checked_plan plan.now) n (now + ahead_in (checked_plan plan.now) (Some n) correction now - 1)) else None) }
-{
-    if steps_twice(plan, n, correction, now) {
-        let ahead = ahead_in(plan, n, correction, now);
-        return Some(counter(plan, n, (now + ahead).saturating_sub(1)));
+    if steps {
+        Some(counter(plan, n, tick))
+    } else {
+        None
     }
-    None
 }
 
-/// Where the local counter of a pattern is in tick `now`.
+/// Where the local counter of a pattern comes to in tick `now`.
 fn places_in(plan: &Checked, n: Pattern, correction: Correction, now: u32) -> Places
     requires used { is_used (checked_plan plan.now) n ≡ true }
     requires since { correction.since ≤ TICKS }
     requires in_time { now ≤ TICKS }
-    ensures last { result.last ≡ counter (checked_plan plan.now) n (now + ahead_in (checked_plan plan.now) (Some n) correction now) }
-    ensures first { result.first ≡ (if steps_twice_in (checked_plan plan.now) (Some n) correction now
-        then Some (counter (checked_plan plan.now) n (now + ahead_in (checked_plan plan.now) (Some n) correction now - 1)) else None) }
+    ensures last { result.last ≡ last_place (checked_plan plan.now) n correction now }
+    ensures first { result.first ≡ first_place (checked_plan plan.now) n correction now }
 {
+    let before = ahead_before(plan, n, correction, now);
     let ahead = ahead_in(plan, n, correction, now);
+    let counted = now + ahead;
+    let stays = before == ahead + 1;
+    let steps_twice = ahead == (before + 1) % cycle_of(plan, n);
     Places {
-        last: counter(plan, n, now + ahead),
-        first: first_step(plan, n, correction, now),
+        last: place_by(plan, n, !stays, counted),
+        first: place_by(plan, n, steps_twice, counted.saturating_sub(1)),
     }
 }
 
 /// Whether a place of the local counter is this instant.
-fn is_at(local: u32, instant: &Option<u32>) -> bool
-    ensures { result ≡ agree (Some local) instant.now }
+fn is_at(place: &Option<u32>, instant: &Option<u32>) -> bool
+    ensures { result ≡ agree place.now instant.now }
 {
-    match instant {
-        None => false,
-        Some(instant) => local == *instant,
+    match (place, instant) {
+        (Some(place), Some(instant)) => *place == *instant,
+        _ => false,
     }
 }
 
 /// Whether the local counter comes to this instant.
 fn comes_to(places: &Places, instant: &Option<u32>) -> bool
-    ensures { result ≡ (agree (Some places.now.last) instant.now || is_first places.now.first instant.now) }
+    ensures { result ≡ is_either places.now.last places.now.first instant.now }
 {
-    if is_at(places.last, instant) {
-        return true;
-    }
-    match places.first {
-        None => false,
-        Some(first) => is_at(first, instant),
-    }
-}
-
-/// Whether this is a coordinated phase of a pattern, and the local counter comes to its force-off instant.
-fn yields_at(plan: &Checked, n: Pattern, places: &Places, p: Phase) -> bool
-    requires used { is_used (checked_plan plan.now) n ≡ true }
-    ensures { result ≡ (is_coordinated_now (checked_plan plan.now) (Some n) p
-        && (agree (Some places.now.last) (force_off (checked_plan plan.now) (Some n) p) || is_first places.now.first (force_off (checked_plan plan.now) (Some n) p))) }
-{
-    p.known();
-    if !plan.coordinated(Some(n)).contains(p) {
-        return false;
-    }
-    comes_to(places, &plan.force_off(n, p))
+    is_at(&places.last, instant) || is_at(&places.first, instant)
 }
 
 /// The coordinated phases of a pattern to whose force-off instant the local counter comes.
 fn yielding(plan: &Checked, n: Pattern, places: &Places) -> PhaseSet
     requires used { is_used (checked_plan plan.now) n ≡ true }
-    ensures { (p : ℕ) → 1 ≤ p → p ≤ 16 → has result p ≡ (is_coordinated_now (checked_plan plan.now) (Some n) p
-        && (agree (Some places.now.last) (force_off (checked_plan plan.now) (Some n) p) || is_first places.now.first (force_off (checked_plan plan.now) (Some n) p))) }
+    ensures { (p : ℕ) → 1 ≤ p → p ≤ 16 → has result p ≡ yields_at (checked_plan plan.now) n places.now.last places.now.first p }
 {
     let mut yielding = PhaseSet::empty();
-    for number in 1..17u8 {
-        let p = Phase::of(number);
-        let yields = yields_at(plan, n, places, p);
-        yielding = yielding.joined(p, yields);
+    let mut rest = plan.coordinated(Some(n));
+    while let Some(p) = rest.pop() {
+        yielding = yielding.joined(p, comes_to(places, &plan.force_off(n, p)));
     }
     yielding
 }
@@ -192,7 +160,8 @@ impl Coord {
         }
     }
 
-    /// Whether the local counter comes to 0 in tick `now`, where a cycle begins; `false` in free operation.
+    /// Whether the local counter comes to 0 in tick `now`, where a cycle begins; `false` in free operation, and where it
+    /// was there before.
     pub fn is_at_zero(&self, now: u32, plan: &Checked) -> bool
         requires by { IsBy (cells_of self.now) }
         requires in_time { now ≤ TICKS }

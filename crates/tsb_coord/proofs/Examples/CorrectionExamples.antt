@@ -19,6 +19,7 @@ use Rattle.tsb_objects.specs.tsb_rules.Rules.{first_broken, broken_by_rings, bro
 use Rattle.tsb_objects.specs.Instants.{waiting_point}
 use Rattle.tsb_coord.specs.Coordinated.{local, force_off}
 use Rattle.tsb_coord.specs.Correction.{Correction, in_step, lost, gained, longest_wait, waited, way, is_slower_way, ahead_in, local_now, steps_twice, forces, comes_to_force_off, is_in_step, lets_walk_again, ahead_from, selected_correction}
+use Rattle.tsb_coord.specs.Cycle.{comes_to_zero, yields}
 use Rattle.tsb_coord.specs.Laws.{waits, IsLongEnough}
 
 -- this mode and this limit
@@ -244,6 +245,27 @@ at_the_first = refl
 comes_to_both : filter (comes_to_force_off by_short_way (Some 2) ahead_600 1449) (run_from 1 8) ≡ 2 ∷ 6 ∷ []
 unfolding by_short_way quad run_from split_sum side_sum split_end force_off
 comes_to_both = refl
+
+-- ## Places that have an event
+
+-- of two steps the first comes to 760, and phases 2 and 6 have their yield point
+yield_at_the_first : filter (yields by_short_way (Some 2) ahead_600 1449) (run_from 1 8) ≡ 2 ∷ 6 ∷ []
+unfolding by_short_way quad run_from split_sum side_sum split_end force_off
+yield_at_the_first = refl
+
+-- by longer cycles the counter is at 760 in two ticks, and at 0 in two: it comes there in the first
+stays_there : locals adding (Some 1) ahead_200 (1430 ∷ 1431 ∷ 1432 ∷ []) ∷ locals adding (Some 1) ahead_200 (1478 ∷ 1479 ∷ 1480 ∷ []) ∷ []
+    ≡ (Some 759 ∷ Some 760 ∷ Some 760 ∷ []) ∷ (Some 799 ∷ Some 0 ∷ Some 0 ∷ []) ∷ []
+unfolding adding quad
+stays_there = refl
+
+yield_once : map (λ t. yields adding (Some 1) ahead_200 t 2) (1430 ∷ 1431 ∷ 1432 ∷ []) ≡ false ∷ true ∷ false ∷ []
+unfolding adding quad run_from split_sum side_sum split_end force_off
+yield_once = refl
+
+zero_once : map (comes_to_zero adding (Some 1) ahead_200) (1478 ∷ 1479 ∷ 1480 ∷ []) ≡ false ∷ true ∷ false ∷ []
+unfolding adding quad
+zero_once = refl
 
 -- phase 2 walks again from the tick on behind the first in which the counter is in step: at 1802, where that is at 402
 unfoldable pub walking : Plan

@@ -1,27 +1,37 @@
-use Rattle.std.proofs.Common.{◌≡◌, ◌∙◌, ℕ, ◌&&◌, ◌||◌, Some, inl, inr, sym, ap, arith}
-use Rattle.std.proofs.lemmas.Bool.{cases_lt}
+use Rattle.std.proofs.Common.{◌≡◌, ◌∙◌, ℕ, ◌&&◌, Bool, true, false, Option, Some, inl, inr, sym, ap, subst, true≢false}
+use Rattle.std.proofs.lemmas.Bool.Decides.{eqb_tells}
 use Rattle.tsb_objects.specs.tsb_types.Sets.{has}
 use Rattle.tsb_objects.specs.Checked.{checked_plan}
 use Rattle.tsb_objects.specs.tsb_plan.Plan.{Plan}
 use Rattle.tsb_objects.specs.tsb_plan.Running.{is_coordinated_now}
-use Rattle.tsb_coord.specs.Coordinated.{agree, force_off}
-use Rattle.tsb_coord.specs.Cycle.{is_first}
+use Rattle.tsb_coord.specs.Coordinated.{force_off}
+use Rattle.tsb_coord.specs.Cycle.{is_either, yields_at}
 use Rattle.tsb_coord.proofs.cycle.yielding.Goals as goal
 
-pub loop-number-preserved : goal.loop-number-preserved
-loop-number-preserved c =
+pub loop-p-preserved : goal.loop-p-preserved
+loop-p-preserved c =
     let plan : Plan = checked_plan c.args.plan.now in
-    let here : c.of-p.result ≡ c.loop-number.number = c.of-p.ensures in
+    let last : Option ℕ = c.args.places.now.last in
+    let first : Option ℕ = c.args.places.now.first in
+    let p : ℕ = c.in-Some.p in
+    let held = c.loop-p.invariant in
+    let popped = c.in-Some.ensures in
+    let joined = c.joined-yielding.ensures in
+    let coordinated : is_coordinated_now plan (Some c.args.n) p ≡ true = held.within p popped.from popped.within popped.had in
+    let judged : has c.joined-yielding.result p ≡ yields_at plan c.args.n last first p =
+    joined.set ∙ c.comes_to.ensures ∙ ap (λ (i : Option ℕ). is_either last first i) c.force_off.ensures.value
+    ∙ ap (λ (b : Bool). b && is_either last first (force_off plan (Some c.args.n) p)) (sym coordinated) in
     record {
-      from = omega arith;
-      to = omega arith;
-      rest = λ p from. c.joined-yielding.ensures.others p (λ same. omega (arith, from, here, same)) ∙ c.loop-number.invariant.rest p (omega (arith, from));
-      told = λ p from below. elim (cases_lt p c.loop-number.number) [
-        | inl earlier ↦ c.joined-yielding.ensures.others p (λ same. omega (arith, earlier, here, same)) ∙ c.loop-number.invariant.told p from earlier
-        | inr late ↦
-            let same : p ≡ c.of-p.result = omega (arith, late, below, here) in
-            ap (has c.joined-yielding.result) same ∙ c.joined-yielding.ensures.set ∙ c.yields_at-yields.ensures
-            ∙ ap (λ (q : ℕ). is_coordinated_now plan (Some c.args.n) q
-            && (agree (Some c.args.places.now.last) (force_off plan (Some c.args.n) q) || is_first c.args.places.now.first (force_off plan (Some c.args.n) q))) (sym same)
+      told = λ q from to out. elim (eqb_tells q p) [
+        | inl same ↦ subst (λ (m : ℕ). has c.joined-yielding.result m ≡ yields_at plan c.args.n last first m) (sym same.1) judged
+        | inr other ↦ joined.others q other.1 ∙ held.told q from to (sym (popped.others q other.1) ∙ out)
+      ];
+      within = λ q from to on. elim (eqb_tells q p) [
+        | inl same ↦ subst (λ (m : ℕ). is_coordinated_now plan (Some c.args.n) m ≡ true) (sym same.1) coordinated
+        | inr other ↦ held.within q from to (sym (popped.others q other.1) ∙ on)
+      ];
+      left = λ q on. elim (eqb_tells q p) [
+        | inl same ↦ absurd (true≢false (sym (subst (λ (m : ℕ). has c.pop.new.self m ≡ true) same.1 on) ∙ popped.taken))
+        | inr other ↦ joined.others q other.1 ∙ held.left q (sym (popped.others q other.1) ∙ on)
       ];
     }
