@@ -104,19 +104,6 @@ def test_a_pattern_while_the_last_one_comes_into_step() -> None:
     assert measures.in_cycle(events, ticks).to_list() == [10.8, 10.9, 20.9]
 
 
-def test_a_zero_at_which_the_counter_stands() -> None:
-    """By longer cycles a counter may be at 0 in two ticks running: it comes to it once.
-    In one more it would have come there anew."""
-    pattern = ((1, 131, 1), (1, 132, 30), (1, 150, 2), (900, 1, 2))
-    zeros = ((100, 150, 5), (101, 150, 5), (460, 150, 5), (461, 150, 5), (463, 150, 5))
-    assert rows(measures.cycles(table(*pattern, *zeros))) == [
-        (100, 460, 1, 36.0),
-        (460, 463, 1, 0.3),
-    ]
-    found = measures.in_cycle(table(*pattern, *zeros), pd.Series([99, 100, 101, 459]))
-    assert found.to_list() == [9.9, 0.0, 0.1, 35.9]
-
-
 def test_a_zero_of_the_pattern_before() -> None:
     """Told in the tick in which another is selected, it ends a cycle of the old one. It
     begins one of a new one that goes on from there, and of none that is in step."""

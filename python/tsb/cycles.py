@@ -113,15 +113,14 @@ class _Told(NamedTuple):
 
 
 def _told(events: pd.DataFrame) -> _Told:
-    """The local counter in these events. Where it is at zero for another tick events
-    have that tick too, and it has come to zero once."""
+    """The local counter in these events."""
     of = events[events["code"] == CYCLE_STATE].sort_values("tick", kind="stable")
     at_zero, is_state = of["parameter"] == LOCAL_ZERO, of["parameter"] < LOCAL_ZERO
     zeros = np.unique(of.loc[at_zero, "tick"].to_numpy(np.int64))
     ticks, states = (
         of.loc[is_state, it].to_numpy(np.int64) for it in ("tick", "parameter")
     )
-    return _Told(zeros[np.diff(zeros, prepend=-2) > 1], ticks, states)
+    return _Told(zeros, ticks, states)
 
 
 class _Counter(NamedTuple):

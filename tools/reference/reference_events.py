@@ -576,14 +576,19 @@ def presence_events(tick: Tick) -> list[Told]:
     return [(110, preempt)] if 0 < most <= served and (is_on or is_short) else []
 
 
+def places(tick: Tick) -> list[int]:
+    """Where the local counter comes to in a tick: none where it stands still, and both of two steps."""
+    now, was = tick.bench.local_of(tick.after), tick.bench.local_at(tick.after, tick.after.now - 1)
+    return [] if now == was else steps(tick)
+
+
 def place_events(tick: Tick) -> list[Told]:
-    """The events of places of the local counter: where it is 0 in this tick, or at the instant of a coordinated phase,
-    also where it stands there for another tick, and at both of two steps."""
+    """The events of places that the local counter comes to: 0, and the instants of coordinated phases."""
     if not runs_pattern(tick.before):
         return []
-    bench, before, places = tick.bench, tick.before, steps(tick)
-    yielding = [it for it in coordinated_phases(bench, before) if force_off_instant(bench, before, it) in places]
-    return [(150, LOCAL_ZERO)] * (0 in places) + [(151, phase) for phase in yielding]
+    bench, before, found = tick.bench, tick.before, places(tick)
+    yielding = [it for it in coordinated_phases(bench, before) if force_off_instant(bench, before, it) in found]
+    return [(150, LOCAL_ZERO)] * (0 in found) + [(151, phase) for phase in yielding]
 
 
 def tick_events(tick: Tick) -> list[Told]:
