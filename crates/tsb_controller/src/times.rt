@@ -23,17 +23,24 @@ fn is_below(now: u32, cell: u32, limit: u32) -> bool
     }
 }
 
+/// Whether the interval timer of a phase is on at tick `now`, and below a limit, by the cells of the timers.
+#[inline(always)]
+fn is_timing(since: &[u32], p: Phase, now: u32, limit: u32) -> bool
+    requires { length since.now ≡ 16 }
+    ensures { result ≡ is_below (timer_at now (slice_index since.now (p - 1))) limit }
+{
+    is_below(now, since[usize::from(p.number()) - 1], limit)
+}
+
 /// Those of some phases whose red clearance has not passed at tick `now`, by the cells of the interval timers.
 fn within_red_clearance(phases: PhaseSet, since: &[u32], now: u32, plan: &Plan) -> PhaseSet
     requires { length since.now ≡ 16 }
     ensures { (p : ℕ) → 1 ≤ p → p ≤ 16 → has result p ≡ (has phases p && is_below (timer_at now (slice_index since.now (p - 1))) (red_clear (plan_of plan.now) p)) }
 {
     let mut timing = PhaseSet::empty();
-    for number in 1..17u8 {
-        let p = Phase::of(number);
-        let since_then = since[usize::from(number) - 1];
-        let is_within = phases.contains(p) && is_below(now, since_then, plan.red_clear(p));
-        timing = timing.joined(p, is_within);
+    let mut rest = phases;
+    while let Some(p) = rest.pop() {
+        timing = timing.joined(p, is_timing(since, p, now, plan.red_clear(p)));
     }
     timing
 }
@@ -44,11 +51,9 @@ fn within_minimum(phases: PhaseSet, since: &[u32], now: u32, plan: &Plan) -> Pha
     ensures { (p : ℕ) → 1 ≤ p → p ≤ 16 → has result p ≡ (has phases p && is_below (timer_at now (slice_index since.now (p - 1))) (minimum_green (plan_of plan.now) p)) }
 {
     let mut timing = PhaseSet::empty();
-    for number in 1..17u8 {
-        let p = Phase::of(number);
-        let since_then = since[usize::from(number) - 1];
-        let is_within = phases.contains(p) && is_below(now, since_then, plan.minimum_green(p));
-        timing = timing.joined(p, is_within);
+    let mut rest = phases;
+    while let Some(p) = rest.pop() {
+        timing = timing.joined(p, is_timing(since, p, now, plan.minimum_green(p)));
     }
     timing
 }
