@@ -40,7 +40,8 @@ use Rattle.tsb_text.specs.recording.Along.{Wants, last_row, noted_after, telling
 use Rattle.tsb_text.specs.recording.Leaves.{Asked, Steps}
 use Rattle.tsb_text.specs.recording.Recording.{AreOfLog, Done, GoesBack, IsNoTick, Stands, Took, noted_at, row_in_force}
 use Rattle.tsb_text.specs.recording.Told.{Kept, Telling, gone_back}
-use Rattle.tsb_text.proofs.recording.AlongLemmas.{HasMark, gone-back, input-undone, own, reached, same-form, same-now, tick-undone}
+use Rattle.tsb_text.proofs.recording.AlongLemmas.{HasMark, gone-back, input-undone, own, reached, same-form, tick-undone}
+use Rattle.tsb_text.proofs.kept.KeptLemmas.{same-now}
 
 -- ## The row before
 
