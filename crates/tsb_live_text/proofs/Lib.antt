@@ -1,4 +1,3 @@
-pub mod saved
 pub mod ChangeLemmas
 pub mod LiveLemmas
 pub mod EndLemmas

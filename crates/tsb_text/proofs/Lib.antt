@@ -1,4 +1,3 @@
-pub mod kept
 pub mod WatchLemmas
 pub mod TextLemmas
 pub mod ObeyLemmas
@@ -8,5 +7,4 @@ pub mod AnswerLemmas
 pub mod ReplyLemmas
 pub mod HeardLemmas
 pub mod EndedLemmas
-pub mod recording
 pub use Rattle.tsb_objects.proofs.tsb_rules as tsb_rules

@@ -129,7 +129,7 @@ split-front (b ∷ h) x f =
     let rest : split (h ++ x) ≡ onto_line h (split x) = split-front h x f.1 in
     elim (eqb_tells b 10) [ inl z ↦ absurd (f.0 z.1) | inr on ↦ rw (on.0, rest) (onto-cons b h (split x)) ]
 
-reading-long : (line : List ℕ) → 200 < length line → reading line ≡ Bad
+pub reading-long : (line : List ℕ) → 200 < length line → reading line ≡ Bad
 reading-long line long = let lt : nat_lt 200 (length line) ≡ true = search (rules, long) in rw lt refl
 
 pub reading-returned : (raw : List ℕ) → 202 ≤ length raw → reading (without_return raw) ≡ Bad
