@@ -37,9 +37,12 @@ use Rattle.tsb_log_text.specs.Logs.{row_at}
 use Rattle.tsb_text.specs.Answers.{Setup, next_tick}
 use Rattle.tsb_text.specs.declared.recording.told.Mark.{Mark}
 use Rattle.tsb_text.specs.recording.Along.{Wants, last_row, noted_after, telling, with_input}
-use Rattle.tsb_text.specs.recording.Leaves.{Asked, Steps}
-use Rattle.tsb_text.specs.recording.Recording.{AreOfLog, Done, GoesBack, IsNoTick, Stands, Took, noted_at, row_in_force}
+use Rattle.tsb_text.specs.recording.Leaves.{LeavesOf}
+use Rattle.tsb_text.specs.declared.task.Task.TheVariants.{Ask, Ticks}
+use Rattle.tsb_text.proofs.ObeyLemmas.{asks-once}
+use Rattle.tsb_text.specs.recording.Recording.{AreOfLog, Done, GoesBack, Stands, Took, noted_at, row_in_force}
 use Rattle.tsb_text.specs.recording.Told.{Kept, Telling, gone_back}
+use Rattle.tsb_text.specs.kept.Kept.{IsNoTick}
 use Rattle.tsb_text.proofs.recording.AlongLemmas.{HasMark, gone-back, input-undone, own, reached, same-form, same-now, tick-undone}
 
 -- ## The row before
@@ -135,12 +138,12 @@ of-log-other : (given : Setup) (i : Input) (is : List Input) → IsNoTick i → 
 of-log-other given (Tick row) is none h = absurd none
 of-log-other given i is none h = h
 
-pub applied : (given : Setup) (log : List LogRow) (is : List Input) (bench : Whole) (told : Telling) (i : Input) → Took (Ok tt) given log bench told is i → Done None given log bench told (Asked given is (Apply i))
-applied given log is bench told i t = (i ∷ is, t.1, record { answer = answers.Took; right = t.0; left = refl; refused = refl })
+pub applied : (given : Setup) (log : List LogRow) (is : List Input) (bench : Whole) (told : Telling) (i : Input) → Took (Ok tt) given log bench told is i → Done None given log bench told (LeavesOf given is (Ask (Apply i)))
+applied given log is bench told i t = (i ∷ is, t.1, asks-once given is (Apply i) answers.Took t.0)
 
 pub not-applied : (given : Setup) (log : List LogRow) (is : List Input) (bench : Whole) (told : Telling) (i : Input) (e : Refusal) → Took (Err e) given log bench told is i
-    → Done (Some e) given log bench told (Asked given is (Apply i))
-not-applied given log is bench told i e t = (is, t.1, record { answer = answers.Refused e; right = t.0; left = refl; refused = refl })
+    → Done (Some e) given log bench told (LeavesOf given is (Ask (Apply i)))
+not-applied given log is bench told i e t = (is, t.1, asks-once given is (Apply i) (answers.Refused e) t.0)
 
 pub other-of-log : (given : Setup) (log : List LogRow) (is : List Input) (bench : Whole) (told : Telling) (i : Input) → IsNoTick i → Stands given log bench told is → AreOfLog given (i ∷ is)
 other-of-log given log is bench told i none stands = of-log-other given i is none stands.of_log
@@ -171,17 +174,17 @@ back-there given log is t tick old new told next stands le follows at keeps =
 
 pub moved : (given : Setup) (log : List LogRow) (is : List Input) (c : Cmd) (tick : ℕ) (old new : Held) (told next : Telling) (result : Answer) → GoesBack c → Stands given log (whole old) told is
     → ((plan : Plan) → play.Answers controller (start plan) watched (whole old) c result (whole new)) → result ≡ Moved → tick ≡ new.tick → next ≡ gone_back tick told
-    → Done None given log (whole new) next (Asked given is c)
+    → Done None given log (whole new) next (LeavesOf given is (Ask c))
 unfolding Right
 moved given log is (Back n) tick old new told next result goes stands answers same at keeps =
     let both : Right given is (Back n) Moved new = right-at given log is (Back n) old new told result Moved stands answers same in (
       back_to given.plan ((replay given.plan is).now - n) is,
       back-there given log is ((replay given.plan is).now - n) tick old new told next stands (omega arith) both.1 at keeps,
-      record { answer = Moved; right = both.0; left = refl; refused = refl },
+      asks-once given is (Back n) Moved both.0,
     )
 moved given log is (Seek t) tick old new told next result goes stands answers same at keeps =
     let both : Right given is (Seek t) Moved new = right-at given log is (Seek t) old new told result Moved stands answers same in
-    (back_to given.plan t is, back-there given log is t tick old new told next stands both.0 both.1 at keeps, record { answer = Moved; right = both.0; left = refl; refused = refl })
+    (back_to given.plan t is, back-there given log is t tick old new told next stands both.0 both.1 at keeps, asks-once given is (Seek t) Moved both.0)
 moved given log is Undo tick old new told next result goes stands answers same at keeps = absurd (right-at given log is Undo old new told result Moved stands answers same).0
 moved given log is c tick old new told next result goes stands answers same at keeps = absurd goes
 
@@ -230,24 +233,24 @@ pub undone : (given : Setup) (log : List LogRow) (is : List Input) (c : Cmd) (k 
     → ((plan : Plan) → play.Answers controller (start plan) watched (whole old) c result (whole new)) → result ≡ Undone k → tick ≡ new.tick
     → (k ≡ kinds.Tick → next ≡ gone_back tick told)
     → ((k ≡ kinds.Tick → ⊥) → (marks : List Mark) (m : Mark) → told.marks ≡ marks ++ m ∷ [] → next ≡ record { form = told.form; events = take m.events told.events; marks = marks })
-    → Done None given log (whole new) next (Asked given is c)
+    → Done None given log (whole new) next (LeavesOf given is (Ask c))
 unfolding Right Untold
 undone given log is Undo k tick old new told next result goes stands answers same at by_tick by_mark =
     let both : Right given is Undo (Undone k) new = right-at given log is Undo old new told result (Undone k) stands answers same in
-    (without_newest is, undone-to given log is k tick old new told next stands both at (by_tick, by_mark), record { answer = Undone k; right = both.0; left = refl; refused = refl })
+    (without_newest is, undone-to given log is k tick old new told next stands both at (by_tick, by_mark), asks-once given is Undo (Undone k) both.0)
 undone given log is (Back n) k tick old new told next result goes stands answers same at by_tick by_mark = absurd (right-at given log is (Back n) old new told result (Undone k) stands answers same).0
 undone given log is (Seek t) k tick old new told next result goes stands answers same at by_tick by_mark = absurd (right-at given log is (Seek t) old new told result (Undone k) stands answers same).0
 undone given log is c k tick old new told next result goes stands answers same at by_tick by_mark = absurd goes
 
 nothing-there : (given : Setup) (log : List LogRow) (is : List Input) (c : Cmd) (old new : Held) (told : Telling) (a : Answer) → GoesBack c → (a ≡ Moved → ⊥) → ((k : Kind) → a ≡ Undone k → ⊥)
-    → Stands given log (whole old) told is → Right given is c a new → Done None given log (whole new) told (Asked given is c)
+    → Stands given log (whole old) told is → Right given is c a new → Done None given log (whole new) told (LeavesOf given is (Ask c))
 unfolding Right
 nothing-there given log is Undo old new told Nothing goes not_moved not_undone stands both =
-    (is, record { same = stands.same; follows = both.1; of_log = stands.of_log; tells = stands.tells }, record { answer = Nothing; right = both.0; left = refl; refused = refl })
+    (is, record { same = stands.same; follows = both.1; of_log = stands.of_log; tells = stands.tells }, asks-once given is Undo Nothing both.0)
 nothing-there given log is (Back n) old new told Nothing goes not_moved not_undone stands both =
-    (is, record { same = stands.same; follows = both.1; of_log = stands.of_log; tells = stands.tells }, record { answer = Nothing; right = both.0; left = refl; refused = refl })
+    (is, record { same = stands.same; follows = both.1; of_log = stands.of_log; tells = stands.tells }, asks-once given is (Back n) Nothing both.0)
 nothing-there given log is (Seek t) old new told Nothing goes not_moved not_undone stands both =
-    (is, record { same = stands.same; follows = both.1; of_log = stands.of_log; tells = stands.tells }, record { answer = Nothing; right = both.0; left = refl; refused = refl })
+    (is, record { same = stands.same; follows = both.1; of_log = stands.of_log; tells = stands.tells }, asks-once given is (Seek t) Nothing both.0)
 nothing-there given log is c old new told Moved goes not_moved not_undone stands both = absurd (not_moved refl)
 nothing-there given log is c old new told (Undone k) goes not_moved not_undone stands both = absurd (not_undone k refl)
 nothing-there given log is Undo old new told a goes not_moved not_undone stands both = absurd both.0
@@ -256,7 +259,7 @@ nothing-there given log is (Seek t) old new told a goes not_moved not_undone sta
 nothing-there given log is c old new told a goes not_moved not_undone stands both = absurd goes
 
 pub nothing : (given : Setup) (log : List LogRow) (is : List Input) (c : Cmd) (old new : Held) (told : Telling) (result : Answer) → GoesBack c → (result ≡ Moved → ⊥) → ((k : Kind) → result ≡ Undone k → ⊥)
-    → Stands given log (whole old) told is → ((plan : Plan) → play.Answers controller (start plan) watched (whole old) c result (whole new)) → Done None given log (whole new) told (Asked given is c)
+    → Stands given log (whole old) told is → ((plan : Plan) → play.Answers controller (start plan) watched (whole old) c result (whole new)) → Done None given log (whole new) told (LeavesOf given is (Ask c))
 unfolding Right
 nothing given log is c old new told result goes not_moved not_undone stands answers = nothing-there given log is c old new told result goes not_moved not_undone stands (answers given.plan is stands.follows)
 
@@ -277,11 +280,18 @@ tick-of-log given log is bench told row stands at = (tick-next given log is benc
 pub record Stepping (given : Setup) (log : List LogRow) (is : List Input) (n : ℕ) (bench : Whole) (told : Telling) (k : ℕ) : Type 0 where
   pub now : List Input
   pub stands : Stands given log bench told now
-  pub on : (refusal : Option Refusal) (left : List Input) → Steps given now k refusal left → Steps given is n refusal left
+  pub on : (refusal : Option Refusal) (left : List Input) → LeavesOf given now (Ticks k) refusal left → LeavesOf given is (Ticks n) refusal left
 
 pub steps-start : (given : Setup) (log : List LogRow) (is : List Input) (n k : ℕ) (bench : Whole) (told : Telling) → k ≡ n → Stands given log bench told is → Stepping given log is n bench told k
 steps-start given log is n k bench told all stands =
-    record { now = is; stands = stands; on = λ refusal left s. subst (λ (m : ℕ). Steps given is m refusal left) all s }
+    record { now = is; stands = stands; on = λ refusal left s. subst (λ (m : ℕ). LeavesOf given is (Ticks m) refusal left) all s }
+
+one-more : (given : Setup) (is : List Input) (k : ℕ) (refusal : Option Refusal) (left : List Input) → IsRight given.plan is (Apply (next_tick given is)) answers.Took → LeavesOf given (next_tick given is ∷ is) (Ticks k) refusal left
+    → LeavesOf given is (Ticks (suc k)) refusal left
+one-more given is k refusal left right rest = (_, inl (rest.0, record { right = right; line = refl }, rest.1))
+
+one-less : (given : Setup) (is : List Input) (k : ℕ) (e : Refusal) → IsRight given.plan is (Apply (next_tick given is)) (answers.Refused e) → LeavesOf given is (Ticks (suc k)) (Some e) is
+one-less given is k e right = (_, inr (record { why = e; right = right; line = refl; refused = refl; left = refl }))
 
 pub steps-more : (given : Setup) (log : List LogRow) (is : List Input) (n : ℕ) (old : Held) (told : Telling) (new : Whole) (next : Telling) (left k : ℕ) (row : Row) → left ≡ suc k → row ≡ row_at log (old.tick + 1)
     → (s : Stepping given log is n (whole old) told left) → Took (Ok tt) given log new next s.now (Tick row) → Stepping given log is n new next k
@@ -291,15 +301,15 @@ steps-more given log is n old told new next left k row one at s t =
     record {
       now = next_tick given s.now ∷ s.now;
       stands = both.1;
-      on = λ refusal last rest. s.on refusal last (subst (λ (m : ℕ). Steps given s.now m refusal last) (sym one) (inl (both.0, rest)));
+      on = λ refusal last rest. s.on refusal last (subst (λ (m : ℕ). LeavesOf given s.now (Ticks m) refusal last) (sym one) (one-more given s.now k refusal last both.0 rest));
     }
 
 pub steps-refused : (given : Setup) (log : List LogRow) (is : List Input) (n : ℕ) (old : Held) (told : Telling) (new : Whole) (next : Telling) (left k : ℕ) (row : Row) (e : Refusal) → left ≡ suc k → row ≡ row_at log (old.tick + 1)
-    → (s : Stepping given log is n (whole old) told left) → Took (Err e) given log new next s.now (Tick row) → Done (Some e) given log new next (Steps given is n)
+    → (s : Stepping given log is n (whole old) told left) → Took (Err e) given log new next s.now (Tick row) → Done (Some e) given log new next (LeavesOf given is (Ticks n))
 steps-refused given log is n old told new next left k row e one at s t =
     let same : Tick row ≡ next_tick given s.now = ap Tick (tick-next given log s.now old told row s.stands at) in
     let both : Took (Err e) given log new next s.now (next_tick given s.now) = subst (λ (i : Input). Took (Err e) given log new next s.now i) same t in
-    (s.now, both.1, s.on (Some e) s.now (subst (λ (m : ℕ). Steps given s.now m (Some e) s.now) (sym one) (inr (e, both.0, refl, refl))))
+    (s.now, both.1, s.on (Some e) s.now (subst (λ (m : ℕ). LeavesOf given s.now (Ticks m) (Some e) s.now) (sym one) (one-less given s.now k e both.0)))
 
-pub steps-end : (given : Setup) (log : List LogRow) (is : List Input) (n : ℕ) (bench : Whole) (told : Telling) (k : ℕ) → k ≡ 0 → Stepping given log is n bench told k → Done None given log bench told (Steps given is n)
-steps-end given log is n bench told k none s = (s.now, s.stands, s.on None s.now (subst (λ (m : ℕ). Steps given s.now m None s.now) (sym none) (refl, refl)))
+pub steps-end : (given : Setup) (log : List LogRow) (is : List Input) (n : ℕ) (bench : Whole) (told : Telling) (k : ℕ) → k ≡ 0 → Stepping given log is n bench told k → Done None given log bench told (LeavesOf given is (Ticks n))
+steps-end given log is n bench told k none s = (s.now, s.stands, s.on None s.now (subst (λ (m : ℕ). LeavesOf given s.now (Ticks m) None s.now) (sym none) ([], (refl, refl, refl))))

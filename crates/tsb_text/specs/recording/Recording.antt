@@ -12,7 +12,6 @@ use Rattle.tsb_dialog.specs.declared.error.DialogError.{DialogError}
 use Rattle.tsb_dialog.specs.declared.error.DialogError.TheVariants as dialog
 use Rattle.tsb_step.specs.tsb_history.History.{record_size}
 use Rattle.tsb_step.specs.declared.inputs.Input.{Input}
-use Rattle.tsb_step.specs.declared.inputs.Input.TheVariants as inputs
 use Rattle.tsb_step.specs.declared.inputs.Input.TheVariants.{Tick}
 use Rattle.tsb_step.specs.declared.log_form.Noted.{Noted}
 use Rattle.tsb_step.specs.Events.{events_of}
@@ -20,8 +19,6 @@ use Rattle.tsb_step.specs.Past.{Whole}
 use Rattle.tsb_step.specs.Play.{Cmd, Follows, IsRight}
 use Rattle.tsb_step.specs.Runs.{replay}
 use Rattle.tsb_step.specs.Step.{kind_of}
-use Rattle.tsb_command_text.specs.declared.command.Command.{Command}
-use Rattle.tsb_command_text.specs.declared.command.Command.TheVariants as commands
 use Rattle.tsb_log_text.specs.declared.log.LogRow.{LogRow}
 use Rattle.tsb_log_text.specs.Logs.{row_at}
 use Rattle.tsb_text.specs.Answers.{Setup}
@@ -52,11 +49,6 @@ pub record Stands (given : Setup) (log : List LogRow) (bench : Whole) (told : Te
   pub of_log : AreOfLog given is
   pub tells : told ≡ telling told.form given.plan is
 
--- an input that is no tick
-abbrev pub IsNoTick : Input → Type 0
-IsNoTick (Tick row) = ⊥
-IsNoTick i = Unit {0}
-
 -- an input was taken, or refused, which changed nothing
 abbrev pub Took : Result (Unit {0}) Refusal → Setup → List LogRow → Whole → Telling → List Input → Input → Type 0
 Took (Ok u) given log bench told is i = IsRight given.plan is (asks.Apply i) answers.Took × Stands given log bench told (i ∷ is)
@@ -77,30 +69,6 @@ GoesBack asks.Undo = Unit {0}
 GoesBack (asks.Back n) = Unit {0}
 GoesBack (asks.Seek t) = Unit {0}
 GoesBack c = ⊥
-
--- a command that takes an input that is no tick, or goes back
-abbrev pub IsChange : Cmd → Type 0
-IsChange (asks.Apply i) = IsNoTick i
-IsChange asks.Undo = Unit {0}
-IsChange (asks.Back n) = Unit {0}
-IsChange (asks.Seek t) = Unit {0}
-IsChange (asks.When w) = ⊥
-
--- what a command asks of the bench, where it is one of these
-abbrev pub change_of : Command → Option Cmd
-change_of (commands.Back n) = Some (asks.Back n)
-change_of (commands.Seek t) = Some (asks.Seek t)
-change_of commands.Undo = Some asks.Undo
-change_of (commands.Begin station) = Some (asks.Apply (inputs.Begin station))
-change_of (commands.Set station id value) = Some (asks.Apply (inputs.Set station id value))
-change_of (commands.Verify station) = Some (asks.Apply (inputs.Verify station))
-change_of (commands.Commit station) = Some (asks.Apply (inputs.Commit station))
-change_of (commands.Abort station) = Some (asks.Apply (inputs.Abort station))
-change_of (commands.Pattern number) = Some (asks.Apply (inputs.Pattern number))
-change_of (commands.Preempt number on) = Some (asks.Apply (inputs.Switch number on))
-change_of (commands.Fault lamp) = Some (asks.Apply (inputs.Fault lamp))
-change_of commands.Reset = Some (asks.Apply inputs.Reset)
-change_of c = None
 
 -- a command or a line was carried out, which leaves these inputs; and this is wrong with it, if anything
 abbrev pub Done : {F : Type 0} → F → Setup → List LogRow → Whole → Telling → (F → List Input → Type 0) → Type 0

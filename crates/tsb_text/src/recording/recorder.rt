@@ -1,5 +1,5 @@
 //! A bench, with what the inputs that remain have told.
-ghost use Rattle.std.specs.Prelude.{◌≡◌, ◌+◌, ◌∷◌, ◌++◌, [], Err, List, take, IfSome};
+ghost use Rattle.std.specs.Prelude.{◌≡◌, ◌+◌, ◌∷◌, ◌++◌, [], Err, List, take};
 ghost use Rattle.tsb_bench.specs.Held.{whole};
 ghost use Rattle.tsb_bench.specs.tsb_machine.declared.commands.Command.TheVariants.{Apply};
 ghost use Rattle.tsb_step.specs.tsb_history.declared.kinds.Kind.TheVariants.{Tick};
@@ -8,13 +8,17 @@ ghost use Rattle.tsb_types.specs.declared.refusal.Refusal.TheVariants.{Memory};
 ghost use Rattle.tsb_log_text.specs.declared.log.LogRow.{LogRow};
 ghost use Rattle.tsb_log_text.specs.Logs.{row_at};
 ghost use Rattle.tsb_text.specs.Answers.{Setup};
-ghost use Rattle.tsb_text.specs.recording.Leaves.{Asked, Does, Leaves, Steps};
+ghost use Rattle.tsb_text.specs.declared.task.Task.TheVariants as tasks;
+ghost use Rattle.tsb_text.specs.recording.Leaves.{Does, Leaves, LeavesOf};
+ghost use Rattle.tsb_text.specs.Tasks.{AppliesNoTick};
+ghost use Rattle.tsb_text.specs.kept.Kept.{IsNoTick};
 ghost use Rattle.tsb_text.specs.recording.Told.{gone_back, nothing_told};
 ghost use Rattle.tsb_text.specs.declared.recording.told.Mark.{Mark};
-ghost use Rattle.tsb_text.specs.recording.Recording.{AreOfLog, Done, GoesBack, IsChange, IsNoTick, IsWanting, Stands, Took, change_of, row_in_force};
+ghost use Rattle.tsb_text.specs.recording.Recording.{AreOfLog, Done, GoesBack, IsWanting, Stands, Took, row_in_force};
 
 use crate::LineFault;
 use crate::recording::told::Told;
+use crate::task::{Task, task_of};
 use std::alloc::Global;
 use tsb_bench::{Answer, Bench, Kind, answer};
 use tsb_command_text::{Command, Reading};
@@ -81,31 +85,31 @@ impl Recorder {
             → Done result given log.now (whole self.new.bench) self.new.told.told (Leaves given inputs command) }
         ensures form { self.new.told.told.form ≡ self.old.told.told.form }
     {
-        if let Command::Step(ticks) = command {
-            return self.step(log, ticks);
-        }
-        match change_of(command) {
-            None => None,
-            Some(change) => self.change(log, change),
+        match task_of(command) {
+            Task::Ticks(ticks) => self.step(log, ticks),
+            Task::Ask(command) => self.ask(log, command),
+            Task::Show | Task::Quit => None,
         }
     }
 
-    /// Applies an input that is no tick, or goes back, and says why the input was refused, where it was.
-    fn change(&mut self, log: &Log, change: Cmd) -> Option<Refusal>
-        ensures done { (given : Setup) (inputs : List InputValue) → IsChange change → Stands given log.now (whole self.old.bench) self.old.told.told inputs
-            → Done result given log.now (whole self.new.bench) self.new.told.told (Asked given inputs change) }
+    /// Applies an input that is no tick, or goes back, and says why the input was refused, where it was. What only asks is
+    /// not answered.
+    fn ask(&mut self, log: &Log, command: Cmd) -> Option<Refusal>
+        ensures done { (given : Setup) (inputs : List InputValue) → AppliesNoTick command → Stands given log.now (whole self.old.bench) self.old.told.told inputs
+            → Done result given log.now (whole self.new.bench) self.new.told.told (LeavesOf given inputs (tasks.Ask command)) }
         ensures form { self.new.told.told.form ≡ self.old.told.told.form }
     {
-        match change {
+        match command {
             Cmd::Apply(input) => self.apply(log, input),
-            _ => self.go_back(change),
+            Cmd::When(_) => None,
+            _ => self.go_back(command),
         }
     }
 
     /// So many ticks, with the rows of the log, up to one that is refused.
     fn step(&mut self, log: &Log, ticks: u32) -> Option<Refusal>
         ensures done { (given : Setup) (inputs : List InputValue) → Stands given log.now (whole self.old.bench) self.old.told.told inputs
-            → Done result given log.now (whole self.new.bench) self.new.told.told (Steps given inputs ticks) }
+            → Done result given log.now (whole self.new.bench) self.new.told.told (LeavesOf given inputs (tasks.Ticks ticks)) }
         ensures form { self.new.told.told.form ≡ self.old.told.told.form }
     {
         for _i in 0..ticks {
@@ -121,7 +125,7 @@ impl Recorder {
     /// Applies an input that is no tick.
     fn apply(&mut self, log: &Log, input: Input) -> Option<Refusal>
         ensures done { (given : Setup) (inputs : List InputValue) → IsNoTick input → Stands given log.now (whole self.old.bench) self.old.told.told inputs
-            → Done result given log.now (whole self.new.bench) self.new.told.told (Asked given inputs (Apply input)) }
+            → Done result given log.now (whole self.new.bench) self.new.told.told (LeavesOf given inputs (tasks.Ask (Apply input))) }
         ensures form { self.new.told.told.form ≡ self.old.told.told.form }
     {
         match self.take(log, input) {
@@ -157,7 +161,7 @@ impl Recorder {
     /// Goes back as the command says, and takes back what was told since.
     fn go_back(&mut self, command: Cmd) -> Option<Refusal>
         ensures done { (given : Setup) (log : List LogRow) (inputs : List InputValue) → GoesBack command → Stands given log (whole self.old.bench) self.old.told.told inputs
-            → Done result given log (whole self.new.bench) self.new.told.told (Asked given inputs command) }
+            → Done result given log (whole self.new.bench) self.new.told.told (LeavesOf given inputs (tasks.Ask command)) }
         ensures form { self.new.told.told.form ≡ self.old.told.told.form }
     {
         match answer(&mut self.bench, command) {
@@ -171,31 +175,6 @@ impl Recorder {
             }
             _ => None,
         }
-    }
-}
-
-/// What a command asks of the bench, where it is one input, or goes back.
-fn change_of(command: Command) -> Option<Cmd>
-    ensures is { result ≡ change_of command }
-    ensures changes { IfSome result IsChange }
-{
-    match command {
-        Command::Back(ticks) => Some(Cmd::Back(ticks)),
-        Command::Seek(tick) => Some(Cmd::Seek(tick)),
-        Command::Undo => Some(Cmd::Undo),
-        Command::Begin(station) => Some(Cmd::Apply(Input::Begin(station))),
-        Command::Set(station, id, value) => Some(Cmd::Apply(Input::Set(station, id, value))),
-        Command::Verify(station) => Some(Cmd::Apply(Input::Verify(station))),
-        Command::Commit(station) => Some(Cmd::Apply(Input::Commit(station))),
-        Command::Abort(station) => Some(Cmd::Apply(Input::Abort(station))),
-        Command::Pattern(number) => Some(Cmd::Apply(Input::Pattern(number))),
-        Command::Preempt(number, on) => Some(Cmd::Apply(Input::Switch(number, on))),
-        Command::Fault(lamp) => Some(Cmd::Apply(Input::Fault(lamp))),
-        Command::Reset => Some(Cmd::Apply(Input::Reset)),
-        Command::Step(_) => None,
-        Command::Show => None,
-        Command::Quit => None,
-        Command::When(_) => None,
     }
 }
 

@@ -83,7 +83,7 @@ left is = record { inputs = is; stop = None }
 one_tick : (given : Setup) (tick : List ℕ) → reading tick ≡ Do (Step 1) → Come Stop given (left (next_tick given [] ∷ [])) 1 [] (tick ∷ []) []
 unfolding verdict
 one_tick given tick ticks =
-    comes Stop given (left (next_tick given [] ∷ [])) 1 [] tick [] [] (Do (Step 1)) ticks (None, next_tick given [] ∷ [], [], (None, inl (refl, (refl, refl)), refl), refl, (refl, refl))
+    comes Stop given (left (next_tick given [] ∷ [])) 1 [] tick [] [] (Do (Step 1)) ticks (None, next_tick given [] ∷ [], [], (None, (_, inl ([], record { right = refl; line = refl }, (refl, refl, refl))), refl), refl, (refl, refl))
 
 -- and undone
 taken_back : (given : Setup) (tick undo : List ℕ) → reading tick ≡ Do (Step 1) → reading undo ≡ Do Undo → Come Stop given (left []) 1 [] (tick ∷ undo ∷ []) []
@@ -93,10 +93,10 @@ taken_back given tick undo ticks undoes =
       None,
       next_tick given [] ∷ [],
       [],
-      (None, inl (refl, (refl, refl)), refl),
+      (None, (_, inl ([], record { right = refl; line = refl }, (refl, refl, refl))), refl),
       refl,
       comes Stop given (left []) 2 (next_tick given [] ∷ []) undo [] [] (Do Undo) undoes
-          (None, [], [], (None, record { answer = Undone kinds.Tick; right = refl; left = refl; refused = refl }, refl), refl, (refl, refl)),
+          (None, [], [], (None, (_, record { answer = Undone kinds.Tick; right = refl; left = refl; line = refl; refused = refl }), refl), refl, (refl, refl)),
     )
 
 -- ## What is told of a line
@@ -130,7 +130,7 @@ gone_on given bad tick reads ticks =
       [],
       (refl, refl),
       refl,
-      comes GoOn given (left (next_tick given [] ∷ [])) 2 [] tick [] [] (Do (Step 1)) ticks (None, next_tick given [] ∷ [], [], (None, inl (refl, (refl, refl)), refl), refl, (refl, refl)),
+      comes GoOn given (left (next_tick given [] ∷ [])) 2 [] tick [] [] (Do (Step 1)) ticks (None, next_tick given [] ∷ [], [], (None, (_, inl ([], record { right = refl; line = refl }, (refl, refl, refl))), refl), refl, (refl, refl)),
     )
 
 -- were a strict record to end with the second such line, it would tell of two
