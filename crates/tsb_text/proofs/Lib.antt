@@ -1,3 +1,4 @@
+pub mod LaterLemmas
 pub mod WatchLemmas
 pub mod TextLemmas
 pub mod ObeyLemmas

@@ -1,4 +1,3 @@
-pub mod ToldLemmas
 pub mod TickLemmas
 pub mod AlongLemmas
 pub mod RecorderLemmas

@@ -1,3 +1,5 @@
+-- lists of things that have a tick, and back to a tick
+pub mod Later
 -- the inputs of a run that remain, kept so that they can be given again
 pub mod kept
 -- the rows that ticks take

@@ -10,6 +10,7 @@ mod error;
 mod events;
 pub mod faults;
 pub mod kept;
+mod later;
 mod lines;
 pub mod recording;
 mod rows;

@@ -16,9 +16,9 @@ use Rattle.tsb_step.specs.Step.{step}
 use Rattle.tsb_step.proofs.ClearLemmas.{one_later}
 use Rattle.tsb_step.proofs.WayLemmas.{ticks_are_counted}
 use Rattle.tsb_text.specs.declared.kept.Other.{Other}
-use Rattle.tsb_text.specs.kept.Kept.{IsNoTick, Keeping, gone_back, is_same_row, is_same_set, keeping, kept_of, last_row, new_rows, other_tick, row_behind, row_kept, row_tick, with_row}
-use Rattle.tsb_text.specs.kept.Later.{without_later}
-use Rattle.tsb_text.proofs.kept.LaterLemmas.{AreBy, AreLater, by-none, by-more, later-none, later-more, by-append, by-front, by-stays, later-gone}
+use Rattle.tsb_text.specs.kept.Kept.{IsNoTick, Keeping, gone_back, is_same_row, is_same_set, keeping, kept_of, last_row, new_rows, other_tick, row_behind, row_kept, with_row}
+use Rattle.tsb_text.specs.Later.{row_tick, without_later}
+use Rattle.tsb_text.proofs.LaterLemmas.{AreBy, AreLater, by-none, by-more, later-none, later-more, by-append, by-front, by-stays, later-gone}
 
 -- ## Tick numbers
 

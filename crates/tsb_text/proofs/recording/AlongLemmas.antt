@@ -18,9 +18,10 @@ use Rattle.tsb_step.proofs.ClearLemmas.{one_later}
 use Rattle.tsb_step.proofs.WayLemmas.{ticks_are_counted}
 use Rattle.tsb_text.specs.declared.recording.told.Mark.{Mark}
 use Rattle.tsb_text.specs.recording.Along.{noted_after, telling, told_along, with_input}
-use Rattle.tsb_text.specs.recording.Told.{Telling, event_tick, gone_back, mark_tick, without_later}
+use Rattle.tsb_text.specs.Later.{event_tick, without_later}
+use Rattle.tsb_text.specs.recording.Told.{Telling, gone_back, mark_tick}
 use Rattle.tsb_text.proofs.recording.TickLemmas.{AreAt, at-none, at-more, at-of}
-use Rattle.tsb_text.proofs.recording.ToldLemmas.{AreBy, AreLater, by-none, by-more, later-none, later-more, by-append, by-front, by-stays, later-gone}
+use Rattle.tsb_text.proofs.LaterLemmas.{AreBy, AreLater, by-none, by-more, later-none, later-more, by-append, by-front, by-stays, later-gone}
 use Rattle.tsb_text.proofs.kept.KeptLemmas.{same-now}
 
 -- ## Tick numbers

@@ -10,7 +10,7 @@ use Rattle.tsb_step.specs.declared.inputs.Input.{Input}
 use Rattle.tsb_step.specs.declared.inputs.Input.TheVariants.{Tick}
 use Rattle.tsb_step.specs.Runs.{replay}
 use Rattle.tsb_text.specs.declared.kept.Other.{Other}
-use Rattle.tsb_text.specs.kept.Later.{without_later}
+use Rattle.tsb_text.specs.Later.{row_tick, without_later}
 
 -- ## Inputs
 
@@ -80,10 +80,6 @@ kept_of plan [] = nothing_kept
 kept_of plan (i ∷ is) = with_input i (replay plan is).now (kept_of plan is)
 
 -- ## Back to a tick
-
--- the tick of a row
-abbrev pub row_tick : LogRow → ℕ
-row_tick r = r.tick
 
 -- the tick in force when another input came
 abbrev pub other_tick : Other → ℕ

@@ -1,9 +1,10 @@
 -- What inputs have told, the oldest first: their events, and a mark for each input that is no tick. It can be taken back
 -- without the inputs: the events of a tick have its number, and a mark says how many events came before its input.
-use Rattle.std.specs.Prelude.{ℕ, nat_lt, List, [], ◌∷◌, ◌++◌, length, if◌then◌else◌}
+use Rattle.std.specs.Prelude.{ℕ, List, [], ◌∷◌, ◌++◌, length}
 use Rattle.tsb_types.specs.declared.event.Event.{Event}
 use Rattle.tsb_step.specs.declared.log_form.LogForm.{LogForm}
 use Rattle.tsb_text.specs.declared.recording.told.Mark.{Mark}
+use Rattle.tsb_text.specs.Later.{event_tick, without_later}
 
 -- the form of the log, the events and the marks
 pub record Telling : Type 0 where
@@ -35,23 +36,9 @@ with_mark tick news told = record {
 
 -- ## Back to a tick
 
--- the tick of an event
-abbrev pub event_tick : Event → ℕ
-event_tick e = e.tick
-
 -- the tick of a mark
 abbrev pub mark_tick : Mark → ℕ
 mark_tick m = m.tick
-
--- it stays before others, and alone where its tick is not later than t
-abbrev pub unless_later : {X : Type 0} → (X → ℕ) → ℕ → X → List X → List X
-unless_later tick t x [] = if nat_lt t (tick x) then [] else x ∷ []
-unless_later tick t x (y ∷ ys) = x ∷ y ∷ ys
-
--- without those at the end whose tick is later than t
-abbrev pub without_later : {X : Type 0} → (X → ℕ) → ℕ → List X → List X
-without_later tick t [] = []
-without_later tick t (x ∷ xs) = unless_later tick t x (without_later tick t xs)
 
 -- what was told up to a tick
 abbrev pub gone_back : ℕ → Telling → Telling

@@ -1,9 +1,10 @@
 //! The events of inputs, which can be taken back.
 ghost use Rattle.std.specs.Prelude.{◌≡◌, ◌⊎◌, ◌<◌, ◌∷◌, ◌++◌, [], List, OnErr, OnOk, length, take};
-ghost use Rattle.tsb_text.specs.recording.Told.{gone_back, nothing_told, with_events, with_mark, without_later, event_tick, mark_tick};
+ghost use Rattle.tsb_text.specs.recording.Told.{gone_back, nothing_told, with_events, with_mark};
 ghost use Rattle.tsb_text.specs.recording.Along.{Wants, with_input};
 ghost use Rattle.tsb_text.specs.declared.recording.told.Mark.{Mark};
 
+use crate::later::{Timed, drop_later};
 use std::alloc::{AllocError, Global};
 use std::marker::Model;
 use tsb_step::Input;
@@ -17,6 +18,16 @@ pub struct Mark {
     pub tick: u32,
     /// How many events there were before it.
     pub events: usize,
+}
+
+impl Timed for Mark {
+    ghost use Rattle.tsb_text.specs.recording.Told.{mark_tick};
+
+    ghost at = { mark_tick };
+
+    fn tick(&self) -> u32 {
+        self.tick
+    }
 }
 
 /// The events of the inputs that remain, the oldest first. A contract sees the form of the log, the events and the
@@ -123,31 +134,7 @@ impl Told {
     pub fn go_back(&mut self, tick: u32)
         ensures { self.new.told ≡ gone_back tick self.old.told }
     {
-        drop_later_events(&mut self.events, tick);
-        drop_later_marks(&mut self.marks, tick);
-    }
-}
-
-/// Drops the events at the end that come later than a tick.
-fn drop_later_events(events: &mut Vec<Event>, tick: u32)
-    ensures { events.new.items ≡ without_later event_tick tick events.old.items }
-{
-    while let Some(last) = events.last() {
-        if last.tick <= tick {
-            return;
-        }
-        let _ = events.pop();
-    }
-}
-
-/// Drops the marks at the end that come later than a tick.
-fn drop_later_marks(marks: &mut Vec<Mark>, tick: u32)
-    ensures { marks.new.items ≡ without_later mark_tick tick marks.old.items }
-{
-    while let Some(last) = marks.last() {
-        if last.tick <= tick {
-            return;
-        }
-        let _ = marks.pop();
+        drop_later(&mut self.events, tick);
+        drop_later(&mut self.marks, tick);
     }
 }

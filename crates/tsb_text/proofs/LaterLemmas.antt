@@ -1,7 +1,7 @@
--- What was told later than a tick stands at the end.
+-- What came later than a tick is at the end.
 use Rattle.std.proofs.Common.{◌≡◌, ◌∙◌, ℕ, ◌+◌, ◌-◌, ◌<◌, ◌≤◌, nat_lt, true, false, List, [], ◌∷◌, ◌++◌, refl, sym, ap, rules, arith, length, take, take_all, get_or}
 use Rattle.std.proofs.lemmas.List.{take_more}
-use Rattle.tsb_text.specs.recording.Told.{unless_later, without_later}
+use Rattle.tsb_text.specs.Later.{unless_later, without_later}
 
 module _ {X : Type 0} (tick : X → ℕ) (t : ℕ) where
   -- each of them is later than t, or none is
@@ -29,7 +29,7 @@ module _ {X : Type 0} (tick : X → ℕ) (t : ℕ) where
   last-stays [] x stays = one-stays x stays
   last-stays (y ∷ ys) x stays = ap (unless_later tick t y) (last-stays ys x stays) ∙ before-some y ys x
 
-  -- the last of a list stands after all others
+  -- the last of a list comes after all others
   last-apart : (xs : List X) (x : X) → 0 < length xs → x ≡ get_or xs (length xs - 1) x → xs ≡ take (length xs - 1) xs ++ x ∷ []
   last-apart xs x some is =
       let one : length xs - 1 < length xs = omega (arith, some) in
