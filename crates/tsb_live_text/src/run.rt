@@ -25,7 +25,7 @@ use tsb_display_text::LineMaker;
 use tsb_objects::{Checked, Refusal};
 use tsb_status_text::{edits_line, plan_line, status_line};
 use tsb_text::{
-    Course, LineFault, Mode, OnFault, Rows, SessionError, fault_words, obey, when_line,
+    Course, LineFault, Mode, OnFault, Rows, SessionError, fault_of, fault_words, obey, when_line,
 };
 use tsb_types::Row;
 
@@ -348,8 +348,6 @@ fn ended_with(
 {
     match ended {
         Ok(()) => Ok(stop),
-        Err(DialogError::Read) => Err(SessionError::Read),
-        Err(DialogError::Write) => Err(SessionError::Write),
-        Err(DialogError::TooLarge) => Err(SessionError::TooLarge),
+        Err(fault) => Err(fault_of(fault)),
     }
 }

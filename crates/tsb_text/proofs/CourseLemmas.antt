@@ -26,7 +26,8 @@ use Rattle.tsb_bench.specs.tsb_step.Step.{kind_of, step, verdict}
 use Rattle.tsb_bench.specs.tsb_step.Watches.{watched}
 use Rattle.tsb_bench.specs.Held.{Held, state_of, whole}
 use Rattle.tsb_text.specs.kept.Kept.{Keeping, gone_back, keeping, kept_of, last_row, nothing_kept, row_kept, with_input}
-use Rattle.tsb_text.proofs.kept.KeptLemmas.{HasOther, gone-back, kept-row, other-undone, reached, tick-undone}
+use Rattle.tsb_text.proofs.kept.KeptLemmas.{HasOther, gone-back, kept-row, other-undone, tick-undone}
+use Rattle.tsb_text.proofs.BackLemmas.{reached}
 use Rattle.tsb_log_text.specs.declared.log.LogRow.{LogRow}
 use Rattle.tsb_text.specs.declared.course.Mode.{Mode}
 use Rattle.tsb_text.specs.declared.course.Mode.TheVariants.{Plain, Keeping as KeepsInputs, Telling}

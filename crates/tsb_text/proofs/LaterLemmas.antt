@@ -77,6 +77,3 @@ module _ {X : Type 0} (tick : X → ℕ) (t : ℕ) where
   pub by-stays : (xs : List X) → AreBy xs → without_later tick t xs ≡ xs
   by-stays [] by-none = refl
   by-stays (x ∷ xs) (by-more y ys is more) = ap (unless_later tick t x) (by-stays xs more) ∙ stays-before x xs is
-
-  pub by-front : (xs ys : List X) → AreBy xs → AreLater ys → without_later tick t (xs ++ ys) ≡ xs
-  by-front xs ys by later = later-gone xs ys later ∙ by-stays xs by

@@ -19,7 +19,7 @@ mod task;
 
 pub use answers::{obey, say_refusal, say_tick};
 pub use course::{Course, Mode};
-pub use error::SessionError;
+pub use error::{SessionError, fault_of};
 pub use faults::{LineFault, OnFault, fault_line, fault_words};
 pub use kept::{Kept, Other};
 pub use lines::{line, line_bytes, refused_line, when_line};

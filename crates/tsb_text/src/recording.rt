@@ -7,7 +7,7 @@ ghost use Rattle.tsb_text.specs.Blame.{Blames};
 ghost use Rattle.tsb_text.specs.recording.Ended.{Ended};
 ghost use Rattle.tsb_text.specs.recording.Faults.{fault_text};
 ghost use Rattle.tsb_text.specs.recording.Leaves.{flow_after, quits};
-ghost use Rattle.tsb_text.specs.recording.Recording.{IsOutcome, session_fault};
+ghost use Rattle.tsb_text.specs.recording.Recording.{IsOutcome};
 
 mod faults;
 pub mod laws;
@@ -18,12 +18,12 @@ pub use crate::recording::faults::FaultyLine;
 use crate::recording::faults::{fault_line, stop_at};
 use crate::recording::recorder::Recorder;
 pub use crate::recording::told::{Mark, Told};
-use crate::{COMMANDS, LineFault, OnFault, SessionError};
+use crate::{COMMANDS, LineFault, OnFault, SessionError, fault_of};
 use std::alloc::Global;
 use std::io::{Read, Write};
 use tsb_bench::Bench;
 use tsb_command_text::{Command, Reading, reading_of};
-use tsb_dialog::{Answers, DialogError, Flow, Pending, Watched, WriteError, converse};
+use tsb_dialog::{Answers, Flow, Pending, Watched, WriteError, converse};
 use tsb_log_text::Log;
 use tsb_objects::Checked;
 use tsb_step::log_form::LogForm;
@@ -124,17 +124,6 @@ fn tell<W: Write>(
     }
 }
 
-/// The fault of a record whose dialog ended with this one.
-fn session_fault(fault: DialogError) -> SessionError
-    ensures { result ≡ session_fault fault }
-{
-    match fault {
-        DialogError::Read => SessionError::Read,
-        DialogError::Write => SessionError::Write,
-        DialogError::TooLarge => SessionError::TooLarge,
-    }
-}
-
 /// What a record gives that this line has ended, or none.
 fn outcome_of(recorder: Recorder, stop: Option<FaultyLine>) -> Outcome
     ensures { IsOutcome result stop recorder.told.told.events }
@@ -190,7 +179,7 @@ pub fn record<R: Read, E: Write>(
         Ok(()) => Ok(outcome_of(recording.recorder, recording.stop)),
         Err(fault) => {
             drop(recording);
-            Err(session_fault(fault))
+            Err(fault_of(fault))
         }
     }
 }

@@ -8,7 +8,7 @@ ghost use Rattle.tsb_text.specs.Replies.{as_session, flow_after};
 
 use crate::answers::obey;
 use crate::course::{Course, Mode};
-use crate::error::SessionError;
+use crate::error::{SessionError, fault_of};
 use crate::rows::Rows;
 use std::alloc::Global;
 use std::io::{Read, Write};
@@ -90,9 +90,7 @@ fn as_session(ended: Result<(), DialogError>) -> Result<(), SessionError>
 {
     match ended {
         Ok(()) => Ok(()),
-        Err(DialogError::Read) => Err(SessionError::Read),
-        Err(DialogError::Write) => Err(SessionError::Write),
-        Err(DialogError::TooLarge) => Err(SessionError::TooLarge),
+        Err(fault) => Err(fault_of(fault)),
     }
 }
 

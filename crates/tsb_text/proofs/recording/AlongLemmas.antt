@@ -1,38 +1,23 @@
 -- What inputs have told is taken back with them.
-use Rattle.std.proofs.Common.{suc, ◌≡◌, ◌∙◌, ℕ, ◌+◌, ◌<◌, ◌≤◌, ◌==◌, Bool, true, false, List, [], ◌∷◌, ◌++◌, if◌then◌else◌, is_some, length, take, refl, sym, ap, subst, arith}
-use Rattle.std.proofs.lemmas.Bool.{eqb-false, eqb-true}
+use Rattle.std.proofs.Common.{◌≡◌, ◌∙◌, ℕ, ◌<◌, ◌≤◌, List, [], ◌∷◌, ◌++◌, length, take, refl, sym, ap, subst, arith}
 use Rattle.std.proofs.Math.Seq.{take-append_seam}
 use Rattle.tsb_types.specs.declared.event.Event.{Event}
 use Rattle.tsb_types.specs.declared.row.Row.{Row}
 use Rattle.tsb_step.specs.tsb_plan.Plan.{Plan}
 use Rattle.tsb_step.specs.declared.inputs.Input.{Input}
-use Rattle.tsb_step.specs.declared.inputs.Input.TheVariants.{Tick, Fault, Reset}
+use Rattle.tsb_step.specs.declared.inputs.Input.TheVariants.{Tick}
 use Rattle.tsb_step.specs.declared.log_form.LogForm.{LogForm}
 use Rattle.tsb_step.specs.Events.{events_of}
 use Rattle.tsb_step.specs.Play.{back_to}
 use Rattle.tsb_step.specs.Runs.{replay}
-use Rattle.tsb_step.specs.Signs.{watched}
-use Rattle.tsb_step.specs.State.{State, restarted}
-use Rattle.tsb_step.specs.Step.{step}
-use Rattle.tsb_step.proofs.ClearLemmas.{one_later}
-use Rattle.tsb_step.proofs.WayLemmas.{ticks_are_counted}
 use Rattle.tsb_text.specs.declared.recording.told.Mark.{Mark}
 use Rattle.tsb_text.specs.recording.Along.{noted_after, telling, told_along, with_input}
 use Rattle.tsb_text.specs.Later.{event_tick, without_later}
 use Rattle.tsb_text.specs.recording.Told.{Telling, gone_back, mark_tick}
 use Rattle.tsb_text.proofs.recording.TickLemmas.{AreAt, at-none, at-more, at-of}
-use Rattle.tsb_text.proofs.LaterLemmas.{AreBy, AreLater, by-none, by-more, later-none, later-more, by-append, by-front, by-stays, later-gone}
-use Rattle.tsb_text.proofs.kept.KeptLemmas.{same-now}
-
--- ## Tick numbers
-
--- an input that is no tick
-abbrev pub IsNoTick : Input → Type 0
-IsNoTick (Tick row) = ⊥
-IsNoTick i = Unit {0}
-
-no-less : (plan : Plan) (i : Input) (is : List Input) → (replay plan is).now ≤ (replay plan (i ∷ is)).now
-no-less plan i is = (ticks_are_counted plan).on (replay plan is) i
+use Rattle.tsb_text.specs.kept.Kept.{IsNoTick}
+use Rattle.tsb_text.proofs.BackLemmas.{back-at, no-less, same-now, undone-tick}
+use Rattle.tsb_text.proofs.LaterLemmas.{AreBy, AreLater, by-none, by-more, later-none, later-more, by-append, by-stays, later-gone}
 
 -- ## What was told up to now
 
@@ -90,43 +75,11 @@ own form plan is told same =
 made : LogForm → List Event → List Mark → Telling
 made form events marks = record { form = form; events = events; marks = marks }
 
--- a tick is taken back by going back to the tick before it
-pub tick-undone : (form : LogForm) (plan : Plan) (row : Row) (is : List Input) → gone_back (replay plan is).now (telling form plan (Tick row ∷ is)) ≡ telling form plan is
+told-stays : (form : LogForm) (plan : Plan) (is : List Input) (t : ℕ) → (replay plan is).now ≤ t → gone_back t (telling form plan is) ≡ telling form plan is
 unfolding made
-tick-undone form plan row is =
-    let before : IsBy (replay plan is).now (telling form plan is) = told-by form plan is (replay plan is).now (omega arith) in
-    let next : (replay plan (Tick row ∷ is)).now ≡ (replay plan is).now + 1 = one_later (replay plan is) row in
-    let later : (replay plan is).now < (replay plan (Tick row ∷ is)).now = omega (arith, next) in
-    let events : without_later event_tick (replay plan is).now (telling form plan (Tick row ∷ is)).events ≡ (telling form plan is).events =
-    by-front event_tick (replay plan is).now (telling form plan is).events (news form plan (Tick row) is) before.events
-    (at-later (replay plan (Tick row ∷ is)).now (replay plan is).now (news form plan (Tick row) is) later (at-of (noted_after form is) (replay plan is) (Tick row))) in
-    let marks : without_later mark_tick (replay plan is).now (telling form plan is).marks ≡ (telling form plan is).marks = by-stays mark_tick (replay plan is).now (telling form plan is).marks before.marks in
-    λ j. made (telling form plan is).form (events j) (marks j)
-
--- any other input by its mark
-pub record HasMark (form : LogForm) (plan : Plan) (i : Input) (is : List Input) : Type 0 where
-  pub mark : Mark
-  pub last : (telling form plan (i ∷ is)).marks ≡ (telling form plan is).marks ++ mark ∷ []
-  pub before : take mark.events (telling form plan (i ∷ is)).events ≡ (telling form plan is).events
-
-pub input-undone : (form : LogForm) (plan : Plan) (i : Input) (is : List Input) → IsNoTick i → HasMark form plan i is
-input-undone form plan (Tick row) is none = absurd none
-input-undone form plan i is none =
-    record { mark = mark form plan is; last = refl; before = take-append_seam (telling form plan is).events (news form plan i is) }
-
--- ## Back to a tick
-
-pub reached : (plan : Plan) (t : ℕ) (is : List Input) → t ≤ (replay plan is).now → (replay plan (back_to plan t is)).now ≡ t
-reached plan t [] le = let zero_is : (replay plan []).now ≡ 0 = (ticks_are_counted plan).begins in omega (arith, le, zero_is)
-reached plan t (i ∷ is) le = go ((replay plan (i ∷ is)).now == t) refl (λ h. reached plan t is h)
-  where
-    go : (b : Bool) → ((replay plan (i ∷ is)).now == t) ≡ b → (t ≤ (replay plan is).now → (replay plan (back_to plan t is)).now ≡ t) →
-        (replay plan (if b then i ∷ is else back_to plan t is)).now ≡ t
-    go true e later = eqb-true (replay plan (i ∷ is)).now t e
-    go false e later =
-        let other : (replay plan (i ∷ is)).now ≡ t → ⊥ = eqb-false (replay plan (i ∷ is)).now t e in
-        let one : (replay plan (i ∷ is)).now ≤ suc (replay plan is).now = (ticks_are_counted plan).by_one (replay plan is) i in
-        later (omega (arith, le, one, other))
+told-stays form plan is t le =
+    let all : IsBy t (telling form plan is) = told-by form plan is t le in
+    λ j. made (telling form plan is).form (by-stays event_tick t (telling form plan is).events all.events j) (by-stays mark_tick t (telling form plan is).marks all.marks j)
 
 -- what was told by the newest input is later than a tick before it
 newest-later : (form : LogForm) (plan : Plan) (t : ℕ) (i : Input) (is : List Input) → t ≤ (replay plan is).now → t < (replay plan (i ∷ is)).now → gone_back t (telling form plan (i ∷ is)) ≡ gone_back t (telling form plan is)
@@ -144,24 +97,23 @@ newest-later form plan t i is le lt =
     later-gone mark_tick t (telling form plan is).marks (mark form plan is ∷ []) (later-more (mark form plan is) [] here later-none) in
     λ j. made (telling form plan is).form (events j) (marks j)
 
+-- a tick is taken back by going back to the tick before it
+pub tick-undone : (form : LogForm) (plan : Plan) (row : Row) (is : List Input) → gone_back (replay plan is).now (telling form plan (Tick row ∷ is)) ≡ telling form plan is
+tick-undone form plan row is = undone-tick plan (telling form plan) gone_back (told-stays form plan) (newest-later form plan) row is
+
 pub gone-back : (form : LogForm) (plan : Plan) (t : ℕ) (is : List Input) → t ≤ (replay plan is).now → telling form plan (back_to plan t is) ≡ gone_back t (telling form plan is)
-unfolding made
-gone-back form plan t [] le = refl
-gone-back form plan t (i ∷ is) le = go ((replay plan (i ∷ is)).now == t) refl (λ h. gone-back form plan t is h)
-  where
-    go : (b : Bool) → ((replay plan (i ∷ is)).now == t) ≡ b → (t ≤ (replay plan is).now → telling form plan (back_to plan t is) ≡ gone_back t (telling form plan is)) →
-        telling form plan (if b then i ∷ is else back_to plan t is) ≡ gone_back t (telling form plan (i ∷ is))
-    go true e later =
-        let here : (replay plan (i ∷ is)).now ≡ t = eqb-true (replay plan (i ∷ is)).now t e in
-        let all : IsBy t (telling form plan (i ∷ is)) = told-by form plan (i ∷ is) t (omega (arith, here)) in
-        let events : without_later event_tick t (telling form plan (i ∷ is)).events ≡ (telling form plan (i ∷ is)).events = by-stays event_tick t (telling form plan (i ∷ is)).events all.events in
-        let marks : without_later mark_tick t (telling form plan (i ∷ is)).marks ≡ (telling form plan (i ∷ is)).marks = by-stays mark_tick t (telling form plan (i ∷ is)).marks all.marks in
-        sym (λ j. made (telling form plan (i ∷ is)).form (events j) (marks j))
-    go false e later =
-        let other : (replay plan (i ∷ is)).now ≡ t → ⊥ = eqb-false (replay plan (i ∷ is)).now t e in
-        let one : (replay plan (i ∷ is)).now ≤ suc (replay plan is).now = (ticks_are_counted plan).by_one (replay plan is) i in
-        let on : t ≤ (replay plan is).now = omega (arith, le, one, other) in
-        later on ∙ sym (newest-later form plan t i is on (omega (arith, le, other)))
+gone-back form plan t is le = back-at plan (telling form plan) gone_back (told-stays form plan) (newest-later form plan) t is le
+
+-- any other input by its mark
+pub record HasMark (form : LogForm) (plan : Plan) (i : Input) (is : List Input) : Type 0 where
+  pub mark : Mark
+  pub last : (telling form plan (i ∷ is)).marks ≡ (telling form plan is).marks ++ mark ∷ []
+  pub before : take mark.events (telling form plan (i ∷ is)).events ≡ (telling form plan is).events
+
+pub input-undone : (form : LogForm) (plan : Plan) (i : Input) (is : List Input) → IsNoTick i → HasMark form plan i is
+input-undone form plan (Tick row) is none = absurd none
+input-undone form plan i is none =
+    record { mark = mark form plan is; last = refl; before = take-append_seam (telling form plan is).events (news form plan i is) }
 
 -- ## The events
 

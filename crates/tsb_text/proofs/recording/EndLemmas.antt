@@ -19,6 +19,7 @@ use Rattle.tsb_dialog.specs.Ended as dialogs
 use Rattle.tsb_dialog.specs.Heard.{Heard, IsOver, IsSaid}
 use Rattle.tsb_text.specs.Answers.{Setup}
 use Rattle.tsb_text.specs.Blame.{Blames}
+use Rattle.tsb_text.specs.Replies.{fault_of}
 use Rattle.tsb_text.specs.declared.error.SessionError.TheVariants.{Memory}
 use Rattle.tsb_lines.specs.Lines.{lines_of}
 use Rattle.tsb_text.specs.declared.recording.faults.FaultyLine.{FaultyLine}
@@ -29,7 +30,7 @@ use Rattle.tsb_text.specs.recording.Along.{told_along}
 use Rattle.tsb_text.specs.recording.Ended.{Begins, Ended, EndedSo, IsBegun, ReadsOn, Remain, TellsWhole}
 use Rattle.tsb_text.specs.recording.Leaves.{Come, End}
 use Rattle.tsb_text.specs.recording.Lines.{Course, says}
-use Rattle.tsb_text.specs.recording.Recording.{IsOutcome, Stands, session_fault}
+use Rattle.tsb_text.specs.recording.Recording.{IsOutcome, Stands}
 use Rattle.tsb_text.specs.recording.Told.{Telling, nothing_told}
 use Rattle.tsb_text.proofs.recording.AlongLemmas.{own, told-same}
 use Rattle.tsb_text.proofs.recording.BegunLemmas.{begun-front, begun-more, carries-begun}
@@ -102,7 +103,7 @@ recorded stands w form given new i l o n outcome d tells =
 
 -- all whole lines of what may be read were told of
 pub not-recorded : {A : Type 0} (stands : A → Course → Type 0) (w : OnFault) (form : LogForm) (given : Setup) (e : DialogError) (new : A) (i l o n : Option (List ℕ)) → dialogs.Ended 202 16777216 stands says (begun w form given) (Err e) new i l o n
-    → Ended (Err (session_fault e)) w form given i l o n
+    → Ended (Err (fault_of e)) w form given i l o n
 not-recorded stands w form given dialog.Write new i l o n d = record {
   read = d.read;
   taken = d.taken;
@@ -182,7 +183,7 @@ outcome-told (Events all) stop found events told is same tells = (sym same ∙ i
 outcome-told (Stopped line) stop found events told is same tells = sym same ∙ is
 
 -- the device that a dialog blames for its fault is the one to blame for that of the record
-pub blames-fault : (fault : DialogError) (read_failed write_failed flushed : Bool) → dialog_blame.Blames (Err fault) read_failed write_failed flushed → Blames {T = Outcome} (Err (session_fault fault)) read_failed write_failed flushed
+pub blames-fault : (fault : DialogError) (read_failed write_failed flushed : Bool) → dialog_blame.Blames (Err fault) read_failed write_failed flushed → Blames {T = Outcome} (Err (fault_of fault)) read_failed write_failed flushed
 blames-fault dialog.Read read_failed write_failed flushed blames = blames
 blames-fault dialog.Write read_failed write_failed flushed blames = blames
 blames-fault dialog.TooLarge read_failed write_failed flushed blames = blames

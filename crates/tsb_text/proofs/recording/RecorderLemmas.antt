@@ -36,14 +36,15 @@ use Rattle.tsb_log_text.specs.declared.log.LogRow.{LogRow}
 use Rattle.tsb_log_text.specs.Logs.{row_at}
 use Rattle.tsb_text.specs.Answers.{Setup, next_tick}
 use Rattle.tsb_text.specs.declared.recording.told.Mark.{Mark}
-use Rattle.tsb_text.specs.recording.Along.{Wants, last_row, noted_after, telling, with_input}
+use Rattle.tsb_text.specs.recording.Along.{Wants, noted_after, telling, with_input}
 use Rattle.tsb_text.specs.recording.Leaves.{LeavesOf}
 use Rattle.tsb_text.specs.declared.task.Task.TheVariants.{Ask, Ticks}
 use Rattle.tsb_text.proofs.ObeyLemmas.{asks-once}
 use Rattle.tsb_text.specs.recording.Recording.{AreOfLog, Done, GoesBack, Stands, Took, noted_at, row_in_force}
 use Rattle.tsb_text.specs.recording.Told.{Kept, Telling, gone_back}
-use Rattle.tsb_text.specs.kept.Kept.{IsNoTick}
-use Rattle.tsb_text.proofs.recording.AlongLemmas.{HasMark, gone-back, input-undone, own, reached, same-form, same-now, tick-undone}
+use Rattle.tsb_text.specs.kept.Kept.{IsNoTick, last_row}
+use Rattle.tsb_text.proofs.BackLemmas.{reached, same-now}
+use Rattle.tsb_text.proofs.recording.AlongLemmas.{HasMark, gone-back, input-undone, own, same-form, tick-undone}
 
 -- ## The row before
 

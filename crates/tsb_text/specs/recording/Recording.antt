@@ -8,8 +8,6 @@ use Rattle.tsb_bench.specs.tsb_machine.declared.commands.Answer.TheVariants as a
 use Rattle.tsb_bench.specs.tsb_machine.declared.commands.Command.TheVariants as asks
 use Rattle.tsb_bench.specs.Held.{Held, state_of}
 use Rattle.tsb_bench.specs.Cabinet.{most_cells}
-use Rattle.tsb_dialog.specs.declared.error.DialogError.{DialogError}
-use Rattle.tsb_dialog.specs.declared.error.DialogError.TheVariants as dialog
 use Rattle.tsb_step.specs.tsb_history.History.{record_size}
 use Rattle.tsb_step.specs.declared.inputs.Input.{Input}
 use Rattle.tsb_step.specs.declared.inputs.Input.TheVariants.{Tick}
@@ -22,8 +20,6 @@ use Rattle.tsb_step.specs.Step.{kind_of}
 use Rattle.tsb_log_text.specs.declared.log.LogRow.{LogRow}
 use Rattle.tsb_log_text.specs.Logs.{row_at}
 use Rattle.tsb_text.specs.Answers.{Setup}
-use Rattle.tsb_text.specs.declared.error.SessionError.{SessionError}
-use Rattle.tsb_text.specs.declared.error.SessionError.TheVariants.{Read, TooLarge, Write}
 use Rattle.tsb_text.specs.declared.recording.faults.FaultyLine.{FaultyLine}
 use Rattle.tsb_text.specs.declared.recording.Outcome.{Outcome}
 use Rattle.tsb_text.specs.declared.recording.Outcome.TheVariants.{Events, Stopped}
@@ -80,9 +76,3 @@ Done fault given log bench told Leaves = (left : List Input) × Stands given log
 abbrev pub IsOutcome : Outcome → Option FaultyLine → List Event → Type 0
 IsOutcome (Events all) stop events = (stop ≡ None) × (all.items ≡ events)
 IsOutcome (Stopped line) stop events = stop ≡ Some line
-
--- the fault of a record whose dialog ended with this one
-abbrev pub session_fault : DialogError → SessionError
-session_fault dialog.Read = Read
-session_fault dialog.Write = Write
-session_fault dialog.TooLarge = TooLarge

@@ -28,13 +28,13 @@ returns-in-Err-clause-ended g c =
     let given : Setup = record { plan = checked_plan c.args.plan; log = c.args.log.now } in
     let stands : Stands given c.args.log.now (whole c.new.result.bench) c.new.result.told.told [] =
     stands-start (checked_plan c.args.plan) c.args.log.now c.args.options.form c.in-Ok.bench c.new.result.bench c.new.result.told.told c.in-Ok.ensures c.new.ensures.bench c.new.ensures.told in
-    rw c.session_fault.ensures (not-recorded _ c.args.options.on_fault c.args.options.form given c.in-Err.fault c.converse.new.answers _ _ _ _ (c.in-Err.ensures.ended (begun c.args.options.on_fault c.args.options.form given) (stands, refl, ap (λ (t : Telling). t.form) c.new.ensures.told, refl)))
+    rw c.fault_of.ensures (not-recorded _ c.args.options.on_fault c.args.options.form given c.in-Err.fault c.converse.new.answers _ _ _ _ (c.in-Err.ensures.ended (begun c.args.options.on_fault c.args.options.form given) (stands, refl, ap (λ (t : Telling). t.form) c.new.ensures.told, refl)))
 
 pub returns-in-Ok-converse-clause-blame : goal.returns-in-Ok-converse-clause-blame
 returns-in-Ok-converse-clause-blame g c = c.in-Ok-converse.ensures.blame
 
 pub returns-in-Err-clause-blame : goal.returns-in-Err-clause-blame
-returns-in-Err-clause-blame g c = rw c.session_fault.ensures (blames-fault c.in-Err.fault _ _ _ c.in-Err.ensures.blame)
+returns-in-Err-clause-blame g c = rw c.fault_of.ensures (blames-fault c.in-Err.fault _ _ _ c.in-Err.ensures.blame)
 
 pub returns-in_default-clause-blame : goal.returns-in_default-clause-blame
 returns-in_default-clause-blame g c = (c.requires.reads, c.requires.writes, c.requires.flushed)
