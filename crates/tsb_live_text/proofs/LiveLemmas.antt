@@ -21,15 +21,16 @@ use Rattle.tsb_dialog.specs.Says.{Answered}
 use Rattle.tsb_dialog.proofs.SaidLemmas.{said-nothing, until-more}
 use Rattle.tsb_text.specs.Answers.{display_line, refused_line}
 use Rattle.tsb_text.specs.declared.course.Mode.{Mode}
-use Rattle.tsb_text.specs.declared.course.Mode.TheVariants.{Plain, Keeping as KeepsInputs, Telling}
+use Rattle.tsb_text.specs.declared.course.Mode.TheVariants.{Plain, Keeping as KeepsInputs, Telling, Recording}
 use Rattle.tsb_text.specs.declared.faults.LineFault.{LineFault}
 use Rattle.tsb_text.specs.declared.faults.LineFault.TheVariants as faults
 use Rattle.tsb_text.specs.declared.faults.OnFault.{OnFault}
-use Rattle.tsb_text.specs.Obeyed.{Done, IsKept, Keeps, OnCourse, Stands, besides_of, mode_with, tells_in}
+use Rattle.tsb_text.specs.Obeyed.{Done, IsKept, Keeps, OnCourse, Stands, besides_of, holding, mode_with, tells_in}
 use Rattle.tsb_text.specs.Obeys as session
 use Rattle.tsb_text.specs.Obeys.{Besides}
 use Rattle.tsb_text.specs.Tasks.{task_of}
-use Rattle.tsb_text.proofs.CourseLemmas.{course-begins, follows-state, is-kept}
+use Rattle.tsb_text.proofs.CourseLemmas.{course-begins, follows-state, is-kept, not-recorded}
+use Rattle.tsb_text.specs.recording.Told.{nothing_told}
 use Rattle.tsb_text.specs.declared.rows.Rows.TheVariants.{Held as HeldRow}
 use Rattle.tsb_text.specs.Rows.{rows_in}
 use Rattle.tsb_command_text.specs.declared.live_command.LiveCommand.{LiveCommand}
@@ -78,9 +79,9 @@ stands-on run new s left stands course mode row echoes on_fault stop = record {
 }
 
 -- a row was given
-pub row-stands : (run new : LiveRun) (s : Live) (row : Row) → StandsLive run s → new.course ≡ run.course → new.row ≡ row → new.echoes ≡ run.echoes → new.on_fault ≡ run.on_fault → new.stop ≡ run.stop → StandsLive new (with_row row s)
+pub row-stands : (run new : LiveRun) (s : Live) (row : Row) → StandsLive run s → new.course ≡ holding row run.course → new.row ≡ row → new.echoes ≡ run.echoes → new.on_fault ≡ run.on_fault → new.stop ≡ run.stop → StandsLive new (with_row row s)
 row-stands run new s row stands course given echoes on_fault stop = record {
-  stands = subst (λ (x : OnCourse). Stands (setup (with_row row s)) (rows_in (HeldRow row)) x s.inputs) (sym course) (record { same = refl; follows = stands.stands.follows; keeps = stands.stands.keeps });
+  stands = subst (λ (x : OnCourse). Stands (setup (with_row row s)) (rows_in (HeldRow row)) x s.inputs) (sym course) (record { same = refl; rows = refl; follows = stands.stands.follows; keeps = stands.stands.keeps; tells = not-recorded run.course.mode run.course.told.told (setup (with_row row s)) s.inputs stands.keeps });
   keeps = subst (λ (x : OnCourse). Keeps x.mode) (sym course) stands.keeps;
   row = given;
   tells = ap (λ (x : OnCourse). tells_in x.mode) course ∙ stands.tells;
@@ -92,6 +93,7 @@ row-stands run new s row stands course given echoes on_fault stop = record {
 -- inputs tell their events from now on, or not
 mode-keeps : (on : Bool) (m : Mode) → Keeps m → Keeps (mode_with on m)
 mode-keeps on Plain k = absurd k
+mode-keeps on (Recording form) k = absurd k
 mode-keeps true KeepsInputs k = tt
 mode-keeps false KeepsInputs k = tt
 mode-keeps true Telling k = tt
@@ -99,6 +101,7 @@ mode-keeps false Telling k = tt
 
 mode-tells : (on : Bool) (m : Mode) → Keeps m → tells_in (mode_with on m) ≡ on
 mode-tells on Plain k = absurd k
+mode-tells on (Recording form) k = absurd k
 mode-tells true KeepsInputs k = refl
 mode-tells false KeepsInputs k = refl
 mode-tells true Telling k = refl
@@ -106,19 +109,22 @@ mode-tells false Telling k = refl
 
 mode-kept : (on : Bool) (m : Mode) (kept : Keeping) (plan : Plan) (is : List Input) → Keeps m → IsKept m kept plan is → IsKept (mode_with on m) kept plan is
 mode-kept on Plain kept plan is k same = absurd k
+mode-kept on (Recording form) kept plan is k same = absurd k
 mode-kept true KeepsInputs kept plan is k same = same
 mode-kept false KeepsInputs kept plan is k same = same
 mode-kept true Telling kept plan is k same = same
 mode-kept false Telling kept plan is k same = same
 
-pub events-stands : (run new : LiveRun) (s : Live) (on : Bool) → StandsLive run s → new.course.mode ≡ mode_with on run.course.mode → new.course.bench ≡ run.course.bench → new.course.kept ≡ run.course.kept
+pub events-stands : (run new : LiveRun) (s : Live) (on : Bool) → StandsLive run s → new.course.mode ≡ mode_with on run.course.mode → new.course.bench ≡ run.course.bench → new.course.rows ≡ run.course.rows → new.course.kept ≡ run.course.kept
     → new.row ≡ run.row → new.echoes ≡ run.echoes → new.on_fault ≡ run.on_fault → new.stop ≡ run.stop → StandsLive new (with_events on s)
-events-stands run new s on stands mode bench kept row echoes on_fault stop = record {
+events-stands run new s on stands mode bench rows kept row echoes on_fault stop = record {
   stands = record {
     same = stands.stands.same;
+    rows = rows ∙ stands.stands.rows;
     follows = subst (λ (b : Held). Follows s.plan (whole b) s.inputs) (sym bench) stands.stands.follows;
     keeps = subst (λ (m : Mode). IsKept m new.course.kept s.plan s.inputs) (sym mode)
         (subst (λ (k : Keeping). IsKept (mode_with on run.course.mode) k s.plan s.inputs) (sym kept) (mode-kept on run.course.mode run.course.kept s.plan s.inputs stands.keeps stands.stands.keeps));
+    tells = not-recorded new.course.mode new.course.told.told (setup s) s.inputs (subst Keeps (sym mode) (mode-keeps on run.course.mode stands.keeps));
   };
   keeps = subst Keeps (sym mode) (mode-keeps on run.course.mode stands.keeps);
   row = row ∙ stands.row;
@@ -141,10 +147,10 @@ echo-stands run new s on stands course row echoes on_fault stop = record {
 }
 
 -- at power-up
-pub run-begins : (on_fault : OnFault) (plan : Plan) (run : LiveRun) → run.course.mode ≡ KeepsInputs → run.on_fault ≡ on_fault → Follows plan (whole run.course.bench) [] → run.course.kept ≡ nothing_kept → run.row ≡ all_off
+pub run-begins : (on_fault : OnFault) (plan : Plan) (run : LiveRun) → run.course.mode ≡ KeepsInputs → run.on_fault ≡ on_fault → Follows plan (whole run.course.bench) [] → run.course.rows ≡ rows_in (HeldRow all_off) → run.course.kept ≡ nothing_kept → run.course.told.told ≡ nothing_told → run.row ≡ all_off
     → run.echoes ≡ false → run.stop ≡ None → StandsLive run (begun on_fault plan)
-run-begins on_fault plan run mode strict follows kept row echoes stop = record {
-  stands = course-begins (setup (begun on_fault plan)) (rows_in (HeldRow all_off)) run.course refl follows kept;
+run-begins on_fault plan run mode strict follows rows kept told row echoes stop = record {
+  stands = course-begins (setup (begun on_fault plan)) (rows_in (HeldRow all_off)) run.course refl rows follows kept told;
   keeps = subst Keeps (sym mode) tt;
   row = row;
   tells = ap tells_in mode;
@@ -189,19 +195,6 @@ changes-so run s line echo n stands is = λ text refusal left o.
     subst (λ (x : Besides). Changes s.plan x s.row s.inputs (display_line (present s)) false n text refusal left) (same-besides run s line echo stands is)
     (subst (λ (r : Row). Changes s.plan (besides_of run.course echo) r s.inputs (display_line (present s)) false n text refusal left) stands.row
     (subst (λ (v : State). Changes s.plan (besides_of run.course echo) run.row s.inputs (display_line v) false n text refusal left) (present-state run s stands) o))
-
--- the rows of a run are those of the row last given
-pub held-stands : (run : LiveRun) (s : Live) → StandsLive run s → Stands (setup s) (rows_in (HeldRow run.row)) run.course s.inputs
-held-stands run s stands = subst (λ (r : Row). Stands (setup s) (rows_in (HeldRow r)) run.course s.inputs) (sym stands.row) stands.stands
-
-pub held-done : (r : Result (Option Refusal) WriteError) (run : LiveRun) (course : OnCourse) (s : Live) (P : List ℕ → Option Refusal → List Input → Type 0) (a b : Option (List ℕ)) (p q : List ℕ)
-    → StandsLive run s → Done r (setup s) (rows_in (HeldRow run.row)) course P a b p q → Done r (setup s) (rows_in (HeldRow s.row)) course P a b p q
-held-done r run course s P a b p q stands d = subst (λ (x : Row). Done r (setup s) (rows_in (HeldRow x)) course P a b p q) stands.row d
-
-pub held-obeyed : (r : Result (Option Refusal) WriteError) (run : LiveRun) (course : OnCourse) (s : Live) (echo : List ℕ) (c : Command) (a b : Option (List ℕ)) (p q : List ℕ) → StandsLive run s
-    → Done r (setup s) (rows_in (HeldRow run.row)) course (session.Obeys (setup s) (besides_of run.course echo) s.inputs (task_of c)) a b p q
-    → Done r (setup s) (rows_in (HeldRow s.row)) course (session.Obeys (setup s) (besides_of run.course echo) s.inputs (task_of c)) a b p q
-held-obeyed r run course s echo c a b p q stands d = held-done r run course s (session.Obeys (setup s) (besides_of run.course echo) s.inputs (task_of c)) a b p q stands d
 
 -- ## Answers of one line
 

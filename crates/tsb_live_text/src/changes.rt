@@ -7,7 +7,7 @@ ghost use Rattle.tsb_live_text.specs.Changes.{Changes, owed, shows_same};
 ghost use Rattle.tsb_log_text.specs.declared.log.LogRow.{LogRow};
 ghost use Rattle.tsb_step.specs.declared.inputs.Input.{Input as InputValue};
 ghost use Rattle.tsb_text.specs.Answers.{Setup, display_line, refused_line};
-ghost use Rattle.tsb_text.specs.Obeyed.{Done, Stands, besides_of, news_in};
+ghost use Rattle.tsb_text.specs.Obeyed.{Done, Keeps, Stands, besides_of, news_in};
 
 use std::io::Write;
 use tsb_bench::Input;
@@ -34,7 +34,7 @@ pub(crate) fn changes<W: Write>(
     pending: &mut Pending,
     writer: &mut Watched<W>,
 ) -> Result<Option<Refusal>, WriteError>
-    ensures done { (given : Setup) (log : List LogRow) (inputs : List InputValue) → Stands given log course.old inputs
+    ensures done { (given : Setup) (log : List LogRow) (inputs : List InputValue) → Stands given log course.old inputs → Keeps course.old.mode
         → Done result given log course.new (Changes given.plan (besides_of course.old echo.now) row inputs (display_line (state_of course.old.bench)) false ticks) (W.contents writer.old.device) (W.contents writer.new.device) pending.old pending.new }
     ensures mode { course.new.mode ≡ course.old.mode }
     ensures blame { writer.old.failed ≡ false → AfterCalls result writer.new.failed }

@@ -37,10 +37,10 @@ const ECHO: usize = 203;
 
 /// A live run between two lines.
 #[derive(Drop)]
-struct LiveRun {
+struct LiveRun<'a> {
     alloc: Global,
     /// The bench, with what is kept of its inputs.
-    course: Course,
+    course: Course<'a>,
     /// What makes its display lines.
     lines: LineMaker,
     /// The row last given. All inputs are off before the first.
@@ -53,7 +53,7 @@ struct LiveRun {
     stop: Option<Stop>,
 }
 
-impl Answers for LiveRun {
+impl Answers for LiveRun<'_> {
     ghost use Rattle.tsb_live_text.specs.Live.{Live, Says};
     ghost use Rattle.tsb_live_text.specs.Standing.{StandsLive};
 
@@ -77,7 +77,7 @@ impl Answers for LiveRun {
     }
 }
 
-impl LiveRun {
+impl LiveRun<'_> {
     /// Answers what a line asks, and tells what is wrong with it, if something is.
     fn read<W: Write>(
         &mut self,
@@ -99,6 +99,7 @@ impl LiveRun {
             }
             LiveReading::Tick(row) => {
                 self.row = row;
+                self.course.hold(row);
                 self.obey(Command::Step(1), line, pending, writer)
             }
             LiveReading::Ask(command) => self.ask(command, line, pending, writer),
@@ -132,11 +133,9 @@ impl LiveRun {
         ensures blame { writer.old.failed ≡ false → AfterCalls result writer.new.failed }
     {
         let echo = self.echo(line);
-        let mut rows = Rows::Held(self.row);
         let refusal = obey(
             &mut self.course,
             &mut self.lines,
-            &mut rows,
             command,
             &echo,
             pending,
@@ -326,11 +325,12 @@ pub fn live<R: Read, W: Write>(
     let Ok(bench) = Bench::power_up(alloc, plan) else {
         return Err(SessionError::Memory);
     };
+    let row = Row::all_off();
     let mut run = LiveRun {
         alloc,
-        course: Course::new(alloc, bench, Mode::Keeping),
+        course: Course::new(alloc, bench, Rows::Held(row), Mode::Keeping),
         lines: LineMaker::new(),
-        row: Row::all_off(),
+        row,
         echoes: false,
         on_fault,
         stop: None,

@@ -1,8 +1,7 @@
 //! The inputs that remain, which can be taken back.
-ghost use Rattle.std.specs.Prelude.{◌≡◌, ◌≤◌, ◌∷◌, ◌++◌, [], List, OnErr, OnOk};
+ghost use Rattle.std.specs.Prelude.{◌≡◌, ◌≤◌, OnErr, OnOk};
 ghost use Rattle.tsb_step.specs.Step.{last_tick};
-ghost use Rattle.tsb_text.specs.kept.Kept.{gone_back, is_same_row, nothing_kept, row_kept, with_input, with_other, with_row};
-ghost use Rattle.tsb_text.specs.declared.kept.Other.{Other};
+ghost use Rattle.tsb_text.specs.kept.Kept.{DropsOther, gone_back, is_same_row, nothing_kept, row_kept, with_input, with_other, with_row};
 
 mod changed;
 pub mod laws;
@@ -119,8 +118,7 @@ impl Kept {
 
     /// Takes the newest input away that is no tick.
     pub fn undo_other(&mut self)
-        ensures { (others : List Other) (last : Other) → self.old.others ≡ others ++ last ∷ []
-            → self.new ≡ record { rows = self.old.rows; others = others } }
+        ensures { DropsOther self.old self.new }
     {
         let _ = self.others.pop();
     }

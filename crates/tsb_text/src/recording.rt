@@ -16,9 +16,9 @@ mod told;
 
 pub use crate::recording::faults::FaultyLine;
 use crate::recording::faults::{fault_line, stop_at};
-use crate::recording::recorder::Recorder;
+use crate::recording::recorder::carry_out;
 pub use crate::recording::told::{Mark, Told};
-use crate::{COMMANDS, LineFault, OnFault, SessionError, fault_of};
+use crate::{COMMANDS, Course, LineFault, Mode, OnFault, Rows, SessionError, fault_of};
 use std::alloc::Global;
 use std::io::{Read, Write};
 use tsb_bench::Bench;
@@ -47,12 +47,10 @@ pub enum Outcome {
     Stopped(FaultyLine),
 }
 
-/// What carries out the commands of a record: the bench with what was told, and the log that its ticks take their rows
-/// from.
+/// What carries out the commands of a record.
 #[derive(Drop)]
 struct Recording<'a> {
-    recorder: Recorder,
-    log: &'a Log,
+    course: Course<'a>,
     on_fault: OnFault,
     /// The line that ended the record, once it has come.
     stop: Option<FaultyLine>,
@@ -60,13 +58,13 @@ struct Recording<'a> {
 
 impl Answers for Recording<'_> {
     ghost use Rattle.std.specs.Prelude.{◌≡◌};
-    ghost use Rattle.tsb_bench.specs.Held.{whole};
-    ghost use Rattle.tsb_text.specs.recording.Lines.{Course, says};
-    ghost use Rattle.tsb_text.specs.recording.Recording.{Stands};
+    ghost use Rattle.tsb_text.specs.Obeyed.{Stands};
+    ghost use Rattle.tsb_text.specs.declared.course.Mode.TheVariants as modes;
+    ghost use Rattle.tsb_text.specs.recording.Lines.{Course as RecordCourse, says};
 
-    ghost State = { Course };
+    ghost State = { RecordCourse };
 
-    ghost stands = { λ r s. Stands s.given r.log.now (whole r.recorder.bench) r.recorder.told.told s.end.inputs × (r.on_fault ≡ s.on_fault) × (r.recorder.told.told.form ≡ s.form) × (r.stop ≡ s.end.stop) };
+    ghost stands = { λ r s. Stands s.given s.given.log r.course s.end.inputs × (r.on_fault ≡ s.on_fault) × (r.course.mode ≡ modes.Recording s.form) × (r.stop ≡ s.end.stop) };
 
     ghost says = { says };
 
@@ -79,7 +77,7 @@ impl Answers for Recording<'_> {
     ) -> Result<Flow, WriteError> {
         let reading = reading_of(line);
         let is_quit = quits(&reading);
-        let fault = self.recorder.carry_out(self.log, reading);
+        let fault = carry_out(&mut self.course, reading);
         self.stop = stop_at(self.on_fault, number, fault);
         tell(number, line, &fault, pending, writer)?;
         Ok(flow_after(is_quit, self.stop))
@@ -125,15 +123,15 @@ fn tell<W: Write>(
 }
 
 /// What a record gives that this line has ended, or none.
-fn outcome_of(recorder: Recorder, stop: Option<FaultyLine>) -> Outcome
-    ensures { IsOutcome result stop recorder.told.told.events }
+fn outcome_of(course: Course, stop: Option<FaultyLine>) -> Outcome
+    ensures { IsOutcome result stop course.entry.told.told.events }
 {
     match stop {
         Some(line) => {
-            drop(recorder);
+            drop(course);
             Outcome::Stopped(line)
         }
-        None => Outcome::Events(recorder.into_events()),
+        None => Outcome::Events(course.into_events()),
     }
 }
 
@@ -169,14 +167,14 @@ pub fn record<R: Read, E: Write>(
     let Ok(bench) = Bench::power_up(alloc, plan) else {
         return Err(SessionError::Memory);
     };
+    let rows = Rows::OfLog { log, place: 0 };
     let mut recording = Recording {
-        recorder: Recorder::new(alloc, bench, options.form),
-        log,
+        course: Course::new(alloc, bench, rows, Mode::Recording(options.form)),
         on_fault: options.on_fault,
         stop: None,
     };
     match converse(&mut recording, COMMANDS, reader, errors) {
-        Ok(()) => Ok(outcome_of(recording.recorder, recording.stop)),
+        Ok(()) => Ok(outcome_of(recording.course, recording.stop)),
         Err(fault) => {
             drop(recording);
             Err(fault_of(fault))

@@ -28,19 +28,17 @@ const _: () = prove!(KEPT == LINE + 2);
 /// A bench that does what lines ask.
 #[derive(Drop)]
 struct Machine<'a> {
-    course: Course,
+    course: Course<'a>,
     lines: LineMaker,
-    rows: Rows<'a>,
 }
 
 impl Answers for Machine<'_> {
     ghost use Rattle.tsb_text.specs.Obeyed.{StandsPlain};
     ghost use Rattle.tsb_text.specs.Replies.{Stand, says};
-    ghost use Rattle.tsb_text.specs.Rows.{rows_in};
 
     ghost State = { Stand };
 
-    ghost stands = { λ machine stand. StandsPlain stand.given (rows_in machine.rows) machine.course stand.inputs };
+    ghost stands = { λ machine stand. StandsPlain stand.given stand.given.log machine.course stand.inputs };
 
     ghost says = { says };
 
@@ -62,7 +60,6 @@ impl Answers for Machine<'_> {
                 obey(
                     &mut self.course,
                     &mut self.lines,
-                    &mut self.rows,
                     command,
                     b"",
                     pending,
@@ -118,12 +115,10 @@ pub fn session<R: Read, W: Write>(
     let Ok(bench) = Bench::power_up(alloc, plan) else {
         return Err(SessionError::Memory);
     };
-    let course = Course::new(alloc, bench, Mode::Plain);
     let rows = Rows::OfLog { log, place: 0 };
     let mut machine = Machine {
-        course,
+        course: Course::new(alloc, bench, rows, Mode::Plain),
         lines: LineMaker::new(),
-        rows,
     };
     as_session(converse(&mut machine, COMMANDS, reader, writer))
 }

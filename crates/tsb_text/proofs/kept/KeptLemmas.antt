@@ -12,7 +12,7 @@ use Rattle.tsb_step.specs.Play.{back_to}
 use Rattle.tsb_step.specs.Runs.{replay}
 use Rattle.tsb_step.proofs.ClearLemmas.{one_later}
 use Rattle.tsb_text.specs.declared.kept.Other.{Other}
-use Rattle.tsb_text.specs.kept.Kept.{IsNoTick, Keeping, gone_back, is_same_row, is_same_set, keeping, kept_of, last_row, new_rows, other_tick, row_behind, row_kept, with_row}
+use Rattle.tsb_text.specs.kept.Kept.{DropsOther, IsNoTick, Keeping, gone_back, is_same_row, is_same_set, keeping, kept_of, last_row, new_rows, other_tick, row_behind, row_kept, with_row}
 use Rattle.tsb_text.specs.Later.{row_tick, without_later}
 use Rattle.tsb_text.proofs.BackLemmas.{back-at, no-less, same-now, undone-tick}
 use Rattle.tsb_text.proofs.LaterLemmas.{AreBy, AreLater, by-none, by-more, later-none, later-more, by-append, by-stays, later-gone}
@@ -124,3 +124,8 @@ pub record HasOther (plan : Plan) (i : Input) (is : List Input) : Type 0 where
 pub other-undone : (plan : Plan) (i : Input) (is : List Input) → IsNoTick i → HasOther plan i is
 other-undone plan (Tick row) is none = absurd none
 other-undone plan i is none = record { others = (kept_of plan is).others; o = other plan i is; last = refl; before = refl }
+
+pub other-dropped : (plan : Plan) (i : Input) (is : List Input) (new : Keeping) → IsNoTick i → DropsOther (kept_of plan (i ∷ is)) new → new ≡ kept_of plan is
+other-dropped plan i is new none drops =
+    let has : HasOther plan i is = other-undone plan i is none in
+    drops has.others has.o has.last ∙ has.before

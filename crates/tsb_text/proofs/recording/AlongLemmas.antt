@@ -11,9 +11,9 @@ use Rattle.tsb_step.specs.Events.{events_of}
 use Rattle.tsb_step.specs.Play.{back_to}
 use Rattle.tsb_step.specs.Runs.{replay}
 use Rattle.tsb_text.specs.declared.recording.told.Mark.{Mark}
-use Rattle.tsb_text.specs.recording.Along.{noted_after, telling, told_along, with_input}
+use Rattle.tsb_text.specs.recording.Along.{noted_after, telling, told_along}
 use Rattle.tsb_text.specs.Later.{event_tick, without_later}
-use Rattle.tsb_text.specs.recording.Told.{Telling, gone_back, mark_tick}
+use Rattle.tsb_text.specs.recording.Told.{DropsMark, Telling, gone_back, mark_tick}
 use Rattle.tsb_text.proofs.recording.TickLemmas.{AreAt, at-none, at-more, at-of}
 use Rattle.tsb_text.specs.kept.Kept.{IsNoTick}
 use Rattle.tsb_text.proofs.BackLemmas.{back-at, no-less, same-now, undone-tick}
@@ -56,30 +56,16 @@ told-by form plan (i ∷ is) t le =
       marks = by-append mark_tick t (telling form plan is).marks (mark form plan is ∷ []) before.marks (by-more (mark form plan is) [] here by-none);
     }
 
--- the form stays
-pub same-form : (i : Input) (tick : ℕ) (news : List Event) (told : Telling) → (with_input i tick news told).form ≡ told.form
-same-form (Tick row) tick news told = refl
-same-form i tick news told = refl
-
-pub telling-form : (form : LogForm) (plan : Plan) (is : List Input) → (telling form plan is).form ≡ form
-telling-form form plan [] = refl
-telling-form form plan (i ∷ is) = same-form i _ _ (telling form plan is) ∙ telling-form form plan is
-
--- so the events in a log of this form are those in one of its own
-pub own : (form : LogForm) (plan : Plan) (is : List Input) (told : Telling) → told ≡ telling form plan is → told ≡ telling told.form plan is
-own form plan is told same =
-    same ∙ ap (λ (f : LogForm). telling f plan is) (sym (ap (λ (t : Telling). t.form) same ∙ telling-form form plan is))
-
 -- ## Taken back
 
-made : LogForm → List Event → List Mark → Telling
-made form events marks = record { form = form; events = events; marks = marks }
+made : List Event → List Mark → Telling
+made events marks = record { events = events; marks = marks }
 
 told-stays : (form : LogForm) (plan : Plan) (is : List Input) (t : ℕ) → (replay plan is).now ≤ t → gone_back t (telling form plan is) ≡ telling form plan is
 unfolding made
 told-stays form plan is t le =
     let all : IsBy t (telling form plan is) = told-by form plan is t le in
-    λ j. made (telling form plan is).form (by-stays event_tick t (telling form plan is).events all.events j) (by-stays mark_tick t (telling form plan is).marks all.marks j)
+    λ j. made (by-stays event_tick t (telling form plan is).events all.events j) (by-stays mark_tick t (telling form plan is).marks all.marks j)
 
 -- what was told by the newest input is later than a tick before it
 newest-later : (form : LogForm) (plan : Plan) (t : ℕ) (i : Input) (is : List Input) → t ≤ (replay plan is).now → t < (replay plan (i ∷ is)).now → gone_back t (telling form plan (i ∷ is)) ≡ gone_back t (telling form plan is)
@@ -87,7 +73,7 @@ unfolding made
 newest-later form plan t (Tick row) is le lt =
     let events : without_later event_tick t (telling form plan (Tick row ∷ is)).events ≡ without_later event_tick t (telling form plan is).events =
     later-gone event_tick t (telling form plan is).events (news form plan (Tick row) is) (at-later (replay plan (Tick row ∷ is)).now t (news form plan (Tick row) is) lt (at-of (noted_after form is) (replay plan is) (Tick row))) in
-    λ j. made (telling form plan is).form (events j) (without_later mark_tick t (telling form plan is).marks)
+    λ j. made (events j) (without_later mark_tick t (telling form plan is).marks)
 newest-later form plan t i is le lt =
     let same : (replay plan (i ∷ is)).now ≡ (replay plan is).now = same-now (replay plan is) i tt in
     let here : t < (replay plan is).now = omega (arith, lt, same) in
@@ -95,7 +81,7 @@ newest-later form plan t i is le lt =
     later-gone event_tick t (telling form plan is).events (news form plan i is) (at-later (replay plan (i ∷ is)).now t (news form plan i is) lt (at-of (noted_after form is) (replay plan is) i)) in
     let marks : without_later mark_tick t (telling form plan (i ∷ is)).marks ≡ without_later mark_tick t (telling form plan is).marks =
     later-gone mark_tick t (telling form plan is).marks (mark form plan is ∷ []) (later-more (mark form plan is) [] here later-none) in
-    λ j. made (telling form plan is).form (events j) (marks j)
+    λ j. made (events j) (marks j)
 
 -- a tick is taken back by going back to the tick before it
 pub tick-undone : (form : LogForm) (plan : Plan) (row : Row) (is : List Input) → gone_back (replay plan is).now (telling form plan (Tick row ∷ is)) ≡ telling form plan is
@@ -121,3 +107,10 @@ pub told-same : (form : LogForm) (plan : Plan) (is : List Input) → (telling fo
 told-same form plan [] = refl
 told-same form plan (Tick row ∷ is) = ap (λ (es : List Event). es ++ events_of (noted_after form is) (replay plan is) (Tick row)) (told-same form plan is)
 told-same form plan (i ∷ is) = ap (λ (es : List Event). es ++ events_of (noted_after form is) (replay plan is) i) (told-same form plan is)
+
+-- an input that is no tick is dropped with its events
+pub mark-dropped : (form : LogForm) (plan : Plan) (i : Input) (is : List Input) (new : Telling) → IsNoTick i → DropsMark (telling form plan (i ∷ is)) new → new ≡ telling form plan is
+unfolding made
+mark-dropped form plan i is new none drops =
+    let has : HasMark form plan i is = input-undone form plan i is none in
+    drops (telling form plan is).marks has.mark has.last ∙ (λ j. made (has.before j) (telling form plan is).marks)

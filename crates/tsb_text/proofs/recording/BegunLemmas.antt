@@ -1,5 +1,5 @@
 -- What was told before a fault begins what is to be told: whatever lines come, they come to something.
-use Rattle.std.proofs.Common.{suc, ◌≡◌, ℕ, List, [], ◌∷◌, ◌++◌, refl, sym, subst, append_assoc, Some, None, option_map}
+use Rattle.std.proofs.Common.{suc, ℕ, List, [], ◌∷◌, ◌++◌, refl, sym, subst, append_assoc, Some, None, option_map}
 use Rattle.std.specs.declared.option.Option.{Option}
 use Rattle.tsb_types.specs.declared.refusal.Refusal.{Refusal}
 use Rattle.tsb_step.specs.declared.inputs.Input.{Input}

@@ -1,5 +1,5 @@
 -- What lines come to, from what was told of each.
-use Rattle.std.proofs.Common.{codes, zero, suc, ◌≡◌, ◌∙◌, ℕ, ◌+◌, ◌<◌, ◌≤◌, nat_lt, Bool, true, false, Some, None, List, [], ◌∷◌, ◌++◌, length, map, take, take_all, append_assoc, refl, sym, ap, subst, arith, rules, inl, inr}
+use Rattle.std.proofs.Common.{codes, zero, suc, ◌≡◌, ◌∙◌, ℕ, ◌+◌, ◌<◌, ◌≤◌, Bool, true, false, Some, None, List, [], ◌∷◌, ◌++◌, length, map, take, take_all, append_assoc, refl, sym, ap, subst, arith, inl, inr}
 use Rattle.std.proofs.lemmas.Bool.{cases_lt}
 use Rattle.std.proofs.lemmas.List.{append-nil, length-take-le, take-take}
 use Rattle.std.specs.declared.option.Option.{Option}

@@ -5,11 +5,6 @@ use Rattle.std.specs.declared.option.Option.{Option}
 use Rattle.tsb_types.specs.declared.event.Event.{Event}
 use Rattle.tsb_step.specs.declared.inputs.Input.{Input}
 use Rattle.tsb_step.specs.declared.log_form.LogForm.{LogForm}
-use Rattle.tsb_step.specs.tsb_plan.Plan.{Plan}
-use Rattle.tsb_step.specs.Past.{controller}
-use Rattle.tsb_step.specs.State.{start}
-use Rattle.tsb_bench.specs.Held.{Held, whole}
-use Rattle.tsb_bench.proofs.tsb_machine.PlayLemmas.{follows-start}
 use Rattle.tsb_lines.proofs.StreamLemmas.{appends-nothing, consumes-nothing}
 use Rattle.tsb_log_text.specs.declared.log.LogRow.{LogRow}
 use Rattle.tsb_dialog.specs.declared.error.DialogError.{DialogError}
@@ -18,6 +13,9 @@ use Rattle.tsb_dialog.specs.Blame as dialog_blame
 use Rattle.tsb_dialog.specs.Ended as dialogs
 use Rattle.tsb_dialog.specs.Heard.{Heard, IsOver, IsSaid}
 use Rattle.tsb_text.specs.Answers.{Setup}
+use Rattle.tsb_text.specs.declared.course.Mode.TheVariants.{Recording}
+use Rattle.tsb_text.specs.Obeyed.{OnCourse, Stands}
+use Rattle.tsb_text.proofs.CourseLemmas.{is-told}
 use Rattle.tsb_text.specs.Blame.{Blames}
 use Rattle.tsb_text.specs.Replies.{fault_of}
 use Rattle.tsb_text.specs.declared.error.SessionError.TheVariants.{Memory}
@@ -30,9 +28,9 @@ use Rattle.tsb_text.specs.recording.Along.{told_along}
 use Rattle.tsb_text.specs.recording.Ended.{Begins, Ended, EndedSo, IsBegun, ReadsOn, Remain, TellsWhole}
 use Rattle.tsb_text.specs.recording.Leaves.{Come, End}
 use Rattle.tsb_text.specs.recording.Lines.{Course, says}
-use Rattle.tsb_text.specs.recording.Recording.{IsOutcome, Stands}
-use Rattle.tsb_text.specs.recording.Told.{Telling, nothing_told}
-use Rattle.tsb_text.proofs.recording.AlongLemmas.{own, told-same}
+use Rattle.tsb_text.specs.recording.Recording.{IsOutcome}
+use Rattle.tsb_text.specs.recording.Told.{Telling}
+use Rattle.tsb_text.proofs.recording.AlongLemmas.{told-same}
 use Rattle.tsb_text.proofs.recording.BegunLemmas.{begun-front, begun-more, carries-begun}
 use Rattle.tsb_text.proofs.recording.ComeLemmas.{answered-come, begun, heard-tells, over-come}
 
@@ -167,15 +165,10 @@ none-recorded w form given i o = record {
   };
 }
 
--- at power-up no input has come, and none has told anything
-pub stands-start : (plan : Plan) (log : List LogRow) (form : LogForm) (bench made : Held) (told : Telling) → whole bench ≡ record { state = start plan; records = [] } → made ≡ bench → told ≡ nothing_told form
-    → Stands (record { plan = plan; log = log }) log (whole made) told []
-stands-start plan log form bench made told began made_is told_is =
-    record { same = refl; follows = follows-start controller (start plan) (whole made) (ap whole made_is ∙ began); of_log = tt; tells = own form plan [] told told_is }
-
 -- what was told are the events of the inputs that remain
-pub stands-told : (given : Setup) (log : List LogRow) (bench : Held) (told : Telling) (is : List Input) (events : List Event) → events ≡ told.events → Stands given log (whole bench) told is → events ≡ told_along told.form given.plan is
-stands-told given log bench told is events same s = same ∙ ap (λ (t : Telling). t.events) s.tells ∙ told-same told.form given.plan is
+pub stands-told : (given : Setup) (log : List LogRow) (course : OnCourse) (form : LogForm) (is : List Input) → course.mode ≡ Recording form → Stands given log course is → course.told.told.events ≡ told_along form given.plan is
+stands-told given log course form is recording s =
+    ap (λ (t : Telling). t.events) (is-told course.mode form course.told.told given is recording s.tells).0 ∙ told-same form given.plan is
 
 -- so what a record gives is of where it has come to
 pub outcome-told : (outcome : Outcome) (stop found : Option FaultyLine) (events told : List Event) → IsOutcome outcome stop events → stop ≡ found → events ≡ told → IsOutcome outcome found told

@@ -1,6 +1,6 @@
 -- The inputs of a run that remain, kept so that they can be given again: the rows of its ticks as a log has them, and the
 -- other inputs, each with the tick in force. Inputs are piled up, the newest first; what is kept stands the oldest first.
-use Rattle.std.specs.Prelude.{ℕ, ◌+◌, ◌==◌, ◌&&◌, Bool, List, [], ◌∷◌, ◌++◌, if◌then◌else◌}
+use Rattle.std.specs.Prelude.{◌≡◌, ℕ, ◌+◌, ◌==◌, ◌&&◌, Bool, List, [], ◌∷◌, ◌++◌, if◌then◌else◌}
 use Rattle.tsb_types.specs.Sets.{all_off}
 use Rattle.tsb_types.specs.declared.number_set.NumberSet.{NumberSet}
 use Rattle.tsb_types.specs.declared.row.Row.{Row}
@@ -88,3 +88,7 @@ other_tick o = o.tick
 -- what is kept up to a tick
 abbrev pub gone_back : ℕ → Keeping → Keeping
 gone_back t kept = keeping (without_later row_tick t kept.rows) (without_later other_tick t kept.others)
+
+-- the newest input that is no tick is taken back
+abbrev pub DropsOther : Keeping → Keeping → Type 0
+DropsOther old new = (others : List Other) (last : Other) → old.others ≡ others ++ last ∷ [] → new ≡ keeping old.rows others

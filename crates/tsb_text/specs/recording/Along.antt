@@ -9,7 +9,7 @@ use Rattle.tsb_step.specs.declared.log_form.Noted.{Noted}
 use Rattle.tsb_step.specs.Events.{events_of}
 use Rattle.tsb_step.specs.Runs.{replay}
 use Rattle.tsb_text.specs.kept.Kept.{last_row}
-use Rattle.tsb_text.specs.recording.Told.{Kept, Telling, nothing_told, with_events, with_mark}
+use Rattle.tsb_text.specs.recording.Told.{Stored, Telling, nothing_told, with_events, with_mark}
 
 -- what a log of this form has noted after these inputs
 abbrev pub noted_after : LogForm → List Input → Noted
@@ -28,12 +28,12 @@ with_input (Tick row) tick news told = with_events news told
 with_input i tick news told = with_mark tick news told
 
 -- there is no memory to keep that an input has told these events: no room for them, or for its mark
-abbrev pub Wants : Input → List Event → Kept → Type 0
+abbrev pub Wants : Input → List Event → Stored → Type 0
 Wants (Tick row) news kept = kept.event_room < length news
 Wants i news kept = (kept.event_room < length news) ⊎ (kept.mark_room ≡ 0)
 
 -- the events and the marks of all inputs from power-up
 abbrev pub telling : LogForm → Plan → List Input → Telling
-telling form plan [] = nothing_told form
+telling form plan [] = nothing_told
 telling form plan (i ∷ is) =
     with_input i (replay plan is).now (events_of (noted_after form is) (replay plan is) i) (telling form plan is)

@@ -3,7 +3,6 @@ use Rattle.std.proofs.Common.{suc, ◌≡◌, ℕ, ◌+◌, List, [], ◌∷◌,
 use Rattle.std.specs.Fmt.{digits}
 use Rattle.tsb_types.specs.Events.{event}
 use Rattle.tsb_step.specs.tsb_history.declared.kinds.Kind.TheVariants as kinds
-use Rattle.tsb_step.specs.Events.{usual}
 use Rattle.tsb_step.specs.Step.{verdict}
 use Rattle.tsb_bench.specs.tsb_machine.declared.commands.Answer.TheVariants.{Undone}
 use Rattle.tsb_command_text.specs.declared.command.Command.TheVariants.{Step, Undo}
@@ -31,16 +30,16 @@ abbrev mark : ℕ → ℕ → Mark
 mark tick events = record { tick = tick; events = events }
 
 abbrev none : Telling
-none = nothing_told usual
+none = nothing_told
 
 abbrev told : Telling
 told = with_events (event 2 8 2 ∷ []) (with_mark 1 (event 1 131 3 ∷ []) (with_events (event 1 0 2 ∷ event 1 1 2 ∷ []) none))
 
-kept : told ≡ record { form = usual; events = event 1 0 2 ∷ event 1 1 2 ∷ event 1 131 3 ∷ event 2 8 2 ∷ []; marks = mark 1 2 ∷ [] }
+kept : told ≡ record { events = event 1 0 2 ∷ event 1 1 2 ∷ event 1 131 3 ∷ event 2 8 2 ∷ []; marks = mark 1 2 ∷ [] }
 kept = refl
 
 -- back at tick 1 the pattern stays, as it came at that tick
-back : gone_back 1 told ≡ record { form = usual; events = event 1 0 2 ∷ event 1 1 2 ∷ event 1 131 3 ∷ []; marks = mark 1 2 ∷ [] }
+back : gone_back 1 told ≡ record { events = event 1 0 2 ∷ event 1 1 2 ∷ event 1 131 3 ∷ []; marks = mark 1 2 ∷ [] }
 back = refl
 
 -- at tick 0 nothing does
