@@ -1,7 +1,5 @@
 -- Live runs leave what remains of right answers, and are answered as sessions are.
-use Rattle.std.proofs.Common.{zero, suc, ◌≡◌, ◌∙◌, ℕ, ◌+◌, Bool, false, List, [], ◌∷◌, ◌++◌, length, ap, refl, sym, subst, inl, inr, nat_le, arith}
-use Rattle.std.proofs.lemmas.Bool.{cases_Bool}
-use Rattle.std.proofs.lemmas.Bool.Decides.{nat_tests}
+use Rattle.std.proofs.Common.{zero, suc, ◌≡◌, ◌∙◌, ℕ, ◌+◌, Bool, false, List, [], ◌∷◌, ◌++◌, length, ap, refl, sym, subst, inl, inr}
 use Rattle.std.specs.declared.option.Option.{Option}
 use Rattle.tsb_types.specs.declared.refusal.Refusal.{Refusal}
 use Rattle.tsb_types.specs.declared.row.Row.{Row}
@@ -33,6 +31,7 @@ use Rattle.tsb_text.specs.declared.task.Task.TheVariants as tasks
 use Rattle.tsb_text.specs.Obeys as session
 use Rattle.tsb_text.specs.Obeys.{AsksOnce, Besides, TakesTicks, nothing_besides}
 use Rattle.tsb_text.specs.declared.rows.Rows.TheVariants.{Held}
+use Rattle.tsb_live_text.proofs.ChangeLemmas.{held-row}
 use Rattle.tsb_text.specs.Rows.{rows_in}
 use Rattle.tsb_dialog.specs.Said.{with_feed}
 use Rattle.tsb_text.specs.Tasks.{task_of}
@@ -147,13 +146,6 @@ pub answered-as : (s t : Live) (line text : List ℕ) (c : Command) (fault : Opt
 answered-as s t line text c fault tells echoes o =
     subst (λ (x : Live). Answers (setup s) s.inputs c text x.inputs) (sym o.4)
     (plain-answers (setup s) s.inputs c text o.0 o.1 (subst (λ (b : Besides). session.Obeys (setup s) b s.inputs (task_of c) text o.0 o.1) (quiet-besides s line tells echoes) o.2))
-
--- a row that is held is in force at each tick
-held-row : (row : Row) (n : ℕ) → row_at (rows_in (Held row)) (n + 1) ≡ row
-held-row row n = elim (cases_Bool (nat_le 1 (n + 1))) [
-  | inl is ↦ rw is refl
-  | inr isnt ↦ absurd (grind (arith, nat_tests, isnt))
-]
 
 ticked-as : (given other : Setup) (is : List Input) (text rest : List ℕ) → other.plan ≡ given.plan → next_tick other is ≡ next_tick given is → Ticked given is text rest → Ticked other is text rest
 ticked-as given other is text rest p e t = record {

@@ -67,11 +67,10 @@ keeps-on old new same k = subst Keeps (sym same) k
 
 -- the run after a command that left these inputs
 pub stands-on : (run new : LiveRun) (s : Live) (left : List Input) → StandsLive run s → Stands (setup s) (rows_in (HeldRow s.row)) new.course left → new.course.mode ≡ run.course.mode
-    → new.row ≡ run.row → new.echoes ≡ run.echoes → new.on_fault ≡ run.on_fault → new.stop ≡ run.stop → StandsLive new (with_inputs left s)
-stands-on run new s left stands course mode row echoes on_fault stop = record {
+    → new.echoes ≡ run.echoes → new.on_fault ≡ run.on_fault → new.stop ≡ run.stop → StandsLive new (with_inputs left s)
+stands-on run new s left stands course mode echoes on_fault stop = record {
   stands = course;
   keeps = keeps-on run.course.mode new.course.mode mode stands.keeps;
-  row = row ∙ stands.row;
   tells = ap tells_in mode ∙ stands.tells;
   echoes = echoes ∙ stands.echoes;
   on_fault = on_fault ∙ stands.on_fault;
@@ -79,11 +78,10 @@ stands-on run new s left stands course mode row echoes on_fault stop = record {
 }
 
 -- a row was given
-pub row-stands : (run new : LiveRun) (s : Live) (row : Row) → StandsLive run s → new.course ≡ holding row run.course → new.row ≡ row → new.echoes ≡ run.echoes → new.on_fault ≡ run.on_fault → new.stop ≡ run.stop → StandsLive new (with_row row s)
-row-stands run new s row stands course given echoes on_fault stop = record {
+pub row-stands : (run new : LiveRun) (s : Live) (row : Row) → StandsLive run s → new.course ≡ holding row run.course → new.echoes ≡ run.echoes → new.on_fault ≡ run.on_fault → new.stop ≡ run.stop → StandsLive new (with_row row s)
+row-stands run new s row stands course echoes on_fault stop = record {
   stands = subst (λ (x : OnCourse). Stands (setup (with_row row s)) (rows_in (HeldRow row)) x s.inputs) (sym course) (record { same = refl; rows = refl; follows = stands.stands.follows; keeps = stands.stands.keeps; tells = not-recorded run.course.mode run.course.told.told (setup (with_row row s)) s.inputs stands.keeps });
   keeps = subst (λ (x : OnCourse). Keeps x.mode) (sym course) stands.keeps;
-  row = given;
   tells = ap (λ (x : OnCourse). tells_in x.mode) course ∙ stands.tells;
   echoes = echoes ∙ stands.echoes;
   on_fault = on_fault ∙ stands.on_fault;
@@ -116,8 +114,8 @@ mode-kept true Telling kept plan is k same = same
 mode-kept false Telling kept plan is k same = same
 
 pub events-stands : (run new : LiveRun) (s : Live) (on : Bool) → StandsLive run s → new.course.mode ≡ mode_with on run.course.mode → new.course.bench ≡ run.course.bench → new.course.rows ≡ run.course.rows → new.course.kept ≡ run.course.kept
-    → new.row ≡ run.row → new.echoes ≡ run.echoes → new.on_fault ≡ run.on_fault → new.stop ≡ run.stop → StandsLive new (with_events on s)
-events-stands run new s on stands mode bench rows kept row echoes on_fault stop = record {
+    → new.echoes ≡ run.echoes → new.on_fault ≡ run.on_fault → new.stop ≡ run.stop → StandsLive new (with_events on s)
+events-stands run new s on stands mode bench rows kept echoes on_fault stop = record {
   stands = record {
     same = stands.stands.same;
     rows = rows ∙ stands.stands.rows;
@@ -127,7 +125,6 @@ events-stands run new s on stands mode bench rows kept row echoes on_fault stop 
     tells = not-recorded new.course.mode new.course.told.told (setup s) s.inputs (subst Keeps (sym mode) (mode-keeps on run.course.mode stands.keeps));
   };
   keeps = subst Keeps (sym mode) (mode-keeps on run.course.mode stands.keeps);
-  row = row ∙ stands.row;
   tells = ap tells_in mode ∙ mode-tells on run.course.mode stands.keeps;
   echoes = echoes ∙ stands.echoes;
   on_fault = on_fault ∙ stands.on_fault;
@@ -135,11 +132,10 @@ events-stands run new s on stands mode bench rows kept row echoes on_fault stop 
 }
 
 -- answers stand after their command from now on, or not
-pub echo-stands : (run new : LiveRun) (s : Live) (on : Bool) → StandsLive run s → new.course ≡ run.course → new.row ≡ run.row → new.echoes ≡ on → new.on_fault ≡ run.on_fault → new.stop ≡ run.stop → StandsLive new (with_echo on s)
-echo-stands run new s on stands course row echoes on_fault stop = record {
+pub echo-stands : (run new : LiveRun) (s : Live) (on : Bool) → StandsLive run s → new.course ≡ run.course → new.echoes ≡ on → new.on_fault ≡ run.on_fault → new.stop ≡ run.stop → StandsLive new (with_echo on s)
+echo-stands run new s on stands course echoes on_fault stop = record {
   stands = subst (λ (x : OnCourse). Stands (setup s) (rows_in (HeldRow s.row)) x s.inputs) (sym course) stands.stands;
   keeps = subst (λ (x : OnCourse). Keeps x.mode) (sym course) stands.keeps;
-  row = row ∙ stands.row;
   tells = ap (λ (x : OnCourse). tells_in x.mode) course ∙ stands.tells;
   echoes = echoes;
   on_fault = on_fault ∙ stands.on_fault;
@@ -147,12 +143,11 @@ echo-stands run new s on stands course row echoes on_fault stop = record {
 }
 
 -- at power-up
-pub run-begins : (on_fault : OnFault) (plan : Plan) (run : LiveRun) → run.course.mode ≡ KeepsInputs → run.on_fault ≡ on_fault → Follows plan (whole run.course.bench) [] → run.course.rows ≡ rows_in (HeldRow all_off) → run.course.kept ≡ nothing_kept → run.course.told.told ≡ nothing_told → run.row ≡ all_off
+pub run-begins : (on_fault : OnFault) (plan : Plan) (run : LiveRun) → run.course.mode ≡ KeepsInputs → run.on_fault ≡ on_fault → Follows plan (whole run.course.bench) [] → run.course.rows ≡ rows_in (HeldRow all_off) → run.course.kept ≡ nothing_kept → run.course.told.told ≡ nothing_told
     → run.echoes ≡ false → run.stop ≡ None → StandsLive run (begun on_fault plan)
-run-begins on_fault plan run mode strict follows rows kept told row echoes stop = record {
+run-begins on_fault plan run mode strict follows rows kept told echoes stop = record {
   stands = course-begins (setup (begun on_fault plan)) (rows_in (HeldRow all_off)) run.course refl rows follows kept told;
   keeps = subst Keeps (sym mode) tt;
-  row = row;
   tells = ap tells_in mode;
   echoes = echoes;
   on_fault = strict;
@@ -166,11 +161,11 @@ abbrev Carries : (List ℕ → Option Refusal → List Input → Type 0) → (Li
 Carries P Q = (text : List ℕ) (refusal : Option Refusal) (left : List Input) → P text refusal left → Q text refusal left
 
 pub does-leave : (P Q : List ℕ → Option Refusal → List Input → Type 0) (refusal : Option Refusal) (fault : Option LineFault) (run new : LiveRun) (s : Live) (a b : Option (List ℕ)) (p q : List ℕ)
-    → StandsLive run s → new.course.mode ≡ run.course.mode → new.row ≡ run.row → new.echoes ≡ run.echoes → new.on_fault ≡ run.on_fault → new.stop ≡ run.stop
+    → StandsLive run s → new.course.mode ≡ run.course.mode → new.echoes ≡ run.echoes → new.on_fault ≡ run.on_fault → new.stop ≡ run.stop
     → Carries P Q → fault ≡ fault_by refusal → Done (Ok refusal) (setup s) (rows_in (HeldRow s.row)) new.course P a b p q → Does (Ok fault) new (Leaves s Q) a b p q
-does-leave P Q refusal fault run new s a b p q stands mode row echoes on_fault stop carries faults d = (
+does-leave P Q refusal fault run new s a b p q stands mode echoes on_fault stop carries faults d = (
   with_inputs d.0 s,
-  stands-on run new s d.0 stands d.1 mode row echoes on_fault stop,
+  stands-on run new s d.0 stands d.1 mode echoes on_fault stop,
   record { text = d.2.text; said = d.2.said; so = (refusal, d.0, carries d.2.text refusal d.0 d.2.so, faults, refl) },
 )
 
@@ -189,12 +184,11 @@ obeys-so run s line echo c stands is = λ text refusal left o. subst (λ (x : Be
 
 -- of ticks of which the changes are told
 pub changes-so : (run : LiveRun) (s : Live) (line echo : List ℕ) (n : ℕ) → StandsLive run s → echo ≡ echo_of run.echoes line
-    → Carries (Changes s.plan (besides_of run.course echo) run.row s.inputs (display_line (state_of run.course.bench)) false n)
+    → Carries (Changes s.plan (besides_of run.course echo) s.row s.inputs (display_line (state_of run.course.bench)) false n)
     (Changes s.plan (besides s line) s.row s.inputs (display_line (present s)) false n)
 changes-so run s line echo n stands is = λ text refusal left o.
     subst (λ (x : Besides). Changes s.plan x s.row s.inputs (display_line (present s)) false n text refusal left) (same-besides run s line echo stands is)
-    (subst (λ (r : Row). Changes s.plan (besides_of run.course echo) r s.inputs (display_line (present s)) false n text refusal left) stands.row
-    (subst (λ (v : State). Changes s.plan (besides_of run.course echo) run.row s.inputs (display_line v) false n text refusal left) (present-state run s stands) o))
+    (subst (λ (v : State). Changes s.plan (besides_of run.course echo) s.row s.inputs (display_line v) false n text refusal left) (present-state run s stands) o)
 
 -- ## Answers of one line
 
@@ -258,12 +252,11 @@ does-as r s new line asked c a b p q is d = subst (λ (x : LiveCommand). Does r 
 -- ## A line that was read
 
 -- it is noted that a line ended the run
-with-stop-stands : (run new : LiveRun) (s : Live) (stopped : Option Stopped) → StandsLive run s → new.course ≡ run.course → new.row ≡ run.row → new.echoes ≡ run.echoes → new.on_fault ≡ run.on_fault
+with-stop-stands : (run new : LiveRun) (s : Live) (stopped : Option Stopped) → StandsLive run s → new.course ≡ run.course → new.echoes ≡ run.echoes → new.on_fault ≡ run.on_fault
     → stop_in new.stop ≡ stopped → StandsLive new (with_stop stopped s)
-with-stop-stands run new s stopped stands course row echoes on_fault stop = record {
+with-stop-stands run new s stopped stands course echoes on_fault stop = record {
   stands = subst (λ (x : OnCourse). Stands (setup s) (rows_in (HeldRow s.row)) x s.inputs) (sym course) stands.stands;
   keeps = subst (λ (x : OnCourse). Keeps x.mode) (sym course) stands.keeps;
-  row = row ∙ stands.row;
   tells = ap (λ (x : OnCourse). tells_in x.mode) course ∙ stands.tells;
   echoes = echoes ∙ stands.echoes;
   on_fault = on_fault ∙ stands.on_fault;
@@ -271,12 +264,12 @@ with-stop-stands run new s stopped stands course row echoes on_fault stop = reco
 }
 
 pub answered-ok : (flow : Flow) (asked : LiveReading) (fault : Option LineFault) (s : Live) (n : ℕ) (line : List ℕ) (old run new : LiveRun) (a b : Option (List ℕ)) (p q : List ℕ) → StandsLive old s → asked ≡ live_reading line
-    → run.on_fault ≡ old.on_fault → Does (Ok fault) run (Reads s line asked) a b p q → new.course ≡ run.course → new.row ≡ run.row → new.echoes ≡ run.echoes → new.on_fault ≡ run.on_fault
+    → run.on_fault ≡ old.on_fault → Does (Ok fault) run (Reads s line asked) a b p q → new.course ≡ run.course → new.echoes ≡ run.echoes → new.on_fault ≡ run.on_fault
     → stop_in new.stop ≡ stopped_at run.on_fault n line fault → flow ≡ flow_in asked (stop_in new.stop) → Answered StandsLive (Says s n line) (Ok flow) new a b p q
-answered-ok flow asked fault s n line old run new a b p q stands reads kept d course row echoes on_fault stop flows =
+answered-ok flow asked fault s n line old run new a b p q stands reads kept d course echoes on_fault stop flows =
     let stopped : stop_in new.stop ≡ stopped_at s.on_fault n line fault = stop ∙ ap (λ (o : OnFault). stopped_at o n line fault) (kept ∙ stands.on_fault) in (
       with_stop (stopped_at s.on_fault n line fault) d.0,
-      with-stop-stands run new d.0 (stopped_at s.on_fault n line fault) d.1 course row echoes on_fault stopped,
+      with-stop-stands run new d.0 (stopped_at s.on_fault n line fault) d.1 course echoes on_fault stopped,
       record {
         text = d.2.text;
         said = d.2.said;

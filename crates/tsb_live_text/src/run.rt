@@ -39,12 +39,10 @@ const ECHO: usize = 203;
 #[derive(Drop)]
 struct LiveRun<'a> {
     alloc: Global,
-    /// The bench, with what is kept of its inputs.
+    /// The bench, with what is kept of its inputs. Its ticks take the row last given; all inputs are off before the first.
     course: Course<'a>,
     /// What makes its display lines.
     lines: LineMaker,
-    /// The row last given. All inputs are off before the first.
-    row: Row,
     /// Whether answers that are no display lines stand after their command.
     echoes: bool,
     /// What the run does after a line with which something is wrong.
@@ -98,7 +96,6 @@ impl LiveRun<'_> {
                 tell_fault(&echo, &LineFault::BadCommand, pending, writer)
             }
             LiveReading::Tick(row) => {
-                self.row = row;
                 self.course.hold(row);
                 self.obey(Command::Step(1), line, pending, writer)
             }
@@ -203,7 +200,6 @@ impl LiveRun<'_> {
         let refusal = changes(
             &mut self.course,
             &mut self.lines,
-            self.row,
             ticks,
             &echo,
             pending,
@@ -325,12 +321,10 @@ pub fn live<R: Read, W: Write>(
     let Ok(bench) = Bench::power_up(alloc, plan) else {
         return Err(SessionError::Memory);
     };
-    let row = Row::all_off();
     let mut run = LiveRun {
         alloc,
-        course: Course::new(alloc, bench, Rows::Held(row), Mode::Keeping),
+        course: Course::new(alloc, bench, Rows::Held(Row::all_off()), Mode::Keeping),
         lines: LineMaker::new(),
-        row,
         echoes: false,
         on_fault,
         stop: None,

@@ -104,13 +104,6 @@ not-recorded KeepsInputs told given is k = tt
 not-recorded TellsEvents told given is k = tt
 not-recorded (Recording form) told given is k = absurd k
 
--- and a tick may have any row
-pub any-row : (m : Mode) (given : Setup) (is : List Input) (i : Input) → Keeps m → IsNext m given is i
-any-row Plain given is i k = absurd k
-any-row KeepsInputs given is i k = tt
-any-row TellsEvents given is i k = tt
-any-row (Recording form) given is i k = absurd k
-
 -- what a tick number is, in a state
 tick-there : (plan : Plan) (is : List Input) (bench : Held) → Follows plan (whole bench) is → bench.tick ≡ (replay plan is).now
 tick-there plan is bench f = ap (λ (s : State). s.now) (follows-state plan (whole bench) is f)

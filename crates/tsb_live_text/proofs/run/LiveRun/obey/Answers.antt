@@ -13,6 +13,6 @@ returns-in_err-refusal-clause-done g c s stands = let p = err_from_is_err_and c.
 
 pub returns-clause-done : goal.returns-clause-done
 returns-clause-done g c s stands =
-    does-leave _ _ c.in_ok-refusal.refusal c.fault_by.result c.args.self.now _ s _ _ _ _ stands c.obey.ensures.mode refl refl refl refl
+    does-leave _ _ c.in_ok-refusal.refusal c.fault_by.result c.args.self.now _ s _ _ _ _ stands c.obey.ensures.mode refl refl refl
     (obeys-so c.args.self.now s c.args.line.now c.deref.result.now c.args.command stands (c.deref.ensures.0 ∙ c.echo-echo.ensures)) c.fault_by.ensures
     (c.in_ok-refusal.ensures.done (setup s) (rows_in (Held s.row)) s.inputs stands.stands)
