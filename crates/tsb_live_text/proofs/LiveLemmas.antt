@@ -38,8 +38,9 @@ use Rattle.tsb_command_text.specs.declared.live_command.LiveCommand.TheVariants 
 use Rattle.tsb_command_text.specs.declared.live_command.LiveReading.{LiveReading}
 use Rattle.tsb_command_text.specs.declared.live_command.LiveReading.TheVariants.{Skip}
 use Rattle.tsb_command_text.specs.LiveReadings.{live_reading}
+use Rattle.tsb_text.specs.Stops.{Stopped, flow_after, stop_in, stopped_at}
 use Rattle.tsb_live_text.specs.Changes.{Changes}
-use Rattle.tsb_live_text.specs.Live.{AsksLive, Leaves, Live, Reads, Says, Stopped, Tells, besides, echo_of, fault_by, flow_in, present, begun, setup, stop_in, stopped_at, with_echo, with_events, with_inputs, with_row, with_stop}
+use Rattle.tsb_live_text.specs.Live.{AsksLive, Leaves, Live, Reads, Says, Tells, besides, echo_of, fault_by, present, begun, quits, setup, with_echo, with_events, with_inputs, with_row, with_stop}
 use Rattle.tsb_live_text.specs.Standing.{Does, StandsLive, TellsOnce, TellsPlan}
 use Rattle.tsb_live_text.specs.declared.run.LiveRun.{LiveRun}
 
@@ -263,10 +264,10 @@ with-stop-stands run new s stopped stands course echoes on_fault stop = record {
   stop = stop;
 }
 
-pub answered-ok : (flow : Flow) (asked : LiveReading) (fault : Option LineFault) (s : Live) (n : ℕ) (line : List ℕ) (old run new : LiveRun) (a b : Option (List ℕ)) (p q : List ℕ) → StandsLive old s → asked ≡ live_reading line
+pub answered-ok : (flow : Flow) (asked : LiveReading) (is_quit : Bool) (fault : Option LineFault) (s : Live) (n : ℕ) (line : List ℕ) (old run new : LiveRun) (a b : Option (List ℕ)) (p q : List ℕ) → StandsLive old s → asked ≡ live_reading line
     → run.on_fault ≡ old.on_fault → Does (Ok fault) run (Reads s line asked) a b p q → new.course ≡ run.course → new.echoes ≡ run.echoes → new.on_fault ≡ run.on_fault
-    → stop_in new.stop ≡ stopped_at run.on_fault n line fault → flow ≡ flow_in asked (stop_in new.stop) → Answered StandsLive (Says s n line) (Ok flow) new a b p q
-answered-ok flow asked fault s n line old run new a b p q stands reads kept d course echoes on_fault stop flows =
+    → stop_in new.stop ≡ stopped_at run.on_fault n line fault → is_quit ≡ quits asked → flow ≡ flow_after is_quit (stop_in new.stop) → Answered StandsLive (Says s n line) (Ok flow) new a b p q
+answered-ok flow asked is_quit fault s n line old run new a b p q stands reads kept d course echoes on_fault stop quit flows =
     let stopped : stop_in new.stop ≡ stopped_at s.on_fault n line fault = stop ∙ ap (λ (o : OnFault). stopped_at o n line fault) (kept ∙ stands.on_fault) in (
       with_stop (stopped_at s.on_fault n line fault) d.0,
       with-stop-stands run new d.0 (stopped_at s.on_fault n line fault) d.1 course echoes on_fault stopped,
@@ -278,7 +279,7 @@ answered-ok flow asked fault s n line old run new a b p q stands reads kept d co
           left = d.0;
           reads = subst (λ (x : LiveReading). Reads s line x d.2.text fault d.0) reads d.2.so;
           stops = refl;
-          goes = flows ∙ (λ j. flow_in (reads j) (stopped j));
+          goes = flows ∙ (λ j. flow_after ((quit ∙ ap quits reads) j) (stopped j));
         };
       },
     )
@@ -290,7 +291,7 @@ answered-fault e asked s n line run a b p q reads d = record {
   said = d.said;
   so = (
     d.so.0,
-    flow_in (live_reading line) (stopped_at s.on_fault n line d.so.1),
+    flow_after (quits (live_reading line)) (stopped_at s.on_fault n line d.so.1),
     with_stop (stopped_at s.on_fault n line d.so.1) d.so.2,
     record { fault = d.so.1; left = d.so.2; reads = subst (λ (x : LiveReading). Reads s line x (d.text ++ d.so.0) d.so.1 d.so.2) reads d.so.3; stops = refl; goes = refl },
   );

@@ -10,8 +10,9 @@ use Rattle.tsb_text.specs.declared.error.SessionError.TheVariants.{Memory, Read,
 use Rattle.tsb_text.specs.Replies.{fault_of}
 use Rattle.tsb_text.specs.declared.faults.OnFault.{OnFault}
 use Rattle.tsb_live_text.specs.declared.run.TheConstants.{BYTES}
-use Rattle.tsb_live_text.specs.declared.stop.Stop.{Stop}
-use Rattle.tsb_live_text.specs.Live.{Live, Says, Stopped, begun, stop_in}
+use Rattle.tsb_text.specs.declared.stop.Stop.{Stop}
+use Rattle.tsb_text.specs.Stops.{Stopped, stop_in}
+use Rattle.tsb_live_text.specs.Live.{Live, Says, begun}
 
 -- it is known of the run which line ended it, if one did
 abbrev pub HasStopped : Option Stopped → Live → Type 0

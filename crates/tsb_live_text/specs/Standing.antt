@@ -12,7 +12,8 @@ use Rattle.tsb_text.specs.declared.rows.Rows.TheVariants.{Held}
 use Rattle.tsb_text.specs.Obeyed.{Keeps, Stands, tells_in}
 use Rattle.tsb_text.specs.Rows.{rows_in}
 use Rattle.tsb_live_text.specs.declared.run.LiveRun.{LiveRun}
-use Rattle.tsb_live_text.specs.Live.{Live, setup, stop_in}
+use Rattle.tsb_live_text.specs.Live.{Live, setup}
+use Rattle.tsb_text.specs.Stops.{stop_in}
 
 -- a run has come to this
 pub record StandsLive (run : LiveRun) (s : Live) : Type 0 where

@@ -8,13 +8,12 @@ ghost use Rattle.tsb_command_text.specs.declared.live_command.LiveCommand.TheVar
 ghost use Rattle.tsb_text.specs.Blame.{Blames};
 ghost use Rattle.tsb_text.specs.Faults.{fault_words};
 ghost use Rattle.tsb_live_text.specs.saved.Saved.{saved_text};
-ghost use Rattle.tsb_live_text.specs.Live.{AsksLive, Live as LiveState, Obeys, Reads, echo_of, fault_by, flow_in, stop_in};
+ghost use Rattle.tsb_live_text.specs.Live.{AsksLive, Live as LiveState, Obeys, Reads, echo_of, fault_by, quits};
 ghost use Rattle.tsb_live_text.specs.LiveEnded.{LiveEnded, ended_with};
 ghost use Rattle.tsb_live_text.specs.Standing.{Does, StandsLive, TellsOnce, TellsPlan};
 
 use crate::changes::changes;
 use crate::say_saved;
-use crate::stop::{Stop, front_of, stop_at};
 use arrayvec::ArrayVec;
 use std::alloc::Global;
 use std::io::{Read, Write};
@@ -25,7 +24,8 @@ use tsb_display_text::LineMaker;
 use tsb_objects::{Checked, Refusal};
 use tsb_status_text::{edits_line, plan_line, status_line};
 use tsb_text::{
-    Course, LineFault, Mode, OnFault, Rows, SessionError, fault_of, fault_words, obey, when_line,
+    Course, LineFault, Mode, OnFault, Rows, SessionError, Stop, fault_of, fault_words, flow_after,
+    front_of, obey, stop_at, when_line,
 };
 use tsb_types::Row;
 
@@ -71,7 +71,7 @@ impl Answers for LiveRun<'_> {
         let reading = live_reading_of(line);
         let fault = self.read(&reading, line, pending, writer)?;
         self.stop = stop_at(self.on_fault, number, line, fault);
-        Ok(flow_after(&reading, &self.stop))
+        Ok(flow_after(quits(&reading), &self.stop))
     }
 }
 
@@ -285,14 +285,13 @@ fn fault_by(refusal: Option<Refusal>) -> Option<LineFault>
     Some(LineFault::Refused(refusal?))
 }
 
-/// Whether a run goes on after what a line asked, where this ended it.
-fn flow_after(reading: &LiveReading, stop: &Option<Stop>) -> Flow
-    ensures { result ≡ flow_in reading.now (stop_in stop.now) }
+/// Whether a line that reads so is `quit`.
+fn quits(reading: &LiveReading) -> bool
+    ensures { result ≡ quits reading.now }
 {
-    match (stop, reading) {
-        (Some(_), _) => Flow::Over,
-        (None, LiveReading::Ask(LiveCommand::Session(Command::Quit))) => Flow::Over,
-        _ => Flow::On,
+    match reading {
+        LiveReading::Ask(LiveCommand::Session(Command::Quit)) => true,
+        _ => false,
     }
 }
 

@@ -8,6 +8,8 @@ pub mod Rows
 pub mod Answers
 -- what is told of a line that is no command, or that is refused
 pub mod Faults
+-- the line that ends a strict run or record
+pub mod Stops
 -- what a command asks
 pub mod Tasks
 -- what a command comes to where more may be said

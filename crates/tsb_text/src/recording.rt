@@ -6,7 +6,8 @@ ghost use Rattle.tsb_dialog.specs.Said.{Said, Wrote};
 ghost use Rattle.tsb_text.specs.Blame.{Blames};
 ghost use Rattle.tsb_text.specs.recording.Ended.{Ended};
 ghost use Rattle.tsb_text.specs.recording.Faults.{fault_text};
-ghost use Rattle.tsb_text.specs.recording.Leaves.{flow_after, quits};
+ghost use Rattle.tsb_text.specs.recording.Leaves.{quits};
+ghost use Rattle.tsb_text.specs.Stops.{stop_in};
 ghost use Rattle.tsb_text.specs.recording.Recording.{IsOutcome};
 
 mod faults;
@@ -14,11 +15,13 @@ pub mod laws;
 mod recorder;
 mod told;
 
-pub use crate::recording::faults::FaultyLine;
-use crate::recording::faults::{fault_line, stop_at};
+use crate::recording::faults::fault_line;
 use crate::recording::recorder::carry_out;
 pub use crate::recording::told::{Mark, Told};
-use crate::{COMMANDS, Course, LineFault, Mode, OnFault, Rows, SessionError, fault_of};
+use crate::{
+    COMMANDS, Course, LineFault, Mode, OnFault, Rows, SessionError, Stop, fault_of, flow_after,
+    stop_at,
+};
 use std::alloc::Global;
 use std::io::{Read, Write};
 use tsb_bench::Bench;
@@ -44,7 +47,7 @@ pub enum Outcome {
     /// They came to their end: the events of the inputs that remain, the oldest first.
     Events(Vec<Event>),
     /// This line ended a strict record. It is the first that is no command, or that was refused.
-    Stopped(FaultyLine),
+    Stopped(Stop),
 }
 
 /// What carries out the commands of a record.
@@ -53,18 +56,19 @@ struct Recording<'a> {
     course: Course<'a>,
     on_fault: OnFault,
     /// The line that ended the record, once it has come.
-    stop: Option<FaultyLine>,
+    stop: Option<Stop>,
 }
 
 impl Answers for Recording<'_> {
     ghost use Rattle.std.specs.Prelude.{◌≡◌};
     ghost use Rattle.tsb_text.specs.Obeyed.{Stands};
+    ghost use Rattle.tsb_text.specs.Stops.{stop_in};
     ghost use Rattle.tsb_text.specs.declared.course.Mode.TheVariants as modes;
     ghost use Rattle.tsb_text.specs.recording.Lines.{Course as RecordCourse, says};
 
     ghost State = { RecordCourse };
 
-    ghost stands = { λ r s. Stands s.given s.given.log r.course s.end.inputs × (r.on_fault ≡ s.on_fault) × (r.course.mode ≡ modes.Recording s.form) × (r.stop ≡ s.end.stop) };
+    ghost stands = { λ r s. Stands s.given s.given.log r.course s.end.inputs × (r.on_fault ≡ s.on_fault) × (r.course.mode ≡ modes.Recording s.form) × (stop_in r.stop ≡ s.end.stop) };
 
     ghost says = { says };
 
@@ -78,9 +82,9 @@ impl Answers for Recording<'_> {
         let reading = reading_of(line);
         let is_quit = quits(&reading);
         let fault = carry_out(&mut self.course, reading);
-        self.stop = stop_at(self.on_fault, number, fault);
+        self.stop = stop_at(self.on_fault, number, line, fault);
         tell(number, line, &fault, pending, writer)?;
-        Ok(flow_after(is_quit, self.stop))
+        Ok(flow_after(is_quit, &self.stop))
     }
 }
 
@@ -91,16 +95,6 @@ fn quits(reading: &Reading) -> bool
     match reading {
         Reading::Do(Command::Quit) => true,
         _ => false,
-    }
-}
-
-/// Whether a record goes on after a line, which is `quit` or not, and ended it or did not.
-fn flow_after(is_quit: bool, stop: Option<FaultyLine>) -> Flow
-    ensures { result ≡ flow_after is_quit stop }
-{
-    match (is_quit, stop) {
-        (false, None) => Flow::On,
-        _ => Flow::Over,
     }
 }
 
@@ -123,8 +117,8 @@ fn tell<W: Write>(
 }
 
 /// What a record gives that this line has ended, or none.
-fn outcome_of(course: Course, stop: Option<FaultyLine>) -> Outcome
-    ensures { IsOutcome result stop course.entry.told.told.events }
+fn outcome_of(course: Course, stop: Option<Stop>) -> Outcome
+    ensures { IsOutcome result (stop_in stop) course.entry.told.told.events }
 {
     match stop {
         Some(line) => {

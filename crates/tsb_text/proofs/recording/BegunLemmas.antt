@@ -12,13 +12,14 @@ use Rattle.tsb_dialog.specs.declared.answers.Flow.TheVariants.{On, Over}
 use Rattle.tsb_text.specs.Answers.{Setup}
 use Rattle.tsb_text.specs.Obeys.{Obeys, nothing_besides}
 use Rattle.tsb_text.specs.Tasks.{task_of}
-use Rattle.tsb_text.specs.declared.recording.faults.FaultyLine.{FaultyLine}
+use Rattle.tsb_text.specs.Stops.{Stopped}
 use Rattle.tsb_text.specs.declared.faults.LineFault.{LineFault}
 use Rattle.tsb_text.specs.declared.faults.LineFault.TheVariants as faults
 use Rattle.tsb_text.specs.declared.faults.OnFault.{OnFault}
 use Rattle.tsb_text.specs.recording.Ended.{Carries, IsBegun}
 use Rattle.tsb_text.specs.recording.Faults.{fault_text}
-use Rattle.tsb_text.specs.recording.Leaves.{Come, Does, End, Ends, Follows, flow_after, quits, stop_at}
+use Rattle.tsb_text.specs.recording.Leaves.{Come, Does, End, Ends, Follows, quits}
+use Rattle.tsb_text.specs.Stops.{flow_after, stopped_at}
 use Rattle.tsb_text.proofs.ObeyLemmas.{some-obeyed}
 
 -- ## Lines come to something
@@ -31,7 +32,7 @@ some-does given is (Do c) =
     (option_map faults.Refused o.0, o.1, (o.0, (o.2, o.3), refl))
 
 -- what follows a line comes to something too
-some-follows : (on_fault : OnFault) (given : Setup) (f : Flow) (number : ℕ) (new : List Input) (lines : List (List ℕ)) (stop : Option FaultyLine)
+some-follows : (on_fault : OnFault) (given : Setup) (f : Flow) (number : ℕ) (new : List Input) (lines : List (List ℕ)) (stop : Option Stopped)
     → (end : End) × (told : List ℕ) × Come on_fault given end number new lines told
     → (end : End) × (rest : List ℕ) × Follows f (Come on_fault given end number new lines rest) (Ends end new stop rest)
 some-follows on_fault given On number new lines stop k = k
@@ -41,9 +42,9 @@ some-come : (on_fault : OnFault) (given : Setup) (lines : List (List ℕ)) (numb
 some-come on_fault given [] number is = (record { inputs = is; stop = None }, [], (refl, refl))
 some-come on_fault given (line ∷ lines) number is =
     let d : (fault : Option LineFault) × (new : List Input) × Does given is (reading line) fault new = some-does given is (reading line) in
-    let f : Flow = flow_after (quits (reading line)) (stop_at on_fault number d.0) in
-    let k : (end : End) × (rest : List ℕ) × Follows f (Come on_fault given end (suc number) d.1 lines rest) (Ends end d.1 (stop_at on_fault number d.0) rest) =
-    some-follows on_fault given f (suc number) d.1 lines (stop_at on_fault number d.0) (some-come on_fault given lines (suc number) d.1) in
+    let f : Flow = flow_after (quits (reading line)) (stopped_at on_fault number line d.0) in
+    let k : (end : End) × (rest : List ℕ) × Follows f (Come on_fault given end (suc number) d.1 lines rest) (Ends end d.1 (stopped_at on_fault number line d.0) rest) =
+    some-follows on_fault given f (suc number) d.1 lines (stopped_at on_fault number line d.0) (some-come on_fault given lines (suc number) d.1) in
     (k.0, fault_text number line d.0 ++ k.1, (d.0, d.1, k.1, d.2, refl, k.2))
 
 -- ## What was told begins it

@@ -19,10 +19,11 @@ use Rattle.tsb_text.specs.Tasks.{task_of}
 use Rattle.tsb_text.specs.declared.task.Task.{Task}
 use Rattle.tsb_text.specs.declared.task.Task.TheVariants as tasks
 use Rattle.tsb_text.specs.declared.task.Task.TheVariants.{Ask, Ticks}
-use Rattle.tsb_text.specs.declared.recording.faults.FaultyLine.{FaultyLine}
+use Rattle.tsb_text.specs.Stops.{Stopped}
 use Rattle.tsb_text.specs.declared.faults.LineFault.{LineFault}
 use Rattle.tsb_text.specs.declared.faults.OnFault.{OnFault}
-use Rattle.tsb_text.specs.recording.Leaves.{Come, Does, End, Ends, Follows, flow_after, quits, stop_at}
+use Rattle.tsb_text.specs.recording.Leaves.{Come, Does, End, Ends, Follows, quits}
+use Rattle.tsb_text.specs.Stops.{flow_after, stopped_at}
 
 -- commands with right answers lead from some inputs to others
 pub record Leads (plan : Plan) (is new : List Input) : Type 0 where
@@ -68,7 +69,7 @@ by-does given is Skip fault new d = stay given.plan is new d.1
 by-does given is Bad fault new d = stay given.plan is new d.1
 by-does given is (Do c) fault new d = by-task given is (task_of c) d.1.0 d.0 new d.1.1
 
-by-rest : (given : Setup) (f : Flow) (new : List Input) (end : End) (stop : Option FaultyLine) (Rest : Type 0) (told : List ℕ) → (Rest → Leads given.plan new end.inputs) → Follows f Rest (Ends end new stop told)
+by-rest : (given : Setup) (f : Flow) (new : List Input) (end : End) (stop : Option Stopped) (Rest : Type 0) (told : List ℕ) → (Rest → Leads given.plan new end.inputs) → Follows f Rest (Ends end new stop told)
     → Leads given.plan new end.inputs
 by-rest given On new end stop Rest told rest g = rest g
 by-rest given Over new end stop Rest told rest g = stay given.plan new end.inputs (ap (λ (e : End). e.inputs) g.1)
@@ -77,7 +78,7 @@ by-lines : (on_fault : OnFault) (given : Setup) (end : End) (lines : List (List 
 by-lines on_fault given end [] n is told h = stay given.plan is end.inputs (ap (λ (e : End). e.inputs) h.1)
 by-lines on_fault given end (line ∷ lines) n is told h =
     then given.plan is h.1 end.inputs (by-does given is (reading line) h.0 h.1 h.3)
-    (by-rest given (flow_after (quits (reading line)) (stop_at on_fault n h.0)) h.1 end (stop_at on_fault n h.0) (Come on_fault given end (suc n) h.1 lines h.2) h.2
+    (by-rest given (flow_after (quits (reading line)) (stopped_at on_fault n line h.0)) h.1 end (stopped_at on_fault n line h.0) (Come on_fault given end (suc n) h.1 lines h.2) h.2
     (λ rest. by-lines on_fault given end lines (suc n) h.1 h.2 rest) h.5)
 
 pub lines_leave_what_remains : (on_fault : OnFault) (given : Setup) (end : End) (lines : List (List ℕ)) (told : List ℕ) → Come on_fault given end 1 [] lines told

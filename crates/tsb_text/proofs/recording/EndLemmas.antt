@@ -20,7 +20,7 @@ use Rattle.tsb_text.specs.Blame.{Blames}
 use Rattle.tsb_text.specs.Replies.{fault_of}
 use Rattle.tsb_text.specs.declared.error.SessionError.TheVariants.{Memory}
 use Rattle.tsb_lines.specs.Lines.{lines_of}
-use Rattle.tsb_text.specs.declared.recording.faults.FaultyLine.{FaultyLine}
+use Rattle.tsb_text.specs.Stops.{Stopped as StoppedLine, stop_in}
 use Rattle.tsb_text.specs.declared.faults.OnFault.{OnFault}
 use Rattle.tsb_text.specs.declared.recording.Outcome.{Outcome}
 use Rattle.tsb_text.specs.declared.recording.Outcome.TheVariants.{Events, Stopped}
@@ -71,14 +71,14 @@ said-begun w form given read text s = subst (λ (v : List ℕ). IsBegun w given 
 -- ## The record
 
 -- where it came to this end, and what it gives is of that end
-remains : (w : OnFault) (given : Setup) (left : Option (List ℕ)) (read told : List ℕ) (end : End) (stop : Option FaultyLine) → end.stop ≡ stop → Remain w given left read end told
+remains : (w : OnFault) (given : Setup) (left : Option (List ℕ)) (read told : List ℕ) (end : End) (stop : Option StoppedLine) → end.stop ≡ stop → Remain w given left read end told
     → Remain w given left read (record { inputs = end.inputs; stop = stop }) told
-remains w given left read told end stop same r = subst (λ (s : Option FaultyLine). Remain w given left read (record { inputs = end.inputs; stop = s }) told) same r
+remains w given left read told end stop same r = subst (λ (s : Option StoppedLine). Remain w given left read (record { inputs = end.inputs; stop = s }) told) same r
 
 came-so : (w : OnFault) (form : LogForm) (given : Setup) (left : Option (List ℕ)) (read told : List ℕ) (outcome : Outcome) (end : End) → IsOutcome outcome end.stop (told_along form given.plan end.inputs)
     → Remain w given left read end told → EndedSo (Ok outcome) w form given left read told
 came-so w form given left read told (Events all) end is r = (end.inputs, remains w given left read told end None is.0 r, is.1)
-came-so w form given left read told (Stopped line) end is r = (end.inputs, remains w given left read told end (Some line) is r)
+came-so w form given left read told (Stopped line) end is r = (end.inputs, remains w given left read told end (stop_in (Some line)) is r)
 
 -- what a dialog left is what a record gives
 pub recorded : {A : Type 0} (stands : A → Course → Type 0) (w : OnFault) (form : LogForm) (given : Setup) (new : A) (i l o n : Option (List ℕ)) (outcome : Outcome) → dialogs.Ended 202 16777216 stands says (begun w form given) (Ok tt) new i l o n
@@ -171,7 +171,7 @@ stands-told given log course form is recording s =
     ap (λ (t : Telling). t.events) (is-told course.mode form course.told.told given is recording s.tells).0 ∙ told-same form given.plan is
 
 -- so what a record gives is of where it has come to
-pub outcome-told : (outcome : Outcome) (stop found : Option FaultyLine) (events told : List Event) → IsOutcome outcome stop events → stop ≡ found → events ≡ told → IsOutcome outcome found told
+pub outcome-told : (outcome : Outcome) (stop found : Option StoppedLine) (events told : List Event) → IsOutcome outcome stop events → stop ≡ found → events ≡ told → IsOutcome outcome found told
 outcome-told (Events all) stop found events told is same tells = (sym same ∙ is.0, is.1 ∙ tells)
 outcome-told (Stopped line) stop found events told is same tells = sym same ∙ is
 

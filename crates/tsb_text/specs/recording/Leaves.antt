@@ -15,10 +15,9 @@ use Rattle.tsb_text.specs.Obeys.{Obeys, nothing_besides}
 use Rattle.tsb_text.specs.Tasks.{task_of}
 use Rattle.tsb_text.specs.declared.task.Task.{Task}
 use Rattle.tsb_text.specs.declared.faults.OnFault.{OnFault}
-use Rattle.tsb_text.specs.declared.faults.OnFault.TheVariants.{Stop}
 use Rattle.tsb_text.specs.declared.faults.LineFault.{LineFault}
 use Rattle.tsb_text.specs.declared.faults.LineFault.TheVariants as faults
-use Rattle.tsb_text.specs.declared.recording.faults.FaultyLine.{FaultyLine}
+use Rattle.tsb_text.specs.Stops.{Stopped, flow_after, stopped_at}
 use Rattle.tsb_text.specs.recording.Faults.{fault_text}
 
 -- ## Commands
@@ -44,23 +43,13 @@ abbrev pub quits : Reading → Bool
 quits (Do Quit) = true
 quits r = false
 
--- the line that ends a record: a strict one ends with a line with which something is wrong
-abbrev pub stop_at : OnFault → ℕ → Option LineFault → Option FaultyLine
-stop_at Stop number (Some fault) = Some (record { number = number; fault = fault })
-stop_at on_fault number fault = None
-
--- whether a record goes on: after a line that is not `quit`, and that does not end it
-abbrev pub flow_after : Bool → Option FaultyLine → Flow
-flow_after false None = On
-flow_after is_quit stop = Over
-
 -- what a record comes to: the inputs that remain, and the line that ended it, where one did
 pub record End : Type 0 where
   pub inputs : List Input
-  pub stop : Option FaultyLine
+  pub stop : Option Stopped
 
 -- a record that ends here comes to this, and nothing more is told
-abbrev pub Ends : End → List Input → Option FaultyLine → List ℕ → Type 0
+abbrev pub Ends : End → List Input → Option Stopped → List ℕ → Type 0
 Ends end is stop told = (told ≡ []) × (end ≡ record { inputs = is; stop = stop })
 
 -- what follows a line: the rest, or the end
@@ -74,6 +63,6 @@ abbrev pub Come : OnFault → Setup → End → ℕ → List Input → List (Lis
 Come on_fault given end number is [] told = Ends end is None told
 Come on_fault given end number is (line ∷ lines) told =
     (fault : Option LineFault) × (new : List Input) × (rest : List ℕ) × Does given is (reading line) fault new × (told ≡ fault_text number line fault ++ rest)
-    × Follows (flow_after (quits (reading line)) (stop_at on_fault number fault))
+    × Follows (flow_after (quits (reading line)) (stopped_at on_fault number line fault))
     (Come on_fault given end (suc number) new lines rest)
-    (Ends end new (stop_at on_fault number fault) rest)
+    (Ends end new (stopped_at on_fault number line fault) rest)

@@ -13,7 +13,7 @@ use Rattle.tsb_log_text.specs.declared.log.LogRow.{LogRow}
 use Rattle.tsb_text.specs.Answers.{Setup}
 use Rattle.tsb_text.specs.Obeyed.{OnCourse, Stands}
 use Rattle.tsb_text.specs.Rows.{row_in_force}
-use Rattle.tsb_text.specs.declared.recording.faults.FaultyLine.{FaultyLine}
+use Rattle.tsb_text.specs.Stops.{Stopped as StoppedLine, stop_in}
 use Rattle.tsb_text.specs.declared.recording.Outcome.{Outcome}
 use Rattle.tsb_text.specs.declared.recording.Outcome.TheVariants.{Events, Stopped}
 use Rattle.tsb_text.specs.recording.Along.{Wants}
@@ -32,6 +32,6 @@ abbrev pub Left : {F : Type 0} → F → Setup → List LogRow → OnCourse → 
 Left fault given log course Leaves = (left : List Input) × Stands given log course left × Leaves fault left
 
 -- what a record gives that was ended by this line, or by none with these events told
-abbrev pub IsOutcome : Outcome → Option FaultyLine → List Event → Type 0
+abbrev pub IsOutcome : Outcome → Option StoppedLine → List Event → Type 0
 IsOutcome (Events all) stop events = (stop ≡ None) × (all.items ≡ events)
-IsOutcome (Stopped line) stop events = stop ≡ Some line
+IsOutcome (Stopped line) stop events = stop ≡ stop_in (Some line)

@@ -9,7 +9,8 @@ use Rattle.tsb_types.specs.declared.row.Row.{Row}
 use Rattle.tsb_text.specs.declared.rows.Rows.TheVariants.{Held as HeldRow}
 use Rattle.tsb_text.specs.Rows.{rows_in}
 use Rattle.tsb_dialog.specs.declared.dialog.TheConstants.{KEPT}
-use Rattle.tsb_live_text.specs.Live.{Says, begun, stop_in}
+use Rattle.tsb_live_text.specs.Live.{Says, begun}
+use Rattle.tsb_text.specs.Stops.{stop_in}
 use Rattle.tsb_live_text.specs.Standing.{StandsLive}
 use Rattle.tsb_live_text.specs.declared.run.TheConstants.{BYTES}
 use Rattle.tsb_live_text.proofs.EndLemmas.{ended-stopped, live-blames, live-ended}

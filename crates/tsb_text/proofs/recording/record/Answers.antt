@@ -7,6 +7,7 @@ use Rattle.tsb_bench.specs.tsb_step.State.{start}
 use Rattle.tsb_objects.specs.Checked.{checked_plan}
 use Rattle.tsb_text.specs.Answers.{Setup}
 use Rattle.tsb_text.specs.Obeyed.{Stands}
+use Rattle.tsb_text.specs.Stops.{stop_in}
 use Rattle.tsb_text.proofs.CourseLemmas.{course-begins}
 use Rattle.tsb_text.proofs.recording.ComeLemmas.{begun}
 use Rattle.tsb_text.proofs.recording.EndLemmas.{blames-fault, none-recorded, not-recorded, outcome-told, recorded, stands-told}
@@ -22,7 +23,7 @@ returns-in-Ok-converse-clause-ended g c =
     course-begins given given.log c.new.result refl c.new.ensures.rows
     (subst (λ (b : Held). Follows given.plan (whole b) []) (sym c.new.ensures.bench) (follows-start controller (start given.plan) (whole c.in-Ok.bench) c.in-Ok.ensures)) c.new.ensures.kept c.new.ensures.told in
     recorded _ c.args.options.on_fault c.args.options.form given c.converse.new.answers _ _ _ _ c.outcome_of.result (c.in-Ok-converse.ensures.ended (begun c.args.options.on_fault c.args.options.form given) (begins, refl, c.new.ensures.mode, refl))
-    (λ last here. outcome-told c.outcome_of.result c.converse.new.answers.stop last.end.stop c.converse.new.answers.course.told.told.events _ c.outcome_of.ensures here.3
+    (λ last here. outcome-told c.outcome_of.result (stop_in c.converse.new.answers.stop) last.end.stop c.converse.new.answers.course.told.told.events _ c.outcome_of.ensures here.3
     (stands-told last.given _ c.converse.new.answers.course last.form last.end.inputs here.2 here.0))
 
 pub returns-in-Err-clause-ended : goal.returns-in-Err-clause-ended

@@ -1,4 +1,4 @@
-use Rattle.std.proofs.Common.{◌≡◌, ◌∙◌, ap, refl, rules, subst, codes, None}
+use Rattle.std.proofs.Common.{◌∙◌, ap, refl, subst, codes, None}
 use Rattle.tsb_bench.specs.Held.{state_of}
 use Rattle.tsb_text.specs.kept.Changed.{last_change}
 use Rattle.tsb_log_text.specs.RowInputs.{value_of}
