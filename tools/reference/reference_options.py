@@ -3,8 +3,8 @@
 `with_options` gives the module `tsb_oracle` of a reference the seven objects of docs/use/MANUAL.md, "Coordination
 options": `coordForceMode`, `coordMaximumMode`, `coordCorrectionMode`, `coordCorrectionLimit`, `patternPermissiveTime`,
 `patternLeadLag` and `phasePedestrianRecycle`, with K23 and what `patternLeadLag` changes of K20. It has
-`overlapAcrossRings` of the same chapter too, and reads texts of version 3, which alone have that. All tools that take
-`--reference FOLDER` do so; a reference that has the options stays as it is.
+`overlapAcrossRings` and `preemptChoosesAnew` of the same chapter too, and reads texts of version 3, which alone have
+these. All tools that take `--reference FOLDER` do so; a reference that has the options stays as it is.
 
 It replaces the functions that an option changes. The tick of the reference itself is taken as it is. It is not told the
 local counter, by which it would force phases off, but which greens the pattern ends for a conflict in this tick: as
@@ -33,13 +33,14 @@ OBJECTS = {
 }
 # The objects that plan texts of version 3 alone have, those of them that a commit changes only while nothing is in
 # service, and that version.
-OF_VERSION_3 = {"overlapAcrossRings": (4, 1)}
+OF_VERSION_3 = {"overlapAcrossRings": (4, 1), "preemptChoosesAnew": (4, 1)}
 STRUCTURAL = {"overlapAcrossRings"}
 NEWEST = 3
 # The functions of the reference that are replaced.
 REPLACED = ("clear", "local_of", "check", "tick", "step", "overlap", "read_plan")
 
-PATTERNS = range(1, 17)
+PATTERNS, OVERLAPS = range(1, 17), range(1, 5)
+STAGE_LISTS = {"Track": "preemptTrackPhase", "Dwell": "preemptDwellPhase", "Exit": "preemptExitPhase"}
 AT_ONCE, DWELL, SHORT_WAY = range(3)
 LATE, FLOATING = (1, 2), 2
 PATTERN_MAXIMUMS = {1: "phaseMaximum1", 2: "phaseMaximum2"}
@@ -167,23 +168,31 @@ def has_maxed_out(pattern: Pattern, state: State, phase: int) -> bool:
 
 # --- rules ---
 
-class AcrossRings:
-    """An overlap with `overlapAcrossRings`: what its head shows by the phases and the commitments of a state."""
+class Following:
+    """An overlap, by the phases and the commitments of a state: which of its phases are followed, and what its head
+    shows where it has `overlapAcrossRings`."""
 
     def __init__(self, bench: Any, state: State, number: int):
         self.bench, self.state, self.plan = bench, state, state.plan
         self.included: list[int] = bench.members(self.plan["overlapIncludedPhases"][number])
         self.modifiers: list[int] = bench.members(self.plan["overlapModifierPhases"][number])
         self.is_normal = self.plan["overlapType"][number] == 0
+        self.is_across = self.plan["overlapAcrossRings"][number] == 1
 
     def is_followed(self, phase: int) -> bool:
-        """Whether an included phase comes next: of the ring of this one, or of the other ring behind the barrier."""
+        """Whether an included phase comes next: of the ring of this one, or with the option of the other ring behind
+        the barrier."""
         ring = self.plan["phaseRing"][phase]
         own, other = self.state.commit[ring], self.state.commit[3 - ring]
         if own is None:
             return False
         behind = other in self.included and phase not in self.bench.members(self.plan["phaseConcurrency"][other])
-        return own in self.included or behind
+        return own in self.included or (self.is_across and behind)
+
+    def lasts(self) -> bool:
+        """Whether one of its phases is in yellow or red clearance and followed."""
+        return any(self.state.interval[it] in self.bench.Y + self.bench.C and self.is_followed(it)
+                   for it in self.included)
 
     def some(self, phases: list[int], letters: str) -> bool:
         """Whether one of these phases is in one of these intervals."""
@@ -267,9 +276,32 @@ class Options:
 
     def tick(self, before: State, row: Row) -> State:
         """The state after a tick."""
+        if before.trip is not None:
+            state: State = self.old["tick"](before, row)
+            return state
+        after = self.moved(before, row)
+        if after.service and after.plan["preemptChoosesAnew"][after.service]:
+            self.give_up(after)
+        return after
+
+    def give_up(self, state: State) -> None:
+        """Gives up what rings are committed to outside the list of the stage in service, and a crossing with both of
+        its commitments; not while an overlap lasts through a clearance."""
+        wanted = self.bench.members(state.plan[STAGE_LISTS[state.stage]][state.service])
+        stray = [it for it in state.commit if it is not None and it not in wanted]
+        if not stray or any(Following(self.bench, state, number).lasts() for number in OVERLAPS):
+            return
+        if state.cross is not None:
+            state.commit, state.cross = (None, None, None), None
+        else:
+            state.commit = tuple(None if it in stray else it for it in state.commit)
+
+    def moved(self, before: State, row: Row) -> State:
+        """The state after a tick of a controller that has not tripped, in which rings have given nothing up."""
         counter = self.counter(before)
-        if before.trip is not None or counter is None:
-            return self.old["tick"](before, row)
+        if counter is None:
+            plain: State = self.old["tick"](before, row)
+            return plain
         greens = {p for p in counter.pattern.fo if before.interval[p] == self.bench.G}
         off = {p for p in greens for local in counter.steps(before.now + 1)
                if is_forced_off(counter.pattern, before, p, local)}
@@ -324,7 +356,7 @@ class Options:
         if not state.plan["overlapIncludedPhases"][number]:
             return "R"
         if state.plan["overlapAcrossRings"][number]:
-            return AcrossRings(self.bench, state, number).shown()
+            return Following(self.bench, state, number).shown()
         return str(self.old["overlap"](state, number))
 
     def step(self, before: State, given: Given) -> State:

@@ -140,6 +140,7 @@ fn of_18_or_19(word: &[u8]) -> Option<Object>
         PhaseDynamicMaxStep b"phaseDynamicMaxStep"
         CoordCorrectionMode b"coordCorrectionMode"
         OverlapAcrossRings  b"overlapAcrossRings"
+        PreemptChoosesAnew  b"preemptChoosesAnew"
     }
 }
 

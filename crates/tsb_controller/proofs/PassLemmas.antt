@@ -16,10 +16,11 @@ use Rattle.tsb_step.specs.tsb_types.declared.row.Row.{Row}
 use Rattle.tsb_step.specs.tsb_types.Clip.{Agree, clipped, within}
 use Rattle.tsb_step.specs.tsb_types.Flow.{interval_of}
 use Rattle.tsb_step.specs.tsb_types.Intervals.{is_green}
+use Rattle.tsb_step.specs.tsb_types.Lists.{run_from}
 use Rattle.tsb_step.specs.tsb_types.Sets.{has, has_number, is_phase}
 use Rattle.tsb_step.proofs.tsb_types.ClipLemmas.{among_16, clipped-agrees, clipped-same, within-agrees}
 use Rattle.tsb_step.specs.tsb_plan.Plan.{Plan}
-use Rattle.tsb_step.specs.tsb_plan.Parts.{call_phase}
+use Rattle.tsb_step.specs.tsb_plan.Parts.{call_phase, is_anew}
 use Rattle.tsb_detect.specs.Cells.{detector_in}
 use Rattle.tsb_detect.specs.Detector.{Detector, all_after, at_power_up, is_detector, next as detector_next, of_called}
 use Rattle.tsb_detect.specs.Promises as detect
@@ -46,7 +47,14 @@ use Rattle.tsb_ring.specs.Cells.{rings_in}
 use Rattle.tsb_ring.specs.Moves as ring_moves
 use Rattle.tsb_ring.specs.Moves.{is_ended, is_cleared, is_started}
 use Rattle.tsb_ring.specs.Next as rings_next
-use Rattle.tsb_ring.specs.Rings.{number}
+use Rattle.tsb_ring.specs.GivenUp.{given_up}
+use Rattle.tsb_ring.specs.Rings as ring_words
+use Rattle.tsb_ring.specs.Rings.{Ring1, Ring2, number}
+use Rattle.tsb_heads.specs.Heads.{Shown}
+use Rattle.tsb_heads.specs.Laws as heads_laws
+use Rattle.tsb_heads.specs.Overlaps.{lasts, some_lasts}
+use Rattle.tsb_heads.specs.Reading.{commitment_of}
+use Rattle.tsb_heads.proofs.OwnLemmas.{some_lasts-same}
 use Rattle.tsb_coord.specs.Cells.{pattern_in, correction_in}
 use Rattle.tsb_coord.specs.Coordinated as coordination
 use Rattle.tsb_coord.specs.Correction.{forces, lets_walk_again}
@@ -59,8 +67,9 @@ use Rattle.tsb_preempt.specs.Service.{Service, service_as_read}
 use Rattle.tsb_preempt.proofs.OwnLemmas.{ticks-as-next}
 use Rattle.tsb_transact.specs.Desk.{Desk}
 use Rattle.tsb_step.specs.State.{State, interval, pedestrian_part}
+use Rattle.tsb_step.specs.Signs.{is_lasting, shown as shown_of}
 use Rattle.tsb_step.specs.Tick as tick
-use Rattle.tsb_step.specs.Tick.{preempts_given, calls_given, phases_given, rings_given, new_detectors, callable, ready, over, reverted, gapped, walks_again, runs, hold, omitted, forced, recycle, service, service_ended, target, moves, moved, done, next}
+use Rattle.tsb_step.specs.Tick.{preempts_given, calls_given, phases_given, rings_given, new_detectors, callable, ready, over, reverted, gapped, walks_again, runs, hold, omitted, forced, recycle, service, service_ended, target, moves, after_moves, gives_up, new_rings, moved, done, next}
 use Rattle.tsb_controller.specs.Found.{observed}
 use Rattle.tsb_controller.specs.Passing.{ArePhasesStill, AreOthersStill, IsSettled, NoneRose}
 use Rattle.tsb_controller.specs.Promises.{IsTicked}
@@ -390,9 +399,6 @@ module _ (now t : ℕ) (plan : Plan) (desk : Desk) (lamp : Option Lamp) (row : R
   unfolding moves
   moves_same = ap (ring_moves.moves plan (rings_in r.rings)) rings_same
 
-  rings_then : rings_in r.rings ≡ rings_next.next plan (rings_in r.rings) (rings_given u row)
-  rings_then = ap (λ (x : State). x.rings) here ∙ sym (ap (rings_next.next plan (rings_in r.rings)) rings_same)
-
   -- ### Calls
 
   done_same : done u row ≡ done s row
@@ -435,6 +441,43 @@ module _ (now t : ℕ) (plan : Plan) (desk : Desk) (lamp : Option Lamp) (row : R
             at-rest t r.phases p out
             ∙ sym (stays plan (phases_given u row) (moved u row) p (phase_in (t - 1) r.phases p) (at-rest (t - 1) r.phases p out) (sym (none-moves p).starts) (sym (none-moves p).ends))
       ]
+
+  -- ### Rings once they have given up
+
+  rings_moved_same : (after_moves u row).rings ≡ (after_moves s row).rings
+  rings_moved_same = ap (rings_next.next plan (rings_in r.rings)) rings_same
+
+  -- what overlaps last through is seen of phases and commitments, and both are the same
+  sight : State → Shown
+  sight x = record (shown_of x) { pedestrian = pedestrian_part s; tripped = false }
+
+  lasting_by : (x : State) → some_lasts x.plan (sight x) ≡ is_lasting x
+  unfolding some_lasts lasts run_from sight
+  lasting_by x = refl
+
+  sights_same : heads_laws.AreAlike (sight (after_moves u row)) (sight (after_moves s row))
+  unfolding sight
+  sights_same = record {
+    interval = λ p from to.
+        sym (ap (λ (f : ℕ → phase.Phase). (f p).interval) phases_then) ∙ same-interval t now r.phases p ∙ ap (λ (x : State). interval x p) here;
+    pedestrian = λ p from to. refl;
+    commitment = λ n. ap (λ (x : ring_words.State). commitment_of (x.commitment Ring1) (x.commitment Ring2) n) rings_moved_same;
+    tripped = refl;
+  }
+
+  lasting_same : is_lasting (after_moves u row) ≡ is_lasting (after_moves s row)
+  lasting_same =
+      sym (lasting_by (after_moves u row))
+      ∙ some_lasts-same plan (sight (after_moves u row)) (sight (after_moves s row)) placed.count sights_same
+      ∙ lasting_by (after_moves s row)
+
+  new_rings_same : new_rings u row ≡ new_rings s row
+  unfolding new_rings gives_up
+  new_rings_same = λ i.
+      (if is_anew plan (service_same i) && not (lasting_same i) then given_up plan (target_same i) (rings_moved_same i) else rings_moved_same i)
+
+  rings_then : rings_in r.rings ≡ new_rings u row
+  rings_then = ap (λ (x : State). x.rings) here ∙ sym new_rings_same
 
   -- ### All of it
 

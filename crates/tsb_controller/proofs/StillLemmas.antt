@@ -23,7 +23,7 @@ use Rattle.tsb_controller.proofs.CarryLemmas.{same-interval}
 -- ## A watched tick is a tick
 
 pub watched-ticks_are : WatchedTicksAreTicked
-unfolding watched new_detectors tick.new_service phases_given rings_given moves
+unfolding watched new_detectors tick.new_service phases_given rings_given moves tick.new_rings tick.gives_up
 watched-ticks_are now row lamp plan old new None done desk other = λ i. record (done desk i) { lamp = other; trip = None }
 watched-ticks_are now row lamp plan old new (Some cause) done desk other = λ i. record (done desk i) { lamp = other; trip = None }
 

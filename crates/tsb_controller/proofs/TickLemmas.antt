@@ -14,12 +14,14 @@ use Rattle.tsb_step.specs.tsb_types.declared.lamp.Lamp.{Lamp}
 use Rattle.tsb_step.specs.tsb_types.declared.phase_set.PhaseSet.{PhaseSet}
 use Rattle.tsb_step.specs.tsb_types.declared.row.Row.{Row}
 use Rattle.tsb_step.specs.tsb_types.Clip.{Agree}
-use Rattle.tsb_step.specs.tsb_types.Flow.{interval_of}
+use Rattle.tsb_step.specs.tsb_types.declared.flow.Pedestrians.{Pedestrians}
+use Rattle.tsb_step.specs.tsb_types.Flow.{interval_of, pedestrian_of, target_of}
+use Rattle.tsb_step.specs.tsb_types.Lists.{run_from}
 use Rattle.tsb_step.specs.tsb_types.Intervals.{is_green}
 use Rattle.tsb_step.specs.tsb_types.Sets.{has, has_number, is_phase}
 use Rattle.tsb_step.proofs.tsb_types.ClipLemmas.{among_16, clipped-agrees, is_phase_from, within-agrees}
 use Rattle.tsb_step.specs.tsb_plan.Plan.{Plan, sequence}
-use Rattle.tsb_step.specs.tsb_plan.Parts.{call_phase}
+use Rattle.tsb_step.specs.tsb_plan.Parts.{call_phase, is_anew}
 use Rattle.tsb_detect.specs.Cells.{detector_in}
 use Rattle.tsb_detect.specs.Detector.{Detector, of_called, all_after}
 use Rattle.tsb_detect.specs.Promises as detect
@@ -51,10 +53,17 @@ use Rattle.tsb_ring.specs.Moves as ring_moves
 use Rattle.tsb_ring.specs.Moves.{is_ended, is_cleared, is_started}
 use Rattle.tsb_ring.specs.Next as rings_next
 use Rattle.tsb_ring.specs.Promises as rings
-use Rattle.tsb_ring.specs.Rings.{number}
+use Rattle.tsb_ring.specs.GivenUp.{given_up}
+use Rattle.tsb_ring.specs.Rings as ring_words
+use Rattle.tsb_ring.specs.Rings.{Ring1, Ring2, number}
 use Rattle.tsb_ring.proofs.ActLemmas.{acts_as_next}
 use Rattle.tsb_ring.proofs.LookLemmas.{moves-same}
 use Rattle.tsb_ring.proofs.MoveLemmas.{ends_ready, clears_over}
+use Rattle.tsb_heads.specs.Heads.{Shown}
+use Rattle.tsb_heads.specs.Laws as heads_laws
+use Rattle.tsb_heads.specs.Overlaps.{lasts, some_lasts}
+use Rattle.tsb_heads.specs.Reading.{commitment_of, shown_by}
+use Rattle.tsb_heads.proofs.OwnLemmas.{some_lasts-same}
 use Rattle.tsb_coord.specs.Cells.{pattern_in, correction_in}
 use Rattle.tsb_coord.specs.Correction.{forces, lets_walk_again}
 use Rattle.tsb_preempt.specs.Cells.{preempts_in}
@@ -67,12 +76,14 @@ use Rattle.tsb_preempt.proofs.OwnLemmas.{orders-as-next, ticks-as-next}
 use Rattle.tsb_transact.specs.Desk.{Desk}
 use Rattle.tsb_step.specs.State.{State, interval}
 use Rattle.tsb_step.specs.Tick as tick
-use Rattle.tsb_step.specs.Tick.{preempts_given, calls_given, phases_given, rings_given, new_detectors, set, callable, conflict, pedestrian_call, ready, over, reverted, gapped, walks_again, service, moves, moved, done, next}
+use Rattle.tsb_step.specs.Tick.{preempts_given, calls_given, phases_given, rings_given, new_detectors, set, callable, conflict, pedestrian_call, ready, over, reverted, gapped, walks_again, service, moves, moved, done, after_moves, gives_up, new_rings, next}
+use Rattle.tsb_step.specs.Signs.{is_lasting, shown as shown_of}
 use Rattle.tsb_step.proofs.ClipLemmas.{clipped_holds}
+use Rattle.tsb_step.proofs.GiveUpLemmas.{gives_none}
 use Rattle.tsb_controller.specs.declared.values.Sensed.{Sensed}
 use Rattle.tsb_controller.specs.declared.values.Movement.{Movement}
 use Rattle.tsb_controller.specs.Carried.{moved_by}
-use Rattle.tsb_controller.specs.Found.{observed, for_rings, IsSensed, IsMoved, AreConditions, AreDecided}
+use Rattle.tsb_controller.specs.Found.{observed, for_rings, IsSensed, IsMoved, LeavesAllButRings, TellsLasting, IsGivenUpOutside, IsGivenUpFor, IsGivenUp, AreConditions, AreDecided}
 use Rattle.tsb_controller.specs.Promises.{IsTicked}
 use Rattle.tsb_controller.specs.Rows.{Rows, AreBy, untripped, state_of}
 use Rattle.tsb_controller.proofs.PlacedLemmas.{IsPlaced, for_calls, within}
@@ -332,6 +343,76 @@ module _ (now : ℕ) (plan : Plan) (desk : Desk) (lamp : Option Lamp) (row : Row
               ∙ sym (stays plan h (moved t row) p (was p) (at-rest (now - 1) old.phases p out) (started-off p out) (ended-off p out))
         ]
 
+    -- ### Rings once they have given up
+
+    -- what an overlap lasts through is seen of phases and rings alone
+    seen_after : Pedestrians → Shown
+    seen_after x = record (shown_of (after_moves t row)) { pedestrian = pedestrian_of x; tripped = false }
+
+    lasting_alike : (x : Pedestrians) → some_lasts plan (seen_after x) ≡ is_lasting (after_moves t row)
+    unfolding some_lasts lasts run_from moves seen_after
+    lasting_alike x = refl
+
+    lasting_is : (b : Bool) → TellsLasting plan moved_rows b → b ≡ is_lasting (after_moves t row)
+    unfolding seen_after moves
+    lasting_is b h =
+        h.told s.pedestrians false
+        ∙ some_lasts-same plan (shown_by h.intervals s.pedestrians h.ring_1 h.ring_2 false) (seen_after s.pedestrians) placed.count alike_then
+        ∙ lasting_alike s.pedestrians
+      where
+        alike_then : heads_laws.AreAlike (shown_by h.intervals s.pedestrians h.ring_1 h.ring_2 false) (seen_after s.pedestrians)
+        alike_then = record {
+          interval = λ p from to. h.intervals_are now p from to ∙ ap (λ (f : ℕ → Phase). (f p).interval) phases_are;
+          pedestrian = λ p from to. refl;
+          commitment = λ r. ap₂ (λ (a b : Option ℕ). commitment_of a b r) (h.first_is ∙ ap (λ (x : ring_words.State). x.commitment Ring1) rings_are)
+              (h.second_is ∙ ap (λ (x : ring_words.State). x.commitment Ring2) rings_are);
+          tripped = refl;
+        }
+
+    module _ (given_rows : Rows) (gave : IsGivenUp s plan moved_rows given_rows) where
+      -- where nothing is given up, the rings are as they moved
+      kept_are : given_rows.rings ≡ moved_rows.rings → gives_up t row ≡ false → rings_in given_rows.rings ≡ new_rings t row
+      unfolding new_rings
+      kept_are same none = rw none (ap rings_in same ∙ rings_are)
+
+      -- and where no preempt has a target
+      idle_are : given_rows.rings ≡ moved_rows.rings → tick.target t row ≡ None → rings_in given_rows.rings ≡ new_rings t row
+      unfolding new_rings given_up
+      idle_are same none = ap rings_in same ∙ rings_are ∙ go (gives_up t row)
+        where
+          go : (b : Bool) → (after_moves t row).rings ≡ (if b then given_up plan (tick.target t row) (after_moves t row).rings else (after_moves t row).rings)
+          go true = rw none refl
+          go false = refl
+
+      given_by : (target : PhaseSet) → tick.target t row ≡ Some (has target) → is_anew plan (service t row) ≡ true → IsGivenUpOutside (has target) plan moved_rows given_rows →
+          rings_in given_rows.rings ≡ new_rings t row
+      unfolding new_rings gives_up
+      given_by target asks anew g = go g.lasts refl
+        where
+          lasting : (b : Bool) → g.lasts ≡ b → is_lasting (after_moves t row) ≡ b
+          lasting b e = sym (lasting_is g.lasts g.lasts_is) ∙ e
+
+          go : (b : Bool) → g.lasts ≡ b → rings_in given_rows.rings ≡ new_rings t row
+          go true e = rw (anew, lasting true e) (ap rings_in (g.stays e) ∙ rings_are)
+          go false e =
+              rw (anew, lasting false e)
+              (g.given e ∙ ap₂ (λ (o : Option (ℕ → Bool)) (x : ring_words.State). given_up plan o x) (sym asks) rings_are)
+
+      pub given_are : rings_in given_rows.rings ≡ new_rings t row
+      given_are = by_choice (is_anew plan s.service) refl gave
+        where
+          by_target : (o : Option PhaseSet) → s.asked.target ≡ o → is_anew plan s.service ≡ true → IsGivenUpFor o plan moved_rows given_rows →
+              rings_in given_rows.rings ≡ new_rings t row
+          by_target None e anew g = idle_are (ap (λ (r : Rows). r.rings) g) (sym wanted.target ∙ ap target_of e)
+          by_target (Some target) e anew g =
+              given_by target (sym wanted.target ∙ ap target_of e) (sym (ap (is_anew plan) served) ∙ anew) g
+
+          by_choice : (b : Bool) → is_anew plan s.service ≡ b → IsGivenUpFor (if b then s.asked.target else None) plan moved_rows given_rows →
+              rings_in given_rows.rings ≡ new_rings t row
+          by_choice true e g = by_target s.asked.target refl e g
+          by_choice false e g =
+              kept_are (ap (λ (r : Rows). r.rings) g) (gives_none t row (sym (ap (is_anew plan) served) ∙ e))
+
     -- ### Calls once they are settled
 
     pub memories_are : (d : Decided) (new : List ℕ) → AreDecided s called m d → calls.IsSettled d mid new → memories_in new ≡ (next t row).memories
@@ -350,10 +431,10 @@ module _ (now : ℕ) (plan : Plan) (desk : Desk) (lamp : Option Lamp) (row : Row
 
     -- ### All of it
 
-    pub joined : (d : Decided) (new : List ℕ) → AreDecided s called m d → calls.IsSettled d mid new →
-        state_of now (untripped plan desk lamp) (record old { detectors = sensed_rows.detectors; calls = new; phases = moved_rows.phases; rings = moved_rows.rings; preempts = sensed_rows.preempts })
+    pub joined : (given_rows : Rows) → IsGivenUp s plan moved_rows given_rows → (d : Decided) (new : List ℕ) → AreDecided s called m d → calls.IsSettled d mid new →
+        state_of now (untripped plan desk lamp) (record old { detectors = sensed_rows.detectors; calls = new; phases = moved_rows.phases; rings = given_rows.rings; preempts = sensed_rows.preempts })
         ≡ next t row
-    joined d new decided settled = λ i. record {
+    joined given_rows gave d new decided settled = λ i. record {
       now = now_is i;
       plan = plan;
       desk = desk;
@@ -362,23 +443,26 @@ module _ (now : ℕ) (plan : Plan) (desk : Desk) (lamp : Option Lamp) (row : Row
       detectors = detectors_are i;
       memories = memories_are d new decided settled i;
       phases = phases_are i;
-      rings = rings_are i;
+      rings = given_are given_rows gave i;
       preempts = preempts_are i;
       lamp = lamp;
       trip = None;
     }
 
 -- The rows after the tick, from the rows after each step: no step changes a row but its own.
-pub stepped : (now : ℕ) (plan : Plan) (row : Row) (old sensed_rows moved_rows : Rows) (mid new : List ℕ) (s : Sensed) (called : Called) (m : Movement) (d : Decided) →
+pub stepped : (now : ℕ) (plan : Plan) (row : Row) (old sensed_rows moved_rows given_rows : Rows) (mid new : List ℕ) (s : Sensed) (called : Called) (m : Movement) (d : Decided) →
     1 ≤ now → IsPlaced plan → AreBy (now - 1) old → IsSensed now row plan old sensed_rows s →
     calls.IsSet (observed row s) plan sensed_rows.calls mid → calls.TellsCalled (observed row s) plan sensed_rows.calls called →
-    IsMoved now s called plan (record sensed_rows { calls = mid }) moved_rows m → AreDecided s called m d → calls.IsSettled d moved_rows.calls new →
-    IsTicked now row plan old (record moved_rows { calls = new })
-stepped now plan row old sensed_rows moved_rows mid new s called m d one placed by sensed sets calls_told run decided settled desk lamp =
+    IsMoved now s called plan (record sensed_rows { calls = mid }) moved_rows m → IsGivenUp s plan moved_rows given_rows →
+    LeavesAllButRings moved_rows given_rows → AreDecided s called m d → calls.IsSettled d given_rows.calls new →
+    IsTicked now row plan old (record given_rows { calls = new })
+stepped now plan row old sensed_rows moved_rows given_rows mid new s called m d one placed by sensed sets calls_told run gave rest decided settled desk lamp =
     let own_run : IsMoved now s called plan (record old { detectors = sensed_rows.detectors; calls = mid; preempts = sensed_rows.preempts }) moved_rows m =
     subst (λ (r : Rows). IsMoved now s called plan (record r { calls = mid }) moved_rows m) sensed.rest run in
-    ap (λ (r : Rows). state_of now (untripped plan desk lamp) (record r { calls = new })) own_run.rest
+    let all : given_rows ≡ record old { detectors = sensed_rows.detectors; calls = mid; phases = moved_rows.phases; rings = given_rows.rings; preempts = sensed_rows.preempts } =
+    rest ∙ ap (λ (r : Rows). record r { rings = given_rows.rings }) own_run.rest in
+    ap (λ (r : Rows). state_of now (untripped plan desk lamp) (record r { calls = new })) all
     ∙ joined now plan desk lamp row old sensed_rows mid s called one placed by sensed
     (subst (λ (r : Rows). calls.IsSet (observed row s) plan r.calls mid) sensed.rest sets)
     (subst (λ (r : Rows). calls.TellsCalled (observed row s) plan r.calls called) sensed.rest calls_told)
-    moved_rows m own_run d new decided (subst (λ (xs : List ℕ). calls.IsSettled d xs new) (ap (λ (r : Rows). r.calls) own_run.rest) settled)
+    moved_rows m own_run given_rows gave d new decided (subst (λ (xs : List ℕ). calls.IsSettled d xs new) (ap (λ (r : Rows). r.calls) all) settled)

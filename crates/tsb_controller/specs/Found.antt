@@ -1,11 +1,14 @@
 -- What a tick finds, and what it does, step by step, in the words of the layers' contracts, over rows of cells: `old`
 -- before a step, `new` after it.
-use Rattle.std.specs.Prelude.{◌≡◌, ℕ, List, option_map}
+use Rattle.std.specs.Prelude.{◌≡◌, ℕ, Bool, true, false, if◌then◌else◌, List, Option, Some, None, option_map}
 use Rattle.tsb_step.specs.tsb_types.declared.flow.Called.{Called}
+use Rattle.tsb_step.specs.tsb_types.declared.flow.Intervals.{Intervals}
 use Rattle.tsb_step.specs.tsb_types.declared.flow.Orders.{Orders}
 use Rattle.tsb_step.specs.tsb_types.declared.flow.Timing.{Timing}
 use Rattle.tsb_step.specs.tsb_types.declared.row.Row.{Row}
+use Rattle.tsb_step.specs.tsb_types.declared.phase_set.PhaseSet.{PhaseSet}
 use Rattle.tsb_step.specs.tsb_types.Sets.{has}
+use Rattle.tsb_step.specs.tsb_plan.Parts.{is_anew}
 use Rattle.tsb_step.specs.tsb_plan.Plan.{Plan}
 use Rattle.tsb_detect.specs.declared.greens.Greens.{Greens}
 use Rattle.tsb_detect.specs.Cells as detect_cells
@@ -26,6 +29,7 @@ use Rattle.tsb_preempt.specs.Service.{Service}
 use Rattle.tsb_preempt.specs.Cells as preempt_cells
 use Rattle.tsb_preempt.specs.Cells.{preempts_in}
 use Rattle.tsb_preempt.specs.Promises as preempts
+use Rattle.tsb_heads.specs.Promises as heads
 use Rattle.tsb_controller.specs.declared.values.Sensed.{Sensed}
 use Rattle.tsb_controller.specs.declared.values.Movement.{Movement}
 use Rattle.tsb_controller.specs.Carried.{IsCarriedOut, AreOnes}
@@ -126,3 +130,35 @@ pub record IsMoved (now : ℕ) (s : Sensed) (called : Called) (plan : Plan) (old
   pub acted : rings.IsActed m.moves Ring1First old.rings new.rings
   pub rings_by : ring_cells.IsBy new.rings
   pub rest : new ≡ record old { phases = new.phases; rings = new.rings }
+
+-- some overlap lasts through a clearance by a commitment, as phases and rings are in these rows
+pub record TellsLasting (plan : Plan) (rows : Rows) (result : Bool) : Type 0 where
+  pub intervals : Intervals
+  pub ring_1 : Option ℕ
+  pub ring_2 : Option ℕ
+  pub intervals_are : phases.TellsIntervals rows.phases intervals
+  pub first_is : rings.TellsCommitment rows.rings 1 ring_1
+  pub second_is : rings.TellsCommitment rows.rings 2 ring_2
+  pub told : heads.TellsLasting intervals ring_1 ring_2 plan result
+
+-- no row changes but that of the rings
+abbrev pub LeavesAllButRings : Rows → Rows → Type 0
+LeavesAllButRings old new = new ≡ record old { rings = new.rings }
+
+-- the rings give up what they are committed to outside the target, unless an overlap lasts; no other row changes
+pub record IsGivenUpOutside (target : ℕ → Bool) (plan : Plan) (old new : Rows) : Type 0 where
+  pub lasts : Bool
+  pub lasts_is : TellsLasting plan old lasts
+  pub given : lasts ≡ false → rings.IsGivenUp plan target old.rings new.rings
+  pub stays : lasts ≡ true → new.rings ≡ old.rings
+  pub rings_by : ring_cells.IsBy new.rings
+  pub rest : LeavesAllButRings old new
+
+-- so where there is a target, and else nothing changes
+abbrev pub IsGivenUpFor : Option PhaseSet → Plan → Rows → Rows → Type 0
+IsGivenUpFor None plan old new = new ≡ old
+IsGivenUpFor (Some target) plan old new = IsGivenUpOutside (has target) plan old new
+
+-- the target of the preempt in service counts, where that chooses anew
+abbrev pub IsGivenUp : Sensed → Plan → Rows → Rows → Type 0
+IsGivenUp s plan old new = IsGivenUpFor (if is_anew plan s.service then s.asked.target else None) plan old new

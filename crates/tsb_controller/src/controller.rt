@@ -5,7 +5,8 @@ ghost use Rattle.tsb_calls.specs.Cells as calls;
 ghost use Rattle.tsb_phase.specs.Cells as phases;
 ghost use Rattle.tsb_ring.specs.Cells as rings;
 ghost use Rattle.tsb_step.specs.Step.{last_tick};
-ghost use Rattle.tsb_controller.specs.Found.{IsSensed, IsMoved};
+ghost use Rattle.tsb_step.specs.tsb_types.Sets.{has};
+ghost use Rattle.tsb_controller.specs.Found.{IsSensed, IsMoved, IsGivenUp, IsGivenUpFor, IsGivenUpOutside, LeavesAllButRings, TellsLasting};
 ghost use Rattle.tsb_controller.specs.Rows.{AreBy};
 ghost use Rattle.tsb_controller.specs.Promises.{IsTicked};
 
@@ -14,7 +15,8 @@ use crate::values::{Movement, Sensed};
 use tsb_calls::Calls;
 use tsb_coord::Coord;
 use tsb_detect::{Detectors, Greens};
-use tsb_objects::{Called, Checked, Row};
+use tsb_heads::some_overlap_lasts;
+use tsb_objects::{Called, Checked, PhaseSet, Ring, Row};
 use tsb_phase::Phases;
 use tsb_preempt::{Preempts, preempt_of};
 use tsb_ring::{RingOrder, Rings};
@@ -48,6 +50,7 @@ impl Controller {
         let sensed = self.sense(now, row, plan);
         let called = self.calls.tick(&sensed.observed(row), plan);
         let movement = self.proceed(now, &sensed, &called, plan);
+        self.give_up(&sensed, plan);
         self.calls.settle(&sensed.decided(&called, &movement));
     }
 
@@ -97,5 +100,65 @@ impl Controller {
         carry_out(&mut self.phases, &moves, now, &timing, &conditions, plan);
         self.rings.act(&moves, RingOrder::Ring1First);
         Movement { timing, moves }
+    }
+
+    /// The rings give up what they are committed to outside the target, where the preempt in service chooses anew, and
+    /// no overlap lasts through a clearance by a commitment.
+    #[inline(always)]
+    fn give_up(&mut self, sensed: &Sensed, plan: &Checked)
+        requires opened { IsOpen self.old }
+        requires rings_by { rings.IsBy (rows_of self.old).rings }
+        ensures given { IsGivenUp sensed.now (checked_plan plan.now) (rows_of self.old) (rows_of self.new) }
+        ensures rings_by { rings.IsBy (rows_of self.new).rings }
+        ensures rest { LeavesAllButRings (rows_of self.old) (rows_of self.new) }
+        ensures kept { kept_of self.new ≡ kept_of self.old }
+        ensures opened { IsOpen self.new }
+    {
+        self.give_up_for(sensed.chosen_anew(plan), plan);
+    }
+
+    /// The rings give up what they are committed to outside these phases, if a preempt chooses them, and no overlap
+    /// lasts through a clearance by a commitment.
+    #[inline(always)]
+    fn give_up_for(&mut self, target: Option<PhaseSet>, plan: &Checked)
+        requires opened { IsOpen self.old }
+        requires rings_by { rings.IsBy (rows_of self.old).rings }
+        ensures given { IsGivenUpFor target (checked_plan plan.now) (rows_of self.old) (rows_of self.new) }
+        ensures rings_by { rings.IsBy (rows_of self.new).rings }
+        ensures rest { LeavesAllButRings (rows_of self.old) (rows_of self.new) }
+        ensures kept { kept_of self.new ≡ kept_of self.old }
+        ensures opened { IsOpen self.new }
+    {
+        if let Some(target) = target {
+            self.give_up_outside(target, plan);
+        }
+    }
+
+    /// The rings give up what they are committed to outside these phases, where no overlap lasts through a clearance by
+    /// a commitment.
+    #[inline(never)]
+    fn give_up_outside(&mut self, target: PhaseSet, plan: &Checked)
+        requires opened { IsOpen self.old }
+        requires rings_by { rings.IsBy (rows_of self.old).rings }
+        ensures given { IsGivenUpOutside (has target) (checked_plan plan.now) (rows_of self.old) (rows_of self.new) }
+        ensures kept { kept_of self.new ≡ kept_of self.old }
+        ensures opened { IsOpen self.new }
+    {
+        if !self.overlap_lasts(plan) {
+            self.rings.give_up(target, plan);
+        }
+    }
+
+    /// Whether an overlap lasts through a clearance by a commitment, as phases and rings are now.
+    fn overlap_lasts(&self, plan: &Checked) -> bool
+        requires rings_by { rings.IsBy (rows_of self.now).rings }
+        ensures { TellsLasting (checked_plan plan.now) (rows_of self.now) result }
+    {
+        some_overlap_lasts(
+            &self.phases.intervals(),
+            self.rings.commitment(Ring::of(1)),
+            self.rings.commitment(Ring::of(2)),
+            plan,
+        )
     }
 }

@@ -1,5 +1,7 @@
 //! The values that the layers give one another in a tick, put together.
-ghost use Rattle.std.specs.Prelude.{◌≡◌, ℕ, ◌||◌, length};
+ghost use Rattle.std.specs.Prelude.{◌≡◌, ℕ, ◌||◌, None, length, if◌then◌else◌};
+ghost use Rattle.tsb_objects.specs.Checked.{checked_plan};
+ghost use Rattle.tsb_step.specs.tsb_plan.Parts.{is_anew};
 ghost use Rattle.tsb_step.specs.tsb_types.Lists.{is};
 ghost use Rattle.tsb_step.specs.tsb_types.Sets.{has};
 ghost use Rattle.tsb_phase.specs.Counts.{AreCounts};
@@ -8,7 +10,8 @@ ghost use Rattle.tsb_controller.specs.Found.{observed, orders, for_rings, AreCon
 use tsb_calls::{Decided, Observed};
 use tsb_coord::Coordination;
 use tsb_objects::{
-    Called, Intervals, Moves, NumberSet, Orders, Pedestrians, Phase, PhaseSet, Preempt, Row, Timing,
+    Called, Checked, Intervals, Moves, NumberSet, Orders, Pedestrians, Phase, PhaseSet, Preempt,
+    Row, Timing,
 };
 use tsb_phase::Conditions;
 use tsb_preempt::PreemptOrders;
@@ -84,6 +87,20 @@ impl Sensed {
             runs: self.coordination.runs,
             service: self.service,
             orders: self.orders(),
+        }
+    }
+
+    /// The target of the preempt in service, where it chooses anew.
+    pub(crate) fn chosen_anew(&self, plan: &Checked) -> Option<PhaseSet>
+        ensures { result ≡ (if is_anew (checked_plan plan.now) self.now.service then self.now.asked.target else None) }
+    {
+        match self.service {
+            None => None,
+            Some(n) => if plan.plan().chooses_anew(n) {
+                self.asked.target
+            } else {
+                None
+            },
         }
     }
 

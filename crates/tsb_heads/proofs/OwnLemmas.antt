@@ -14,7 +14,7 @@ use Rattle.tsb_objects.specs.tsb_rules.PatternRules.{some_and}
 use Rattle.tsb_heads.specs.declared.monitor.Trip.{Trip}
 use Rattle.tsb_heads.specs.declared.monitor.Trip.TheVariants.{Conflict, GreenToRed}
 use Rattle.tsb_heads.specs.Heads.{Shown, Heads}
-use Rattle.tsb_heads.specs.Overlaps.{some_of, other_ring, comes_across, is_followed, keeps_green, is_kept_green, is_on_yellow, has_green_modifier, has_yellow_modifier, is_on_last_yellow, overlap_head}
+use Rattle.tsb_heads.specs.Overlaps.{some_of, other_ring, comes_across, is_followed, keeps_green, is_kept_green, is_on_yellow, has_green_modifier, has_yellow_modifier, is_on_last_yellow, is_lasted_through, lasts, some_lasts, overlap_head}
 use Rattle.tsb_heads.specs.Displays.{ordered, flashing, flashed, field, laid_over}
 use Rattle.tsb_heads.specs.Monitoring as monitor
 use Rattle.tsb_heads.specs.Monitoring.{is_red, are_in_conflict, conflict_of, conflict_by, conflict, goes_red, green_to_red}
@@ -60,6 +60,18 @@ module _ (plan : Plan) (s t : Shown) (count : plan.phase_count ≤ 16) (alike : 
   last-same o =
       some-same (is_included plan o) (λ p. is_yellow (s.interval p) && not (is_followed plan s o p)) (λ p. is_yellow (t.interval p) && not (is_followed plan t o p))
       (λ p from to. ap₂ (λ (i : Interval) (b : Bool). is_yellow i && not b) (alike.interval p from to) (followed-same o p))
+
+  lasted-same : (o p : ℕ) → 1 ≤ p → p ≤ 16 → is_lasted_through plan s o p ≡ is_lasted_through plan t o p
+  lasted-same o p from to = ap₂ (λ (i : Interval) (b : Bool). (is_yellow i || is_red_clear i) && b) (alike.interval p from to) (followed-same o p)
+
+  lasts-same : (o : ℕ) → lasts plan s o ≡ lasts plan t o
+  unfolding lasts
+  lasts-same o = some-same (is_included plan o) (is_lasted_through plan s o) (is_lasted_through plan t o) (λ p from to. lasted-same o p from to)
+
+  -- so whether some overlap lasts through a clearance is seen of them alone
+  pub some_lasts-same : some_lasts plan s ≡ some_lasts plan t
+  unfolding some_lasts
+  some_lasts-same = any-agree 4 (lasts plan s) (lasts plan t) (omega arith) (λ o from to. lasts-same o)
 
   overlap-same : (o : ℕ) → overlap_head plan s o ≡ overlap_head plan t o
   overlap-same o = rw (kept-same o, yellow-same o, green_modifier-same o, yellow_modifier-same o, last-same o) refl

@@ -21,8 +21,10 @@ pub mod StageTickLemmas
 pub mod StageRingLemmas
 pub mod StageDirtyLemmas
 pub mod StageArrivalLemmas
+pub mod StageChoiceLemmas
 pub mod StageRunLemmas
 pub mod StageServiceLemmas
+pub mod ChosenStageLemmas
 pub mod PressedGreenLemmas
 pub mod PressedRunLemmas
 pub mod TurnListLemmas

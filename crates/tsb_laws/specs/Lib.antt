@@ -30,6 +30,8 @@ pub mod OverlapPhases
 pub mod PreemptTurns
 -- within what time a preempt has the phases of its stage Green, reaches its dwell and leaves its exit
 pub mod PreemptStages
+-- within what shorter time it has them where it chooses anew
+pub mod PreemptChoices
 -- that nothing is Green in a crossing, nor in a ring that is committed
 pub mod CrossingGreens
 -- what enters under a preempt

@@ -3,8 +3,8 @@
 -- that object.
 use Rattle.std.specs.Prelude.{◌≡◌, ℕ, ◌==◌, true, false, ◌&&◌, ◌||◌, if◌then◌else◌, Option, Some, None, is_some, is_none}
 use Rattle.tsb_step.specs.tsb_cells.Timer.{has_reached}
-use Rattle.tsb_step.specs.tsb_plan.declared.object.Object.TheVariants.{CoordForceMode, CoordMaximumMode, PatternPermissiveTime, PatternLeadLag, PhasePedestrianRecycle, CoordCorrectionMode, OverlapAcrossRings}
-use Rattle.tsb_step.specs.tsb_plan.Parts.{leads_and_lags, split_of, sequence_of}
+use Rattle.tsb_step.specs.tsb_plan.declared.object.Object.TheVariants.{CoordForceMode, CoordMaximumMode, PatternPermissiveTime, PatternLeadLag, PhasePedestrianRecycle, CoordCorrectionMode, OverlapAcrossRings, PreemptChoosesAnew}
+use Rattle.tsb_step.specs.tsb_plan.Parts.{leads_and_lags, split_of, sequence_of, is_anew}
 use Rattle.tsb_step.specs.tsb_plan.Plan.{Plan, is_enabled, side_of, is_concurrent}
 use Rattle.tsb_step.specs.tsb_plan.Running.{running}
 use Rattle.tsb_step.specs.tsb_rules.PatternRules.{some_and, each_pattern, split_end, ends_with, coordinated_agree, coordinated_phases_agree, permissive_times_end}
@@ -19,7 +19,7 @@ use Rattle.tsb_step.specs.tsb_phase.Phase.{Given, GreenHeld}
 use Rattle.tsb_step.specs.tsb_phase.DynamicMaximum.{maximum_in_use}
 use Rattle.tsb_step.specs.tsb_phase.Green.{conflict_timer, acting_maximum, has_maxed_out, forced_latch}
 
--- each option of the plan is 0; of a pattern, a phase or an overlap there may be one for each
+-- each option of the plan is 0; of a pattern, a phase, an overlap or a preempt there may be one for each
 pub record HasNoOptions (plan : Plan) : Type 0 where
   pub coord_force_mode : plan.value CoordForceMode 1 ≡ 0
   pub coord_maximum_mode : plan.value CoordMaximumMode 1 ≡ 0
@@ -28,6 +28,7 @@ pub record HasNoOptions (plan : Plan) : Type 0 where
   pub phase_pedestrian_recycle : (p : ℕ) → plan.value PhasePedestrianRecycle p ≡ 0
   pub coord_correction_mode : plan.value CoordCorrectionMode 1 ≡ 0
   pub overlap_across_rings : (o : ℕ) → plan.value OverlapAcrossRings o ≡ 0
+  pub preempt_chooses_anew : (n : ℕ) → plan.value PreemptChoosesAnew n ≡ 0
 
 -- each definition that reads an option is the one without it
 pub record OptionsOff (plan : Plan) : Type 0 where
@@ -65,6 +66,8 @@ pub record OptionsOff (plan : Plan) : Type 0 where
   pub permissive : permissive_times_end plan ≡ true
   -- an overlap lasts through a clearance by the commitment of the phase's own ring alone
   pub followed : (s : Shown) (o p : ℕ) → is_followed plan s o p ≡ is_followed_in_ring plan s o p
+  -- no ring gives up what it is committed to, whichever preempt is in service
+  pub kept : (service : Option ℕ) → is_anew plan service ≡ false
 
 -- So it is in every plan whose options are 0.
 abbrev pub OptionsOffChangeNothing : Type 0

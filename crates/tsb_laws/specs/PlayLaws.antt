@@ -8,7 +8,7 @@ use Rattle.tsb_step.specs.tsb_types.declared.row.Row.{Row}
 use Rattle.tsb_step.specs.tsb_types.declared.stage.Stage.{Stage}
 use Rattle.tsb_step.specs.tsb_types.declared.stage.Stage.TheVariants.{Exit}
 use Rattle.tsb_step.specs.tsb_types.Intervals.{is_green, is_yellow}
-use Rattle.tsb_step.specs.tsb_plan.Parts.{is_minus_green_yellow, track_green}
+use Rattle.tsb_step.specs.tsb_plan.Parts.{is_anew, is_minus_green_yellow, track_green}
 use Rattle.tsb_step.specs.tsb_plan.Plan.{Plan, red_revert}
 use Rattle.tsb_step.specs.tsb_plan.Parts.{is_minus_green_yellow}
 use Rattle.tsb_step.specs.tsb_plan.Plan.{Plan, is_enabled, side_of, walk, pedestrian_clear, red_revert}
@@ -24,11 +24,11 @@ use Rattle.tsb_step.specs.ClearanceLaws.{EndsNow, ClearsInTime, IsForcedOff, IsO
 use Rattle.tsb_step.specs.tsb_coord.Laws.{IsCountedFrom}
 use Rattle.tsb_step.specs.Laws.{IsConsistent, ServesTogether, WalksBesideGreen, StartsWaiting, ServesPreempt, is_unlit}
 use Rattle.tsb_step.specs.Runs.{replay}
-use Rattle.tsb_step.specs.Signs.{display, field, IsSafe, IsInStep}
+use Rattle.tsb_step.specs.Signs.{display, is_choosing, is_lasting, field, IsSafe, IsInStep}
 use Rattle.tsb_step.specs.State.{State, interval}
 use Rattle.tsb_step.specs.Step.{step, verdict}
-use Rattle.tsb_step.specs.Tick.{service, must_end, runs, hold, forced, at_force_off, omitted, conflict as has_conflict, ready, moves}
-use Rattle.tsb_step.specs.TimeLaws.{held_for, is_tick, is_yellow_head, EndsInTime, HasHeld, IsSided, Rests, TellsTime}
+use Rattle.tsb_step.specs.Tick.{service, must_end, runs, hold, forced, at_force_off, omitted, conflict as has_conflict, ready, moves, after_moves, next}
+use Rattle.tsb_step.specs.TimeLaws.{held_for, is_tick, is_yellow_head, EndsInTime, HasHeld, IsSided, Rests, TellsTime, StandsOrStarts, ShowsTheSame}
 use Rattle.tsb_step.specs.WaitLaws.{IsKeptNext}
 use Rattle.tsb_laws.specs.AllRed.{HasBeenRed, HasBeenWanted}
 use Rattle.tsb_laws.specs.Commitments.{ServesEnabled, CommitsTo, wait, StartsWithin}
@@ -43,6 +43,7 @@ use Rattle.tsb_laws.specs.LateGreens.{IsInLateSpan, IsLateGreen}
 use Rattle.tsb_laws.specs.PatternEnds.{LacksOnlyItsEnd, HasWaitedInPattern, HasMaxedInPattern, IsInPermissiveTime}
 use Rattle.tsb_laws.specs.LitHeads.{KeepsLitHeads, StaysOrClears}
 use Rattle.tsb_laws.specs.OverlapPhases.{GoesWithPhases}
+use Rattle.tsb_laws.specs.PreemptChoices.{HasChosen, ChoiceTakesAtMost, time_by_choice, time_to_chosen_dwell}
 use Rattle.tsb_laws.specs.PreemptDwells.{BeginsService, is_served}
 use Rattle.tsb_laws.specs.CalledStarts.{EntersByCall}
 use Rattle.tsb_laws.specs.PreemptEntries.{EntersByPreempt}
@@ -51,7 +52,7 @@ use Rattle.tsb_laws.specs.PreemptTurns.{GivesWay, EndsFrom}
 use Rattle.tsb_laws.specs.RecycledWalks.{WalksAgain, RecyclesCalls, is_unheld, is_unforced, IsOverByForceOff}
 use Rattle.tsb_laws.specs.RedReverts.{StartsAgain, HasReverted}
 use Rattle.tsb_laws.specs.RunningMaximum.{maximum_of, IsBounded, MovesByAStep}
-use Rattle.tsb_laws.specs.Stretches.{IsUntripped, has_held_since, largest, EndsGreen}
+use Rattle.tsb_laws.specs.Stretches.{IsUntripped, has_held_since, NoneChooses, largest, EndsGreen}
 use Rattle.tsb_laws.specs.ServedCalls.{HasBeenPressed, IsDoneWithin, IsFullyConcurrent, HasWaited, TurnsTakeAtMost, IsToCome, time_to_come, is_outside, time_to_cross, time_to_serve, longest_initial}
 use Rattle.tsb_laws.specs.UnwantedGreens.{WaitsFor}
 use Rattle.tsb_laws.specs.WantedStarts.{MayStart, IsKeptBy}
@@ -78,10 +79,16 @@ ClearsWithItsSplit s = (rows : ℕ → Row) (n p c : ℕ) → IsForcedOff s n p 
 abbrev pub HasSafeField : State → Type 0
 HasSafeField s = s.trip ≡ None → conflict s.plan (field s) ≡ None
 
--- unless the controller has tripped, a commitment stands over the next input, or its phase turns Green by it
+-- unless the controller has tripped, or a preempt chooses anew, a commitment stands over the next input, or its phase turns
+-- Green by it
 abbrev pub KeepsCommitments : State → Type 0
-KeepsCommitments s = (i : Input) (r : Ring) (c : ℕ) → s.trip ≡ None → s.rings.commitment r ≡ Some c →
-    ((step s i).rings.commitment r ≡ Some c) ⊎ ((interval s c ≢ Green) × (interval (step s i) c ≡ Green))
+KeepsCommitments s = (i : Input) (r : Ring) (c : ℕ) → s.trip ≡ None → is_choosing (step s i) ≡ false →
+    s.rings.commitment r ≡ Some c → StandsOrStarts s i r c
+
+-- where one chooses anew in the next tick, it wants what rings are committed to after it, or an overlap lasts by that
+abbrev pub WantsCommitments : State → Type 0
+WantsCommitments s = (row : Row) (r : Ring) (c : ℕ) → s.trip ≡ None → is_anew s.plan (service s row) ≡ true →
+    (step s (Tick row)).rings.commitment r ≡ Some c → (must_end s row c ≡ false) ⊎ (is_lasting (step s (Tick row)) ≡ true)
 
 -- the next input, if it is taken, is no tick, and neither trips nor ends a trip, leaves each lit head
 abbrev pub KeepsHeads : State → Type 0
@@ -192,13 +199,14 @@ KeepsRedReverts plan is = (base later : List Input) (row : Row) (p : ℕ) → is
 -- a commitment that was made as a green ended is served in time
 abbrev pub ServesCommitments : Plan → List Input → Type 0
 ServesCommitments plan is = (older later : List Input) (row : Row) (p : ℕ) (r : Ring) (c : ℕ) → is ≡ later ++ (Tick row ∷ older) →
-    IsUntripped plan (Tick row ∷ older) later → CommitsTo plan older row p r c →
+    IsUntripped plan (Tick row ∷ older) later → NoneChooses plan (Tick row ∷ older) later → CommitsTo plan older row p r c →
     StartsWithin plan (Tick row ∷ older) c (wait plan (Tick row ∷ older) p c later) later
 
 -- a crossing that began is completed in time
 abbrev pub CompletesCrossings : Plan → List Input → Type 0
 CompletesCrossings plan is = (older later : List Input) (row : Row) (d n : ℕ) → is ≡ later ++ (Tick row ∷ older) →
-    IsUntripped plan (Tick row ∷ older) later → BeginsCrossing plan older row d → TakesAtMost plan (Tick row ∷ older) n later →
+    IsUntripped plan (Tick row ∷ older) later → NoneChooses plan (Tick row ∷ older) later → BeginsCrossing plan older row d →
+    TakesAtMost plan (Tick row ∷ older) n later →
     CompletesWithin plan (Tick row ∷ older) d (suc n) later
 
 -- all red ends in time, where some phase is wanted
@@ -213,6 +221,12 @@ ReachesStages plan is = (base later : List Input) (n : ℕ) (stage : Stage) (g w
     has_held_since (λ s. is_in_stage n stage s.preempts.service) plan base later ≡ true → StageTakesAtMost plan base n g w c later →
     ReachesWithin plan base n stage (time_to_stage g w c) later
 
+-- one that chooses anew has them so in a shorter time
+abbrev pub ReachesChosenStages : Plan → List Input → Type 0
+ReachesChosenStages plan is = (base later : List Input) (n : ℕ) (stage : Stage) (g w c v : ℕ) → is ≡ later ++ base → IsUntripped plan base later →
+    HasChosen plan base later → has_held_since (λ s. is_in_stage n stage s.preempts.service) plan base later ≡ true →
+    ChoiceTakesAtMost plan base n g w c v later → ReachesWithin plan base n stage (time_by_choice g w c v) later
+
 -- and does not stay in its exit for longer
 abbrev pub EndsExits : Plan → List Input → Type 0
 EndsExits plan is = (base later : List Input) (n g w c : ℕ) → is ≡ later ++ base → IsUntripped plan base later →
@@ -226,6 +240,16 @@ ReachesDwells plan is = (older later : List Input) (row : Row) (n g w c t limit 
     has_held_since (λ s. is_served n s.preempts.service) plan (Tick row ∷ older) later ≡ true →
     StageTakesAtMost plan (Tick row ∷ older) n g w c later → largest (λ x. track_green x n) plan (Tick row ∷ older) later ≤ t →
     limit ≡ time_to_dwell (has_track (replay plan older).plan n) g w c t →
+    ReachesDwell plan (Tick row ∷ older) n limit later
+    ⊎ ((replay plan (later ++ (Tick row ∷ older))).now < (replay plan (Tick row ∷ older)).now + limit)
+
+-- so does one that chooses anew, in a shorter time
+abbrev pub ReachesChosenDwells : Plan → List Input → Type 0
+ReachesChosenDwells plan is = (older later : List Input) (row : Row) (n g w c v t limit : ℕ) → is ≡ later ++ (Tick row ∷ older) →
+    IsUntripped plan (Tick row ∷ older) later → BeginsService plan older row n → HasChosen plan (Tick row ∷ older) later →
+    has_held_since (λ s. is_served n s.preempts.service) plan (Tick row ∷ older) later ≡ true →
+    ChoiceTakesAtMost plan (Tick row ∷ older) n g w c v later → largest (λ x. track_green x n) plan (Tick row ∷ older) later ≤ t →
+    limit ≡ time_to_chosen_dwell (has_track (replay plan older).plan n) g w c v t →
     ReachesDwell plan (Tick row ∷ older) n limit later
     ⊎ ((replay plan (later ++ (Tick row ∷ older))).now < (replay plan (Tick row ∷ older)).now + limit)
 
@@ -377,6 +401,8 @@ pub record KeepsLaws (plan : Plan) (is : List Input) (s : State) : Type 0 where
   pub starts_after_red_revert : Untripped RevertsOrOff plan is
   pub phases_rest : (p : ℕ) → Rests (s.phases p)
   pub commitments_stand_in_runs : KeepsCommitments s
+  pub commitments_are_wanted : WantsCommitments s
+  pub giving_up_shows_nothing : (row : Row) → ShowsTheSame (after_moves s row) (next s row)
   pub fields_are_safe_unless_tripped : HasSafeField s
   pub phases_clear_in_yellow : Untripped TurnsRedFromYellow plan is
   pub overlaps_clear_in_yellow : Untripped TurnsOverlapsRedFromYellow plan is
@@ -412,6 +438,8 @@ pub record KeepsLaws (plan : Plan) (is : List Input) (s : State) : Type 0 where
   pub preempts_reach_their_stages : ReachesStages plan is
   pub preempts_reach_their_stages_exits : EndsExits plan is
   pub preempts_reach_dwell_in_time : ReachesDwells plan is
+  pub preempts_that_choose_come_sooner : ReachesChosenStages plan is
+  pub preempts_that_choose_come_sooner_dwells : ReachesChosenDwells plan is
   pub crossings_have_no_green : IsCalm s.plan (interval s) s.rings
   pub preempts_let_in_their_own : Untripped LetsInByPreempt plan is
   pub uncalled_phases_stay : Untripped LetsInByCall plan is

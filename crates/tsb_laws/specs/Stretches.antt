@@ -1,12 +1,13 @@
 -- Stretches of a run: the inputs `later` that came after those of `is`, the newest first as in every run, so that the
 -- whole run is `later ++ is`. What has held since a moment, and which time was due as it ended.
-use Rattle.std.specs.Prelude.{◌≡◌, ◌≢◌, ℕ, Bool, ◌&&◌, if◌then◌else◌, List, [], ◌∷◌, ◌++◌, None, max}
+use Rattle.std.specs.Prelude.{◌≡◌, ◌≢◌, ℕ, Bool, true, not, ◌&&◌, if◌then◌else◌, List, [], ◌∷◌, ◌++◌, None, max}
 use Rattle.tsb_step.specs.tsb_types.declared.interval.Interval.TheVariants.{Green}
 use Rattle.tsb_step.specs.tsb_types.declared.row.Row.{Row}
 use Rattle.tsb_step.specs.tsb_plan.Plan.{Plan}
 use Rattle.tsb_step.specs.declared.inputs.Input.{Input}
 use Rattle.tsb_step.specs.declared.inputs.Input.TheVariants.{Tick}
 use Rattle.tsb_step.specs.State.{State, interval}
+use Rattle.tsb_step.specs.Signs.{is_choosing}
 use Rattle.tsb_step.specs.Runs.{replay}
 
 -- the controller had not tripped after the inputs `is`, nor after any of those that came later
@@ -18,6 +19,10 @@ IsUntripped plan is (i ∷ later) = IsUntripped plan is later × ((replay plan (
 abbrev pub has_held_since : (State → Bool) → Plan → List Input → List Input → Bool
 has_held_since test plan is [] = test (replay plan is)
 has_held_since test plan is (i ∷ later) = test (replay plan (i ∷ (later ++ is))) && has_held_since test plan is later
+
+-- no preempt that chooses anew is in service after the inputs `is`, nor after any of those that came later
+abbrev pub NoneChooses : Plan → List Input → List Input → Type 0
+NoneChooses plan is later = has_held_since (λ s. not (is_choosing s)) plan is later ≡ true
 
 -- the time that is due of what has held since the inputs `is`: as it is for the input in which it first ends, by the
 -- state that this input finds; for the newest input where it has not ended before

@@ -9,6 +9,7 @@ ghost use Rattle.tsb_laws.specs.Options.{OptionsOffChangeNothing};
 ghost use Rattle.tsb_laws.specs.OverlapPhases.{OverlapsEndWithAGreen, OverlapsGoWithPhases, OverlapsLastAcrossRings};
 ghost use Rattle.tsb_laws.specs.PatternEnds.{FloatingGreensAreReady, FloatingGreensMayEnd, MaximumGreensAreReady, MaximumGreensMayEnd, PermittedGreensAreReady, PermittedGreensMayEnd};
 ghost use Rattle.tsb_laws.specs.PreemptEntries.{PreemptsLetInTheirOwn};
+ghost use Rattle.tsb_laws.specs.PreemptChoices.{ChosenDwellsAreReached, ChosenStagesAreReached};
 ghost use Rattle.tsb_laws.specs.PreemptStages.{DwellsAreReached, ExitsEnd, StagesAreReached};
 ghost use Rattle.tsb_laws.specs.PreemptTurns.{PreemptsGiveWay, ServicesEnd};
 ghost use Rattle.tsb_laws.specs.RecycledWalks.{RecycledCallsWalk, RecycledWalksEndInTime};
@@ -218,6 +219,28 @@ pub fn preempts_reach_dwell_in_time()
     ensures { DwellsAreReached }
 {}
 
+/// `stages`: A preempt that chooses anew reaches each stage in the time of a worksheet. While it stays in a stage all
+/// phases of that stage are Green within a time that the plan gives, from any moment on and whatever inputs come. That
+/// time is the largest of the least green and a tick, of the walk and pedestrian clearance left to a green, and of the
+/// red revert; then the yellow change and red clearance, or a longer red revert, and four ticks.
+///
+/// Needs: as `preempts_reach_their_stages`; no overlap that lasts through a clearance by a commitment.
+/// Not said: that they stay Green.
+/// Mistake: a preempt that still has rings serve what they were committed to, `serves_first` (`lasts_for_166`,
+/// `would_be_late`).
+/// Witness: `a_choice` of PreemptStageRuns.
+///
+/// `dwells`: So it reaches its dwell. With a track list it does so within the time of two stages, and its track green
+/// between them.
+///
+/// Needs: as `stages`.
+/// Mistake: as of `stages`, `serves_first` (`would_be_late`).
+/// Witness: `a_choice` of PreemptStageRuns.
+pub fn preempts_that_choose_come_sooner()
+    ensures stages { ChosenStagesAreReached }
+    ensures dwells { ChosenDwellsAreReached }
+{}
+
 /// A green that has had a conflict for long enough may end. In free operation and with no preempt in service, once it
 /// has had one in each tick for its maximum, its initial time and its walk with clearance, it is ready in the next tick.
 /// So it is with maximum recall, with detectors that stay on, and whatever commits come meanwhile.
@@ -350,8 +373,9 @@ pub fn phases_are_served_in_patterns()
 /// time, and instants are as counted from the first coordinated phase. Where no phase has pedestrian recycle, none may
 /// walk again within its green. Where `coordCorrectionMode` is 0, the local counter is in step at once. It is so behind
 /// each selection, and it alone says what is forced off. Where no pattern has a permissive time, K23 asks for nothing.
-/// Where no overlap has `overlapAcrossRings`, overlaps last through a clearance by the ring of its phase alone. So it
-/// is in every tick, for each phase, and whatever pattern is selected.
+/// Where no overlap has `overlapAcrossRings`, overlaps last through a clearance by the ring of its phase alone. Where
+/// no preempt has `preemptChoosesAnew`, no ring gives up what it is committed to. So it is in every tick, for each
+/// phase, and whatever pattern is selected.
 ///
 /// Needs: for what instants are counted from, a plan that breaks no rule and a pattern that is used.
 /// Mistakes: force-off that is late whatever the mode is, `late_always` (`is_not_asked`, `would_ask`); that floats,
@@ -363,7 +387,8 @@ pub fn phases_are_served_in_patterns()
 /// mode is, `steps_always` (`is_in_step_at_once`, `would_lag`); a selection that goes on from the old counter whatever
 /// the mode is, `goes_on_always` (`begins_in_step`, `would_begin_ahead`); a K23 that asks for a time, `asks_for_time`
 /// (`ends_in_time`, `would_refuse`); an overlap that goes on across rings always, `across_always`
-/// (`is_not_followed`, `would_follow`).
+/// (`is_not_followed`, `would_follow`); preempts that always choose anew, `anew_always` (`is_not_anew`,
+/// `would_choose_anew`).
 /// Witness: `two_has_none`, `quad_has_none` of OptionMistakes, the built-in plans.
 pub fn options_off_change_nothing()
     ensures { OptionsOffChangeNothing }

@@ -1,8 +1,8 @@
 -- What a plan says of detectors, overlaps, patterns, splits and preempts, each named by its number from 1. Times are in
 -- tenths of a second. Names are those of NTCIP 1202; the numbers of split modes, overlap types and force modes are the
--- profile's own. So are permissive time, lead and lag, and overlaps across rings.
-use Rattle.std.specs.Prelude.{ℕ, ◌+◌, ◌-◌, ◌*◌, ◌==◌, Bool, not, if◌then◌else◌, Option, Some, None}
-use Rattle.tsb_plan.specs.declared.object.Object.TheVariants.{VehicleDetectorCallPhase, VehicleDetectorDelay, VehicleDetectorExtend, VehicleDetectorNoActivity, VehicleDetectorMaxPresence, VehicleDetectorErraticCounts, VehicleDetectorFailTime, PedestrianDetectorCallPhase, OverlapIncludedPhases, PatternCycleTime, PatternOffsetTime, PatternSplitNumber, PatternSequenceNumber, SplitTime, SplitMode as SplitModeObject, SplitCoordPhase, PreemptDelay, PreemptMinimumDuration, PreemptMaximumPresence, PreemptMinimumGreen, PreemptMinimumWalk, PreemptEnterPedClear, PreemptTrackGreen, PreemptTrackPhase, PreemptDwellPhase, PreemptExitPhase, OverlapType, OverlapModifierPhases, CoordForceMode, PatternPermissiveTime, PatternLeadLag, CoordCorrectionMode, CoordCorrectionLimit, OverlapAcrossRings}
+-- profile's own. So are permissive time, lead and lag, overlaps across rings, and preempts that choose anew.
+use Rattle.std.specs.Prelude.{ℕ, ◌+◌, ◌-◌, ◌*◌, ◌==◌, Bool, false, not, if◌then◌else◌, Option, Some, None}
+use Rattle.tsb_plan.specs.declared.object.Object.TheVariants.{VehicleDetectorCallPhase, VehicleDetectorDelay, VehicleDetectorExtend, VehicleDetectorNoActivity, VehicleDetectorMaxPresence, VehicleDetectorErraticCounts, VehicleDetectorFailTime, PedestrianDetectorCallPhase, OverlapIncludedPhases, PatternCycleTime, PatternOffsetTime, PatternSplitNumber, PatternSequenceNumber, SplitTime, SplitMode as SplitModeObject, SplitCoordPhase, PreemptDelay, PreemptMinimumDuration, PreemptMaximumPresence, PreemptMinimumGreen, PreemptMinimumWalk, PreemptEnterPedClear, PreemptTrackGreen, PreemptTrackPhase, PreemptDwellPhase, PreemptExitPhase, OverlapType, OverlapModifierPhases, CoordForceMode, PatternPermissiveTime, PatternLeadLag, CoordCorrectionMode, CoordCorrectionLimit, OverlapAcrossRings, PreemptChoosesAnew}
 use Rattle.tsb_plan.specs.declared.plan.patterns.CorrectionMode.{CorrectionMode}
 use Rattle.tsb_plan.specs.declared.plan.patterns.CorrectionMode.TheVariants.{AtOnce, Dwell, ShortWay, AddOnly}
 use Rattle.tsb_plan.specs.declared.plan.patterns.SplitMode.{SplitMode}
@@ -183,6 +183,15 @@ enter_pedestrian_clear plan n = 10 * plan.value PreemptEnterPedClear n
 -- how long track green goes on once all track phases were green, in tenths of a second
 abbrev pub track_green : Plan → ℕ → ℕ
 track_green plan n = 10 * plan.value PreemptTrackGreen n
+
+-- while preempt n is in service, a ring gives up its commitment to a phase that the preempt does not want
+abbrev pub chooses_anew : Plan → ℕ → Bool
+chooses_anew plan n = plan.value PreemptChoosesAnew n == 1
+
+-- the preempt in service does so, if there is one
+abbrev pub is_anew : Plan → Option ℕ → Bool
+is_anew plan None = false
+is_anew plan (Some n) = chooses_anew plan n
 
 -- phase p clears the track when preempt n enters; with no such phase service begins with dwell
 abbrev pub is_track_phase : Plan → ℕ → ℕ → Bool

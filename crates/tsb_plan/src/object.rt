@@ -152,6 +152,8 @@ pub enum Object {
     CoordCorrectionLimit,
     /// `overlapAcrossRings`: overlap, yes or no, whether the other ring's commitment counts too (profile); 0 to 1.
     OverlapAcrossRings,
+    /// `preemptChoosesAnew`: preempt, yes or no, whether rings give up commitments that it does not want (profile); 0 to 1.
+    PreemptChoosesAnew,
 }
 
 /// THE TABLE OF OBJECTS, each row as the macro that is named takes it: the object, its name in plan texts,
@@ -232,6 +234,7 @@ macro_rules! table {
             CoordCorrectionMode         "coordCorrectionMode"          1280 [1 3]       [since 2]   free
             CoordCorrectionLimit        "coordCorrectionLimit"         1281 [1 50]      [since 2]   free
             OverlapAcrossRings          "overlapAcrossRings"           1282 [4 1]       [since 3]   structural
+            PreemptChoosesAnew          "preemptChoosesAnew"           1286 [4 1]       [since 3]   free
         }
     };
 }

@@ -3,6 +3,7 @@ pub mod Scenes
 pub mod Examples
 pub mod CrossingExamples
 pub mod TargetExamples
+pub mod GivenUpExamples
 pub mod PremiseExamples
 pub mod CellsExamples
 pub mod Mistakes

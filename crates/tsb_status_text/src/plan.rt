@@ -1,9 +1,12 @@
 //! The line of a plan.
-ghost use Rattle.std.specs.Prelude.{◌≡◌, ◌++◌, IfOk, None, Ok, OnOk};
+ghost use Rattle.std.specs.List.{list_all};
+ghost use Rattle.std.specs.Prelude.{◌≡◌, ◌||◌, ◌++◌, IfOk, None, Ok, OnOk};
 ghost use Rattle.json.specs.Json.{Members, object};
 ghost use Rattle.json.specs.Tree.{json_tokens, members_tokens};
 ghost use Rattle.tsb_objects.specs.tsb_rules.Rules.{first_broken};
+ghost use Rattle.tsb_plan.specs.declared.version.Version.TheVariants.{Two};
 ghost use Rattle.tsb_plan.specs.PlanOf.{plan_of};
+ghost use Rattle.tsb_plan.specs.Versions.{has_object};
 ghost use Rattle.tsb_plan_text.specs.PlanText.{reading};
 ghost use Rattle.tsb_status_text.specs.PlanLine.{is_all_zeros, members_of, plan_text, table, version_for, with_entry, with_object};
 
@@ -40,16 +43,21 @@ pub fn plan_line(alloc: Global, plan: &Plan) -> Result<Vec<u8>, AllocError>
 }
 
 /// The version that tells all of the plan.
-#[tactic(auto, unfolding(crate::specs::PlanLine::version_for, tsb_plan::specs::Objects::objects))]
 fn version_for(plan: &Plan) -> Version
     ensures { result ≡ version_for (plan_of plan.now) }
 {
-    let is_told = |object: &Object| Version::Two.has(*object) || is_all_zeros(plan, *object);
-    if Object::ALL.iter().all(is_told) {
+    if are_told(plan, &Object::ALL) {
         Version::Two
     } else {
         Version::Three
     }
+}
+
+/// Whether version 2 has each of these objects that is not all zeros.
+fn are_told(plan: &Plan, objects: &[Object]) -> bool
+    ensures { result ≡ list_all (λ o. has_object Two o || is_all_zeros (plan_of plan.now) o) objects.now }
+{
+    objects.iter().all(|object| Version::Two.has(*object) || is_all_zeros(plan, *object))
 }
 
 /// Writes those of these objects that are not all zeros, each with its table, and closes what they are of.

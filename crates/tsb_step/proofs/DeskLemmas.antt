@@ -12,7 +12,7 @@ use Rattle.tsb_step.specs.declared.inputs.Input.TheVariants.{Tick, Pattern, Swit
 use Rattle.tsb_step.specs.State.{State}
 use Rattle.tsb_step.specs.Step.{step, ticked, with_lamp, reset}
 use Rattle.tsb_step.specs.Signs.{field, watched}
-use Rattle.tsb_step.specs.Tick.{new_service, new_detectors, phases_given, rings_given, moves}
+use Rattle.tsb_step.specs.Tick.{new_service, new_detectors, phases_given, rings_given, moves, gives_up, new_rings}
 use Rattle.tsb_step.specs.DeskLaws.{is_of_desk, is_commit, by_any_station, without_desk}
 
 -- ## What the inputs of the desk change
@@ -54,7 +54,7 @@ leave_the_desk s i of commits = cc
 
 tick_reads_no_desk : (s : State) (row : Row) (b : Bool) → is_some s.trip ≡ b →
     without_desk (ticked row s) ≡ without_desk (ticked row (without_desk s))
-unfolding watched field new_service new_detectors phases_given rings_given moves
+unfolding watched field new_service new_detectors phases_given rings_given moves gives_up new_rings
 tick_reads_no_desk s row true tripped = rw tripped refl
 tick_reads_no_desk s row false tripped = rw tripped refl
 

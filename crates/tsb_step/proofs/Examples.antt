@@ -17,6 +17,7 @@ pub mod TimeLawMistakes
 pub mod TimeRuns
 pub mod EndMistakes
 pub mod OtherRuns
+pub mod ChoiceRuns
 pub mod MemoryMistakes
 pub mod CorrectionRuns
 pub mod CorrectionMistakes

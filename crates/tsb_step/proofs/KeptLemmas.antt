@@ -10,12 +10,13 @@ use Rattle.tsb_types.specs.Intervals.{in_service}
 use Rattle.tsb_objects.specs.tsb_plan.Plan.{Plan}
 use Rattle.tsb_ring.specs.Rings as rings
 use Rattle.tsb_ring.specs.Rings.{Ring}
+use Rattle.tsb_ring.specs.GivenUp.{given_up}
 use Rattle.tsb_transact.specs.Desk.{with_edits}
 use Rattle.tsb_transact.specs.Commit.{changes_structure}
 use Rattle.tsb_step.specs.declared.inputs.Input.{Input}
 use Rattle.tsb_step.specs.declared.inputs.Input.TheVariants as inputs
 use Rattle.tsb_step.specs.State.{State, start, restarted, interval}
-use Rattle.tsb_step.specs.Tick.{next}
+use Rattle.tsb_step.specs.Tick.{target, after_moves, next}
 use Rattle.tsb_step.specs.Signs.{watched}
 use Rattle.tsb_step.specs.Step.{is_serving, committed, ticked, with_lamp, reset, step, verdict}
 use Rattle.tsb_step.specs.Runs.{replay, AreTaken}
@@ -24,12 +25,14 @@ use Rattle.tsb_step.specs.Good.{IsGood}
 use Rattle.tsb_step.proofs.CommitLemmas.{IsStill, still}
 use Rattle.tsb_step.proofs.EditLemmas.{or_false}
 use Rattle.tsb_step.proofs.FieldLemmas.{not_both_then}
+use Rattle.tsb_step.proofs.GiveUpLemmas.{by_rings}
 use Rattle.tsb_step.proofs.GoodLemmas.{allowed, good_run}
 
 pub record IsKept (Q : Plan → (ℕ → Interval) → rings.State → Type 0) : Type 0 where
   pub still : (plan : Plan) (i : ℕ → Interval) (s : rings.State) → ((p : ℕ) → in_service (i p) ≡ true → ⊥) →
       ((r : Ring) → s.commitment r ≡ None) → Q plan i s
-  pub ticks : (s : State) (row : Row) → IsGood s → Q s.plan (interval s) s.rings → Q (next s row).plan (interval (next s row)) (next s row).rings
+  pub ticks : (s : State) (row : Row) → IsGood s → Q s.plan (interval s) s.rings → Q s.plan (interval (next s row)) (after_moves s row).rings
+  pub gives : (plan : Plan) (i : ℕ → Interval) (target : Option (ℕ → Bool)) (s : rings.State) → Q plan i s → Q plan i (given_up plan target s)
   pub commits : (s : State) → changes_structure s.plan s.desk.edits ≡ false → Q s.plan (interval s) s.rings →
       Q (with_edits s.plan s.desk.edits) (interval s) s.rings
 
@@ -46,7 +49,9 @@ module _ (Q : Plan → (ℕ → Interval) → rings.State → Type 0) (kept : Is
     where
       go : (b : Bool) → Holds (if b then record s { now = s.now + 1 } else (if b then next s row else watched s (next s row)))
       go true = was
-      go false = kept.ticks s row good was
+      go false =
+          by_rings (λ (x : rings.State). Q s.plan (interval (next s row)) x) s row (kept.ticks s row good was)
+          (kept.gives s.plan (interval (next s row)) (target s row) (after_moves s row).rings (kept.ticks s row good was))
 
   after_lamp : (s : State) (lamp : Option Lamp) → Holds s → Holds (with_lamp lamp s)
   unfolding watched

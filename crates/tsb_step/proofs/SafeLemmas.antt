@@ -21,7 +21,7 @@ use Rattle.tsb_ring.proofs.MoveLemmas.{or_cases}
 use Rattle.tsb_ring.proofs.SafetyLemmas.{sound_is_safe}
 use Rattle.tsb_ring.proofs.WaitLemmas.{starts_wait}
 use Rattle.tsb_step.specs.State.{State, interval, pedestrian_part}
-use Rattle.tsb_step.specs.Tick.{rings_given, moves, over, next}
+use Rattle.tsb_step.specs.Tick.{rings_given, moves, over, after_moves}
 use Rattle.tsb_step.specs.Signs.{shown, display, IsSafe}
 use Rattle.tsb_step.specs.Laws.{ServesTogether, StartsWaiting, ServesPreempt}
 use Rattle.tsb_step.specs.Good.{IsGood}
@@ -107,6 +107,6 @@ serves_preempt s good x e = served s.plan x good.plan.rules (good.service x e)
 
 -- ## Rings
 
-pub acts_in_either_order : (s : State) (row : Row) (order : RingOrder) → acted order (moves s row) s.rings ≡ (next s row).rings
+pub acts_in_either_order : (s : State) (row : Row) (order : RingOrder) → acted order (moves s row) s.rings ≡ (after_moves s row).rings
 unfolding moves rings_given
 acts_in_either_order s row order = acts_as_next s.plan s.rings (rings_given s row) order

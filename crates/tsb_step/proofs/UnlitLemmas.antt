@@ -9,12 +9,12 @@ use Rattle.tsb_step.specs.Good.{IsGood}
 use Rattle.tsb_step.specs.Signs.{field, watched}
 use Rattle.tsb_step.specs.State.{State, Tripped}
 use Rattle.tsb_step.specs.Step.{ticked}
-use Rattle.tsb_step.specs.Tick.{next, new_service, new_detectors, phases_given, rings_given, moves}
+use Rattle.tsb_step.specs.Tick.{next, new_service, new_detectors, phases_given, rings_given, moves, gives_up, new_rings}
 use Rattle.tsb_step.proofs.TripLemmas.{judged_none}
 
 -- no head knows what is at the desk
 judged_beside : (s : State) (row : Row) (d : Desk) → IsGood (record s { desk = d }) → s.lamp ≡ None → judge s.plan (field s) (field (next s row)) ≡ None
-unfolding field new_service new_detectors phases_given rings_given moves
+unfolding field new_service new_detectors phases_given rings_given moves gives_up new_rings
 judged_beside s row d good dark = judged_none (record s { desk = d }) row good dark
 
 found-none : (s : State) (row : Row) (d : Desk) → IsGood (record s { desk = d }) → s.lamp ≡ None → s.trip ≡ None → watched s (next s row) ≡ next s row

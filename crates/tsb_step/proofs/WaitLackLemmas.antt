@@ -20,6 +20,8 @@ use Rattle.tsb_ring.specs.Rings.{Ring, Ring1, Ring2, other, own_ring, serving}
 use Rattle.tsb_ring.specs.Wants.{taken, want_of, pick}
 use Rattle.tsb_ring.specs.Crossings.{joins, begins, committed}
 use Rattle.tsb_ring.specs.Next as rings_next
+use Rattle.tsb_ring.proofs.GivenUpLemmas.{none_given}
+use Rattle.tsb_step.proofs.GiveUpLemmas.{by_rings}
 use Rattle.tsb_ring.specs.Next.{is_none_or_over, makes_way, may_start, completes, start_now, starting, new_commitment}
 use Rattle.tsb_ring.specs.Moves as ring_moves
 use Rattle.tsb_ring.specs.Moves.{is_ended, is_started}
@@ -31,7 +33,7 @@ use Rattle.tsb_step.specs.declared.waits.Lack.TheVariants as lacks
 use Rattle.tsb_step.specs.declared.waits.Wait.{Wait}
 use Rattle.tsb_step.specs.declared.waits.Wait.TheVariants as waits
 use Rattle.tsb_step.specs.State.{State, interval}
-use Rattle.tsb_step.specs.Tick.{phases_given, phase_read, rings_given, moves, ready, next}
+use Rattle.tsb_step.specs.Tick.{phases_given, phase_read, rings_given, moves, ready, next, target, after_moves}
 use Rattle.tsb_step.specs.Waits.{first_wait, until_over, red_revert_left, time_to_last, served, is_over_next, is_reverted_next, not_over, not_reverted, not_concurrent, in_the_way, starts_beside, revert_wait, committed_wait, free_wait, is_committed, wait, waits_for}
 use Rattle.tsb_step.specs.WaitLaws.{Keeps, committed as keeps_committed, here, across, still_lacks}
 use Rattle.tsb_step.proofs.ClipLemmas.{clipped_holds}
@@ -306,13 +308,19 @@ picks-none given q (Some Cross) h = refl
 picks-none given q (Some Rest) h = refl
 picks-none given q (Some Stop) h = refl
 
-ring-stays : (s : State) (row : Row) (r : Ring) (q : ℕ) → s.rings.commitment r ≡ None → served s r ≡ Some q → is_green (interval s q) ≡ true →
-    ready s row q ≡ false → (next s row).rings.commitment r ≡ None
+ring-moves : (s : State) (row : Row) (r : Ring) (q : ℕ) → s.rings.commitment r ≡ None → served s r ≡ Some q → is_green (interval s q) ≡ true →
+    ready s row q ≡ false → (after_moves s row).rings.commitment r ≡ None
 unfolding rings_next.next new_commitment committed starting pick
-ring-stays s row r q none e green h =
+ring-moves s row r q none e green h =
     let serves = served-is s row r ∙ e in
     let begun = none-begins s row r q e green h in
     rw (none, begun, serves) (picks-none (rings_given s row) q (want_of s.plan s.rings (rings_given s row) r) (not-told-ready s row q h))
+
+ring-stays : (s : State) (row : Row) (r : Ring) (q : ℕ) → s.rings.commitment r ≡ None → served s r ≡ Some q → is_green (interval s q) ≡ true →
+    ready s row q ≡ false → (next s row).rings.commitment r ≡ None
+ring-stays s row r q none e green h =
+    let moved = ring-moves s row r q none e green h in
+    by_rings (λ (x : rings.State). x.commitment r ≡ None) s row moved (none_given s.plan (target s row) (after_moves s row).rings r moved)
 
 not-ended : (s : State) (row : Row) (q : ℕ) → ready s row q ≡ false → is_ended (moves s row) q ≡ false
 not-ended s row q h =

@@ -25,7 +25,7 @@ use Rattle.tsb_step.specs.declared.inputs.Input.{Input}
 use Rattle.tsb_step.specs.declared.inputs.Input.TheVariants.{Tick, Fault, Reset}
 use Rattle.tsb_step.specs.State.{State, interval}
 use Rattle.tsb_step.specs.Tables.{has_place, place_refusal}
-use Rattle.tsb_step.specs.Tick.{moves, over, next}
+use Rattle.tsb_step.specs.Tick.{moves, over, after_moves}
 use Rattle.tsb_step.specs.Signs.{IsSafe}
 use Rattle.tsb_step.specs.Runs.{replay, AreTaken}
 use Rattle.tsb_step.specs.Past.{record_of}
@@ -81,7 +81,7 @@ StartsWait = OfEveryRun StartsWaiting
 
 -- The rings after a tick are what comes of its moves, whichever ring acts first; of whatever state.
 abbrev pub RingsActInEitherOrder : Type 0
-RingsActInEitherOrder = (s : State) (row : Row) (order : RingOrder) → acted order (moves s row) s.rings ≡ (next s row).rings
+RingsActInEitherOrder = (s : State) (row : Row) (order : RingOrder) → acted order (moves s row) s.rings ≡ (after_moves s row).rings
 
 -- ## Preempts
 

@@ -1,10 +1,12 @@
 -- What the controller shows: its display, the field with a lamp that a fault has lit, the local counter and the stage
 -- of a preempt; when a display is safe; and the monitor, which judges the field.
-use Rattle.std.specs.Prelude.{◌≡◌, ℕ, true, Option, is_some, option_map, if◌then◌else◌}
+use Rattle.std.specs.Prelude.{◌≡◌, ℕ, Bool, true, Option, is_some, option_map, if◌then◌else◌}
 use Rattle.tsb_types.specs.declared.stage.Stage.{Stage}
 use Rattle.tsb_heads.specs.Heads.{Shown, Heads}
+use Rattle.tsb_objects.specs.tsb_plan.Parts.{is_anew}
 use Rattle.tsb_heads.specs.Displays as heads
 use Rattle.tsb_heads.specs.Monitoring as monitor
+use Rattle.tsb_heads.specs.Overlaps.{some_lasts}
 use Rattle.tsb_heads.specs.Reading.{commitment_of}
 use Rattle.tsb_ring.specs.Rings.{Ring1, Ring2}
 use Rattle.tsb_coord.specs.Correction.{local_now, is_in_step}
@@ -43,6 +45,14 @@ IsInStep s = is_in_step s.plan s.pattern s.correction s.now ≡ true
 -- the preempt in service and its stage
 abbrev pub stage : State → Option (ℕ × Stage)
 stage s = stage_of s.preempts.service
+
+-- the preempt in service chooses anew
+abbrev pub is_choosing : State → Bool
+is_choosing s = is_anew s.plan (option_map (λ x. x.preempt) s.preempts.service)
+
+-- an overlap lasts through a clearance by a commitment, so that none is given up
+abbrev pub is_lasting : State → Bool
+is_lasting s = some_lasts s.plan (shown s)
 
 -- ## The monitor
 

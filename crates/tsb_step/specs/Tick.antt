@@ -5,7 +5,7 @@
 --
 -- What a layer is told of each phase is told of phases 1 to 16 alone: it is false, or 0, of any other number, as it is
 -- in the sets that the layers tell one another.
-use Rattle.std.specs.Prelude.{ℕ, ◌+◌, Bool, ◌&&◌, if◌then◌else◌, Option, Some, None, option_map}
+use Rattle.std.specs.Prelude.{ℕ, ◌+◌, Bool, not, ◌&&◌, if◌then◌else◌, Option, Some, None, option_map}
 use Rattle.tsb_cells.specs.declared.timer.Timer.{Timer}
 use Rattle.tsb_cells.specs.declared.timer.Timer.TheVariants.{Off}
 use Rattle.tsb_types.specs.declared.flow.Moves.{Moves}
@@ -13,7 +13,7 @@ use Rattle.tsb_types.specs.declared.row.Row.{Row}
 use Rattle.tsb_types.specs.Clip.{clipped, within}
 use Rattle.tsb_types.specs.Intervals.{is_green}
 use Rattle.tsb_types.specs.Sets.{has_number}
-use Rattle.tsb_objects.specs.tsb_plan.Parts.{call_phase}
+use Rattle.tsb_objects.specs.tsb_plan.Parts.{call_phase, is_anew}
 use Rattle.tsb_objects.specs.tsb_plan.Running.{running}
 use Rattle.tsb_detect.specs.Detector as detector
 use Rattle.tsb_detect.specs.Detector.{Detector}
@@ -28,11 +28,13 @@ use Rattle.tsb_ring.specs.Rings as rings
 use Rattle.tsb_ring.specs.Rings.{number}
 use Rattle.tsb_ring.specs.Moves as ring_moves
 use Rattle.tsb_ring.specs.Next as rings_next
+use Rattle.tsb_ring.specs.GivenUp.{given_up}
 use Rattle.tsb_coord.specs.Coordinated as coordination
 use Rattle.tsb_coord.specs.Correction as correction
 use Rattle.tsb_preempt.specs.Preempts as preempts
 use Rattle.tsb_preempt.specs.Service.{Service}
 use Rattle.tsb_step.specs.State.{State, interval, pedestrian_part}
+use Rattle.tsb_step.specs.Signs.{is_lasting}
 
 -- ## Preempts: stage, target, what must end
 
@@ -226,9 +228,9 @@ done s row = record {
 
 -- ## The new state, of a controller that has not tripped and before the monitor judges it
 
--- field by field; plan, desk, pattern, lamp and trip are as they were
-abbrev pub next : State → Row → State
-next s row = record {
+-- field by field, where rings give nothing up; plan, desk, pattern, lamp and trip are as they were
+abbrev pub after_moves : State → Row → State
+after_moves s row = record {
   now = s.now + 1;
   plan = s.plan;
   desk = s.desk;
@@ -242,3 +244,16 @@ next s row = record {
   lamp = s.lamp;
   trip = s.trip;
 }
+
+-- commitments are given up in this tick: the preempt in service chooses anew, and no overlap lasts through a clearance
+-- by a commitment. An overlap has no yellow of its own with which it could end there
+unfoldable pub gives_up : State → Row → Bool
+gives_up s row = is_anew s.plan (service s row) && not (is_lasting (after_moves s row))
+
+-- the rings after the tick: without what they are committed to outside the target, where that is given up
+unfoldable pub new_rings : State → Row → rings.State
+new_rings s row = if gives_up s row then given_up s.plan (target s row) (after_moves s row).rings else (after_moves s row).rings
+
+-- the new state
+abbrev pub next : State → Row → State
+next s row = record (after_moves s row) { rings = new_rings s row }

@@ -12,20 +12,21 @@ use Rattle.tsb_types.specs.declared.lamp.Aspect.{Aspect}
 use Rattle.tsb_types.specs.declared.lamp.Aspect.TheVariants as aspects
 use Rattle.tsb_types.specs.declared.row.Row.{Row}
 use Rattle.tsb_objects.specs.tsb_plan.Plan.{Plan, yellow_change, red_clear, red_revert, side_of}
-use Rattle.tsb_objects.specs.tsb_plan.Parts.{is_minus_green_yellow}
+use Rattle.tsb_objects.specs.tsb_plan.Parts.{is_anew, is_minus_green_yellow}
 use Rattle.tsb_phase.specs.Pedestrian.{ended_by, walk_time, clearance_time}
 use Rattle.tsb_phase.specs.Laws.{least_green}
 use Rattle.tsb_phase.specs.Phase.{Phase}
 use Rattle.tsb_ring.specs.Rings as rings
 use Rattle.tsb_ring.specs.Rings.{Ring}
 use Rattle.tsb_heads.specs.Monitoring.{conflict}
+use Rattle.tsb_heads.specs.Overlaps.{IsOverlap, overlap_head}
 use Rattle.tsb_ring.specs.Moves.{is_started}
 use Rattle.tsb_step.specs.declared.inputs.Input.{Input}
 use Rattle.tsb_step.specs.declared.inputs.Input.TheVariants.{Tick, Reset}
 use Rattle.tsb_machine.specs.declared.commands.Answer.{Answer}
 use Rattle.tsb_step.specs.State.{State, interval, pedestrian_part}
-use Rattle.tsb_step.specs.Tick.{phases_given, phase_read, moves}
-use Rattle.tsb_step.specs.Signs.{display, field}
+use Rattle.tsb_step.specs.Tick.{service, must_end, phases_given, phase_read, moves, after_moves, next}
+use Rattle.tsb_step.specs.Signs.{shown, display, is_choosing, is_lasting, field}
 use Rattle.tsb_step.specs.Step.{step, kind_of}
 use Rattle.tsb_step.specs.Runs.{replay, AreTaken}
 use Rattle.tsb_step.specs.Past.{ticks_of, pasts}
@@ -119,10 +120,30 @@ StartsAfterRedRevert = OfEveryUntrippedRun (λ plan is. (row : Row) (p : ℕ) �
     (((replay plan is).phases p).red_revert ≡ Off)
     ⊎ (red_revert (replay plan is).plan p ≤ suc (held_for (λ s. not (is_green (interval s p) || is_yellow (interval s p))) plan is)))
 
--- while the controller has not tripped, a commitment stands over inputs of every kind, until its phase turns Green
+-- the ring keeps its commitment over the input, or its phase turns Green
+abbrev pub StandsOrStarts : State → Input → Ring → ℕ → Type 0
+StandsOrStarts s i r c = ((step s i).rings.commitment r ≡ Some c) ⊎ ((interval s c ≢ Green) × (interval (step s i) c ≡ Green))
+
+-- while the controller has not tripped, a commitment stands over inputs of every kind, until its phase turns Green; but
+-- where a preempt that chooses anew is in service after the input
 abbrev pub CommitmentsStandInRuns : Type 0
-CommitmentsStandInRuns = OfEveryRun (λ s. (i : Input) (r : Ring) (c : ℕ) → s.trip ≡ None → s.rings.commitment r ≡ Some c →
-    ((step s i).rings.commitment r ≡ Some c) ⊎ ((interval s c ≢ Green) × (interval (step s i) c ≡ Green)))
+CommitmentsStandInRuns = OfEveryRun (λ s. (i : Input) (r : Ring) (c : ℕ) → s.trip ≡ None → is_choosing (step s i) ≡ false →
+    s.rings.commitment r ≡ Some c → StandsOrStarts s i r c)
+
+-- while the controller has not tripped. A preempt in service that chooses anew wants the phase of each commitment after
+-- the tick, unless an overlap lasts through a clearance by a commitment
+abbrev pub CommitmentsAreWanted : Type 0
+CommitmentsAreWanted = OfEveryRun (λ s. (row : Row) (r : Ring) (c : ℕ) → s.trip ≡ None → is_anew s.plan (service s row) ≡ true →
+    (step s (Tick row)).rings.commitment r ≡ Some c → (must_end s row c ≡ false) ⊎ (is_lasting (step s (Tick row)) ≡ true))
+
+-- what is given up in a tick changes no phase, and no head of it or of an overlap
+pub record ShowsTheSame (s t : State) : Type 0 where
+  pub phases : t.phases ≡ s.phases
+  pub overlap : (o : ℕ) → IsOverlap o → overlap_head t.plan (shown t) o ≡ overlap_head s.plan (shown s) o
+
+-- each tick of every run does
+abbrev pub GivingUpShowsNothing : Type 0
+GivingUpShowsNothing = OfEveryRun (λ s. (row : Row) → ShowsTheSame (after_moves s row) (next s row))
 
 -- cells tell the state after a run, of a plan of 16 phases and 4 sides and of inputs whose numbers are of the program's
 -- types; proved in tsb_laws, of plans with no value over its object's greatest

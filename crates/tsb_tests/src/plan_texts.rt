@@ -122,7 +122,7 @@ fn all_padded_are_answered(alloc: Global, wanted: &[(&str, &str)]) -> bool {
 }
 
 /// Texts, each with what reading answers for it.
-const TEXTS: [(&str, &str); 13] = [
+const TEXTS: [(&str, &str); 15] = [
     (r#""#, "plan: not JSON"),
     (r#"{"version":1"#, "plan: not JSON"),
     (r#"[]"#, "plan: not a table"),
@@ -140,6 +140,14 @@ const TEXTS: [(&str, &str); 13] = [
     (
         r#"{"version":3,"overlapAcrossRings":{"5":1}}"#,
         "plan: overlapAcrossRings.5: no such object",
+    ),
+    (
+        r#"{"version":2,"preemptChoosesAnew":{}}"#,
+        "plan: preemptChoosesAnew: no such object",
+    ),
+    (
+        r#"{"version":3,"preemptChoosesAnew":{"4":2}}"#,
+        "plan: preemptChoosesAnew.4: out of range",
     ),
     (SHORT_YELLOW, "plan: rule K8"),
 ];

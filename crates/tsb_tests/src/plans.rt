@@ -296,6 +296,8 @@ fn tells_of_preempts(plan: &Plan) -> bool {
         && plan.preempt_minimum_walk(preempt) == 20
         && plan.enter_pedestrian_clear(preempt) == 30
         && plan.track_green(preempt) == 30
+        && !plan.chooses_anew(preempt)
+        && plan.chooses_anew(Preempt::of(4))
         && plan.track_phases(preempt).list() == 34
         && plan.dwell_phases(preempt).list() == 132
         && plan.exit_phases(preempt).list() == 0x8001
@@ -315,6 +317,7 @@ fn plans_tell_of_overlaps_patterns_and_preempts(rt: HostRuntime) {
         (Object::PreemptTrackPhase, 1, 34),
         (Object::PreemptExitPhase, 1, 0x8001),
         (Object::OverlapAcrossRings, 2, 1),
+        (Object::PreemptChoosesAnew, 4, 1),
     ];
     let Some(plan) = changed_quad(&values) else {
         panic!(rt; "a value was refused");

@@ -71,7 +71,7 @@ const NEW: [Object; 11] = [
 ];
 
 /// What version 3 alone has.
-const OF_3_ALONE: [Object; 1] = [Object::OverlapAcrossRings];
+const OF_3_ALONE: [Object; 2] = [Object::OverlapAcrossRings, Object::PreemptChoosesAnew];
 
 /// Whether version 1 has the objects with these indices and greatest values.
 fn have_ranges(wanted: &[(Object, u32, u32)]) -> bool {
@@ -164,11 +164,12 @@ fn names_are() -> bool {
         && is_named(Object::UnitMax2, "unitMax2")
         && is_named(Object::CoordCorrectionLimit, "coordCorrectionLimit")
         && is_named(Object::OverlapAcrossRings, "overlapAcrossRings")
+        && is_named(Object::PreemptChoosesAnew, "preemptChoosesAnew")
 }
 
 /// Whether objects are found by their names, where the version has them.
 fn names_are_found() -> bool {
-    let (split, last) = (Object::SplitTime, Object::OverlapAcrossRings);
+    let (split, last) = (Object::SplitTime, Object::PreemptChoosesAnew);
     finds(Version::One, split.name(), Some(split))
         && finds(Version::Three, last.name(), Some(last))
         && finds(Version::Two, last.name(), None)

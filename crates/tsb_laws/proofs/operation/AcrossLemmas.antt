@@ -1,6 +1,6 @@
 -- A crossing that commits a ring goes to another side than the one that is served: so what a ring is committed to is not in
 -- service, inside a crossing and outside, after every run.
-use Rattle.std.proofs.Common.{◌≡◌, ℕ, Bool, true, false, List, Option, Some, None, refl, sym, ◌∙◌, inl, inr}
+use Rattle.std.proofs.Common.{◌≡◌, ℕ, Bool, true, false, List, Option, Some, None, refl, sym, ap, ◌∙◌, inl, inr}
 use Rattle.std.proofs.lemmas.Bool.{cases_Bool, true≢false}
 use Rattle.tsb_step.specs.tsb_types.declared.interval.Interval.{Interval}
 use Rattle.tsb_step.specs.tsb_types.declared.row.Row.{Row}
@@ -11,15 +11,17 @@ use Rattle.tsb_step.specs.tsb_ring.Rings as rings
 use Rattle.tsb_step.specs.tsb_ring.Rings.{Ring}
 use Rattle.tsb_step.specs.tsb_ring.Crossings.{begins, target_side}
 use Rattle.tsb_step.specs.tsb_ring.Next.{completes, new_commitment, new_side, new_crossing, next as rings_after}
+use Rattle.tsb_step.specs.tsb_ring.GivenUp.{given_up}
 use Rattle.tsb_step.specs.tsb_ring.Laws.{IsSymmetric, IsGiven, IsSound}
 use Rattle.tsb_step.proofs.tsb_ring.EntryLemmas.{begins_apart}
+use Rattle.tsb_step.proofs.tsb_ring.GivenUpLemmas.{crossing_left, side_stays, was_before}
 use Rattle.tsb_step.proofs.tsb_ring.SoundLemmas.{Commits, enters, stands, makes, commits, new_commits}
 use Rattle.tsb_step.proofs.tsb_ring.WantLemmas.{pick_free}
 use Rattle.tsb_step.specs.tsb_transact.Desk.{with_edits}
 use Rattle.tsb_step.specs.tsb_transact.Commit.{changes_structure}
 use Rattle.tsb_step.specs.declared.inputs.Input.{Input}
 use Rattle.tsb_step.specs.State.{State, interval}
-use Rattle.tsb_step.specs.Tick.{rings_given, moves, yellow_done, next}
+use Rattle.tsb_step.specs.Tick.{rings_given, moves, yellow_done, after_moves, next}
 use Rattle.tsb_step.specs.Runs.{replay, AreTaken}
 use Rattle.tsb_step.specs.Laws.{IsConsistent}
 use Rattle.tsb_step.specs.TimeLaws.{IsSided}
@@ -72,18 +74,24 @@ across_still : (plan : Plan) (interval : ℕ → Interval) (s : rings.State) →
     ((r : Ring) → s.commitment r ≡ None) → GoesAcross plan interval s
 across_still plan interval s idle none d r c way e same = let bad : None ≡ Some c = sym (none r) ∙ e in absurd cc
 
-across_next : (s : State) (row : Row) → IsGood s → GoesAcross s.plan (interval s) s.rings → GoesAcross (next s row).plan (interval (next s row)) (next s row).rings
+across_next : (s : State) (row : Row) → IsGood s → GoesAcross s.plan (interval s) s.rings → GoesAcross s.plan (interval (next s row)) (after_moves s row).rings
 unfolding moves rings_given
 across_next s row good was =
     across_after s.plan s.rings (rings_given s row) (yellow_done s) (symmetric s.plan good.plan.rules) good.rings (given s row good) good.plan.rules
     (callable_on s row) was
+
+across_given : (plan : Plan) (interval : ℕ → Interval) (target : Option (ℕ → Bool)) (s : rings.State) → GoesAcross plan interval s →
+    GoesAcross plan interval (given_up plan target s)
+across_given plan interval target s was d r c way e same =
+    let all = crossing_left plan target s d way in
+    was d r c (sym (ap (λ (x : rings.State). x.crossing) all) ∙ way) (was_before plan target s r c e) (sym (side_stays plan target s) ∙ same)
 
 across_committed : (s : State) → changes_structure s.plan s.desk.edits ≡ false → GoesAcross s.plan (interval s) s.rings →
     GoesAcross (with_edits s.plan s.desk.edits) (interval s) s.rings
 across_committed s unchanged was = was
 
 across_kept : IsKept GoesAcross
-across_kept = record { still = across_still; ticks = across_next; commits = across_committed }
+across_kept = record { still = across_still; ticks = across_next; gives = across_given; commits = across_committed }
 
 pub across_run : (plan : Plan) (is : List Input) → IsConsistent plan → AreTaken plan is →
     GoesAcross (replay plan is).plan (interval (replay plan is)) (replay plan is).rings

@@ -19,7 +19,7 @@ use Rattle.tsb_step.specs.declared.inputs.Input.{Input}
 use Rattle.tsb_step.specs.declared.inputs.Input.TheVariants as inputs
 use Rattle.tsb_step.specs.declared.inputs.Input.TheVariants.{Tick}
 use Rattle.tsb_step.specs.State.{State, interval}
-use Rattle.tsb_step.specs.Tick.{callable, rings_given, next}
+use Rattle.tsb_step.specs.Tick.{callable, rings_given, after_moves}
 use Rattle.tsb_step.specs.Step.{step}
 use Rattle.tsb_step.specs.Runs.{replay, AreTaken}
 use Rattle.tsb_step.specs.Laws.{IsConsistent}
@@ -29,7 +29,6 @@ use Rattle.tsb_step.proofs.ClearLemmas.{one_later}
 use Rattle.tsb_step.proofs.GivenLemmas.{enabled_is_listed}
 use Rattle.tsb_step.proofs.GoodLemmas.{good_run}
 use Rattle.tsb_step.proofs.SideRunLemmas.{sided_run}
-use Rattle.tsb_step.proofs.StandLemmas.{rings_then}
 use Rattle.tsb_step.proofs.TellLemmas.{is_in_green}
 use Rattle.tsb_step.proofs.tsb_phase.ReadLemmas.{is-red}
 use Rattle.tsb_laws.specs.CrossingGreens.{IsCalm}
@@ -144,10 +143,11 @@ pub begins_now : (plan : Plan) (s : rings.State) (given : Given) → ring_joins 
 unfolding begins
 begins_now plan s given one two w = rw (one, two, w) refl
 
-none_begun : (s : State) (row : Row) → s.trip ≡ None → (step s (Tick row)).rings.crossing ≡ None → begins s.plan s.rings (rings_given s row) ≡ false
-none_begun s row dark out =
+none_begun : (s : State) (row : Row) → s.trip ≡ None → is_free s row ≡ true → (step s (Tick row)).rings.crossing ≡ None →
+    begins s.plan s.rings (rings_given s row) ≡ false
+none_begun s row dark free out =
     false_from_ne_true _ (λ b. (let some = begun_crosses s.plan s.rings (rings_given s row) b in
-    let after = ap (λ (x : rings.State). x.crossing) (rings_then s row dark) in
+    let after = ap (λ (x : rings.State). x.crossing) (kept_then s row dark free).rings in
     let bad : Some (target_side s.plan s.rings (rings_given s row)) ≡ None = sym some ∙ sym after ∙ out in absurd cc))
 
 outside_is : (s : State) → is_outside s ≡ true → s.rings.crossing ≡ None
@@ -225,13 +225,13 @@ module _ (plan : Plan) (base : List Input) (q k h : ℕ) (ok : IsConsistent plan
           elsewhere = false_from_ne_true _ (λ e. stage.apart (eqb-true (side_of (replay plan (later ++ base)).plan q) (replay plan (later ++ base)).rings.side e))
 
       none : begins (replay plan (later ++ base)).plan (replay plan (later ++ base)).rings (rings_given (replay plan (later ++ base)) row) ≡ false
-      none = none_begun (replay plan (later ++ base)) row dark now
+      none = none_begun (replay plan (later ++ base)) row dark both.1 now
 
       clock : (replay plan (Tick row ∷ (later ++ base))).now ≡ (replay plan (later ++ base)).now + 1
       clock = one_later (replay plan (later ++ base)) row
 
-      kept : IsKeptBy (next (replay plan (later ++ base)) row) (step (replay plan (later ++ base)) (Tick row))
-      kept = kept_then (replay plan (later ++ base)) row dark
+      kept : IsKeptBy (after_moves (replay plan (later ++ base)) row) (step (replay plan (later ++ base)) (Tick row))
+      kept = kept_then (replay plan (later ++ base)) row dark both.1
 
       still_apart : side_of (replay plan (Tick row ∷ (later ++ base))).plan q ≢ (replay plan (Tick row ∷ (later ++ base))).rings.side
       still_apart e =
@@ -239,13 +239,13 @@ module _ (plan : Plan) (base : List Input) (q k h : ℕ) (ok : IsConsistent plan
           ∙ stays_beside (replay plan (later ++ base)).plan (replay plan (later ++ base)).rings (rings_given (replay plan (later ++ base)) row)
           (fair (replay plan (later ++ base)) row fair_now) none)
 
-      made : (m n : ℕ) → m + n + 1 ≤ stage.one + stage.two → Remains k (next (replay plan (later ++ base)) row) Ring1 m →
-          Remains k (next (replay plan (later ++ base)) row) Ring2 n → Stage limit (Tick row ∷ later)
+      made : (m n : ℕ) → m + n + 1 ≤ stage.one + stage.two → Remains k (after_moves (replay plan (later ++ base)) row) Ring1 m →
+          Remains k (after_moves (replay plan (later ++ base)) row) Ring2 n → Stage limit (Tick row ∷ later)
       made m n fewer it of = record {
         one = m;
         two = n;
-        first = remains_stays k (next (replay plan (later ++ base)) row) (step (replay plan (later ++ base)) (Tick row)) Ring1 m kept it;
-        second = remains_stays k (next (replay plan (later ++ base)) row) (step (replay plan (later ++ base)) (Tick row)) Ring2 n kept of;
+        first = remains_stays k (after_moves (replay plan (later ++ base)) row) (step (replay plan (later ++ base)) (Tick row)) Ring1 m kept it;
+        second = remains_stays k (after_moves (replay plan (later ++ base)) row) (step (replay plan (later ++ base)) (Tick row)) Ring2 n kept of;
         apart = still_apart;
         in_time = (let before = stage.in_time in omega (arith, clock, fewer, before));
       }

@@ -20,7 +20,7 @@ use Rattle.tsb_step.proofs.tsb_ring.WaitLemmas.{first-passes}
 use Rattle.tsb_step.proofs.tsb_ring.WantLemmas.{first-among}
 use Rattle.tsb_step.specs.State.{State, interval}
 use Rattle.tsb_step.specs.tsb_phase.Ready.{yellow_is_done}
-use Rattle.tsb_step.specs.Tick.{callable, conflict, phase_read, over, reverted, ready, rings_given, moves, next}
+use Rattle.tsb_step.specs.Tick.{callable, conflict, phase_read, over, reverted, ready, rings_given, moves, after_moves}
 use Rattle.tsb_step.proofs.ClipLemmas.{clipped_holds}
 use Rattle.tsb_step.proofs.GivenLemmas.{listed_is_phase}
 use Rattle.tsb_step.proofs.tsb_phase.ReadLemmas.{is-red}
@@ -46,8 +46,8 @@ pub data Remains (k : ℕ) (s : State) (r : Ring) (n : ℕ) : Type 0 where
 
 -- after the tick it has a tick less, or no more, and joined in the tick and wanted to cross
 pub data Nears (k : ℕ) (s : State) (row : Row) (r : Ring) (n : ℕ) : Type 0 where
-  less : (m : ℕ) → m + 1 ≤ n → Remains k (next s row) r m → Nears k s row r n
-  joined : Remains k (next s row) r n → ring_joins s.plan s.rings (rings_given s row) r ≡ true →
+  less : (m : ℕ) → m + 1 ≤ n → Remains k (after_moves s row) r m → Nears k s row r n
+  joined : Remains k (after_moves s row) r n → ring_joins s.plan s.rings (rings_given s row) r ≡ true →
       want_of s.plan s.rings (rings_given s row) r ≡ Some Cross → Nears k s row r n
 
 pub clear_none : (plan : Plan) (p : ℕ) (s : State) → interval s p ≡ Red → clear_left plan p (s.phases p) ≡ 0
@@ -69,19 +69,19 @@ cleared_over s row p h = clears_over s.plan s.rings (rings_given s row) p h
 
 -- a phase that clears and is not cleared clears on
 pub still_clearing : (s : State) (row : Row) (p : ℕ) → in_service (interval s p) ≡ true → is_green (interval s p) ≡ false → is_started (moves s row) p ≡ false →
-    is_cleared (moves s row) p ≡ false → (in_service (interval (next s row) p) ≡ true) × (is_green (interval (next s row) p) ≡ false)
+    is_cleared (moves s row) p ≡ false → (in_service (interval (after_moves s row) p) ≡ true) × (is_green (interval (after_moves s row) p) ≡ false)
 still_clearing s row p serves dark no_start kept = go (interval s p) refl
   where
-    both : (i : Interval) → interval (next s row) p ≡ i → in_service i ≡ true → is_green i ≡ false →
-        (in_service (interval (next s row) p) ≡ true) × (is_green (interval (next s row) p) ≡ false)
+    both : (i : Interval) → interval (after_moves s row) p ≡ i → in_service i ≡ true → is_green i ≡ false →
+        (in_service (interval (after_moves s row) p) ≡ true) × (is_green (interval (after_moves s row) p) ≡ false)
     both i e f g = (ap in_service e ∙ f, ap is_green e ∙ g)
 
     yellow : interval s p ≡ Yellow → (b : Bool) → yellow_is_done s.plan p (phase_read s p) ≡ b →
-        (in_service (interval (next s row) p) ≡ true) × (is_green (interval (next s row) p) ≡ false)
+        (in_service (interval (after_moves s row) p) ≡ true) × (is_green (interval (after_moves s row) p) ≡ false)
     yellow e true l = both RedClear (rw (no_start, e, kept, rw e at l) refl) refl refl
     yellow e false l = both Yellow (rw (no_start, e, kept, rw e at l) refl) refl refl
 
-    go : (i : Interval) → interval s p ≡ i → (in_service (interval (next s row) p) ≡ true) × (is_green (interval (next s row) p) ≡ false)
+    go : (i : Interval) → interval s p ≡ i → (in_service (interval (after_moves s row) p) ≡ true) × (is_green (interval (after_moves s row) p) ≡ false)
     go Red e = absurd (false≢true (rw e at serves))
     go Green e = absurd (true≢false (rw e at dark))
     go Yellow e = yellow e (yellow_is_done s.plan p (phase_read s p)) refl
@@ -147,35 +147,35 @@ module _ (s : State) (row : Row) (tick : IsFairTick s row) (away : is_called_els
       turns s.plan k d (later o (order s.plan r)) ≡ turns s.plan k s.rings.side (later p (order s.plan r))
   sums d o p same is = rw (same, is) refl
 
-  side_then : (next s row).rings.side ≡ s.rings.side
+  side_then : (after_moves s row).rings.side ≡ s.rings.side
   side_then = stays_beside s.plan s.rings (rings_given s row) (fair s row tick) none
 
   -- it starts a phase: how long it takes from then on
   starting_left : (c n : ℕ) → starting s.plan s.rings (rings_given s row) r ≡ Some c → in_ring s.plan r c ≡ true →
-      turns s.plan k s.rings.side (later (Some c) (order s.plan r)) + longest_green s.plan c ≤ n → IsLeft k (next s row) r n
+      turns s.plan k s.rings.side (later (Some c) (order s.plan r)) + longest_green s.plan c ≤ n → IsLeft k (after_moves s row) r n
   starting_left c n start own all =
       serving_green c (promise_kept s.plan s.rings (rings_given s row) (fair s row tick) none r c start) own (starts_it s row tick r c start)
-      (let most = green_most s.plan c ((next s row).phases c) in
-      let same = sums (next s row).rings.side ((next s row).rings.last r) (Some c) side_then
+      (let most = green_most s.plan c ((after_moves s row).phases c) in
+      let same = sums (after_moves s row).rings.side ((after_moves s row).rings.last r) (Some c) side_then
       (last_started s.plan s.rings (rings_given s row) (fair s row tick) none r c start) in
       omega (arith, most, same, all))
 
   red_after : (p : ℕ) → in_ring s.plan r p ≡ true → in_service (interval s p) ≡ false → starting s.plan s.rings (rings_given s row) r ≡ None →
-      interval (next s row) p ≡ Red
+      interval (after_moves s row) p ≡ Red
   red_after p own dark start =
       let red : interval s p ≡ Red = is-red (interval s p) dark in
       let no_start : is_started (moves s row) p ≡ false = starts_nothing s row tick r p own start in
       rw (no_start, red) refl
 
   less_back : (p m : ℕ) → in_ring s.plan r p ≡ true → is_green (interval s p) ≡ false → starting s.plan s.rings (rings_given s row) r ≡ None →
-      back_left s.plan p (s.phases p) ≤ m → back_left s.plan p ((next s row).phases p) ≤ m - 1
+      back_left s.plan p (s.phases p) ≤ m → back_left s.plan p ((after_moves s row).phases p) ≤ m - 1
   less_back p m own dark start was =
       let down = reverts_down s row p (yellow_change s.plan p) (red_revert s.plan p) (omega arith) (tick.timed p) (ends_none s row tick p dark)
       (starts_nothing s row tick r p own start) in
       omega (arith, down, was)
 
   less_clear : (p : ℕ) → in_ring s.plan r p ≡ true → is_green (interval s p) ≡ false → starting s.plan s.rings (rings_given s row) r ≡ None →
-      clear_left s.plan p ((next s row).phases p) ≤ clear_left s.plan p (s.phases p) - 1
+      clear_left s.plan p ((after_moves s row).phases p) ≤ clear_left s.plan p (s.phases p) - 1
   less_clear p own dark start =
       clears_down s row p (yellow_change s.plan p) (red_clear s.plan p) (omega arith) (tick.timed p) dark (starts_nothing s row tick r p own start)
 
@@ -199,7 +199,7 @@ module _ (s : State) (row : Row) (tick : IsFairTick s row) (away : is_called_els
           (bound_for (committed c (m - 1) (promise_stays s.plan s.rings (rings_given s row) (fair s row tick) none r c start e)
           (λ p own. (let down = less_clear p own (tick.calm.bound r c p e own) start in let was = clears_in p own in omega (arith, down, was)))
           (less_back c m (tick.good.rings.owned r c e).0 (dark_is (interval s c) dark_c) start reverts)
-          (let same = sums (next s row).rings.side (Some c) (Some c) side_then refl in let some = some_left delay in omega (arith, all, same, some))))
+          (let same = sums (after_moves s row).rings.side (Some c) (Some c) side_then refl in let some = some_left delay in omega (arith, all, same, some))))
         where
           some_left : Delays s.plan s.rings (rings_given s row) (fair s row tick) r c → 1 ≤ m
           some_left (clearing p at_it h) =
@@ -234,26 +234,26 @@ module _ (s : State) (row : Row) (tick : IsFairTick s row) (away : is_called_els
       no_start : is_started (moves s row) p ≡ false
       no_start = starts_nothing s row tick r p own start
 
-      promise_then : (next s row).rings.commitment r ≡ pick s.plan s.rings (rings_given s row) r
+      promise_then : (after_moves s row).rings.commitment r ≡ pick s.plan s.rings (rings_given s row) r
       promise_then = promise_made s.plan s.rings (rings_given s row) (fair s row tick) none r p start e at_it
 
       ready_is : (b : Bool) → ready s row p ≡ b → (rings_given s row).ready p ≡ b
       ready_is b f = told_ready s row tick p (tick.good.rings.listed p serves_p) ∙ f
 
-      later_then : turns s.plan k (next s row).rings.side (later ((next s row).rings.last r) (order s.plan r))
+      later_then : turns s.plan k (after_moves s row).rings.side (later ((after_moves s row).rings.last r) (order s.plan r))
           ≡ turns s.plan k s.rings.side (later (s.rings.last r) (order s.plan r))
       later_then =
-          sums (next s row).rings.side ((next s row).rings.last r) (s.rings.last r) side_then
+          sums (after_moves s row).rings.side ((after_moves s row).rings.last r) (s.rings.last r) side_then
           (last_stays s.plan s.rings (rings_given s row) (fair s row tick) none r start)
 
-      down : is_ended (moves s row) p ≡ false → green_left s.plan p ((next s row).phases p) ≤ green_left s.plan p (s.phases p) - 1
+      down : is_ended (moves s row) p ≡ false → green_left s.plan p ((after_moves s row).phases p) ≤ green_left s.plan p (s.phases p) - 1
       down no_end =
           presses_down s row p (is_one s.plan p tick.few (tick.good.rings.listed p serves_p)) (pressed_by p green) tick.free (longest_maximum s.plan p) (longest_initial s.plan p)
           (walk s.plan p) (pedestrian_clear s.plan p) (omega arith) (omega arith) (tick.timed p) green no_end no_start
 
       -- it stays Green
       on_then : is_ended (moves s row) p ≡ false → pick s.plan s.rings (rings_given s row) r ≡ None → (m : ℕ) →
-          turns s.plan k s.rings.side (later (s.rings.last r) (order s.plan r)) + (green_left s.plan p (s.phases p) - 1) ≤ m → IsLeft k (next s row) r m
+          turns s.plan k s.rings.side (later (s.rings.last r) (order s.plan r)) + (green_left s.plan p (s.phases p) - 1) ≤ m → IsLeft k (after_moves s row) r m
       on_then no_end picks m most =
           serving_green p (promise_then ∙ picks) own (rw (no_start, green, no_end) refl)
           (let lower = down no_end in let same = later_then in omega (arith, lower, same, most))
@@ -278,14 +278,14 @@ module _ (s : State) (row : Row) (tick : IsFairTick s row) (away : is_called_els
           fewer : turn s.plan k it.one + turns s.plan k s.rings.side (later (Some it.one) (order s.plan r)) ≤ turns s.plan k s.rings.side (later (s.rings.last r) (order s.plan r))
           fewer = to.fewer
 
-          promise : (next s row).rings.commitment r ≡ Some it.one
+          promise : (after_moves s row).rings.commitment r ≡ Some it.one
           promise = promise_then ∙ picks_green s.plan s.rings (rings_given s row) (fair s row tick) r p it.one true at_it it.wanted (ready_is true f)
 
-          same : turns s.plan k (next s row).rings.side (later (Some it.one) (order s.plan r)) ≡ turns s.plan k s.rings.side (later (Some it.one) (order s.plan r))
-          same = sums (next s row).rings.side (Some it.one) (Some it.one) side_then refl
+          same : turns s.plan k (after_moves s row).rings.side (later (Some it.one) (order s.plan r)) ≡ turns s.plan k s.rings.side (later (Some it.one) (order s.plan r))
+          same = sums (after_moves s row).rings.side (Some it.one) (Some it.one) side_then refl
 
-          clears_in : (x : ℕ) → in_ring s.plan r x ≡ true → clear_left s.plan x ((next s row).phases x) ≤ k
-          clears_in x own_x = let most = clear_most s.plan x ((next s row).phases x) in let limit = takes.clearance x in omega (arith, most, limit)
+          clears_in : (x : ℕ) → in_ring s.plan r x ≡ true → clear_left s.plan x ((after_moves s row).phases x) ≤ k
+          clears_in x own_x = let most = clear_most s.plan x ((after_moves s row).phases x) in let limit = takes.clearance x in omega (arith, most, limit)
 
           dark_c : in_service (interval s it.one) ≡ false
           dark_c =
@@ -295,9 +295,9 @@ module _ (s : State) (row : Row) (tick : IsFairTick s row) (away : is_called_els
                     absurd (true≢false (sym (ap is_green green) ∙ ap (λ (x : ℕ). is_green (interval s x)) (sym one) ∙ callable_no_green s row it.one to.calls)))
               ]
 
-          reverts : back_left s.plan it.one ((next s row).phases it.one) ≤ k
+          reverts : back_left s.plan it.one ((after_moves s row).phases it.one) ≤ k
           reverts =
-              let most = back_most s.plan it.one ((next s row).phases it.one) (red_after it.one to.ringed dark_c start) in
+              let most = back_most s.plan it.one ((after_moves s row).phases it.one) (red_after it.one to.ringed dark_c start) in
               let limit = takes.revert it.one in
               omega (arith, most, limit)
 
@@ -331,12 +331,12 @@ module _ (s : State) (row : Row) (tick : IsFairTick s row) (away : is_called_els
 
       -- it starts nothing
       on_then : starting s.plan s.rings (rings_given s row) r ≡ None → (l : ℕ) →
-          turns s.plan k s.rings.side (later (s.rings.last r) (order s.plan r)) + (m - 1) ≤ l → IsLeft k (next s row) r l
+          turns s.plan k s.rings.side (later (s.rings.last r) (order s.plan r)) + (m - 1) ≤ l → IsLeft k (after_moves s row) r l
       on_then start l most =
           idle (m - 1) (none_promised s.plan s.rings (rings_given s row) (fair s row tick) none r start e at_none)
           (λ p own. ap in_service (red_after p own (dark p own) start))
           (λ p own. less_back p m own (dark_is (interval s p) (dark p own)) start (reverts p own))
-          (let same = sums (next s row).rings.side ((next s row).rings.last r) (s.rings.last r) side_then
+          (let same = sums (after_moves s row).rings.side ((after_moves s row).rings.last r) (s.rings.last r) side_then
           (last_stays s.plan s.rings (rings_given s row) (fair s row tick) none r start) in omega (arith, same, most))
 
       to_one : (it : Goes s.plan s.rings (rings_given s row) (fair s row tick) r) → Heads it.one → (b : Bool) → reverted s it.one ≡ b → Nears k s row r n
@@ -376,15 +376,15 @@ module _ (s : State) (row : Row) (tick : IsFairTick s row) (away : is_called_els
       dark_given : is_green ((rings_given s row).interval p) ≡ false
       dark_given = ap is_green (given_interval s row p) ∙ dark
 
-      promise : (next s row).rings.commitment r ≡ None
+      promise : (after_moves s row).rings.commitment r ≡ None
       promise =
           promise_made s.plan s.rings (rings_given s row) (fair s row tick) none r p start e at_it
           ∙ picks_clearing s.plan s.rings (rings_given s row) r p at_it dark_given
 
-      later_then : turns s.plan k (next s row).rings.side (later ((next s row).rings.last r) (order s.plan r))
+      later_then : turns s.plan k (after_moves s row).rings.side (later ((after_moves s row).rings.last r) (order s.plan r))
           ≡ turns s.plan k s.rings.side (later (s.rings.last r) (order s.plan r))
       later_then =
-          sums (next s row).rings.side ((next s row).rings.last r) (s.rings.last r) side_then
+          sums (after_moves s row).rings.side ((after_moves s row).rings.last r) (s.rings.last r) side_then
           (last_stays s.plan s.rings (rings_given s row) (fair s row tick) none r start)
 
       -- the others of its ring are Red
@@ -402,7 +402,7 @@ module _ (s : State) (row : Row) (tick : IsFairTick s row) (away : is_called_els
             | inr g ↦ dark_is (interval s x) g
           ]
 
-      lower_back : (x : ℕ) → in_ring s.plan r x ≡ true → back_left s.plan x ((next s row).phases x) ≤ m - 1
+      lower_back : (x : ℕ) → in_ring s.plan r x ≡ true → back_left s.plan x ((after_moves s row).phases x) ≤ m - 1
       lower_back x own_x = less_back x m own_x (dark_all x own_x) start (reverts x own_x)
 
       some : 1 ≤ m
@@ -423,11 +423,11 @@ module _ (s : State) (row : Row) (tick : IsFairTick s row) (away : is_called_els
               (clears_over_one s.plan s.rings (rings_given s row) r p at_it own e none dark_given
               (told_over s row tick p (tick.good.rings.listed p serves) ∙ f))
 
-          red_then : interval (next s row) p ≡ Red
+          red_then : interval (after_moves s row) p ≡ Red
           red_then = cleared_red s row p dark no_start cleared
 
-          red_all : (x : ℕ) → in_ring s.plan r x ≡ true → (x ≡ p) ⊎ (in_service (interval s x) ≡ false) → in_service (interval (next s row) x) ≡ false
-          red_all x own_x (inl same) = ap (λ (y : ℕ). in_service (interval (next s row) y)) same ∙ ap in_service red_then
+          red_all : (x : ℕ) → in_ring s.plan r x ≡ true → (x ≡ p) ⊎ (in_service (interval s x) ≡ false) → in_service (interval (after_moves s row) x) ≡ false
+          red_all x own_x (inl same) = ap (λ (y : ℕ). in_service (interval (after_moves s row) y)) same ∙ ap in_service red_then
           red_all x own_x (inr g) = ap in_service (red_after x own_x g start)
 
       -- it goes on
@@ -440,23 +440,23 @@ module _ (s : State) (row : Row) (tick : IsFairTick s row) (away : is_called_els
           not_cleared =
               false_from_ne_true _ (λ g. true≢false (sym (cleared_over s row p g) ∙ told_over s row tick p (tick.good.rings.listed p serves) ∙ f))
 
-          and_dark : (in_service (interval (next s row) p) ≡ true) × (is_green (interval (next s row) p) ≡ false)
+          and_dark : (in_service (interval (after_moves s row) p) ≡ true) × (is_green (interval (after_moves s row) p) ≡ false)
           and_dark = still_clearing s row p serves dark no_start not_cleared
 
           left_p : 1 ≤ clear_left s.plan p (s.phases p)
           left_p = not_yet_over s p (yellow_change s.plan p) (red_clear s.plan p) (omega arith) (omega arith) (tick.timed p) serves dark f
 
-          lower_clear : (x : ℕ) → in_ring s.plan r x ≡ true → clear_left s.plan x ((next s row).phases x) + 1 ≤ m - 1
+          lower_clear : (x : ℕ) → in_ring s.plan r x ≡ true → clear_left s.plan x ((after_moves s row).phases x) + 1 ≤ m - 1
           lower_clear x own_x = by (others x own_x)
             where
-              by : (x ≡ p) ⊎ (in_service (interval s x) ≡ false) → clear_left s.plan x ((next s row).phases x) + 1 ≤ m - 1
+              by : (x ≡ p) ⊎ (in_service (interval s x) ≡ false) → clear_left s.plan x ((after_moves s row).phases x) + 1 ≤ m - 1
               by (inl same) =
                   let down = less_clear x own_x (dark_all x own_x) start in
                   let was = clears_in x own_x in
                   let left_x : clear_left s.plan x (s.phases x) ≡ clear_left s.plan p (s.phases p) = ap (λ (y : ℕ). clear_left s.plan y (s.phases y)) same in
                   omega (arith, down, was, left_x, left_p)
               by (inr g) =
-                  let zero_is = clear_none s.plan x (next s row) (red_after x own_x g start) in
+                  let zero_is = clear_none s.plan x (after_moves s row) (red_after x own_x g start) in
                   let was = clears_in p own in
                   omega (arith, zero_is, was, left_p)
 

@@ -31,6 +31,7 @@ use Rattle.tsb_step.specs.Runs.{replay, AreTaken}
 use Rattle.tsb_step.specs.Laws.{IsConsistent}
 use Rattle.tsb_step.specs.Good.{IsGood}
 use Rattle.tsb_step.proofs.GivenLemmas.{symmetric, given}
+use Rattle.tsb_step.proofs.GiveUpLemmas.{committed_by_moves}
 use Rattle.tsb_step.proofs.GoodLemmas.{good_run}
 use Rattle.tsb_step.proofs.StandLemmas.{rings_then}
 use Rattle.tsb_laws.specs.CalledStarts.{EntersByCall}
@@ -165,7 +166,7 @@ module _ (s : State) (row : Row) (good : IsGood s) (idle : service s row ≡ Non
       (new_commits s.plan s.rings (rings_given s row) (yellow_done s) even good.rings (given s row good) r q now).1)
     where
       now : new_commitment s.plan s.rings (rings_given s row) r ≡ Some q
-      now = sym (ap (λ (x : rings.State). x.commitment r) (rings_then s row dark)) ∙ h
+      now = committed_by_moves s row r q (sym (ap (λ (x : rings.State). x.commitment r) (rings_then s row dark)) ∙ h)
 
       go : Commits s.plan s.rings (rings_given s row) (yellow_done s) even good.rings (given s row good) r q →
           ((callable s row q ≡ true) ⊎ (has_dual_entry s.plan q ≡ true)) ⊎ (s.rings.commitment r ≡ Some q)

@@ -17,8 +17,10 @@ use Rattle.tsb_step.specs.tsb_ring.Wants.{taken, want_of, pick}
 use Rattle.tsb_step.specs.tsb_ring.Crossings.{begins, target_side, committed}
 use Rattle.tsb_step.specs.tsb_ring.Next.{completes, starting, leaves, ends, new_commitment, new_crossing, next as rings_after}
 use Rattle.tsb_step.specs.tsb_ring.Moves.{if_passes, ring_moves, moves as moves_in, is_started, is_cleared, is_ended, interval_after}
+use Rattle.tsb_step.specs.tsb_ring.GivenUp.{given_up}
 use Rattle.tsb_step.specs.tsb_ring.Laws.{IsSymmetric, IsGiven, IsSound}
 use Rattle.tsb_step.proofs.tsb_ring.ClaimLemmas.{same_ring, ring_of_is}
+use Rattle.tsb_step.proofs.tsb_ring.GivenUpLemmas.{crossing_left, outside_left, was_before}
 use Rattle.tsb_step.proofs.tsb_ring.MoveLemmas.{is-Some}
 use Rattle.tsb_step.proofs.tsb_ring.SoundLemmas.{Starting, starting_is, Commits, enters, stands, makes, commits, new_commits}
 use Rattle.tsb_step.proofs.tsb_ring.StartLemmas.{after_in}
@@ -28,7 +30,7 @@ use Rattle.tsb_step.specs.tsb_transact.Desk.{with_edits}
 use Rattle.tsb_step.specs.tsb_transact.Commit.{changes_structure}
 use Rattle.tsb_step.specs.declared.inputs.Input.{Input}
 use Rattle.tsb_step.specs.State.{State, interval}
-use Rattle.tsb_step.specs.Tick.{rings_given, moves, yellow_done, next}
+use Rattle.tsb_step.specs.Tick.{rings_given, moves, yellow_done, after_moves, next}
 use Rattle.tsb_step.specs.Runs.{replay, AreTaken}
 use Rattle.tsb_step.specs.Laws.{IsConsistent}
 use Rattle.tsb_step.specs.Good.{IsGood}
@@ -194,12 +196,20 @@ calm_still plan interval s idle none = record {
   fresh = λ out r c e. (let bad : None ≡ Some c = sym (none r) ∙ e in absurd cc);
 }
 
-calm_next : (s : State) (row : Row) → IsGood s → IsCalm s.plan (interval s) s.rings → IsCalm s.plan (interval (next s row)) (next s row).rings
+calm_next : (s : State) (row : Row) → IsGood s → IsCalm s.plan (interval s) s.rings → IsCalm s.plan (interval (next s row)) (after_moves s row).rings
 unfolding moves rings_given
 calm_next s row good was =
     rw (intervals_after s row)
     (calm_after s.plan s.rings (rings_given s row) (yellow_done s) (symmetric s.plan good.plan.rules) good.rings (given s row good)
     (callable_no_green s row) was)
+
+calm_given : (plan : Plan) (interval : ℕ → Interval) (target : Option (ℕ → Bool)) (s : rings.State) → IsCalm plan interval s →
+    IsCalm plan interval (given_up plan target s)
+calm_given plan interval target s was = record {
+  crosses = λ d e. (let all = crossing_left plan target s d e in was.crosses d (sym (ap (λ (x : rings.State). x.crossing) all) ∙ e));
+  bound = λ r c p e own. was.bound r c p (was_before plan target s r c e) own;
+  fresh = λ out r c e. was.fresh (outside_left plan target s r c out e) r c (was_before plan target s r c e);
+}
 
 calm_committed : (s : State) → changes_structure s.plan s.desk.edits ≡ false → IsCalm s.plan (interval s) s.rings →
     IsCalm (with_edits s.plan s.desk.edits) (interval s) s.rings
@@ -213,7 +223,7 @@ calm_committed s unchanged was = record {
     same r p = ap (λ (v : ℕ). v == number r) (kept is_structural s.plan s.desk.edits unchanged PhaseRing p refl)
 
 calm_kept : IsKept IsCalm
-calm_kept = record { still = calm_still; ticks = calm_next; commits = calm_committed }
+calm_kept = record { still = calm_still; ticks = calm_next; gives = calm_given; commits = calm_committed }
 
 pub calm_run : (plan : Plan) (is : List Input) → IsConsistent plan → AreTaken plan is →
     IsCalm (replay plan is).plan (interval (replay plan is)) (replay plan is).rings

@@ -17,7 +17,7 @@ use Rattle.tsb_step.proofs.tsb_ring.SoundLemmas.{starting_is, Commits, enters, s
 use Rattle.tsb_step.proofs.tsb_ring.StartLemmas.{after_in}
 use Rattle.tsb_step.proofs.tsb_ring.WantLemmas.{pick_free}
 use Rattle.tsb_step.specs.State.{State, interval}
-use Rattle.tsb_step.specs.Tick.{rings_given, moves, over, reverted, yellow_done, next}
+use Rattle.tsb_step.specs.Tick.{rings_given, moves, over, reverted, yellow_done, after_moves}
 use Rattle.tsb_step.specs.Good.{IsGood}
 use Rattle.tsb_step.specs.TimeLaws.{IsSided}
 use Rattle.tsb_step.proofs.GivenLemmas.{symmetric, given}
@@ -113,15 +113,15 @@ module _ (s : State) (row : Row) (good : IsGood s) (few : s.plan.phase_count ≤
     no_end : (p : ℕ) → is_green (interval s p) ≡ false → is_ended (moves s row) p ≡ false
     no_end p dark = false_from_ne_true _ (λ h. true≢false (sym (ended_was_green s row p h) ∙ dark))
 
-    stays : (r : Ring) → (next s row).rings.commitment r ≡ s.rings.commitment r
+    stays : (r : Ring) → (after_moves s row).rings.commitment r ≡ s.rings.commitment r
     unfolding moves rings_given rings_next
     stays r = commitment_stays s.plan s.rings (rings_given s row) (yellow_done s) even good.rings told d way r not_done
 
-    way_then : (next s row).rings.crossing ≡ Some d
+    way_then : (after_moves s row).rings.crossing ≡ Some d
     unfolding moves rings_given rings_next
     way_then = goes_on s.plan s.rings (rings_given s row) (yellow_done s) even good.rings told d way not_done
 
-    over_then : IsOverIn (m - 1) (next s row)
+    over_then : IsOverIn (m - 1) (after_moves s row)
     over_then = record {
       clears = λ p.
           (let down = clears_down s row p (yellow_change s.plan p) (red_clear s.plan p) (omega arith) (timed p) (calm.crosses d way p) (no_start p) in
@@ -129,7 +129,7 @@ module _ (s : State) (row : Row) (good : IsGood s) (few : s.plan.phase_count ≤
       reverts = λ r c e. reverts r c (sym (stays r) ∙ e);
     }
       where
-        reverts : (r : Ring) (c : ℕ) → s.rings.commitment r ≡ Some c → back_left s.plan c ((next s row).phases c) ≤ m - 1
+        reverts : (r : Ring) (c : ℕ) → s.rings.commitment r ≡ Some c → back_left s.plan c ((after_moves s row).phases c) ≤ m - 1
         reverts r c e =
             let down = reverts_down s row c (yellow_change s.plan c) (red_revert s.plan c) (omega arith) (timed c) (no_end c (dark_is (interval s c) (red r c e))) (no_start c) in
             let before = was.reverts r c e in
@@ -154,15 +154,15 @@ module _ (s : State) (row : Row) (good : IsGood s) (few : s.plan.phase_count ≤
   -- ## It is completed
 
   module _ (done : completes s.plan s.rings (rings_given s row) ≡ true) where
-    outside_then : (next s row).rings.crossing ≡ None
+    outside_then : (after_moves s row).rings.crossing ≡ None
     unfolding moves rings_given rings_next
     outside_then = is_over s.plan s.rings (rings_given s row) (yellow_done s) even good.rings told d way done
 
-    side_then : (next s row).rings.side ≡ d
+    side_then : (after_moves s row).rings.side ≡ d
     unfolding moves rings_given rings_next
     side_then = side_goes s.plan s.rings (rings_given s row) (yellow_done s) even good.rings told d way done
 
-    entered : (r : Ring) → HasEntered s (next s row) r
+    entered : (r : Ring) → HasEntered s (after_moves s row) r
     unfolding moves rings_given rings_next
     entered r = record {
       free = free_then s.plan s.rings (rings_given s row) (yellow_done s) even good.rings told d way done r;
@@ -170,20 +170,20 @@ module _ (s : State) (row : Row) (good : IsGood s) (few : s.plan.phase_count ≤
       idles = λ e. (no_last s.plan s.rings (rings_given s row) (yellow_done s) even good.rings told d way done r e, λ p own. dark p e own);
     }
       where
-        green : (c : ℕ) → s.rings.commitment r ≡ Some c → interval (next s row) c ≡ Green
+        green : (c : ℕ) → s.rings.commitment r ≡ Some c → interval (after_moves s row) c ≡ Green
         green c e =
             let on : is_started (moves s row) c ≡ true = is_started_then s.plan s.rings (rings_given s row) (yellow_done s) even good.rings told d way r c done e in
             rw on refl
 
-        dark : (p : ℕ) → s.rings.commitment r ≡ None → in_ring s.plan r p ≡ true → in_service (interval (next s row) p) ≡ false
+        dark : (p : ℕ) → s.rings.commitment r ≡ None → in_ring s.plan r p ≡ true → in_service (interval (after_moves s row) p) ≡ false
         dark p e own =
-            elim (cases_Bool (in_service (interval (next s row) p))) [
+            elim (cases_Bool (in_service (interval (after_moves s row) p))) [
               | inr h ↦ h
               | inl h ↦ absurd (none_serves s.plan s.rings (rings_given s row) (yellow_done s) even good.rings told d way done r p e own
                   (sym (ap (λ (f : ℕ → Interval). in_service (f p)) (intervals_after s row)) ∙ h))
             ]
 
-  pub crossing_tick : (m : ℕ) → IsOverIn m s → Crosses s (next s row) d m
+  pub crossing_tick : (m : ℕ) → IsOverIn m s → Crosses s (after_moves s row) d m
   crossing_tick m was =
       elim (cases_Bool (completes s.plan s.rings (rings_given s row))) [
         | inl h ↦ has_crossed (outside_then h) (side_then h) (entered h)

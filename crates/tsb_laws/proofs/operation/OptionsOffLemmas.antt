@@ -1,10 +1,10 @@
 -- In a plan whose options are 0, each definition that reads an option is the one without it.
-use Rattle.std.proofs.Common.{◌≡◌, ℕ, ◌==◌, ◌-◌, ◌*◌, Bool, true, false, ◌&&◌, ◌||◌, if◌then◌else◌, Some, None, refl, ap, ◌∙◌}
+use Rattle.std.proofs.Common.{◌≡◌, ℕ, ◌==◌, ◌-◌, ◌*◌, Bool, true, false, ◌&&◌, ◌||◌, if◌then◌else◌, Option, Some, None, refl, ap, ◌∙◌}
 use Rattle.std.proofs.Math.Path.{fun_ext}
 use Rattle.tsb_step.specs.tsb_plan.declared.object.Object.TheVariants.{CoordCorrectionMode}
 use Rattle.tsb_step.specs.tsb_plan.declared.plan.patterns.CorrectionMode.TheVariants.{AtOnce}
 use Rattle.tsb_step.specs.tsb_plan.Plan.{Plan, side_of, is_concurrent, recycles_walk}
-use Rattle.tsb_step.specs.tsb_plan.Parts.{forces_late, floats, permissive_time, leads_and_lags, split_of, sequence_of, correction_limit, correction_mode_of, correction_mode, overlaps_across_rings}
+use Rattle.tsb_step.specs.tsb_plan.Parts.{forces_late, floats, permissive_time, leads_and_lags, split_of, sequence_of, correction_limit, correction_mode_of, correction_mode, overlaps_across_rings, is_anew}
 use Rattle.tsb_step.specs.tsb_plan.Running.{running, maximum_by_mode}
 use Rattle.tsb_step.specs.tsb_rules.PatternRules.{some_and, each_pattern, split_end, ends_with, coordinated_agree, coordinated_phases_agree}
 use Rattle.tsb_step.specs.tsb_heads.Heads.{Shown}
@@ -64,6 +64,10 @@ in_ring_alone plan s o p none =
     alone (is_followed_in_ring plan s o p) (overlaps_across_rings plan o) (is_followed_across plan s o p)
     (ap (λ (value : ℕ). value == 1) (none.overlap_across_rings o))
 
+never_anew : (plan : Plan) (service : Option ℕ) → HasNoOptions plan → is_anew plan service ≡ false
+never_anew plan None none = refl
+never_anew plan (Some n) none = ap (λ (value : ℕ). value == 1) (none.preempt_chooses_anew n)
+
 pub options-off : (plan : Plan) → HasNoOptions plan → OptionsOff plan
 options-off plan none = record {
   forced = λ t selected p. options_off plan t selected p (never_late plan none) (λ n. no_time plan n none);
@@ -80,4 +84,5 @@ options-off plan none = record {
   forcing = λ selected c t p. forces_in_step plan selected c t p (in_step_at_once plan selected c (t - 1) (step_at_once plan none));
   permissive = times_end plan (λ n. no_time plan n none);
   followed = λ s o p. in_ring_alone plan s o p none;
+  kept = λ service. never_anew plan service none;
 }

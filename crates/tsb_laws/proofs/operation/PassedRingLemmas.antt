@@ -19,7 +19,7 @@ use Rattle.tsb_step.specs.tsb_ring.Moves.{is_ended, is_started}
 use Rattle.tsb_step.proofs.tsb_ring.WaitLemmas.{first-passes}
 use Rattle.tsb_step.proofs.tsb_ring.WantLemmas.{first-among}
 use Rattle.tsb_step.specs.State.{State, interval}
-use Rattle.tsb_step.specs.Tick.{callable, conflict, reverted, ready, rings_given, moves, next}
+use Rattle.tsb_step.specs.Tick.{callable, conflict, reverted, ready, rings_given, moves, after_moves}
 use Rattle.tsb_step.proofs.GivenLemmas.{listed_is_phase, lists_ring}
 use Rattle.tsb_step.proofs.tsb_phase.ReadLemmas.{is-red}
 use Rattle.tsb_laws.specs.ServedCalls.{longest_maximum, longest_initial, longest_green, TurnsTakeAtMost, turn, turns, order, still_to_come}
@@ -54,9 +54,9 @@ module _ (s : State) (row : Row) (tick : IsFairTick s row) (none : begins s.plan
 
   -- of n, with so much gained where it goes on to another phase
   pub data Passes (gap n : ℕ) : Type 0 where
-    fewer : (m : ℕ) → m + gap + 1 ≤ n → IsLeft (k + y) (next s row) r m → Passes gap n
-    comes_round : Comes k (next s row) r q home → Passes gap n
-    waits : (m : ℕ) → m ≤ n → Stands (k + y) (next s row) r m → IsAtBarrier s row r → Passes gap n
+    fewer : (m : ℕ) → m + gap + 1 ≤ n → IsLeft (k + y) (after_moves s row) r m → Passes gap n
+    comes_round : Comes k (after_moves s row) r q home → Passes gap n
+    waits : (m : ℕ) → m ≤ n → Stands (k + y) (after_moves s row) r m → IsAtBarrier s row r → Passes gap n
 
   told : (rings_given s row).callable q ≡ true
   told = told_callable s row tick q called (listed s row tick q enabled)
@@ -73,7 +73,7 @@ module _ (s : State) (row : Row) (tick : IsFairTick s row) (none : begins s.plan
       Looks s.plan s.rings (rings_given s row) (fair s row tick) r
   sees e rests = looks s.plan s.rings (rings_given s row) (fair s row tick) r q own here told (rw sequence_is in_list) e rests
 
-  side_then : (next s row).rings.side ≡ s.rings.side
+  side_then : (after_moves s row).rings.side ≡ s.rings.side
   side_then = stays_beside s.plan s.rings (rings_given s row) (fair s row tick) none
 
   sums : (w d : ℕ) (o p : Option ℕ) → d ≡ s.rings.side → o ≡ p →
@@ -81,19 +81,19 @@ module _ (s : State) (row : Row) (tick : IsFairTick s row) (none : begins s.plan
   sums w d o p same is_it = rw (same, is_it) refl
 
   last_then : (w : ℕ) → starting s.plan s.rings (rings_given s row) r ≡ None →
-      turns s.plan w (next s row).rings.side (later ((next s row).rings.last r) (order s.plan r))
+      turns s.plan w (after_moves s row).rings.side (later ((after_moves s row).rings.last r) (order s.plan r))
       ≡ turns s.plan w s.rings.side (later (s.rings.last r) (order s.plan r))
-  last_then w start = sums w (next s row).rings.side ((next s row).rings.last r) (s.rings.last r) side_then (last_stays s.plan s.rings (rings_given s row) (fair s row tick) none r start)
+  last_then w start = sums w (after_moves s row).rings.side ((after_moves s row).rings.last r) (s.rings.last r) side_then (last_stays s.plan s.rings (rings_given s row) (fair s row tick) none r start)
 
   red_after : (p : ℕ) → in_ring s.plan r p ≡ true → in_service (interval s p) ≡ false → starting s.plan s.rings (rings_given s row) r ≡ None →
-      interval (next s row) p ≡ Red
+      interval (after_moves s row) p ≡ Red
   red_after p own_p dark start =
       let red : interval s p ≡ Red = is-red (interval s p) dark in
       let no_start : is_started (moves s row) p ≡ false = starts_nothing s row tick r p own_p start in
       rw (no_start, red) refl
 
   less_back : (p m : ℕ) → in_ring s.plan r p ≡ true → in_service (interval s p) ≡ false → starting s.plan s.rings (rings_given s row) r ≡ None →
-      back_left s.plan p (s.phases p) ≤ m → back_left s.plan p ((next s row).phases p) ≤ m - 1
+      back_left s.plan p (s.phases p) ≤ m → back_left s.plan p ((after_moves s row).phases p) ≤ m - 1
   less_back p m own_p dark start was =
       let down = reverts_down s row p (yellow_change s.plan p) (red_revert s.plan p) (omega arith) (tick.timed p) (ends_none s row tick p (dark_is (interval s p) dark))
       (starts_nothing s row tick r p own_p start) in
@@ -157,16 +157,16 @@ module _ (s : State) (row : Row) (tick : IsFairTick s row) (none : begins s.plan
 
   -- it starts one
   starts_to : (w c : ℕ) → starting s.plan s.rings (rings_given s row) r ≡ Some c → in_ring s.plan r c ≡ true →
-      IsLeft w (next s row) r (turns s.plan w s.rings.side (later (Some c) (order s.plan r)) + longest_green s.plan c)
+      IsLeft w (after_moves s row) r (turns s.plan w s.rings.side (later (Some c) (order s.plan r)) + longest_green s.plan c)
   starts_to w c start own_c =
       serving_green c (promise_kept s.plan s.rings (rings_given s row) (fair s row tick) none r c start) own_c (starts_it s row tick r c start)
-      (let most = green_most s.plan c ((next s row).phases c) in
-      let same = sums w (next s row).rings.side ((next s row).rings.last r) (Some c) side_then
+      (let most = green_most s.plan c ((after_moves s row).phases c) in
+      let same = sums w (after_moves s row).rings.side ((after_moves s row).rings.last r) (Some c) side_then
       (last_started s.plan s.rings (rings_given s row) (fair s row tick) none r c start) in
       omega (arith, most, same))
 
-  coming_then : (c : ℕ) → (next s row).rings.commitment r ≡ None → (next s row).rings.last r ≡ Some c → among q (later (Some c) (order s.plan r)) ≡ true →
-      IsComing (next s row) r q
+  coming_then : (c : ℕ) → (after_moves s row).rings.commitment r ≡ None → (after_moves s row).rings.last r ≡ Some c → among q (later (Some c) (order s.plan r)) ≡ true →
+      IsComing (after_moves s row) r q
   coming_then c promise last there = record {
     ringed = own;
     beside = here ∙ sym side_then;
@@ -174,14 +174,14 @@ module _ (s : State) (row : Row) (tick : IsFairTick s row) (none : begins s.plan
     ahead = inr (rw (promise, last) there);
   }
 
-  started_round : (c : ℕ) → Round c → starting s.plan s.rings (rings_given s row) r ≡ Some c → Comes k (next s row) r q home
+  started_round : (c : ℕ) → Round c → starting s.plan s.rings (rings_given s row) r ≡ Some c → Comes k (after_moves s row) r q home
   started_round c to start = go to.coming
     where
       less : turn s.plan k c + turns s.plan k s.rings.side (later (Some c) (order s.plan r)) ≤ home
       less = to.less
 
-      go : (c ≡ q) ⊎ (among q (later (Some c) (order s.plan r)) ≡ true) → Comes k (next s row) r q home
-      go (inl same) = served (ap (λ (x : ℕ). interval (next s row) x) (sym same) ∙ starts_it s row tick r c start) (omega (arith, less))
+      go : (c ≡ q) ⊎ (among q (later (Some c) (order s.plan r)) ≡ true) → Comes k (after_moves s row) r q home
+      go (inl same) = served (ap (λ (x : ℕ). interval (after_moves s row) x) (sym same) ∙ starts_it s row tick r c start) (omega (arith, less))
       go (inr rest) =
           comes (turns s.plan k s.rings.side (later (Some c) (order s.plan r)) + longest_green s.plan c) (omega (arith, less))
           (starts_to k c start to.to.ringed)
@@ -208,7 +208,7 @@ module _ (s : State) (row : Row) (tick : IsFairTick s row) (none : begins s.plan
           (λ p own_p. (let down = clears_down s row p (yellow_change s.plan p) (red_clear s.plan p) (omega arith) (tick.timed p) (tick.calm.bound r c p e own_p)
           (starts_nothing s row tick r p own_p start) in let was = clears_in p own_p in omega (arith, down, was)))
           (less_back c m (tick.good.rings.owned r c e).0 dark_c start reverts)
-          (let same = sums (k + y) (next s row).rings.side (Some c) (Some c) side_then refl in let some = some_left delay in omega (arith, all, same, some)))
+          (let same = sums (k + y) (after_moves s row).rings.side (Some c) (Some c) side_then refl in let some = some_left delay in omega (arith, all, same, some)))
         where
           some_left : Delays s.plan s.rings (rings_given s row) (fair s row tick) r c → 1 ≤ m
           some_left (clearing p at_it f) =
@@ -226,10 +226,10 @@ module _ (s : State) (row : Row) (tick : IsFairTick s row) (none : begins s.plan
 
   -- with g ticks left to the green, or to what reverts
   data Steps (g : ℕ) : Type 0 where
-    leaves : (m : ℕ) → m + y + 1 ≤ due (s.rings.last r) → IsLeft (k + y) (next s row) r m → Steps g
-    turns_round : Comes k (next s row) r q home → Steps g
-    goes_on : 1 ≤ g → IsLeft (k + y) (next s row) r (due (s.rings.last r) + (g - 1)) → Steps g
-    stays_there : g ≤ 0 → Stands (k + y) (next s row) r (due (s.rings.last r)) → IsAtBarrier s row r → Steps g
+    leaves : (m : ℕ) → m + y + 1 ≤ due (s.rings.last r) → IsLeft (k + y) (after_moves s row) r m → Steps g
+    turns_round : Comes k (after_moves s row) r q home → Steps g
+    goes_on : 1 ≤ g → IsLeft (k + y) (after_moves s row) r (due (s.rings.last r) + (g - 1)) → Steps g
+    stays_there : g ≤ 0 → Stands (k + y) (after_moves s row) r (due (s.rings.last r)) → IsAtBarrier s row r → Steps g
 
   passes_by : (n g : ℕ) → due (s.rings.last r) + g ≤ n → Steps g → Passes 0 n
   passes_by n g all (leaves m less it) = fewer m (omega (arith, all, less)) it
@@ -263,7 +263,7 @@ module _ (s : State) (row : Row) (tick : IsFairTick s row) (none : begins s.plan
       no_start : is_started (moves s row) p ≡ false
       no_start = starts_nothing s row tick r p own_p start
 
-      promise_then : (next s row).rings.commitment r ≡ pick s.plan s.rings (rings_given s row) r
+      promise_then : (after_moves s row).rings.commitment r ≡ pick s.plan s.rings (rings_given s row) r
       promise_then = promise_made s.plan s.rings (rings_given s row) (fair s row tick) none r p start e at_it
 
       ready_is : (b : Bool) → ready s row p ≡ b → (rings_given s row).ready p ≡ b
@@ -273,14 +273,14 @@ module _ (s : State) (row : Row) (tick : IsFairTick s row) (none : begins s.plan
       pressed =
           conflicts s row tick p q green called (listed s row tick q enabled) (apart s row tick r p q own_p own (tick.on.serves p serves_p) enabled) told
 
-      down : is_ended (moves s row) p ≡ false → green_left s.plan p ((next s row).phases p) ≤ green_left s.plan p (s.phases p) - 1
+      down : is_ended (moves s row) p ≡ false → green_left s.plan p ((after_moves s row).phases p) ≤ green_left s.plan p (s.phases p) - 1
       down no_end =
           presses_down s row p (is_one s.plan p tick.few (tick.good.rings.listed p serves_p)) pressed tick.free (longest_maximum s.plan p) (longest_initial s.plan p)
           (walk s.plan p) (pedestrian_clear s.plan p) (omega arith) (omega arith) (tick.timed p) green no_end no_start
 
       -- it stays Green
       on_then : is_ended (moves s row) p ≡ false → pick s.plan s.rings (rings_given s row) r ≡ None →
-          IsLeft (k + y) (next s row) r (due (s.rings.last r) + (green_left s.plan p (s.phases p) - 1))
+          IsLeft (k + y) (after_moves s row) r (due (s.rings.last r) + (green_left s.plan p (s.phases p) - 1))
       on_then no_end picks =
           serving_green p (promise_then ∙ picks) own_p (rw (no_start, green, no_end) refl)
           (let lower = down no_end in let same = last_then (k + y) start in omega (arith, lower, same))
@@ -296,14 +296,14 @@ module _ (s : State) (row : Row) (tick : IsFairTick s row) (none : begins s.plan
 
       -- it goes to another
       leaves_to : (w c : ℕ) → Target c → pick s.plan s.rings (rings_given s row) r ≡ Some c →
-          IsLeft w (next s row) r (turns s.plan w s.rings.side (later (Some c) (order s.plan r)) + longest_green s.plan c + k + 1)
+          IsLeft w (after_moves s row) r (turns s.plan w s.rings.side (later (Some c) (order s.plan r)) + longest_green s.plan c + k + 1)
       leaves_to w c to picks = committed c k (promise_then ∙ picks) clears_in reverts (omega (arith, same))
         where
-          same : turns s.plan w (next s row).rings.side (later (Some c) (order s.plan r)) ≡ turns s.plan w s.rings.side (later (Some c) (order s.plan r))
-          same = sums w (next s row).rings.side (Some c) (Some c) side_then refl
+          same : turns s.plan w (after_moves s row).rings.side (later (Some c) (order s.plan r)) ≡ turns s.plan w s.rings.side (later (Some c) (order s.plan r))
+          same = sums w (after_moves s row).rings.side (Some c) (Some c) side_then refl
 
-          clears_in : (x : ℕ) → in_ring s.plan r x ≡ true → clear_left s.plan x ((next s row).phases x) ≤ k
-          clears_in x own_x = let most = clear_most s.plan x ((next s row).phases x) in let limit = takes.clearance x in omega (arith, most, limit)
+          clears_in : (x : ℕ) → in_ring s.plan r x ≡ true → clear_left s.plan x ((after_moves s row).phases x) ≤ k
+          clears_in x own_x = let most = clear_most s.plan x ((after_moves s row).phases x) in let limit = takes.clearance x in omega (arith, most, limit)
 
           dark_c : in_service (interval s c) ≡ false
           dark_c =
@@ -313,13 +313,13 @@ module _ (s : State) (row : Row) (tick : IsFairTick s row) (none : begins s.plan
                     absurd (true≢false (sym (ap is_green green) ∙ ap (λ (x : ℕ). is_green (interval s x)) (sym one) ∙ callable_no_green s row c to.calls)))
               ]
 
-          reverts : back_left s.plan c ((next s row).phases c) ≤ k
+          reverts : back_left s.plan c ((after_moves s row).phases c) ≤ k
           reverts =
-              let most = back_most s.plan c ((next s row).phases c) (red_after c to.ringed dark_c start) in
+              let most = back_most s.plan c ((after_moves s row).phases c) (red_after c to.ringed dark_c start) in
               let limit = takes.revert c in
               omega (arith, most, limit)
 
-      left_round : (c : ℕ) → Round c → pick s.plan s.rings (rings_given s row) r ≡ Some c → Comes k (next s row) r q home
+      left_round : (c : ℕ) → Round c → pick s.plan s.rings (rings_given s row) r ≡ Some c → Comes k (after_moves s row) r q home
       left_round c to picks =
           comes (turns s.plan k s.rings.side (later (Some c) (order s.plan r)) + longest_green s.plan c + k + 1) (let less = to.less in omega (arith, less))
           (leaves_to k c to.to picks)
@@ -330,11 +330,11 @@ module _ (s : State) (row : Row) (tick : IsFairTick s row) (none : begins s.plan
             ahead = by to.coming;
           })
         where
-          promise : (next s row).rings.commitment r ≡ Some c
+          promise : (after_moves s row).rings.commitment r ≡ Some c
           promise = promise_then ∙ picks
 
           by : (c ≡ q) ⊎ (among q (later (Some c) (order s.plan r)) ≡ true) →
-              ((next s row).rings.commitment r ≡ Some q) ⊎ (among q (still_to_come (next s row) r) ≡ true)
+              ((after_moves s row).rings.commitment r ≡ Some q) ⊎ (among q (still_to_come (after_moves s row) r) ≡ true)
           by (inl same) = inl (promise ∙ ap Some same)
           by (inr rest) = inr (rw promise rest)
 
@@ -386,14 +386,14 @@ module _ (s : State) (row : Row) (tick : IsFairTick s row) (none : begins s.plan
       start_is : starting s.plan s.rings (rings_given s row) r ≡ pick s.plan s.rings (rings_given s row) r
       start_is = starts_picked s.plan s.rings (rings_given s row) (fair s row tick) r e at_none
 
-      promise_then : starting s.plan s.rings (rings_given s row) r ≡ None → (next s row).rings.commitment r ≡ None
+      promise_then : starting s.plan s.rings (rings_given s row) r ≡ None → (after_moves s row).rings.commitment r ≡ None
       promise_then start = none_promised s.plan s.rings (rings_given s row) (fair s row tick) none r start e at_none
 
-      dark_then : starting s.plan s.rings (rings_given s row) r ≡ None → (p : ℕ) → in_ring s.plan r p ≡ true → in_service (interval (next s row) p) ≡ false
+      dark_then : starting s.plan s.rings (rings_given s row) r ≡ None → (p : ℕ) → in_ring s.plan r p ≡ true → in_service (interval (after_moves s row) p) ≡ false
       dark_then start p own_p = ap in_service (red_after p own_p (dark p own_p) start)
 
       -- it starts nothing
-      on_then : starting s.plan s.rings (rings_given s row) r ≡ None → IsLeft (k + y) (next s row) r (due (s.rings.last r) + (m - 1))
+      on_then : starting s.plan s.rings (rings_given s row) r ≡ None → IsLeft (k + y) (after_moves s row) r (due (s.rings.last r) + (m - 1))
       on_then start =
           idle (m - 1) (promise_then start) (dark_then start) (λ p own_p. less_back p m own_p (dark p own_p) start (reverts p own_p))
           (let same = last_then (k + y) start in omega (arith, same))

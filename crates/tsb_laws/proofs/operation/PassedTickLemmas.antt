@@ -12,7 +12,7 @@ use Rattle.tsb_step.specs.tsb_ring.Crossings.{begins}
 use Rattle.tsb_step.specs.tsb_ring.Next.{starting}
 use Rattle.tsb_step.specs.tsb_ring.Moves.{is_cleared, is_started}
 use Rattle.tsb_step.specs.State.{State, interval}
-use Rattle.tsb_step.specs.Tick.{over, rings_given, moves, next}
+use Rattle.tsb_step.specs.Tick.{over, rings_given, moves, after_moves}
 use Rattle.tsb_step.proofs.tsb_phase.ReadLemmas.{is-red}
 use Rattle.tsb_laws.specs.ServedCalls.{TurnsTakeAtMost, turns, order}
 use Rattle.tsb_laws.proofs.operation.BarrierStepLemmas.{Remains, bound_for, Nears, less, joined, nears}
@@ -44,10 +44,10 @@ module _ (s : State) (row : Row) (tick : IsFairTick s row) (none : begins s.plan
   sums = turns s.plan w s.rings.side (later (s.rings.last r) (order s.plan r))
 
   pub data ClearsOn : Type 0 where
-    clears_more : 1 ≤ m → (next s row).rings.commitment r ≡ None → in_service (interval (next s row) p) ≡ true → is_green (interval (next s row) p) ≡ false →
-        clear_left s.plan p ((next s row).phases p) ≤ m - 1 →
-        turns s.plan w (next s row).rings.side (later ((next s row).rings.last r) (order s.plan r)) ≤ sums → ClearsOn
-    has_cleared : IsLeft w (next s row) r (sums + k) → ClearsOn
+    clears_more : 1 ≤ m → (after_moves s row).rings.commitment r ≡ None → in_service (interval (after_moves s row) p) ≡ true → is_green (interval (after_moves s row) p) ≡ false →
+        clear_left s.plan p ((after_moves s row).phases p) ≤ m - 1 →
+        turns s.plan w (after_moves s row).rings.side (later ((after_moves s row).rings.last r) (order s.plan r)) ≤ sums → ClearsOn
+    has_cleared : IsLeft w (after_moves s row) r (sums + k) → ClearsOn
 
   at_it : serving s.plan (rings_given s row) r ≡ Some p
   at_it = serves_it s row tick r p own serves
@@ -58,7 +58,7 @@ module _ (s : State) (row : Row) (tick : IsFairTick s row) (none : begins s.plan
   no_start : (x : ℕ) → in_ring s.plan r x ≡ true → is_started (moves s row) x ≡ false
   no_start x own_x = starts_nothing s row tick r x own_x start
 
-  promise : (next s row).rings.commitment r ≡ None
+  promise : (after_moves s row).rings.commitment r ≡ None
   promise =
       promise_made s.plan s.rings (rings_given s row) (fair s row tick) none r p start free at_it
       ∙ picks_clearing s.plan s.rings (rings_given s row) r p at_it (given_dark s row p dark)
@@ -66,29 +66,29 @@ module _ (s : State) (row : Row) (tick : IsFairTick s row) (none : begins s.plan
   same_sums : (d : ℕ) (o : Option ℕ) → d ≡ s.rings.side → o ≡ s.rings.last r → turns s.plan w d (later o (order s.plan r)) ≡ sums
   same_sums d o e f = rw (e, f) refl
 
-  sums_then : turns s.plan w (next s row).rings.side (later ((next s row).rings.last r) (order s.plan r)) ≡ sums
+  sums_then : turns s.plan w (after_moves s row).rings.side (later ((after_moves s row).rings.last r) (order s.plan r)) ≡ sums
   sums_then =
-      same_sums (next s row).rings.side ((next s row).rings.last r) (stays_beside s.plan s.rings (rings_given s row) (fair s row tick) none)
+      same_sums (after_moves s row).rings.side ((after_moves s row).rings.last r) (stays_beside s.plan s.rings (rings_given s row) (fair s row tick) none)
       (last_stays s.plan s.rings (rings_given s row) (fair s row tick) none r start)
 
   -- once it is Red the ring is idle
-  is_idle : in_service (interval (next s row) p) ≡ false → ClearsOn
+  is_idle : in_service (interval (after_moves s row) p) ≡ false → ClearsOn
   is_idle gone =
       has_cleared (idle k promise dark_all
-      (λ x own_x. (let most = back_most s.plan x ((next s row).phases x) (is-red (interval (next s row) x) (dark_all x own_x)) in
+      (λ x own_x. (let most = back_most s.plan x ((after_moves s row).phases x) (is-red (interval (after_moves s row) x) (dark_all x own_x)) in
       let limit = takes.revert x in omega (arith, most, limit)))
       (let same = sums_then in omega (arith, same)))
     where
-      dark_all : (x : ℕ) → in_ring s.plan r x ≡ true → in_service (interval (next s row) x) ≡ false
+      dark_all : (x : ℕ) → in_ring s.plan r x ≡ true → in_service (interval (after_moves s row) x) ≡ false
       dark_all x own_x =
           elim (cases_Bool (in_service (interval s x))) [
-            | inl g ↦ (let same : x ≡ p = tick.good.rings.alone r x p own_x own g serves in ap (λ (z : ℕ). in_service (interval (next s row) z)) same ∙ gone)
-            | inr g ↦ (let red : interval s x ≡ Red = is-red (interval s x) g in let still : interval (next s row) x ≡ Red = rw (no_start x own_x, red) refl in ap in_service still)
+            | inl g ↦ (let same : x ≡ p = tick.good.rings.alone r x p own_x own g serves in ap (λ (z : ℕ). in_service (interval (after_moves s row) z)) same ∙ gone)
+            | inr g ↦ (let red : interval s x ≡ Red = is-red (interval s x) g in let still : interval (after_moves s row) x ≡ Red = rw (no_start x own_x, red) refl in ap in_service still)
           ]
 
-  still_dark : is_green (interval (next s row) p) ≡ false
+  still_dark : is_green (interval (after_moves s row) p) ≡ false
   still_dark =
-      elim (cases_Bool (is_green (interval (next s row) p))) [
+      elim (cases_Bool (is_green (interval (after_moves s row) p))) [
         | inr g ↦ g
         | inl g ↦ elim (green_after s row p g) [
           | inl f ↦ absurd (true≢false (sym f ∙ no_start p own))
@@ -96,11 +96,11 @@ module _ (s : State) (row : Row) (tick : IsFairTick s row) (none : begins s.plan
         ]
       ]
 
-  down : clear_left s.plan p ((next s row).phases p) ≤ clear_left s.plan p (s.phases p) - 1
+  down : clear_left s.plan p ((after_moves s row).phases p) ≤ clear_left s.plan p (s.phases p) - 1
   down = clears_down s row p (yellow_change s.plan p) (red_clear s.plan p) (omega arith) (tick.timed p) dark (no_start p own)
 
   pub clearing_tick : ClearsOn
-  clearing_tick = go (over s p) refl (in_service (interval (next s row) p)) refl
+  clearing_tick = go (over s p) refl (in_service (interval (after_moves s row) p)) refl
     where
       cleared : over s p ≡ true → is_cleared (moves s row) p ≡ true
       cleared f =
@@ -108,7 +108,7 @@ module _ (s : State) (row : Row) (tick : IsFairTick s row) (none : begins s.plan
           (clears_over_one s.plan s.rings (rings_given s row) r p at_it own free none (given_dark s row p dark)
           (told_over s row tick p (tick.good.rings.listed p serves) ∙ f))
 
-      go : (b : Bool) → over s p ≡ b → (c : Bool) → in_service (interval (next s row) p) ≡ c → ClearsOn
+      go : (b : Bool) → over s p ≡ b → (c : Bool) → in_service (interval (after_moves s row) p) ≡ c → ClearsOn
       go true f c g = is_idle (ap in_service (cleared_red s row p dark (no_start p own) (cleared f)))
       go false f false g = is_idle g
       go false f true g =
@@ -123,7 +123,7 @@ module _ (s : State) (row : Row) (tick : IsFairTick s row) (none : begins s.plan
   pub record OtherNears (n : ℕ) : Type 0 where
     pub left : ℕ
     pub fewer : left + 1 ≤ n
-    pub remains : Remains k (next s row) (other r) left
+    pub remains : Remains k (after_moves s row) (other r) left
 
   pub other_nears : (n : ℕ) → Remains k s (other r) n → OtherNears n
   other_nears n it = go (nears s row tick bar.away none k (other r) n h takes it)

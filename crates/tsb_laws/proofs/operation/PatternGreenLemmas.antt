@@ -11,7 +11,7 @@ use Rattle.tsb_step.specs.tsb_plan.Plan.{walk, pedestrian_clear}
 use Rattle.tsb_step.specs.tsb_coord.Correction.{forces}
 use Rattle.tsb_step.specs.tsb_ring.Moves.{is_ended, is_started}
 use Rattle.tsb_step.specs.State.{State, interval}
-use Rattle.tsb_step.specs.Tick.{service, runs, conflict, ready, moves, next}
+use Rattle.tsb_step.specs.Tick.{service, runs, conflict, ready, moves, after_moves}
 use Rattle.tsb_step.specs.Good.{IsGood}
 use Rattle.tsb_laws.specs.ServedCalls.{longest_initial}
 use Rattle.tsb_laws.specs.CoordinatedGreens.{ComesInCycle, longest_in_pattern}
@@ -51,12 +51,12 @@ lasts_now s k p it = record {
     forcing false = let within = it.soon in omega (arith, within)
 
 module _ (s : State) (row : Row) (longest : ℕ → ℕ) (good : IsGood s) (few : s.plan.phase_count ≤ 16) (running : is_some (runs s) ≡ true) (quiet : service s row ≡ None)
-    (timed : (p : ℕ) → IsTimed (s.phases p)) (greens : (p : ℕ) → interval (next s row) p ≡ Green → LastsInPattern (view (next s row)) p (longest p)) where
+    (timed : (p : ℕ) → IsTimed (s.phases p)) (greens : (p : ℕ) → interval (after_moves s row) p ≡ Green → LastsInPattern (view (after_moves s row)) p (longest p)) where
   one : (p : ℕ) → interval s p ≡ Green → is_phase p ≡ true
   one p green = is_one s.plan p few (good.rings.listed p (ap in_service green))
 
   goes_down_one : (p n : ℕ) → interval s p ≡ Green → conflict s row p ≡ true → is_ended (moves s row) p ≡ false → is_started (moves s row) p ≡ false →
-      LastsInPattern (view s) p n → LastsInPattern (view (next s row)) p (n - 1)
+      LastsInPattern (view s) p n → LastsInPattern (view (after_moves s row)) p (n - 1)
   goes_down_one p n green pressed no_end no_start it =
       let down : Forces s row p it.tick (one p green) pressed running quiet it.forced = forces_down s row p it.tick (one p green) pressed running quiet it.forced it.ahead green no_end no_start in
       let less = presses_down s row p it.tick (one p green) pressed running quiet it.forced good (longest_initial s.plan p)

@@ -19,12 +19,13 @@ use Rattle.tsb_step.proofs.tsb_ring.SoundLemmas.{Commits, enters, stands, makes,
 use Rattle.tsb_step.specs.declared.inputs.Input.{Input}
 use Rattle.tsb_step.specs.declared.inputs.Input.TheVariants.{Tick}
 use Rattle.tsb_step.specs.State.{State}
-use Rattle.tsb_step.specs.Tick.{preempts_given, preempts_read, new_service, service, target, must_end, rings_given, moves, yellow_done}
+use Rattle.tsb_step.specs.Tick.{preempts_given, preempts_read, new_service, service, target, must_end, rings_given, moves, yellow_done, after_moves}
 use Rattle.tsb_step.specs.Step.{step}
 use Rattle.tsb_step.specs.Runs.{replay, AreTaken}
 use Rattle.tsb_step.specs.Laws.{IsConsistent}
 use Rattle.tsb_step.specs.Good.{IsGood}
 use Rattle.tsb_step.proofs.GivenLemmas.{symmetric, given}
+use Rattle.tsb_step.proofs.GiveUpLemmas.{committed_by_moves}
 use Rattle.tsb_step.proofs.GoodLemmas.{good_run}
 use Rattle.tsb_step.proofs.StandLemmas.{rings_then}
 use Rattle.tsb_laws.specs.PreemptEntries.{EntersByPreempt}
@@ -91,21 +92,27 @@ module _ (s : State) (row : Row) (good : IsGood s) (it : Asks s row) where
   even : IsSymmetric s.plan
   even = symmetric s.plan good.plan.rules
 
-  pub commits_own : (r : Ring) (q : ℕ) → s.trip ≡ None → (step s (Tick row)).rings.commitment r ≡ Some q →
+  -- by its moves
+  pub moves_own : (r : Ring) (q : ℕ) → (after_moves s row).rings.commitment r ≡ Some q →
       (must_end s row q ≡ false) ⊎ (s.rings.commitment r ≡ Some q)
   unfolding rings_given rings_next
-  commits_own r q dark h =
+  moves_own r q h =
       go (commits s.plan s.rings (rings_given s row) (yellow_done s) even good.rings (given s row good) r q
       (new_commits s.plan s.rings (rings_given s row) (yellow_done s) even good.rings (given s row good) r q now).1)
     where
       now : new_commitment s.plan s.rings (rings_given s row) r ≡ Some q
-      now = sym (ap (λ (x : rings.State). x.commitment r) (rings_then s row dark)) ∙ h
+      now = h
 
       go : Commits s.plan s.rings (rings_given s row) (yellow_done s) even good.rings (given s row good) r q →
           (must_end s row q ≡ false) ⊎ (s.rings.commitment r ≡ Some q)
       go (enters b e) = inl (in_list q (enters_wanted s.plan s.rings (rings_given s row) it.list told r q e).1)
       go (stands b e) = inr e
       go (makes b e) = inl (picked r q e)
+
+  -- and after the tick
+  pub commits_own : (r : Ring) (q : ℕ) → s.trip ≡ None → (step s (Tick row)).rings.commitment r ≡ Some q →
+      (must_end s row q ≡ false) ⊎ (s.rings.commitment r ≡ Some q)
+  commits_own r q dark h = moves_own r q (committed_by_moves s row r q (sym (ap (λ (x : rings.State). x.commitment r) (rings_then s row dark)) ∙ h))
 
 pub lets_in_its_own : (plan : Plan) (is : List Input) (row : Row) (n q : ℕ) → IsConsistent plan → AreTaken plan is →
     (replay plan is).trip ≡ None → service (replay plan is) row ≡ Some n → EntersByPreempt plan is row q

@@ -11,7 +11,7 @@ use Rattle.tsb_step.specs.tsb_ring.Rings.{Ring, Ring1, Ring2, in_ring}
 use Rattle.tsb_step.specs.tsb_ring.Wants.{is_on_side}
 use Rattle.tsb_step.specs.tsb_ring.Crossings.{begins, is_called_on, target_side}
 use Rattle.tsb_step.specs.State.{State, interval}
-use Rattle.tsb_step.specs.Tick.{callable, rings_given, next}
+use Rattle.tsb_step.specs.Tick.{callable, rings_given, after_moves}
 use Rattle.tsb_step.specs.Good.{IsGood}
 use Rattle.tsb_step.specs.TimeLaws.{IsSided}
 use Rattle.tsb_step.proofs.GivenLemmas.{given}
@@ -49,15 +49,15 @@ pub record IsOnWay (longest : ℕ → ℕ) (Lasts : View → ℕ → ℕ → Typ
   pub reverts : (p : ℕ) → red_revert s.plan p ≤ k
   pub side : IsSide s.plan.side_count s.rings.side
   pub its_side : IsSide s.plan.side_count (side_of s.plan c)
-  pub over : IsOver k (view (next s row))
-  pub places : (next s row).rings.crossing ≡ None → (x : Ring) → (o : Option ℕ) × IsNear longest Lasts (view (next s row)) x o (h + 2 * k + 1)
-  pub greens : (p : ℕ) → interval (next s row) p ≡ Green → Lasts (view (next s row)) p (longest p)
+  pub over : IsOver k (view (after_moves s row))
+  pub places : (after_moves s row).rings.crossing ≡ None → (x : Ring) → (o : Option ℕ) × IsNear longest Lasts (view (after_moves s row)) x o (h + 2 * k + 1)
+  pub greens : (p : ℕ) → interval (after_moves s row) p ≡ Green → Lasts (view (after_moves s row)) p (longest p)
 
 module _ (longest : ℕ → ℕ) (Lasts : View → ℕ → ℕ → Type 0) (k h : ℕ) (r : Ring) (c : ℕ) (s : State) (row : Row) (it : IsOnWay longest Lasts k h c s row) (own : in_ring s.plan r c ≡ true)
     (enabled : is_enabled s.plan c ≡ true) (called : callable s row c ≡ true) (dark : is_green (interval s c) ≡ false) where
   pub record Further (left : ℕ) : Type 0 where
     pub some : 1 ≤ left
-    pub stage : Stage longest Lasts k h r c (view (next s row)) (left - 1)
+    pub stage : Stage longest Lasts k h r c (view (after_moves s row)) (left - 1)
 
   -- ## A crossing begins
 
@@ -82,7 +82,7 @@ module _ (longest : ℕ → ℕ) (Lasts : View → ℕ → ℕ → Type 0) (k h 
         found_some (λ p. (rings_given s row).callable p && is_on_side s.plan (side_of s.plan c) p) (phases s.plan) c (listed s it.good c enabled)
         (rw (told, eq-eqb (side_of s.plan c) (side_of s.plan c) refl) refl)
 
-    way : (next s row).rings.crossing ≡ Some (target_side s.plan s.rings (rings_given s row))
+    way : (after_moves s row).rings.crossing ≡ Some (target_side s.plan s.rings (rings_given s row))
     way = begun_crosses s.plan s.rings (rings_given s row) b
 
     -- another side than that of c is crossed to before it
@@ -140,18 +140,18 @@ module _ (longest : ℕ → ℕ) (Lasts : View → ℕ → ℕ → Type 0) (k h 
 
   -- ## In a crossing
 
-  crossed : (d m : ℕ) → s.rings.crossing ≡ Some d → IsOver m (view s) → Crosses s (next s row) d m
+  crossed : (d m : ℕ) → s.rings.crossing ≡ Some d → IsOver m (view s) → Crosses s (after_moves s row) d m
   crossed d m way over =
       crossing_tick s row it.good it.few it.calm it.sided it.goes_across it.timed d way m (record { clears = over.clears; reverts = over.reverts })
 
-  over_of : (m : ℕ) → IsOverIn m (next s row) → IsOver m (view (next s row))
+  over_of : (m : ℕ) → IsOverIn m (after_moves s row) → IsOver m (view (after_moves s row))
   over_of m over = record { clears = over.clears; reverts = over.reverts }
 
   -- a ring as a crossing to side d is completed: what it has left is no more than its turns there, and a red revert
   record Arrived (x : Ring) (d : ℕ) : Type 0 where
     place : Option ℕ
     ticks : ℕ
-    near : IsNear longest Lasts (view (next s row)) x place ticks
+    near : IsNear longest Lasts (view (after_moves s row)) x place ticks
     most : ticks + times_on (turn_of longest Lasts k h r c) s.plan d (later place (order_of (view s) x)) ≤ k + times_on (turn_of longest Lasts k h r c) s.plan d (order_of (view s) x)
 
   -- the phase that it was committed to has its turn
@@ -163,13 +163,13 @@ module _ (longest : ℕ → ℕ) (Lasts : View → ℕ → ℕ → Type 0) (k h 
       times_later (turn_of longest Lasts k h r c) s.plan d None q (order_of (view s) x) (some_phase s it.good q on) (once s it.good x)
       (eq-eqb (side_of s.plan q) d (it.sided.across d way x q e)) (in_order s it.good x q own_q on)
 
-  arrives : (x : Ring) (d : ℕ) → s.rings.crossing ≡ Some d → HasEntered s (next s row) x → Arrived x d
+  arrives : (x : Ring) (d : ℕ) → s.rings.crossing ≡ Some d → HasEntered s (after_moves s row) x → Arrived x d
   arrives x d way entered = go (s.rings.commitment x) refl
     where
       go : (o : Option ℕ) → s.rings.commitment x ≡ o → Arrived x d
       go (Some q) e =
           let fewer = entry_fewer x d q way e in
-          let green : interval (next s row) q ≡ Green = (entered.starts q e).0 in
+          let green : interval (after_moves s row) q ≡ Green = (entered.starts q e).0 in
           record {
             place = Some q;
             ticks = longest q;
@@ -180,7 +180,7 @@ module _ (longest : ℕ → ℕ) (Lasts : View → ℕ → ℕ → Type 0) (k h 
         place = None;
         ticks = k;
         near = settled (at_rest k entered.free (entered.idles e).0 (entered.idles e).1
-            (λ p own_p. (let back = back_most s.plan p ((next s row).phases p) (is-red (interval (next s row) p) ((entered.idles e).1 p own_p)) in let limit = it.reverts p in omega (arith, back, limit)))
+            (λ p own_p. (let back = back_most s.plan p ((after_moves s row).phases p) (is-red (interval (after_moves s row) p) ((entered.idles e).1 p own_p)) in let limit = it.reverts p in omega (arith, back, limit)))
             (omega arith));
         most = omega arith;
       }
@@ -189,7 +189,7 @@ module _ (longest : ℕ → ℕ) (Lasts : View → ℕ → ℕ → Type 0) (k h 
       m + 2 * k + 1 + sides longest Lasts k h r c (view s) d + abroad longest Lasts k h r c (view s) d ≤ left → Further left
   crossing_tick_to left d m way far is_side over all = go (crossed d m way over)
     where
-      go : Crosses s (next s row) d m → Further left
+      go : Crosses s (after_moves s row) d m → Further left
       go (crosses_on some way_then same over_then) =
           record { some = omega (arith, all); stage = crossing_to d (m - 1) way_then far is_side (over_of (m - 1) over_then) (omega (arith, all, some)) }
       go (has_crossed out here entered) =
@@ -212,14 +212,14 @@ module _ (longest : ℕ → ℕ) (Lasts : View → ℕ → ℕ → Type 0) (k h 
       fewer : turn_of longest Lasts k h r c x + times_on (turn_of longest Lasts k h r c) s.plan (side_of s.plan c) (later (Some x) (order_of (view s) r)) ≤ beside longest Lasts k h r c (view s)
       fewer = entry_fewer r (side_of s.plan c) x way e
 
-      enters : (next s row).rings.crossing ≡ None → (next s row).rings.side ≡ side_of s.plan c → HasEntered s (next s row) r →
-          (x ≡ c) ⊎ (among c (later (Some x) (order_of (view s) r)) ≡ true) → Stage longest Lasts k h r c (view (next s row)) (left - 1)
-      enters out here entered (inl same) = arrived (ap (λ (y : ℕ). interval (next s row) y) (sym same) ∙ (entered.starts x e).0)
+      enters : (after_moves s row).rings.crossing ≡ None → (after_moves s row).rings.side ≡ side_of s.plan c → HasEntered s (after_moves s row) r →
+          (x ≡ c) ⊎ (among c (later (Some x) (order_of (view s) r)) ≡ true) → Stage longest Lasts k h r c (view (after_moves s row)) (left - 1)
+      enters out here entered (inl same) = arrived (ap (λ (y : ℕ). interval (after_moves s row) y) (sym same) ∙ (entered.starts x e).0)
       enters out here entered (inr rest) =
           coming (Some x) (longest x) (in_green x (longest x) entered.free (entered.starts x e).1 own_x (entered.starts x e).0 (it.greens x (entered.starts x e).0) (omega arith)) here out (inr rest)
           (omega (arith, fewer, all))
 
-      go : Crosses s (next s row) (side_of s.plan c) m → Further left
+      go : Crosses s (after_moves s row) (side_of s.plan c) m → Further left
       go (crosses_on some way_then same over_then) =
           record { some = omega (arith, all); stage = crossing_home (m - 1) x way_then (over_of (m - 1) over_then) (same r ∙ e) ahead (omega (arith, all, some)) }
       go (has_crossed out here entered) = record { some = omega (arith, all); stage = enters out here (entered r) ahead }
@@ -228,7 +228,7 @@ module _ (longest : ℕ → ℕ) (Lasts : View → ℕ → ℕ → Type 0) (k h 
       m + 1 + (begun longest Lasts k h r c + 1 + across longest Lasts k h r c (view s) + passing longest Lasts k h r c (view s) None + abroad longest Lasts k h r c (view s) (side_of s.plan c)) ≤ left → Further left
   crossing_tick_back left m way over all = go (crossed (side_of s.plan c) m way over)
     where
-      go : Crosses s (next s row) (side_of s.plan c) m → Further left
+      go : Crosses s (after_moves s row) (side_of s.plan c) m → Further left
       go (crosses_on some way_then same over_then) =
           record { some = omega (arith, all); stage = crossing_back (m - 1) way_then (over_of (m - 1) over_then) (omega (arith, all, some)) }
       go (has_crossed out here entered) =

@@ -18,7 +18,7 @@ use Rattle.tsb_step.specs.declared.inputs.Input.{Input}
 use Rattle.tsb_step.specs.declared.inputs.Input.TheVariants as inputs
 use Rattle.tsb_step.specs.declared.inputs.Input.TheVariants.{Tick}
 use Rattle.tsb_step.specs.State.{State, restarted, interval}
-use Rattle.tsb_step.specs.Tick.{service, runs, hold, callable, next}
+use Rattle.tsb_step.specs.Tick.{service, runs, hold, callable, next, after_moves}
 use Rattle.tsb_step.specs.Signs.{watched, IsInStep}
 use Rattle.tsb_step.specs.Step.{with_lamp, reset, step}
 use Rattle.tsb_step.specs.Runs.{replay, AreTaken}
@@ -28,6 +28,7 @@ use Rattle.tsb_step.specs.Tables.{has_place}
 use Rattle.tsb_step.specs.TimeLaws.{is_tick}
 use Rattle.tsb_step.proofs.ClearLemmas.{one_later, plan_stays, stays_in_step}
 use Rattle.tsb_step.proofs.GivenLemmas.{enabled_is_listed}
+use Rattle.tsb_step.proofs.GiveUpLemmas.{keeps_all, gives_none_alone}
 use Rattle.tsb_step.proofs.GoodLemmas.{good_run}
 use Rattle.tsb_step.proofs.SideRunLemmas.{sided_run}
 use Rattle.tsb_laws.specs.Stretches.{IsUntripped}
@@ -54,13 +55,17 @@ use Rattle.tsb_laws.proofs.operation.TickLemmas.{none_is}
 -- ## What inputs leave
 
 -- a tick leaves what the controller finds in it, but for what the monitor judges
-view_then : (s : State) (row : Row) → s.trip ≡ None → view (step s (Tick row)) ≡ view (next s row)
+view_next : (s : State) (row : Row) → s.trip ≡ None → view (step s (Tick row)) ≡ view (next s row)
 unfolding step watched
-view_then s row dark = go (is_some s.trip) (ap is_some dark)
+view_next s row dark = go (is_some s.trip) (ap is_some dark)
   where
     go : (b : Bool) → b ≡ false → view (if b then record s { now = s.now + 1 } else (if b then next s row else watched s (next s row))) ≡ view (next s row)
     go true h = absurd (true≢false h)
     go false h = refl
+
+-- where no preempt is in service that is what its moves make
+view_then : (s : State) (row : Row) → s.trip ≡ None → service s row ≡ None → view (step s (Tick row)) ≡ view (after_moves s row)
+view_then s row dark quiet = view_next s row dark ∙ ap view (keeps_all s row (gives_none_alone s row quiet))
 
 lit_view : (s : State) (lamp : Option Lamp) → view (with_lamp lamp s) ≡ view s
 unfolding watched
@@ -132,7 +137,7 @@ module _ (plan : Plan) (base : List Input) (k j h : ℕ) (r : Ring) (c : ℕ) (o
   same_now [] dark out = record { plan_is = refl; pattern_is = refl; in_step = stepped }
   same_now (inputs.Tick row ∷ later) dark out =
       let was : Same (later ++ base) = same_now later dark.0 out.0 in
-      same_by (later ++ base) (Tick row) (view (next (replay plan (later ++ base)) row)) (view_then (replay plan (later ++ base)) row (dark_now plan base later dark.0)) refl refl
+      same_by (later ++ base) (Tick row) (view (next (replay plan (later ++ base)) row)) (view_next (replay plan (later ++ base)) row (dark_now plan base later dark.0)) refl refl
       (stays_in_step (replay plan (later ++ base)) (λ k. row) 1 was.in_step) was
   same_now (i ∷ later) dark out =
       let was : Same (later ++ base) = same_now later dark.0 out.0 in
@@ -204,9 +209,6 @@ module _ (plan : Plan) (base : List Input) (k j h : ℕ) (r : Ring) (c : ℕ) (o
     in_time = (let some = less.some in let clock = one_later (replay plan (later ++ base)) row in let before = was.in_time in omega (arith, some, clock, before));
   }
     where
-      seen : view (replay plan (Tick row ∷ (later ++ base))) ≡ view (next (replay plan (later ++ base)) row)
-      seen = view_then (replay plan (later ++ base)) row dark
-
       outer : (callable (replay plan (later ++ base)) row c ≡ true) × ((is_some (runs (replay plan (later ++ base))) && is_none (service (replay plan (later ++ base)) row)) ≡ true)
       outer = and_parts (callable (replay plan (later ++ base)) row c) (is_some (runs (replay plan (later ++ base))) && is_none (service (replay plan (later ++ base)) row)) out
 
@@ -214,6 +216,9 @@ module _ (plan : Plan) (base : List Input) (k j h : ℕ) (r : Ring) (c : ℕ) (o
       quiet =
           none_is (service (replay plan (later ++ base)) row)
           (and_parts (is_some (runs (replay plan (later ++ base)))) (is_none (service (replay plan (later ++ base)) row)) outer.1).1
+
+      seen : view (replay plan (Tick row ∷ (later ++ base))) ≡ view (after_moves (replay plan (later ++ base)) row)
+      seen = view_then (replay plan (later ++ base)) row dark quiet
 
       enabled : is_enabled (replay plan (later ++ base)).plan c ≡ true
       enabled = callable_enabled (replay plan (later ++ base)) row c outer.0
@@ -227,7 +232,7 @@ module _ (plan : Plan) (base : List Input) (k j h : ℕ) (r : Ring) (c : ℕ) (o
       full_now : IsFullyConcurrent (replay plan (later ++ base)).plan
       full_now = at_plan (later ++ base) taken.0 same IsFullyConcurrent full
 
-      greens_then : (p : ℕ) → interval (next (replay plan (later ++ base)) row) p ≡ Green → LastsInPattern (view (next (replay plan (later ++ base)) row)) p (longest p)
+      greens_then : (p : ℕ) → interval (after_moves (replay plan (later ++ base)) row) p ≡ Green → LastsInPattern (view (after_moves (replay plan (later ++ base)) row)) p (longest p)
       greens_then =
           subst (λ (v : View). (p : ℕ) → (v.phases p).interval ≡ Green → LastsInPattern v p (longest p)) seen (greens_now (Tick row ∷ (later ++ base)) taken same_then)
 

@@ -12,7 +12,7 @@ use Rattle.tsb_step.specs.tsb_ring.Wants.{is_candidate, is_called_elsewhere, is_
 use Rattle.tsb_step.specs.tsb_ring.Crossings.{ring_joins, begins}
 use Rattle.tsb_step.proofs.tsb_ring.WantLemmas.{first-among}
 use Rattle.tsb_step.specs.State.{State, interval}
-use Rattle.tsb_step.specs.Tick.{callable, conflict, rings_given, next}
+use Rattle.tsb_step.specs.Tick.{callable, conflict, rings_given, after_moves}
 use Rattle.tsb_laws.specs.CoordinatedGreens.{times_on}
 use Rattle.tsb_laws.proofs.safety.EnabledLemmas.{callable_on}
 use Rattle.tsb_laws.proofs.safety.SideSoughtLemmas.{none_first}
@@ -36,7 +36,7 @@ module _ (longest : ℕ → ℕ) (Lasts : View → ℕ → ℕ → Type 0) (k h 
   -- a tick less, and so there was one
   pub record Nearer (left : ℕ) : Type 0 where
     pub some : 1 ≤ left
-    pub stage : Stage longest Lasts k h r c (view (next s row)) (left - 1)
+    pub stage : Stage longest Lasts k h r c (view (after_moves s row)) (left - 1)
 
   told : (rings_given s row).callable c ≡ true
   told = told_callable s row tick c called (listed s tick.good c enabled)
@@ -66,10 +66,10 @@ module _ (longest : ℕ → ℕ) (Lasts : View → ℕ → ℕ → Type 0) (k h 
   -- ## A tick in which none begins
 
   module _ (none : begins s.plan s.rings (rings_given s row) ≡ false) where
-    side_then : (next s row).rings.side ≡ s.rings.side
+    side_then : (after_moves s row).rings.side ≡ s.rings.side
     side_then = stays_beside s.plan s.rings (rings_given s row) (fair s row tick) none
 
-    pub out_then : (next s row).rings.crossing ≡ None
+    pub out_then : (after_moves s row).rings.crossing ≡ None
     out_then = stays_outside s.plan s.rings (rings_given s row) (fair s row tick) none
 
     pressed : (p : ℕ) → in_ring s.plan r p ≡ true → interval s p ≡ Green → conflict s row p ≡ true
@@ -90,7 +90,7 @@ module _ (longest : ℕ → ℕ) (Lasts : View → ℕ → ℕ → Type 0) (k h 
         }
 
     module _ (here : side_of s.plan c ≡ s.rings.side) where
-      its_side : (next s row).rings.side ≡ side_of s.plan c
+      its_side : (after_moves s row).rings.side ≡ side_of s.plan c
       its_side = side_then ∙ sym here
 
       passes : test r c ≡ true
@@ -103,19 +103,19 @@ module _ (longest : ℕ → ℕ) (Lasts : View → ℕ → ℕ → Type 0) (k h 
       listed_it = in_order s tick.good r c own enabled
 
       -- the ring goes to x: it is c, or c comes later
-      heads_for : (x w left : ℕ) → ((next s row).rings.commitment r ≡ Some x) ⊎ (interval (next s row) x ≡ Green) → IsAt longest Lasts (view (next s row)) r (Some x) w →
+      heads_for : (x w left : ℕ) → ((after_moves s row).rings.commitment r ≡ Some x) ⊎ (interval (after_moves s row) x ≡ Green) → IsAt longest Lasts (view (after_moves s row)) r (Some x) w →
           (x ≡ c) ⊎ (among c (later (Some x) (order_of (view s) r)) ≡ true) →
           w + times_on (turn_of longest Lasts k h r c) s.plan (side_of s.plan c) (later (Some x) (order_of (view s) r)) ≤ left →
-          Stage longest Lasts k h r c (view (next s row)) left
+          Stage longest Lasts k h r c (view (after_moves s row)) left
       heads_for x w left (inl promise) it (inl same) all = coming (Some x) w it its_side out_then (inl (promise ∙ ap Some same)) all
-      heads_for x w left (inr green) it (inl same) all = arrived (ap (λ (y : ℕ). interval (next s row) y) (sym same) ∙ green)
+      heads_for x w left (inr green) it (inl same) all = arrived (ap (λ (y : ℕ). interval (after_moves s row) y) (sym same) ∙ green)
       heads_for x w left taken it (inr rest) all = coming (Some x) w it its_side out_then (inr rest) all
 
       -- home, where c does not come later
       goes_home : (o : Option ℕ) (x w : ℕ) (left : ℕ) → first (test r) (later o (order_of (view s) r)) ≡ None → first (test r) (not_later o (order_of (view s) r)) ≡ Some x →
-          Candidate s.plan s.rings (rings_given s row) (fair s row tick) r x → ((next s row).rings.commitment r ≡ Some x) ⊎ (interval (next s row) x ≡ Green) →
-          IsAt longest Lasts (view (next s row)) r (Some x) w → w ≤ longest x + k + 1 → beside longest Lasts k h r c (view s) ≤ left + 1 →
-          Stage longest Lasts k h r c (view (next s row)) left
+          Candidate s.plan s.rings (rings_given s row) (fair s row tick) r x → ((after_moves s row).rings.commitment r ≡ Some x) ⊎ (interval (after_moves s row) x ≡ Green) →
+          IsAt longest Lasts (view (after_moves s row)) r (Some x) w → w ≤ longest x + k + 1 → beside longest Lasts k h r c (view s) ≤ left + 1 →
+          Stage longest Lasts k h r c (view (after_moves s row)) left
       goes_home o x w left l g to taken it most all =
           heads_for x w left taken it
           (elim (later_or_not o c (order_of (view s) r) listed_it) [
@@ -145,8 +145,8 @@ module _ (longest : ℕ → ℕ) (Lasts : View → ℕ → ℕ → Type 0) (k h 
           sums : (l : List ℕ) → times_on (turn_of longest Lasts k h r c) s.plan s.rings.side l ≡ times_on (turn_of longest Lasts k h r c) s.plan (side_of s.plan c) l
           sums l = at_side (turn_of longest Lasts k h r c) l
 
-          on : (x w : ℕ) → first (test r) (later o (order_of (view s) r)) ≡ Some x → ((next s row).rings.commitment r ≡ Some x) ⊎ (interval (next s row) x ≡ Green) →
-              IsAt longest Lasts (view (next s row)) r (Some x) w → w ≤ longest x + k + 1 → among c (later o (order_of (view s) r)) ≡ true → Nearer left
+          on : (x w : ℕ) → first (test r) (later o (order_of (view s) r)) ≡ Some x → ((after_moves s row).rings.commitment r ≡ Some x) ⊎ (interval (after_moves s row) x ≡ Green) →
+              IsAt longest Lasts (view (after_moves s row)) r (Some x) w → w ≤ longest x + k + 1 → among c (later o (order_of (view s) r)) ≡ true → Nearer left
           on x w l taken it most there =
               let to = head longest Lasts s row tick bounds none k clears reverts r pressed (later o (order_of (view s) r)) x l in
               let is_later = first-among (test r) (later o (order_of (view s) r)) x l in
@@ -165,14 +165,14 @@ module _ (longest : ℕ → ℕ) (Lasts : View → ℕ → ℕ → Type 0) (k h 
           bad mine e = let wrong : None ≡ Some c = sym e ∙ mine in cc
 
           go : (s.rings.commitment r ≡ Some c) ⊎ (among c (later o (order_of (view s) r)) ≡ true) →
-              Goes_on longest Lasts s row tick bounds none k clears reverts r pressed (λ x w. IsAt longest Lasts (view (next s row)) r x w) o u → Nearer left
+              Goes_on longest Lasts s row tick bounds none k clears reverts r pressed (λ x w. IsAt longest Lasts (view (after_moves s row)) r x w) o u → Nearer left
           go (inl mine) (on_to x w e l taken it most) = absurd (bad mine e)
           go (inr there) (on_to x w e l taken it most) = on x w l taken it most there
           go (inl mine) (home_to x w e l a g taken it most) = absurd (bad mine e)
           go (inr there) (home_to x w e l a g taken it most) = absurd (none_first (test r) (later o (order_of (view s) r)) c there passes l)
           go (inl mine) (starts_it_now q e green some it) =
               let both : Some q ≡ Some c = sym e ∙ mine in let same : q ≡ c = cc in
-              record { some = omega (arith, some, all); stage = arrived (ap (λ (y : ℕ). interval (next s row) y) (sym same) ∙ green) }
+              record { some = omega (arith, some, all); stage = arrived (ap (λ (y : ℕ). interval (after_moves s row) y) (sym same) ∙ green) }
           go (inr there) (starts_it_now q e green some it) =
               record { some = omega (arith, some, all); stage = coming o (u - 1) it its_side out_then (inr there) (omega (arith, some, all)) }
           go (inl mine) (waits some same it) =
@@ -190,7 +190,7 @@ module _ (longest : ℕ → ℕ) (Lasts : View → ℕ → ℕ → Type 0) (k h 
       waiting p = turn_of longest Lasts k h r c p + across longest Lasts k h r c (view s) + 1
 
       -- the ring goes on to a later phase
-      further : (left : ℕ) (o : Option ℕ) (x w : ℕ) → first (test r) (later o (order_of (view s) r)) ≡ Some x → IsAt longest Lasts (view (next s row)) r (Some x) w → w ≤ longest x + k + 1 →
+      further : (left : ℕ) (o : Option ℕ) (x w : ℕ) → first (test r) (later o (order_of (view s) r)) ≡ Some x → IsAt longest Lasts (view (after_moves s row)) r (Some x) w → w ≤ longest x + k + 1 →
           passing longest Lasts k h r c (view s) o + abroad longest Lasts k h r c (view s) (side_of s.plan c) ≤ left → Nearer left
       further left o x w l it most all =
           let to = head longest Lasts s row tick bounds none k clears reverts r pressed (later o (order_of (view s) r)) x l in
@@ -203,24 +203,24 @@ module _ (longest : ℕ → ℕ) (Lasts : View → ℕ → ℕ → Type 0) (k h 
             stage = passed (Some x) w (settled it) its_side out_then (omega (arith, fewer, before, after, most, all));
           }
 
-      pub passed_tick : (left : ℕ) (o : Option ℕ) (u : ℕ) → IsNear longest Lasts (view s) r o u → ((x : Ring) → (v : Option ℕ) × IsNear longest Lasts (view (next s row)) x v (begun longest Lasts k h r c)) →
+      pub passed_tick : (left : ℕ) (o : Option ℕ) (u : ℕ) → IsNear longest Lasts (view s) r o u → ((x : Ring) → (v : Option ℕ) × IsNear longest Lasts (view (after_moves s row)) x v (begun longest Lasts k h r c)) →
           u + 1 + across longest Lasts k h r c (view s) + passing longest Lasts k h r c (view s) o + abroad longest Lasts k h r c (view s) (side_of s.plan c) ≤ left → Nearer left
       passed_tick left o u at places all = go (goes_near longest Lasts s row tick bounds none k clears reverts r pressed o u at)
         where
-          less : 1 ≤ u → IsNear longest Lasts (view (next s row)) r o (u - 1) → Nearer left
+          less : 1 ≤ u → IsNear longest Lasts (view (after_moves s row)) r o (u - 1) → Nearer left
           less some it = record { some = omega (arith, all); stage = passed o (u - 1) it its_side out_then (omega (arith, some, all)) }
 
-          gate : u ≡ 0 → IsNear longest Lasts (view (next s row)) r o (u - 1) → Nearer left
+          gate : u ≡ 0 → IsNear longest Lasts (view (after_moves s row)) r o (u - 1) → Nearer left
           gate none_left it =
               let beyond = places (other r) in
               let most = later_most (turn_of longest Lasts k h r c) s.plan (side_of s.plan c) beyond.0 (order_of (view s) (other r)) in
               record {
                 some = omega (arith, all);
-                stage = at_gate o beyond.0 (begun longest Lasts k h r c) (subst (λ (n : ℕ). IsNear longest Lasts (view (next s row)) r o (n - 1)) none_left it) beyond.1 its_side out_then
+                stage = at_gate o beyond.0 (begun longest Lasts k h r c) (subst (λ (n : ℕ). IsNear longest Lasts (view (after_moves s row)) r o (n - 1)) none_left it) beyond.1 its_side out_then
                     (omega (arith, most, all, none_left));
               }
 
-          go : Goes_on longest Lasts s row tick bounds none k clears reverts r pressed (λ x w. IsNear longest Lasts (view (next s row)) r x w) o u → Nearer left
+          go : Goes_on longest Lasts s row tick bounds none k clears reverts r pressed (λ x w. IsNear longest Lasts (view (after_moves s row)) r x w) o u → Nearer left
           go (on_to x w e l taken it most) = further left o x w l it most (omega (arith, all))
           go (home_to x w e l a g taken it most) =
               record { some = omega (arith, all); stage = goes_home o x w (left - 1) l g (head longest Lasts s row tick bounds none k clears reverts r pressed (not_later o (order_of (view s) r)) x g) taken it most (omega (arith, all)) }
@@ -237,17 +237,17 @@ module _ (longest : ℕ → ℕ) (Lasts : View → ℕ → ℕ → Type 0) (k h 
       gate_tick left o x w at beyond all = go (goes_near longest Lasts s row tick bounds none k clears reverts r pressed o 0 at)
         where
           -- the other ring, while this one wants to cross
-          other_ring : IsNear longest Lasts (view (next s row)) r o 0 → is_called_elsewhere s.plan s.rings (rings_given s row) ≡ true →
+          other_ring : IsNear longest Lasts (view (after_moves s row)) r o 0 → is_called_elsewhere s.plan s.rings (rings_given s row) ≡ true →
               ring_joins s.plan s.rings (rings_given s row) r ≡ true → want_of s.plan s.rings (rings_given s row) r ≡ Some Cross → Nearer left
           other_ring it a j wish = by (goes_near longest Lasts s row tick bounds none k clears reverts (other r) pressed_too x w beyond)
             where
               pressed_too : (p : ℕ) → in_ring s.plan (other r) p ≡ true → interval s p ≡ Green → conflict s row p ≡ true
               pressed_too p own_p green = pressed_across s row tick a p green
 
-              less : 1 ≤ w → IsNear longest Lasts (view (next s row)) (other r) x (w - 1) → Nearer left
+              less : 1 ≤ w → IsNear longest Lasts (view (after_moves s row)) (other r) x (w - 1) → Nearer left
               less some of = record { some = omega (arith, some, all); stage = at_gate o x (w - 1) it of its_side out_then (omega (arith, some, all)) }
 
-              by : Goes_on longest Lasts s row tick bounds none k clears reverts (other r) pressed_too (λ y n. IsNear longest Lasts (view (next s row)) (other r) y n) x w → Nearer left
+              by : Goes_on longest Lasts s row tick bounds none k clears reverts (other r) pressed_too (λ y n. IsNear longest Lasts (view (after_moves s row)) (other r) y n) x w → Nearer left
               by (on_to y n e l taken of most) =
                   let to = head longest Lasts s row tick bounds none k clears reverts (other r) pressed_too (later x (order_of (view s) (other r))) y l in
                   let fewer_is = goes_later (other r) (turn_of longest Lasts k h r c) x y to (first-among (test (other r)) (later x (order_of (view s) (other r))) y l) in
@@ -265,7 +265,7 @@ module _ (longest : ℕ → ℕ) (Lasts : View → ℕ → ℕ → Type 0) (k h 
                   absurd (true≢false (sym (begins_when s.plan s.rings (rings_given s row) (fair s row tick) r j i wish) ∙ none))
               by (rests e l b g) = absurd (true≢false (sym a ∙ b))
 
-          go : Goes_on longest Lasts s row tick bounds none k clears reverts r pressed (λ y n. IsNear longest Lasts (view (next s row)) r y n) o 0 → Nearer left
+          go : Goes_on longest Lasts s row tick bounds none k clears reverts r pressed (λ y n. IsNear longest Lasts (view (after_moves s row)) r y n) o 0 → Nearer left
           go (on_to y n e l taken it most) = further left o y n l it most (omega (arith, all))
           go (home_to y n e l a g taken it most) =
               record { some = omega (arith, all); stage = goes_home o y n (left - 1) l g (head longest Lasts s row tick bounds none k clears reverts r pressed (not_later o (order_of (view s) r)) y g) taken it most (omega (arith, all)) }
@@ -285,8 +285,8 @@ module _ (longest : ℕ → ℕ) (Lasts : View → ℕ → ℕ → Type 0) (k h 
 
       -- a ring has a tick less to go, or joins and wants to cross
       data Gets (x : Ring) (o : Option ℕ) (u : ℕ) : Type 0 where
-        nearer_to : (y : Option ℕ) (w : ℕ) → IsNear longest Lasts (view (next s row)) x y w → w + still x y + 1 ≤ u + still x o → Gets x o u
-        joins : IsNear longest Lasts (view (next s row)) x o (u - 1) → ring_joins s.plan s.rings (rings_given s row) x ≡ true →
+        nearer_to : (y : Option ℕ) (w : ℕ) → IsNear longest Lasts (view (after_moves s row)) x y w → w + still x y + 1 ≤ u + still x o → Gets x o u
+        joins : IsNear longest Lasts (view (after_moves s row)) x o (u - 1) → ring_joins s.plan s.rings (rings_given s row) x ≡ true →
             want_of s.plan s.rings (rings_given s row) x ≡ Some Cross → Gets x o u
 
       gets : (x : Ring) (o : Option ℕ) (u : ℕ) → IsNear longest Lasts (view s) x o u → Gets x o u
@@ -295,7 +295,7 @@ module _ (longest : ℕ → ℕ) (Lasts : View → ℕ → ℕ → Type 0) (k h 
           pressed_too : (p : ℕ) → in_ring s.plan x p ≡ true → interval s p ≡ Green → conflict s row p ≡ true
           pressed_too p own_p green = pressed_across s row tick away p green
 
-          by : Goes_on longest Lasts s row tick bounds none k clears reverts x pressed_too (λ y n. IsNear longest Lasts (view (next s row)) x y n) o u → Gets x o u
+          by : Goes_on longest Lasts s row tick bounds none k clears reverts x pressed_too (λ y n. IsNear longest Lasts (view (after_moves s row)) x y n) o u → Gets x o u
           by (on_to y n e l taken of most) =
               let to = head longest Lasts s row tick bounds none k clears reverts x pressed_too (later o (order_of (view s) x)) y l in
               let fewer_is = goes_later x (turn_of longest Lasts k h r c) o y to (first-among (test x) (later o (order_of (view s) x)) y l) in
@@ -315,7 +315,7 @@ module _ (longest : ℕ → ℕ) (Lasts : View → ℕ → ℕ → Type 0) (k h 
           u + still Ring1 o + (w + still Ring2 x) + abroad longest Lasts k h r c (view s) d ≤ left → Nearer left
       away_tick left o u x w one two is_side all = go (gets Ring1 o u one) (gets Ring2 x w two)
         where
-          made : (a b : Option ℕ) (m n : ℕ) → IsNear longest Lasts (view (next s row)) Ring1 a m → IsNear longest Lasts (view (next s row)) Ring2 b n →
+          made : (a b : Option ℕ) (m n : ℕ) → IsNear longest Lasts (view (after_moves s row)) Ring1 a m → IsNear longest Lasts (view (after_moves s row)) Ring2 b n →
               m + still Ring1 a + (n + still Ring2 b) + 1 ≤ u + still Ring1 o + (w + still Ring2 x) → Nearer left
           made a b m n first second fewer =
               record { some = omega (arith, all); stage = away_from d a m b n first second (side_then ∙ there) far is_side out_then (omega (arith, fewer, all)) }

@@ -19,7 +19,7 @@ use Rattle.tsb_step.proofs.tsb_ring.StillLemmas.{taken-none}
 use Rattle.tsb_step.proofs.tsb_ring.WaitLemmas.{first-passes}
 use Rattle.tsb_step.proofs.tsb_phase.ReadLemmas.{is-red}
 use Rattle.tsb_step.specs.State.{State, interval}
-use Rattle.tsb_step.specs.Tick.{conflict, over, reverted, ready, rings_given, moves, next}
+use Rattle.tsb_step.specs.Tick.{conflict, over, reverted, ready, rings_given, moves, after_moves}
 use Rattle.tsb_laws.proofs.safety.AllRedRingLemmas.{started_by}
 use Rattle.tsb_laws.proofs.safety.EnabledLemmas.{callable_no_green}
 use Rattle.tsb_laws.proofs.operation.PhaseTimeLemmas.{clears_down, not_yet_over, reverts_down, not_yet_reverted}
@@ -43,9 +43,9 @@ picks_rest plan s given r w = rw w refl
 module _ (longest : ℕ → ℕ) (Lasts : View → ℕ → ℕ → Type 0) where
   -- what bounds the greens does so in the tick
   pub record BoundsGreens (s : State) (row : Row) : Type 0 where
-    pub begins_green : (p : ℕ) → is_started (moves s row) p ≡ true → Lasts (view (next s row)) p (longest p)
+    pub begins_green : (p : ℕ) → is_started (moves s row) p ≡ true → Lasts (view (after_moves s row)) p (longest p)
     pub goes_down : (p n : ℕ) → interval s p ≡ Green → conflict s row p ≡ true → is_ended (moves s row) p ≡ false → is_started (moves s row) p ≡ false →
-        Lasts (view s) p n → Lasts (view (next s row)) p (n - 1)
+        Lasts (view s) p n → Lasts (view (after_moves s row)) p (n - 1)
     pub not_yet : (p n : ℕ) → interval s p ≡ Green → conflict s row p ≡ true → ready s row p ≡ false → Lasts (view s) p n → 1 ≤ n
 
   module _ (s : State) (row : Row) (tick : IsOpenTick s row) (bounds : BoundsGreens s row) (none : begins s.plan s.rings (rings_given s row) ≡ false) (k : ℕ)
@@ -58,21 +58,21 @@ module _ (longest : ℕ → ℕ) (Lasts : View → ℕ → ℕ → Type 0) where
     away = is_called_elsewhere s.plan s.rings (rings_given s row)
 
     abbrev At : Option ℕ → ℕ → Type 0
-    At o u = IsAt longest Lasts (view (next s row)) r o u
+    At o u = IsAt longest Lasts (view (after_moves s row)) r o u
 
     -- what it goes to starts, or the ring is committed to it
     abbrev IsTaken : ℕ → Type 0
-    IsTaken x = ((next s row).rings.commitment r ≡ Some x) ⊎ (interval (next s row) x ≡ Green)
+    IsTaken x = ((after_moves s row).rings.commitment r ≡ Some x) ⊎ (interval (after_moves s row) x ≡ Green)
 
     -- from place o, where it had u ticks to go; `Then` says how it stands there with a number of ticks
     pub data Goes_on (Then : Option ℕ → ℕ → Type 0) (o : Option ℕ) (u : ℕ) : Type 0 where
       on_to : (x w : ℕ) → s.rings.commitment r ≡ None → first test (later o (order_of (view s) r)) ≡ Some x → IsTaken x →
-          IsAt longest Lasts (view (next s row)) r (Some x) w → w ≤ longest x + k + 1 → Goes_on Then o u
+          IsAt longest Lasts (view (after_moves s row)) r (Some x) w → w ≤ longest x + k + 1 → Goes_on Then o u
       home_to : (x w : ℕ) → s.rings.commitment r ≡ None → first test (later o (order_of (view s) r)) ≡ None → away ≡ false →
-          first test (not_later o (order_of (view s) r)) ≡ Some x → IsTaken x → IsAt longest Lasts (view (next s row)) r (Some x) w → w ≤ longest x + k + 1 →
+          first test (not_later o (order_of (view s) r)) ≡ Some x → IsTaken x → IsAt longest Lasts (view (after_moves s row)) r (Some x) w → w ≤ longest x + k + 1 →
           Goes_on Then o u
-      starts_it_now : (c : ℕ) → s.rings.commitment r ≡ Some c → interval (next s row) c ≡ Green → 1 ≤ u → Then o (u - 1) → Goes_on Then o u
-      waits : 1 ≤ u → (next s row).rings.commitment r ≡ s.rings.commitment r → Then o (u - 1) → Goes_on Then o u
+      starts_it_now : (c : ℕ) → s.rings.commitment r ≡ Some c → interval (after_moves s row) c ≡ Green → 1 ≤ u → Then o (u - 1) → Goes_on Then o u
+      waits : 1 ≤ u → (after_moves s row).rings.commitment r ≡ s.rings.commitment r → Then o (u - 1) → Goes_on Then o u
       at_barrier : s.rings.commitment r ≡ None → first test (later o (order_of (view s) r)) ≡ None → away ≡ true → Then o (u - 1) →
           ring_joins s.plan s.rings (rings_given s row) r ≡ true → want_of s.plan s.rings (rings_given s row) r ≡ Some Cross → Goes_on Then o u
       rests : s.rings.commitment r ≡ None → first test (later o (order_of (view s) r)) ≡ None → away ≡ false →
@@ -121,25 +121,25 @@ module _ (longest : ℕ → ℕ) (Lasts : View → ℕ → ℕ → Type 0) where
         (bounds.begins_green x (started_by s.plan s.rings (rings_given s row) r x start)) most
 
     red_after : (p : ℕ) → in_ring s.plan r p ≡ true → in_service (interval s p) ≡ false → starting s.plan s.rings (rings_given s row) r ≡ None →
-        interval (next s row) p ≡ Red
+        interval (after_moves s row) p ≡ Red
     red_after p own dark start =
         let red : interval s p ≡ Red = is-red (interval s p) dark in
         let no_start : is_started (moves s row) p ≡ false = starts_nothing s row tick r p own start in
         rw (no_start, red) refl
 
     less_back : (p m : ℕ) → in_ring s.plan r p ≡ true → is_green (interval s p) ≡ false → starting s.plan s.rings (rings_given s row) r ≡ None →
-        back_left s.plan p (s.phases p) ≤ m → back_left s.plan p ((next s row).phases p) ≤ m - 1
+        back_left s.plan p (s.phases p) ≤ m → back_left s.plan p ((after_moves s row).phases p) ≤ m - 1
     less_back p m own dark start was =
         let down = reverts_down s row p (yellow_change s.plan p) (red_revert s.plan p) (omega arith) (tick.timed p) (ends_none s row tick p dark)
         (starts_nothing s row tick r p own start) in
         omega (arith, down, was)
 
     less_clear : (p : ℕ) → in_ring s.plan r p ≡ true → is_green (interval s p) ≡ false → starting s.plan s.rings (rings_given s row) r ≡ None →
-        clear_left s.plan p ((next s row).phases p) ≤ clear_left s.plan p (s.phases p) - 1
+        clear_left s.plan p ((after_moves s row).phases p) ≤ clear_left s.plan p (s.phases p) - 1
     less_clear p own dark start =
         clears_down s row p (yellow_change s.plan p) (red_clear s.plan p) (omega arith) (tick.timed p) dark (starts_nothing s row tick r p own start)
 
-    last_then : starting s.plan s.rings (rings_given s row) r ≡ None → (next s row).rings.last r ≡ s.rings.last r
+    last_then : starting s.plan s.rings (rings_given s row) r ≡ None → (after_moves s row).rings.last r ≡ s.rings.last r
     last_then start = last_stays s.plan s.rings (rings_given s row) (fair s row tick) none r start
 
     -- ## A ring that is committed
@@ -195,7 +195,7 @@ module _ (longest : ℕ → ℕ) (Lasts : View → ℕ → ℕ → Type 0) where
         no_start : is_started (moves s row) p ≡ false
         no_start = starts_nothing s row tick r p own start
 
-        promise_then : (next s row).rings.commitment r ≡ pick s.plan s.rings (rings_given s row) r
+        promise_then : (after_moves s row).rings.commitment r ≡ pick s.plan s.rings (rings_given s row) r
         promise_then = promise_made s.plan s.rings (rings_given s row) (fair s row tick) none r p start e at_it
 
         ready_is : (b : Bool) → ready s row p ≡ b → (rings_given s row).ready p ≡ b
@@ -215,7 +215,7 @@ module _ (longest : ℕ → ℕ) (Lasts : View → ℕ → ℕ → Type 0) where
             let picks : pick s.plan s.rings (rings_given s row) r ≡ None = picks_unready s.plan s.rings (rings_given s row) r p at_it (ready_is false f) in
             waits (omega (arith, some, all)) (promise_then ∙ (picks ∙ sym e)) (on_then no_end picks)
 
-        promise_to : (x : ℕ) → want_of s.plan s.rings (rings_given s row) r ≡ Some (Go x) → ready s row p ≡ true → (next s row).rings.commitment r ≡ Some x
+        promise_to : (x : ℕ) → want_of s.plan s.rings (rings_given s row) r ≡ Some (Go x) → ready s row p ≡ true → (after_moves s row).rings.commitment r ≡ Some x
         promise_to x w f = promise_then ∙ picks_green s.plan s.rings (rings_given s row) (fair s row tick) r p x true at_it w (ready_is true f)
 
         -- it goes to another
@@ -223,8 +223,8 @@ module _ (longest : ℕ → ℕ) (Lasts : View → ℕ → ℕ → Type 0) where
             ready s row p ≡ true → At (Some x) (longest x + k + 1)
         leaves_for x w to f = bound_to x k (promise_to x w f) refl clears_in reverts_in (omega arith)
           where
-            clears_in : (y : ℕ) → in_ring s.plan r y ≡ true → clear_left s.plan y ((next s row).phases y) ≤ k
-            clears_in y own_y = let most = clear_most s.plan y ((next s row).phases y) in let limit = clears y in omega (arith, most, limit)
+            clears_in : (y : ℕ) → in_ring s.plan r y ≡ true → clear_left s.plan y ((after_moves s row).phases y) ≤ k
+            clears_in y own_y = let most = clear_most s.plan y ((after_moves s row).phases y) in let limit = clears y in omega (arith, most, limit)
 
             dark_x : in_service (interval s x) ≡ false
             dark_x =
@@ -234,9 +234,9 @@ module _ (longest : ℕ → ℕ) (Lasts : View → ℕ → ℕ → Type 0) where
                       absurd (true≢false (sym (ap is_green green) ∙ ap (λ (y : ℕ). is_green (interval s y)) (sym one) ∙ callable_no_green s row x to.called)))
                 ]
 
-            reverts_in : back_left s.plan x ((next s row).phases x) ≤ k
+            reverts_in : back_left s.plan x ((after_moves s row).phases x) ≤ k
             reverts_in =
-                let most = back_most s.plan x ((next s row).phases x) (red_after x to.ringed dark_x start) in
+                let most = back_most s.plan x ((after_moves s row).phases x) (red_after x to.ringed dark_x start) in
                 let limit = reverts x in
                 omega (arith, most, limit)
 
@@ -313,7 +313,7 @@ module _ (longest : ℕ → ℕ) (Lasts : View → ℕ → ℕ → Type 0) where
     -- ## A ring that clears with no commitment
 
     abbrev Near : Option ℕ → ℕ → Type 0
-    Near o u = IsNear longest Lasts (view (next s row)) r o u
+    Near o u = IsNear longest Lasts (view (after_moves s row)) r o u
 
     clearing_moves : (p m u : ℕ) → s.rings.commitment r ≡ None → in_ring s.plan r p ≡ true → in_service (interval s p) ≡ true → is_green (interval s p) ≡ false →
         ((x : ℕ) → in_ring s.plan r x ≡ true → clear_left s.plan x (s.phases x) + 1 ≤ m) →
@@ -329,7 +329,7 @@ module _ (longest : ℕ → ℕ) (Lasts : View → ℕ → ℕ → Type 0) where
         dark_given : is_green ((rings_given s row).interval p) ≡ false
         dark_given = ap is_green (given_interval s row p) ∙ dark
 
-        promise : (next s row).rings.commitment r ≡ None
+        promise : (after_moves s row).rings.commitment r ≡ None
         promise =
             promise_made s.plan s.rings (rings_given s row) (fair s row tick) none r p start e at_it
             ∙ picks_clearing s.plan s.rings (rings_given s row) r p at_it dark_given
@@ -349,7 +349,7 @@ module _ (longest : ℕ → ℕ) (Lasts : View → ℕ → ℕ → Type 0) where
               | inr g ↦ dark_is (interval s x) g
             ]
 
-        lower_back : (x : ℕ) → in_ring s.plan r x ≡ true → back_left s.plan x ((next s row).phases x) ≤ m - 1
+        lower_back : (x : ℕ) → in_ring s.plan r x ≡ true → back_left s.plan x ((after_moves s row).phases x) ≤ m - 1
         lower_back x own_x = less_back x m own_x (dark_all x own_x) start (reverts_in x own_x)
 
         some : 1 ≤ m
@@ -368,11 +368,11 @@ module _ (longest : ℕ → ℕ) (Lasts : View → ℕ → ℕ → Type 0) where
                 (clears_over_one s.plan s.rings (rings_given s row) r p at_it own e none dark_given
                 (told_over s row tick p (tick.good.rings.listed p serves) ∙ f))
 
-            red_then : interval (next s row) p ≡ Red
+            red_then : interval (after_moves s row) p ≡ Red
             red_then = cleared_red s row p dark no_start cleared
 
-            red_all : (x : ℕ) → (x ≡ p) ⊎ (in_service (interval s x) ≡ false) → in_ring s.plan r x ≡ true → in_service (interval (next s row) x) ≡ false
-            red_all x (inl same) own_x = ap (λ (y : ℕ). in_service (interval (next s row) y)) same ∙ ap in_service red_then
+            red_all : (x : ℕ) → (x ≡ p) ⊎ (in_service (interval s x) ≡ false) → in_ring s.plan r x ≡ true → in_service (interval (after_moves s row) x) ≡ false
+            red_all x (inl same) own_x = ap (λ (y : ℕ). in_service (interval (after_moves s row) y)) same ∙ ap in_service red_then
             red_all x (inr g) own_x = ap in_service (red_after x own_x g start)
 
         -- it goes on
@@ -383,20 +383,20 @@ module _ (longest : ℕ → ℕ) (Lasts : View → ℕ → ℕ → Type 0) where
             not_cleared =
                 false_from_ne_true _ (λ g. true≢false (sym (cleared_over s row p g) ∙ told_over s row tick p (tick.good.rings.listed p serves) ∙ f))
 
-            and_dark : (in_service (interval (next s row) p) ≡ true) × (is_green (interval (next s row) p) ≡ false)
+            and_dark : (in_service (interval (after_moves s row) p) ≡ true) × (is_green (interval (after_moves s row) p) ≡ false)
             and_dark = still_clearing s row p serves dark no_start not_cleared
 
             left_p : 1 ≤ clear_left s.plan p (s.phases p)
             left_p = not_yet_over s p (yellow_change s.plan p) (red_clear s.plan p) (omega arith) (omega arith) (tick.timed p) serves dark f
 
-            lower_clear : (x : ℕ) → (x ≡ p) ⊎ (in_service (interval s x) ≡ false) → in_ring s.plan r x ≡ true → clear_left s.plan x ((next s row).phases x) + 1 ≤ m - 1
+            lower_clear : (x : ℕ) → (x ≡ p) ⊎ (in_service (interval s x) ≡ false) → in_ring s.plan r x ≡ true → clear_left s.plan x ((after_moves s row).phases x) + 1 ≤ m - 1
             lower_clear x (inl same) own_x =
                 let down = less_clear x own_x (dark_all x own_x) start in
                 let was = clears_in x own_x in
                 let left_x : clear_left s.plan x (s.phases x) ≡ clear_left s.plan p (s.phases p) = ap (λ (y : ℕ). clear_left s.plan y (s.phases y)) same in
                 omega (arith, down, was, left_x, left_p)
             lower_clear x (inr g) own_x =
-                let zero_is = clear_none s.plan x (next s row) (red_after x own_x g start) in
+                let zero_is = clear_none s.plan x (after_moves s row) (red_after x own_x g start) in
                 let was = clears_in p own in
                 omega (arith, zero_is, was, left_p)
 

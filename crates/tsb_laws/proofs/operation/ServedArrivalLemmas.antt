@@ -17,7 +17,7 @@ use Rattle.tsb_step.proofs.tsb_ring.MoveLemmas.{and_three}
 use Rattle.tsb_step.proofs.tsb_ring.WaitLemmas.{first-passes}
 use Rattle.tsb_step.proofs.tsb_ring.WantLemmas.{first-among}
 use Rattle.tsb_step.specs.State.{State, interval}
-use Rattle.tsb_step.specs.Tick.{callable, rings_given, next}
+use Rattle.tsb_step.specs.Tick.{callable, rings_given, after_moves}
 use Rattle.tsb_step.specs.Good.{IsGood}
 use Rattle.tsb_step.specs.TimeLaws.{IsSided}
 use Rattle.tsb_step.proofs.GivenLemmas.{listed_is_phase, lists_ring}
@@ -45,17 +45,17 @@ left_more w s r m n less (idle l e dark reverts all) = idle l e dark reverts (om
 
 -- ## As a crossing has been completed
 
-module _ (w k h d : ℕ) (s : State) (row : Row) (good : IsGood s) (sided : IsSided s.plan (interval s) s.rings) (on : AreEnabled s.plan (interval s) s.rings) (takes : TurnsTakeAtMost s.plan k h) (way : s.rings.crossing ≡ Some d) (side : (next s row).rings.side ≡ d) (x : Ring) (entered : HasEntered s (next s row) x) where
-  side_is : (o p : Option ℕ) → o ≡ p → turns s.plan w (next s row).rings.side (later o (order s.plan x)) ≡ turns s.plan w d (later p (order s.plan x))
+module _ (w k h d : ℕ) (s : State) (row : Row) (good : IsGood s) (sided : IsSided s.plan (interval s) s.rings) (on : AreEnabled s.plan (interval s) s.rings) (takes : TurnsTakeAtMost s.plan k h) (way : s.rings.crossing ≡ Some d) (side : (after_moves s row).rings.side ≡ d) (x : Ring) (entered : HasEntered s (after_moves s row) x) where
+  side_is : (o p : Option ℕ) → o ≡ p → turns s.plan w (after_moves s row).rings.side (later o (order s.plan x)) ≡ turns s.plan w d (later p (order s.plan x))
   side_is o p e = rw (side, e) refl
 
   -- it serves what it was committed to
   pub has_entered : (c : ℕ) → s.rings.commitment x ≡ Some c →
-      IsLeft w (next s row) x (turns s.plan w d (later (Some c) (order s.plan x)) + longest_green s.plan c)
+      IsLeft w (after_moves s row) x (turns s.plan w d (later (Some c) (order s.plan x)) + longest_green s.plan c)
   has_entered c e =
       let both = entered.starts c e in
-      let most = green_most s.plan c ((next s row).phases c) in
-      let same = side_is ((next s row).rings.last x) (Some c) both.1 in
+      let most = green_most s.plan c ((after_moves s row).phases c) in
+      let same = side_is ((after_moves s row).rings.last x) (Some c) both.1 in
       serving_green c entered.free (good.rings.owned x c e).0 both.0 (omega (arith, most, same))
 
   pub entry_turn : (c : ℕ) → s.rings.commitment x ≡ Some c → turn s.plan w c + turns s.plan w d (later (Some c) (order s.plan x)) ≤ turns s.plan w d (order s.plan x)
@@ -72,18 +72,18 @@ module _ (w k h d : ℕ) (s : State) (row : Row) (good : IsGood s) (sided : IsSi
       once_x = let it : ListsRing s.plan (number x) (order s.plan x) = lists_ring s.plan 1 x (first_lists s.plan good.plan.rules) in it.once
 
   -- or it is idle
-  pub arrives : IsLeft w (next s row) x (turns s.plan w d (order s.plan x) + k)
+  pub arrives : IsLeft w (after_moves s row) x (turns s.plan w d (order s.plan x) + k)
   arrives = go (s.rings.commitment x) refl
     where
-      go : (o : Option ℕ) → s.rings.commitment x ≡ o → IsLeft w (next s row) x (turns s.plan w d (order s.plan x) + k)
+      go : (o : Option ℕ) → s.rings.commitment x ≡ o → IsLeft w (after_moves s row) x (turns s.plan w d (order s.plan x) + k)
       go (Some c) e =
           let less = entry_turn c e in
-          left_more w (next s row) x (turns s.plan w d (later (Some c) (order s.plan x)) + longest_green s.plan c) (turns s.plan w d (order s.plan x) + k) (omega (arith, less)) (has_entered c e)
+          left_more w (after_moves s row) x (turns s.plan w d (later (Some c) (order s.plan x)) + longest_green s.plan c) (turns s.plan w d (order s.plan x) + k) (omega (arith, less)) (has_entered c e)
       go None e =
           let both = entered.idles e in
-          let same = side_is ((next s row).rings.last x) None both.0 in
+          let same = side_is ((after_moves s row).rings.last x) None both.0 in
           idle k entered.free both.1
-          (λ p own. (let most = back_most s.plan p ((next s row).phases p) (is-red (interval (next s row) p) (both.1 p own)) in let limit = takes.revert p in omega (arith, most, limit)))
+          (λ p own. (let most = back_most s.plan p ((after_moves s row).phases p) (is-red (interval (after_moves s row) p) (both.1 p own)) in let limit = takes.revert p in omega (arith, most, limit)))
           (omega (arith, same))
 
 -- ## As a crossing begins
@@ -161,14 +161,14 @@ module _ (s : State) (row : Row) (tick : IsFairTick s row) (r : Ring) (q d : ℕ
           && concurrent_with s.plan c (called_in_ring_1 s.plan (rings_given s row) d)) ((rings_given s row).sequence x))) same it
 
   pub enters : (free : (rings_given s row).target ≡ None) → begins s.plan s.rings (rings_given s row) ≡ true → target_side s.plan s.rings (rings_given s row) ≡ d →
-      IsEntry s.plan r q ((next s row).rings.commitment r)
+      IsEntry s.plan r q ((after_moves s row).rings.commitment r)
   unfolding rings_next new_commitment committed_to entry
   enters free begun there = subst (IsEntry s.plan r q) (sym commits) (enters_by_calls r refl)
     where
       starts : starting s.plan s.rings (rings_given s row) r ≡ None
       starts = begins_alone s.plan s.rings (rings_given s row) r begun
 
-      commits : (next s row).rings.commitment r ≡ entry_by_calls s.plan (rings_given s row) d r
+      commits : (after_moves s row).rings.commitment r ≡ entry_by_calls s.plan (rings_given s row) d r
       commits =
           rw (starts, begun) (ap (λ (t : Option (ℕ → Bool)). entry_for s.plan s.rings (rings_given s row) r t) free
           ∙ ap (λ (x : ℕ). entry_by_calls s.plan (rings_given s row) x r) there)

@@ -16,7 +16,7 @@ use Rattle.tsb_step.specs.declared.inputs.Input.{Input}
 use Rattle.tsb_step.specs.declared.inputs.Input.TheVariants as inputs
 use Rattle.tsb_step.specs.declared.inputs.Input.TheVariants.{Tick}
 use Rattle.tsb_step.specs.State.{State, interval}
-use Rattle.tsb_step.specs.Tick.{callable, next}
+use Rattle.tsb_step.specs.Tick.{callable, after_moves}
 use Rattle.tsb_step.specs.Step.{step}
 use Rattle.tsb_step.specs.Runs.{replay, AreTaken}
 use Rattle.tsb_step.specs.Laws.{IsConsistent}
@@ -328,8 +328,8 @@ module _ (plan : Plan) (base : List Input) (r : Ring) (q k h y : ℕ) (ok : IsCo
       clock : (replay plan (Tick row ∷ (later ++ base))).now ≡ (replay plan (later ++ base)).now + 1
       clock = one_later (replay plan (later ++ base)) row
 
-      kept : IsKeptBy (next (replay plan (later ++ base)) row) (step (replay plan (later ++ base)) (Tick row))
-      kept = kept_then (replay plan (later ++ base)) row dark
+      kept : IsKeptBy (after_moves (replay plan (later ++ base)) row) (step (replay plan (later ++ base)) (Tick row))
+      kept = kept_then (replay plan (later ++ base)) row dark both.1
 
       over : IsOverIn k (replay plan (Tick row ∷ (later ++ base)))
       over =
@@ -340,35 +340,35 @@ module _ (plan : Plan) (base : List Input) (r : Ring) (q k h y : ℕ) (ok : IsCo
       made n less due = record { left = n; due = due; in_time = (let before = stage.in_time in omega (arith, clock, less, before)) }
 
       -- a crossing begins
-      begun : (d : ℕ) → SetsOut k stage.left (next (replay plan (later ++ base)) row).plan (next (replay plan (later ++ base)) row).rings r q d → Stage limit (Tick row ∷ later)
+      begun : (d : ℕ) → SetsOut k stage.left (after_moves (replay plan (later ++ base)) row).plan (after_moves (replay plan (later ++ base)) row).rings r q d → Stage limit (Tick row ∷ later)
       begun d out = by out.leads
         where
           way : (replay plan (Tick row ∷ (later ++ base))).rings.crossing ≡ Some d
           way = ap (λ (x : rings.State). x.crossing) kept.rings ∙ out.under_way
 
-          by : ((side_of (next (replay plan (later ++ base)) row).plan q ≡ d)
-              × IsEntry (next (replay plan (later ++ base)) row).plan r q ((next (replay plan (later ++ base)) row).rings.commitment r)
-              × (k + 1 + home (next (replay plan (later ++ base)) row).plan k r q + 1 ≤ stage.left))
-              ⊎ ((side_of (next (replay plan (later ++ base)) row).plan q ≢ d)
-              × (k + 1 + (turns_here (next (replay plan (later ++ base)) row).plan k d + 2 * k) + rest (next (replay plan (later ++ base)) row).plan k r q d + 1 ≤ stage.left)) →
+          by : ((side_of (after_moves (replay plan (later ++ base)) row).plan q ≡ d)
+              × IsEntry (after_moves (replay plan (later ++ base)) row).plan r q ((after_moves (replay plan (later ++ base)) row).rings.commitment r)
+              × (k + 1 + home (after_moves (replay plan (later ++ base)) row).plan k r q + 1 ≤ stage.left))
+              ⊎ ((side_of (after_moves (replay plan (later ++ base)) row).plan q ≢ d)
+              × (k + 1 + (turns_here (after_moves (replay plan (later ++ base)) row).plan k d + 2 * k) + rest (after_moves (replay plan (later ++ base)) row).plan k r q d + 1 ≤ stage.left)) →
               Stage limit (Tick row ∷ later)
           by (inl it) =
               let least = it.2 in
-              let same_home = home_then k y (next (replay plan (later ++ base)) row) (step (replay plan (later ++ base)) (Tick row)) r q kept in
+              let same_home = home_then k y (after_moves (replay plan (later ++ base)) row) (step (replay plan (later ++ base)) (Tick row)) r q kept in
               made (stage.left - 1) (omega (arith, least))
               (crosses_home k (way ∙ ap Some (sym it.0) ∙ ap (λ (x : Plan). Some (side_of x q)) (sym kept.plan))
-              (entry_same k y (next (replay plan (later ++ base)) row) (step (replay plan (later ++ base)) (Tick row)) r q kept it.1) over (omega (arith, least, same_home)))
+              (entry_same k y (after_moves (replay plan (later ++ base)) row) (step (replay plan (later ++ base)) (Tick row)) r q kept it.1) over (omega (arith, least, same_home)))
           by (inr it) =
               let least = it.1 in
-              let same_rest = rest_then k y (next (replay plan (later ++ base)) row) (step (replay plan (later ++ base)) (Tick row)) r q kept d in
-              let same_here : turns_here (replay plan (Tick row ∷ (later ++ base))).plan k d ≡ turns_here (next (replay plan (later ++ base)) row).plan k d =
+              let same_rest = rest_then k y (after_moves (replay plan (later ++ base)) row) (step (replay plan (later ++ base)) (Tick row)) r q kept d in
+              let same_here : turns_here (replay plan (Tick row ∷ (later ++ base))).plan k d ≡ turns_here (after_moves (replay plan (later ++ base)) row).plan k d =
               ap (λ (x : Plan). turns_here x k d) kept.plan in
               made (stage.left - 1) (omega (arith, least))
               (crosses_by d k way (λ e. it.0 (sym (ap (λ (x : Plan). side_of x q) kept.plan) ∙ e)) over (omega (arith, least, same_rest, same_here)))
 
-      go : Becomes k y (next (replay plan (later ++ base)) row) r q stage.left → Stage limit (Tick row ∷ later)
+      go : Becomes k y (after_moves (replay plan (later ++ base)) row) r q stage.left → Stage limit (Tick row ∷ later)
       go (becomes m less due) =
-          made m less (due_same k y (next (replay plan (later ++ base)) row) (step (replay plan (later ++ base)) (Tick row)) r q kept m due)
+          made m less (due_same k y (after_moves (replay plan (later ++ base)) row) (step (replay plan (later ++ base)) (Tick row)) r q kept m due)
       go (sets_out d out) = begun d out
 
   -- any other input

@@ -16,7 +16,7 @@ use Rattle.tsb_step.specs.tsb_ring.Crossings.{begins, is_called_on, target_side}
 use Rattle.tsb_step.specs.tsb_ring.Next.{new_crossing, next as rings_next}
 use Rattle.tsb_step.specs.tsb_ring.Laws.{IsListed}
 use Rattle.tsb_step.specs.State.{State, interval}
-use Rattle.tsb_step.specs.Tick.{callable, rings_given, next}
+use Rattle.tsb_step.specs.Tick.{callable, rings_given, after_moves}
 use Rattle.tsb_step.specs.Good.{IsGood}
 use Rattle.tsb_step.specs.TimeLaws.{IsSided}
 use Rattle.tsb_step.proofs.GivenLemmas.{listed_is_phase, enabled_is_listed, given}
@@ -157,13 +157,13 @@ module _ (k h y : ℕ) (s : State) (row : Row) (r : Ring) (q : ℕ) (tick : IsWa
     goes : GoesTo s.plan s.rings (rings_given s row)
     goes = goes_to_next s.plan s.rings (rings_given s row) free_of_target tick.sides.side apart_from
 
-    way : (next s row).rings.crossing ≡ Some goal
+    way : (after_moves s row).rings.crossing ≡ Some goal
     way = begun_way s.plan s.rings (rings_given s row) begun
 
     -- to the next side that is called
     sets_out_by : (n : ℕ) → rest s.plan k r q s.rings.side ≤ n →
         (side_of s.plan q ≢ goal → away s.plan.side_count s.rings.side goal + 1 ≤ away s.plan.side_count s.rings.side (side_of s.plan q)) →
-        SetsOut k n s.plan (next s row).rings r q goal
+        SetsOut k n s.plan (after_moves s row).rings r q goal
     sets_out_by n all sooner =
         elim (cases_eq (side_of s.plan q) goal) [
           | inl same ↦ record {
@@ -187,7 +187,7 @@ module _ (k h y : ℕ) (s : State) (row : Row) (r : Ring) (q : ℕ) (tick : IsWa
         ]
 
     -- from its own side
-    leaves_side : (n : ℕ) → side_of s.plan q ≡ s.rings.side → back s.plan k r q ≤ n → Becomes k y (next s row) r q n
+    leaves_side : (n : ℕ) → side_of s.plan q ≡ s.rings.side → back s.plan k r q ≤ n → Becomes k y (after_moves s row) r q n
     leaves_side n here all =
         sets_out goal (sets_out_by n (let same = moved in omega (arith, same, all))
         (λ other_side. (let less = away_other s.plan.side_count s.rings.side goal tick.sides.side goes.is_side apart_from in
@@ -199,7 +199,7 @@ module _ (k h y : ℕ) (s : State) (row : Row) (r : Ring) (q : ℕ) (tick : IsWa
         moved = ap (λ (d : ℕ). rest s.plan k r q d) (sym here)
 
     -- from another one
-    leaves_other : (n : ℕ) → side_of s.plan q ≢ s.rings.side → rest s.plan k r q s.rings.side ≤ n → Becomes k y (next s row) r q n
+    leaves_other : (n : ℕ) → side_of s.plan q ≢ s.rings.side → rest s.plan k r q s.rings.side ≤ n → Becomes k y (after_moves s row) r q n
     leaves_other n apart all = sets_out goal (sets_out_by n all sooner)
       where
         told : (rings_given s row).callable q ≡ true
@@ -219,28 +219,28 @@ module _ (k h y : ℕ) (s : State) (row : Row) (r : Ring) (q : ℕ) (tick : IsWa
   -- ## None begins
 
   module _ (outside : s.rings.crossing ≡ None) (none : begins s.plan s.rings (rings_given s row) ≡ false) where
-    outside_then : (next s row).rings.crossing ≡ None
+    outside_then : (after_moves s row).rings.crossing ≡ None
     outside_then = stays_outside s.plan s.rings (rings_given s row) (fair s row (fair_if outside)) none
 
-    side_then : (next s row).rings.side ≡ s.rings.side
+    side_then : (after_moves s row).rings.side ≡ s.rings.side
     side_then = stays_beside s.plan s.rings (rings_given s row) (fair s row (fair_if outside)) none
 
     -- the ring goes on, comes round, or waits for the other one
     module _ (here : side_of s.plan q ≡ s.rings.side) where
-      here_then : side_of s.plan q ≡ (next s row).rings.side
+      here_then : side_of s.plan q ≡ (after_moves s row).rings.side
       here_then = here ∙ sym side_then
 
       home_is : turns s.plan k s.rings.side (order s.plan r) ≡ home s.plan k r q
       home_is = ap (λ (d : ℕ). turns s.plan k d (order s.plan r)) (sym here)
 
       -- its side has been chosen
-      comes_home : (n : ℕ) → back s.plan k r q ≤ n → Comes k (next s row) r q (turns s.plan k s.rings.side (order s.plan r)) → Becomes k y (next s row) r q n
+      comes_home : (n : ℕ) → back s.plan k r q ≤ n → Comes k (after_moves s row) r q (turns s.plan k s.rings.side (order s.plan r)) → Becomes k y (after_moves s row) r q n
       comes_home n all it = go it
         where
           some : 3 * k + 3 + home s.plan k r q ≤ back s.plan k r q
           some = some_back (side_of s.plan q) its_side
 
-          go : Comes k (next s row) r q (turns s.plan k s.rings.side (order s.plan r)) → Becomes k y (next s row) r q n
+          go : Comes k (after_moves s row) r q (turns s.plan k s.rings.side (order s.plan r)) → Becomes k y (after_moves s row) r q n
           go (served green least) = becomes (n - 1) (omega (arith, all, some)) (is_served green)
           go (comes m less_than left coming) =
               becomes (n - 1) (omega (arith, all, some)) (is_coming m (let same = home_is in omega (arith, less_than, same, all, some)) left coming)
@@ -253,11 +253,11 @@ module _ (k h y : ℕ) (s : State) (row : Row) (r : Ring) (q : ℕ) (tick : IsWa
           let limit = tick.enough in
           omega (arith, part, same, limit)
 
-      passed_tick : (m n : ℕ) → IsLeft (k + y) s r m → m + y + back s.plan k r q ≤ n → Becomes k y (next s row) r q n
+      passed_tick : (m n : ℕ) → IsLeft (k + y) s r m → m + y + back s.plan k r q ≤ n → Becomes k y (after_moves s row) r q n
       passed_tick m n left all =
           go (passes_left s row (fair_if outside) none k h y tick.takes r q tick.ringed here tick.called tick.enabled m left)
         where
-          go : Passes s row (fair_if outside) none k h y tick.takes r q tick.ringed here tick.called tick.enabled 0 m → Becomes k y (next s row) r q n
+          go : Passes s row (fair_if outside) none k h y tick.takes r q tick.ringed here tick.called tick.enabled 0 m → Becomes k y (after_moves s row) r q n
           go (fewer l less_than it) =
               becomes (n - 1) (omega (arith, all, less_than)) (is_passed l outside_then here_then it (omega (arith, all, less_than)))
           go (comes_round it) = comes_home n (omega (arith, all)) it
@@ -268,11 +268,11 @@ module _ (k h y : ℕ) (s : State) (row : Row) (r : Ring) (q : ℕ) (tick : IsWa
               becomes (n - 1) (omega (arith, all, less_than, limit))
               (at_barrier t across.left outside_then here_then it across.remains (omega (arith, all, most, less_than, limit)))
 
-      barrier_tick : (m l n : ℕ) → Stands (k + y) s r m → Remains k s (other r) l → m + l + back s.plan k r q ≤ n → Becomes k y (next s row) r q n
+      barrier_tick : (m l n : ℕ) → Stands (k + y) s r m → Remains k s (other r) l → m + l + back s.plan k r q ≤ n → Becomes k y (after_moves s row) r q n
       barrier_tick m l n stands remains all =
           go (passes_standing s row (fair_if outside) none k h y tick.takes r q tick.ringed here tick.called tick.enabled m stands)
         where
-          go : Passes s row (fair_if outside) none k h y tick.takes r q tick.ringed here tick.called tick.enabled y m → Becomes k y (next s row) r q n
+          go : Passes s row (fair_if outside) none k h y tick.takes r q tick.ringed here tick.called tick.enabled y m → Becomes k y (after_moves s row) r q n
           go (fewer t less_than it) =
               becomes (n - 1) (omega (arith, all, less_than)) (is_passed t outside_then here_then it (omega (arith, all, less_than)))
           go (comes_round it) = comes_home n (omega (arith, all)) it
@@ -283,11 +283,11 @@ module _ (k h y : ℕ) (s : State) (row : Row) (r : Ring) (q : ℕ) (tick : IsWa
 
       clearing : (p m n : ℕ) → s.rings.commitment r ≡ None → in_ring s.plan r p ≡ true → in_service (interval s p) ≡ true → is_green (interval s p) ≡ false →
           clear_left s.plan p (s.phases p) ≤ m →
-          turns s.plan (k + y) s.rings.side (later (s.rings.last r) (order s.plan r)) + (m + 1 + k) + y + back s.plan k r q ≤ n → Becomes k y (next s row) r q n
+          turns s.plan (k + y) s.rings.side (later (s.rings.last r) (order s.plan r)) + (m + 1 + k) + y + back s.plan k r q ≤ n → Becomes k y (after_moves s row) r q n
       clearing p m n free own serves dark left all =
           go (clearing_tick s row (fair_if outside) none (k + y) k h tick.takes r p m free own serves dark left)
         where
-          go : ClearsOn s row (fair_if outside) none (k + y) k h tick.takes r p m free own serves dark left → Becomes k y (next s row) r q n
+          go : ClearsOn s row (fair_if outside) none (k + y) k h tick.takes r p m free own serves dark left → Becomes k y (after_moves s row) r q n
           go (clears_more some free_then serves_then dark_then left_then sums) =
               becomes (n - 1) (omega (arith, all))
               (clears_first p (m - 1) outside_then here_then free_then own serves_then dark_then left_then (omega (arith, all, some, sums)))
@@ -297,7 +297,7 @@ module _ (k h y : ℕ) (s : State) (row : Row) (r : Ring) (q : ℕ) (tick : IsWa
 
     -- both rings go on to the barrier
     beyond_tick : (a b n : ℕ) → side_of s.plan q ≢ s.rings.side → Remains k s Ring1 a → Remains k s Ring2 b → a + b + rest s.plan k r q s.rings.side ≤ n →
-        Becomes k y (next s row) r q n
+        Becomes k y (after_moves s row) r q n
     beyond_tick a b n apart first second all =
         go (nears s row (fair_if outside) away_called none k Ring1 a h tick.takes first) (nears s row (fair_if outside) away_called none k Ring2 b h tick.takes second)
       where
@@ -311,18 +311,18 @@ module _ (k h y : ℕ) (s : State) (row : Row) (r : Ring) (q : ℕ) (tick : IsWa
         away_called =
             found_some (λ p. (rings_given s row).callable p && not (is_on_side s.plan s.rings.side p)) (phases s.plan) q listed_q (rw (told, elsewhere) refl)
 
-        apart_then : side_of s.plan q ≢ (next s row).rings.side
+        apart_then : side_of s.plan q ≢ (after_moves s row).rings.side
         apart_then e = apart (e ∙ side_then)
 
-        moved : rest s.plan k r q (next s row).rings.side ≡ rest s.plan k r q s.rings.side
+        moved : rest s.plan k r q (after_moves s row).rings.side ≡ rest s.plan k r q s.rings.side
         moved = ap (λ (d : ℕ). rest s.plan k r q d) side_then
 
-        go_on : (x z : ℕ) → x + z + 1 ≤ a + b → Remains k (next s row) Ring1 x → Remains k (next s row) Ring2 z → Becomes k y (next s row) r q n
+        go_on : (x z : ℕ) → x + z + 1 ≤ a + b → Remains k (after_moves s row) Ring1 x → Remains k (after_moves s row) Ring2 z → Becomes k y (after_moves s row) r q n
         go_on x z less_than one two =
             becomes (n - 1) (omega (arith, all, less_than))
             (is_beyond x z outside_then apart_then one two (let same = moved in omega (arith, all, less_than, same)))
 
-        go : Nears k s row Ring1 a → Nears k s row Ring2 b → Becomes k y (next s row) r q n
+        go : Nears k s row Ring1 a → Nears k s row Ring2 b → Becomes k y (after_moves s row) r q n
         go (less x f one) (less z g two) = go_on x z (omega (arith, f, g)) one two
         go (less x f one) (joined two j v) = go_on x b (omega (arith, f)) one two
         go (joined one i v) (less z g two) = go_on a z (omega (arith, g)) one two
@@ -332,21 +332,21 @@ module _ (k h y : ℕ) (s : State) (row : Row) (r : Ring) (q : ℕ) (tick : IsWa
   -- ## A crossing is under way
 
   module _ (d m : ℕ) (way : s.rings.crossing ≡ Some d) (over : IsOverIn m s) where
-    crossing : Crosses s (next s row) d m
+    crossing : Crosses s (after_moves s row) d m
     crossing = crossing_tick s row tick.good tick.few tick.calm tick.sided tick.across tick.timed d way m over
 
-    arrived : (w : ℕ) → (next s row).rings.side ≡ d → (x : Ring) → HasEntered s (next s row) x → IsLeft w (next s row) x (turns s.plan w d (order s.plan x) + k)
+    arrived : (w : ℕ) → (after_moves s row).rings.side ≡ d → (x : Ring) → HasEntered s (after_moves s row) x → IsLeft w (after_moves s row) x (turns s.plan w d (order s.plan x) + k)
     arrived w side x entered = arrives w k h d s row tick.good tick.sided tick.on tick.takes way side x entered
 
     -- to its side, on which its ring is committed to it or to one before it
-    home_tick : (n : ℕ) → side_of s.plan q ≡ d → IsEntry s.plan r q (s.rings.commitment r) → m + 1 + home s.plan k r q ≤ n → Becomes k y (next s row) r q n
+    home_tick : (n : ℕ) → side_of s.plan q ≡ d → IsEntry s.plan r q (s.rings.commitment r) → m + 1 + home s.plan k r q ≤ n → Becomes k y (after_moves s row) r q n
     home_tick n same entry all = go crossing
       where
-        there : (next s row).rings.crossing ≡ None → (next s row).rings.side ≡ d → HasEntered s (next s row) r →
-            (entry.one ≡ q) ⊎ (among q (later (Some entry.one) (order s.plan r)) ≡ true) → Becomes k y (next s row) r q n
+        there : (after_moves s row).rings.crossing ≡ None → (after_moves s row).rings.side ≡ d → HasEntered s (after_moves s row) r →
+            (entry.one ≡ q) ⊎ (among q (later (Some entry.one) (order s.plan r)) ≡ true) → Becomes k y (after_moves s row) r q n
         there out side entered (inl is_it) =
             becomes (n - 1) (omega (arith, all))
-            (is_served (ap (λ (x : ℕ). interval (next s row) x) (sym is_it) ∙ (entered.starts entry.one entry.is_one).0))
+            (is_served (ap (λ (x : ℕ). interval (after_moves s row) x) (sym is_it) ∙ (entered.starts entry.one entry.is_one).0))
         there out side entered (inr later_on) =
             let turn_of = entry_turn k k h d s row tick.good tick.sided tick.on tick.takes way side r entered entry.one entry.is_one in
             let home_is : turns s.plan k d (order s.plan r) ≡ home s.plan k r q = ap (λ (x : ℕ). turns s.plan k x (order s.plan r)) (sym same) in
@@ -360,7 +360,7 @@ module _ (k h y : ℕ) (s : State) (row : Row) (r : Ring) (q : ℕ) (tick : IsWa
               ahead = inr (rw (entered.free, (entered.starts entry.one entry.is_one).1) later_on);
             }))
 
-        go : Crosses s (next s row) d m → Becomes k y (next s row) r q n
+        go : Crosses s (after_moves s row) d m → Becomes k y (after_moves s row) r q n
         go (crosses_on some on_way stay over_then) =
             becomes (n - 1) (omega (arith, all))
             (crosses_home (m - 1) (on_way ∙ ap Some (sym same)) (subst (IsEntry s.plan r q) (sym (stay r)) entry) over_then (omega (arith, all, some)))
@@ -368,10 +368,10 @@ module _ (k h y : ℕ) (s : State) (row : Row) (r : Ring) (q : ℕ) (tick : IsWa
 
     -- to its side, whatever its ring is committed to
     back_tick : (n : ℕ) → side_of s.plan q ≡ d → m + 1 + (turns s.plan (k + y) (side_of s.plan q) (order s.plan r) + k) + y + back s.plan k r q ≤ n →
-        Becomes k y (next s row) r q n
+        Becomes k y (after_moves s row) r q n
     back_tick n same all = go crossing
       where
-        go : Crosses s (next s row) d m → Becomes k y (next s row) r q n
+        go : Crosses s (after_moves s row) d m → Becomes k y (after_moves s row) r q n
         go (crosses_on some on_way stay over_then) =
             becomes (n - 1) (omega (arith, all)) (crosses_back (m - 1) (on_way ∙ ap Some (sym same)) over_then (omega (arith, all, some)))
         go (has_crossed out side entered) =
@@ -381,26 +381,26 @@ module _ (k h y : ℕ) (s : State) (row : Row) (r : Ring) (q : ℕ) (tick : IsWa
             (is_passed (turns s.plan (k + y) d (order s.plan r) + k) out (same ∙ sym side) (arrived (k + y) side r (entered r)) (omega (arith, all, sums)))
 
     -- to another side
-    by_tick : (n : ℕ) → side_of s.plan q ≢ d → m + 1 + (turns_here s.plan k d + 2 * k) + rest s.plan k r q d ≤ n → Becomes k y (next s row) r q n
+    by_tick : (n : ℕ) → side_of s.plan q ≢ d → m + 1 + (turns_here s.plan k d + 2 * k) + rest s.plan k r q d ≤ n → Becomes k y (after_moves s row) r q n
     by_tick n apart all = go crossing
       where
-        go : Crosses s (next s row) d m → Becomes k y (next s row) r q n
+        go : Crosses s (after_moves s row) d m → Becomes k y (after_moves s row) r q n
         go (crosses_on some on_way stay over_then) =
             becomes (n - 1) (omega (arith, all)) (crosses_by d (m - 1) on_way apart over_then (omega (arith, all, some)))
         go (has_crossed out side entered) =
             let both = both_orders s.plan k d tick.good.plan ((tick.sides.crossing d way).from_one) in
-            let moved : rest s.plan k r q (next s row).rings.side ≡ rest s.plan k r q d = ap (λ (x : ℕ). rest s.plan k r q x) side in
+            let moved : rest s.plan k r q (after_moves s row).rings.side ≡ rest s.plan k r q d = ap (λ (x : ℕ). rest s.plan k r q x) side in
             becomes (n - 1) (omega (arith, all))
             (is_beyond (turns s.plan k d (order s.plan Ring1) + k) (turns s.plan k d (order s.plan Ring2) + k) out (λ e. apart (e ∙ side))
             (bound_for (arrived k side Ring1 (entered Ring1))) (bound_for (arrived k side Ring2 (entered Ring2))) (omega (arith, all, both, moved)))
 
   -- ## Wherever the rings have come
 
-  coming_tick : (m n : ℕ) → m ≤ n → IsLeft k s r m → IsComing s r q → Becomes k y (next s row) r q n
+  coming_tick : (m n : ℕ) → m ≤ n → IsLeft k s r m → IsComing s r q → Becomes k y (after_moves s row) r q n
   coming_tick m n most left coming =
       go (one_tick s row (fair_if coming.outside) k r q tick.ringed coming.beside tick.called tick.enabled m h tick.takes left coming)
     where
-      go : Comes k (next s row) r q m → Becomes k y (next s row) r q n
+      go : Comes k (after_moves s row) r q m → Becomes k y (after_moves s row) r q n
       go (served green some) = becomes (n - 1) (omega (arith, some, most)) (is_served green)
       go (comes l less_than left_then coming_then) =
           becomes (n - 1) (omega (arith, less_than, most)) (is_coming l (omega (arith, less_than, most)) left_then coming_then)
@@ -408,7 +408,7 @@ module _ (k h y : ℕ) (s : State) (row : Row) (r : Ring) (q : ℕ) (tick : IsWa
   by_begins : {A : Type 0} → (begins s.plan s.rings (rings_given s row) ≡ true → A) → (begins s.plan s.rings (rings_given s row) ≡ false → A) → A
   by_begins {A} on_begin on_none = elim (cases_Bool (begins s.plan s.rings (rings_given s row))) [ inl b ↦ on_begin b | inr b ↦ on_none b ]
 
-  pub due_tick : (n : ℕ) → Due k y s r q n → Becomes k y (next s row) r q n
+  pub due_tick : (n : ℕ) → Due k y s r q n → Becomes k y (after_moves s row) r q n
   due_tick n (is_served green) =
       absurd (true≢false (sym (ap is_green green) ∙ callable_no_green s row q (callable_told s row q tick.few listed_q tick.called)))
   due_tick n (is_coming m most left coming) = coming_tick m n most left coming

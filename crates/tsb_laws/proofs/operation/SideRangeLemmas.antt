@@ -15,12 +15,15 @@ use Rattle.tsb_step.specs.tsb_ring.Rings.{Given}
 use Rattle.tsb_step.specs.tsb_ring.Wants.{is_targeted}
 use Rattle.tsb_step.specs.tsb_ring.Crossings.{begins, is_called_on, side_of_or, side_sought, target_side}
 use Rattle.tsb_step.specs.tsb_ring.Next.{completes, new_side, new_crossing, next as rings_next}
+use Rattle.tsb_step.specs.tsb_ring.GivenUp.{given_up}
+use Rattle.tsb_step.proofs.tsb_ring.GivenUpLemmas.{crossing_left, side_stays}
+use Rattle.tsb_step.proofs.GiveUpLemmas.{by_rings}
 use Rattle.tsb_step.proofs.tsb_ring.WantLemmas.{first-among}
 use Rattle.tsb_step.specs.tsb_transact.Commit.{forgets_last_phases}
 use Rattle.tsb_step.specs.declared.inputs.Input.{Input}
 use Rattle.tsb_step.specs.declared.inputs.Input.TheVariants as inputs
 use Rattle.tsb_step.specs.State.{State, restarted}
-use Rattle.tsb_step.specs.Tick.{rings_given, next}
+use Rattle.tsb_step.specs.Tick.{rings_given, next, target, after_moves}
 use Rattle.tsb_step.specs.Signs.{watched}
 use Rattle.tsb_step.specs.Step.{step}
 use Rattle.tsb_step.specs.Runs.{replay, AreTaken}
@@ -193,8 +196,18 @@ side_count_run plan (i ∷ is) = side_count_same (replay plan is) i ∙ side_cou
 at_start : (n : ℕ) → 1 ≤ n → AreSides n rings.power_up
 at_start n some = record { side = record { from_one = omega arith; within = some }; crossing = λ d e. absurd cc }
 
+sides_given : (n : ℕ) (plan : Plan) (target : Option (ℕ → Bool)) (s : rings.State) → AreSides n s → AreSides n (given_up plan target s)
+sides_given n plan target s was = record {
+  side = subst (IsSide n) (sym (side_stays plan target s)) was.side;
+  crossing = λ d e. (let all = crossing_left plan target s d e in was.crossing d (sym (ap (λ (x : rings.State). x.crossing) all) ∙ e));
+}
+
 sides_tick : (s : State) (row : Row) → IsGood s → AreSides s.plan.side_count s.rings → AreSides s.plan.side_count (next s row).rings
-sides_tick s row good was = sides_then s.plan s.rings (rings_given s row) good.plan.rules was
+sides_tick s row good was =
+    by_rings (AreSides s.plan.side_count) s row moved (sides_given s.plan.side_count s.plan (target s row) (after_moves s row).rings moved)
+  where
+    moved : AreSides s.plan.side_count (after_moves s row).rings
+    moved = sides_then s.plan s.rings (rings_given s row) good.plan.rules was
 
 sides_step : (s : State) (i : Input) → IsGood s → 1 ≤ s.plan.side_count → AreSides s.plan.side_count s.rings → AreSides s.plan.side_count (step s i).rings
 unfolding step watched

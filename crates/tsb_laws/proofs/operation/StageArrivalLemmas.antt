@@ -24,7 +24,7 @@ use Rattle.tsb_step.specs.tsb_ring.Moves.{is_started}
 use Rattle.tsb_step.specs.tsb_ring.Laws.{IsSymmetric, IsGiven, IsListed}
 use Rattle.tsb_step.proofs.tsb_ring.SoundLemmas.{after_tick, none_stays}
 use Rattle.tsb_step.specs.State.{State, interval}
-use Rattle.tsb_step.specs.Tick.{rings_given, moves, over, reverted, yellow_done, next}
+use Rattle.tsb_step.specs.Tick.{rings_given, moves, over, reverted, yellow_done, after_moves}
 use Rattle.tsb_step.proofs.GivenLemmas.{listed_is_phase, symmetric, given}
 use Rattle.tsb_step.proofs.IntervalLemmas.{intervals_after}
 use Rattle.tsb_step.proofs.TellLemmas.{is_in_green}
@@ -94,10 +94,10 @@ module _ (s : State) (row : Row) (list : ℕ → Bool) (n : ℕ) (x : Stays s ro
   is_start Ring2 p e =
       or_right (is p (starting s.plan s.rings (rings_given s row) Ring1)) (is p (starting s.plan s.rings (rings_given s row) Ring2)) (rw e (eq-eqb p p refl))
 
-  starts_lit : (r : Ring) (p : ℕ) → starting s.plan s.rings (rings_given s row) r ≡ Some p → is_green (interval (next s row) p) ≡ true
+  starts_lit : (r : Ring) (p : ℕ) → starting s.plan s.rings (rings_given s row) r ≡ Some p → is_green (interval (after_moves s row) p) ≡ true
   starts_lit r p e = ap is_green (started_green s row p (is_start r p e))
 
-  stays_lit : (p : ℕ) → list p ≡ true → is_green (interval s p) ≡ true → is_green (interval (next s row) p) ≡ true
+  stays_lit : (p : ℕ) → list p ≡ true → is_green (interval s p) ≡ true → is_green (interval (after_moves s row) p) ≡ true
   stays_lit p h lit =
       let green : interval s p ≡ Green = is_in_green (interval s p) lit in
       ap is_green (still_green s row p (green_no_start s row list n x p green) (wanted_stays s row list n x p h) green)
@@ -136,7 +136,7 @@ module _ (s : State) (row : Row) (list : ℕ → Bool) (n : ℕ) (x : Stays s ro
     }
 
     -- a crossing is completed
-    pub crossed : (d : ℕ) → s.rings.crossing ≡ Some d → IsRested (next s row).phases (next s row).rings
+    pub crossed : (d : ℕ) → s.rings.crossing ≡ Some d → IsRested (after_moves s row).phases (after_moves s row).rings
     unfolding moves rings_given rings_next
     crossed d way = record {
       outside = is_over s.plan s.rings (rings_given s row) (yellow_done s) even x.good.rings fair d way done;
@@ -147,7 +147,7 @@ module _ (s : State) (row : Row) (list : ℕ → Bool) (n : ℕ) (x : Stays s ro
         done : completes s.plan s.rings (rings_given s row) ≡ true
         done = completes_it s.plan s.rings (rings_given s row) (yellow_done s) even x.good.rings fair x.calm list due d way
 
-        greens : (p : ℕ) → in_service (interval (next s row) p) ≡ true → is_green (interval (next s row) p) ≡ true
+        greens : (p : ℕ) → in_service (interval (after_moves s row) p) ≡ true → is_green (interval (after_moves s row) p) ≡ true
         greens p h =
             elim (after_tick s.plan s.rings (rings_given s row) (yellow_done s) even x.good.rings fair p (sym (ap (λ (f : ℕ → Interval). in_service (f p)) (intervals_after s row)) ∙ h)) [
               | inl k ↦ elim k [ inl one ↦ starts_lit Ring1 p one | inr two ↦ starts_lit Ring2 p two ]
@@ -156,7 +156,7 @@ module _ (s : State) (row : Row) (list : ℕ → Bool) (n : ℕ) (x : Stays s ro
             ]
 
     -- with all that it leads to
-    pub crossed_green : IsCrossing s.plan list s.rings → AreGreen list s.plan (next s row).phases
+    pub crossed_green : IsCrossing s.plan list s.rings → AreGreen list s.plan (after_moves s row).phases
     unfolding moves rings_given
     crossed_green it p listed h =
         let own = it.all p listed h in
@@ -164,7 +164,7 @@ module _ (s : State) (row : Row) (list : ℕ → Bool) (n : ℕ) (x : Stays s ro
         (completes_it s.plan s.rings (rings_given s row) (yellow_done s) even x.good.rings fair x.calm list due it.way.0 it.way.1) own.1))
 
     -- what clears goes Red, where no crossing begins
-    pub rests : s.rings.crossing ≡ None → begins s.plan s.rings (rings_given s row) ≡ false → IsRested (next s row).phases (next s row).rings
+    pub rests : s.rings.crossing ≡ None → begins s.plan s.rings (rings_given s row) ≡ false → IsRested (after_moves s row).phases (after_moves s row).rings
     unfolding moves rings_given rings_next new_crossing completes
     rests out h = record {
       outside = rw (h, out) refl;
@@ -172,7 +172,7 @@ module _ (s : State) (row : Row) (list : ℕ → Bool) (n : ℕ) (x : Stays s ro
       greens = greens;
     }
       where
-        greens : (p : ℕ) → in_service (interval (next s row) p) ≡ true → is_green (interval (next s row) p) ≡ true
+        greens : (p : ℕ) → in_service (interval (after_moves s row) p) ≡ true → is_green (interval (after_moves s row) p) ≡ true
         greens p k =
             elim (after_tick s.plan s.rings (rings_given s row) (yellow_done s) even x.good.rings fair p (sym (ap (λ (f : ℕ → Interval). in_service (f p)) (intervals_after s row)) ∙ k)) [
               | inl l ↦ elim l [ inl one ↦ starts_lit Ring1 p one | inr two ↦ starts_lit Ring2 p two ]
@@ -189,7 +189,7 @@ module _ (s : State) (row : Row) (list : ℕ → Bool) (n : ℕ) (x : Stays s ro
     enabled p listed h = x.fits.enabled p (listed_is_phase s.plan p listed) h
 
     -- what is wanted starts, where nothing clears and no crossing begins
-    pub starts_all_wanted : IsRested s.phases s.rings → begins s.plan s.rings (rings_given s row) ≡ false → AreGreen list s.plan (next s row).phases
+    pub starts_all_wanted : IsRested s.phases s.rings → begins s.plan s.rings (rings_given s row) ≡ false → AreGreen list s.plan (after_moves s row).phases
     unfolding rings_given
     starts_all_wanted it h p listed k =
         let on : is_enabled s.plan p ≡ true = enabled p listed k in
@@ -201,14 +201,14 @@ module _ (s : State) (row : Row) (list : ℕ → Bool) (n : ℕ) (x : Stays s ro
         ]
 
     -- a crossing begins to what is wanted
-    pub sets_out : begins s.plan s.rings (rings_given s row) ≡ true → IsCrossing s.plan list (next s row).rings
+    pub sets_out : begins s.plan s.rings (rings_given s row) ≡ true → IsCrossing s.plan list (after_moves s row).rings
     unfolding moves rings_given rings_next new_crossing
     sets_out h = record {
       way = (target_side s.plan s.rings (rings_given s row), rw h refl);
       all = all;
     }
       where
-        all : (p : ℕ) → IsListed s.plan p → list p ≡ true → (r : Ring) × ((next s row).rings.commitment r ≡ Some p)
+        all : (p : ℕ) → IsListed s.plan p → list p ≡ true → (r : Ring) × ((after_moves s row).rings.commitment r ≡ Some p)
         all p listed k =
             let on : is_enabled s.plan p ≡ true = enabled p listed k in
             let own = ringed p listed on in (
@@ -238,12 +238,12 @@ module _ (s : State) (row : Row) (list : ℕ → Bool) (n : ℕ) (x : Stays s ro
   ends_dirty c d h = omega (arith, h)
 
   abbrev Nearer : ℕ → Type 0
-  Nearer d = AreGreen list s.plan (next s row).phases ⊎ Near t list s.plan (next s row).phases (next s row).rings (d - 1)
+  Nearer d = AreGreen list s.plan (after_moves s row).phases ⊎ Near t list s.plan (after_moves s row).phases (after_moves s row).rings (d - 1)
 
   over_tick : (d : ℕ) → IsClean t list s.phases s.rings 0 → 0 + 3 ≤ d → Nearer d
   over_tick d was time = go s.rings.crossing refl
     where
-      after : IsClean t list (next s row).phases (next s row).rings 0
+      after : IsClean t list (after_moves s row).phases (after_moves s row).rings 0
       after = clean_tick s row list n x t w 0 was
 
       by : s.rings.crossing ≡ None → (b : Bool) → begins s.plan s.rings (rings_given s row) ≡ b → Nearer d

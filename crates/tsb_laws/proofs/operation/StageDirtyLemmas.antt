@@ -18,7 +18,7 @@ use Rattle.tsb_step.proofs.tsb_ring.SoundLemmas.{new_commits}
 use Rattle.tsb_step.proofs.tsb_ring.StartLemmas.{after_in}
 use Rattle.tsb_step.proofs.tsb_ring.WaitLemmas.{is_serving}
 use Rattle.tsb_step.specs.State.{State, interval}
-use Rattle.tsb_step.specs.Tick.{rings_given, moves, over, reverted, ready, yellow_done, next}
+use Rattle.tsb_step.specs.Tick.{rings_given, moves, over, reverted, ready, yellow_done, after_moves}
 use Rattle.tsb_step.specs.TimeLaws.{IsSided}
 use Rattle.tsb_laws.specs.CrossingGreens.{IsCalm}
 use Rattle.tsb_step.proofs.GivenLemmas.{symmetric, given}
@@ -83,7 +83,7 @@ module _ (s : State) (row : Row) (list : ℕ → Bool) (n : ℕ) (x : Stays s ro
 
   module _ (k : ℕ) (r : Ring) (c : ℕ) (was : s.rings.commitment r ≡ Some c) (soon : StartsSoon t s.plan s.phases s.rings k r c) (none : starting s.plan s.rings (rings_given s row) r ≡ None) where
     -- a phase of the ring that is in service after the tick was so before, and clears
-    own_down : (p : ℕ) → in_service (interval (next s row) p) ≡ true → in_ring s.plan r p ≡ true → clear_of t (next s row).phases p ≤ k - 1
+    own_down : (p : ℕ) → in_service (interval (after_moves s row) p) ≡ true → in_ring s.plan r p ≡ true → clear_of t (after_moves s row).phases p ≤ k - 1
     unfolding moves rings_given
     own_down p serves own =
         elim (after_in s.plan s.rings (rings_given s row) (yellow_done s) even x.good.rings fair r p own (sym (ap (λ (f : ℕ → Interval). in_service (f p)) (intervals_after s row)) ∙ serves)) [
@@ -93,13 +93,13 @@ module _ (s : State) (row : Row) (list : ℕ → Bool) (n : ℕ) (x : Stays s ro
         ]
 
     bound_down : (q : Ring) (e : ℕ) → s.rings.commitment q ≡ Some e → is_started (moves s row) e ≡ false → revert_of t s.phases e ≤ k →
-        revert_of t (next s row).phases e ≤ k - 1
+        revert_of t (after_moves s row).phases e ≤ k - 1
     bound_down q e h no_start most =
-        less (revert_of t (next s row).phases e) (revert_of t s.phases e) k
+        less (revert_of t (after_moves s row).phases e) (revert_of t s.phases e) k
         (reverts_down s row e (t.yellow e) (t.revert e) (w.yellow e) (x.timed e)
         (dark_no_end s row list n x e (dark_is (interval s e) (promised_red s q e x.calm x.sided x.across h))) no_start) most
 
-    self_down : revert_of t (next s row).phases c ≤ k - 1
+    self_down : revert_of t (after_moves s row).phases c ≤ k - 1
     unfolding moves rings_given
     self_down =
         bound_down r c was
@@ -117,11 +117,11 @@ module _ (s : State) (row : Row) (list : ℕ → Bool) (n : ℕ) (x : Stays s ro
             left_over k h.0 at_it.1 (x.calm.bound r c h.0 was at_it.0) (sym (clipped_at (over s) s.plan h.0 x.few (x.good.rings.listed h.0 at_it.1)) ∙ h.2)
             (soon.own h.0 at_it.1 at_it.0)
 
-    stays_out : s.rings.crossing ≡ None → (d : ℕ) → (next s row).rings.crossing ≡ Some d → ⊥
+    stays_out : s.rings.crossing ≡ None → (d : ℕ) → (after_moves s row).rings.crossing ≡ Some d → ⊥
     unfolding rings_next
     stays_out out d h = let bad : None ≡ Some d = sym (stays_outside s.plan s.rings (rings_given s row) r c was out) ∙ h in absurd cc
 
-    outside_then : s.rings.crossing ≡ None → StartsSoon t s.plan (next s row).phases (next s row).rings (k - 1) r c
+    outside_then : s.rings.crossing ≡ None → StartsSoon t s.plan (after_moves s row).phases (after_moves s row).rings (k - 1) r c
     outside_then out = record {
       own = own_down;
       revert = self_down;
@@ -153,12 +153,12 @@ module _ (s : State) (row : Row) (list : ℕ → Bool) (n : ℕ) (x : Stays s ro
     no_start_across d way p =
         none_is_started s.plan s.rings (rings_given s row) (yellow_done s) even x.good.rings fair d way p (not_done d way)
 
-    stood : (d : ℕ) → s.rings.crossing ≡ Some d → (q : Ring) (e : ℕ) → (next s row).rings.commitment q ≡ Some e → s.rings.commitment q ≡ Some e
+    stood : (d : ℕ) → s.rings.crossing ≡ Some d → (q : Ring) (e : ℕ) → (after_moves s row).rings.commitment q ≡ Some e → s.rings.commitment q ≡ Some e
     unfolding moves rings_given rings_next
     stood d way q e h =
         sym (commitment_stays s.plan s.rings (rings_given s row) (yellow_done s) even x.good.rings fair d way q (not_done d way)) ∙ h
 
-    across_then : (d : ℕ) → s.rings.crossing ≡ Some d → StartsSoon t s.plan (next s row).phases (next s row).rings (k - 1) r c
+    across_then : (d : ℕ) → s.rings.crossing ≡ Some d → StartsSoon t s.plan (after_moves s row).phases (after_moves s row).rings (k - 1) r c
     across_then d way = record {
       own = own_down;
       revert = self_down;
@@ -166,19 +166,19 @@ module _ (s : State) (row : Row) (list : ℕ → Bool) (n : ℕ) (x : Stays s ro
       reverts = λ e there q f h. bound_down q f (stood d way q f h) (no_start_across d way f) (soon.reverts d way q f (stood d way q f h));
     }
 
-    soon_then : (1 ≤ k) × StartsSoon t s.plan (next s row).phases (next s row).rings (k - 1) r c
+    soon_then : (1 ≤ k) × StartsSoon t s.plan (after_moves s row).phases (after_moves s row).rings (k - 1) r c
     soon_then = go s.rings.crossing refl
       where
-        go : (o : Option ℕ) → s.rings.crossing ≡ o → (1 ≤ k) × StartsSoon t s.plan (next s row).phases (next s row).rings (k - 1) r c
+        go : (o : Option ℕ) → s.rings.crossing ≡ o → (1 ≤ k) × StartsSoon t s.plan (after_moves s row).phases (after_moves s row).rings (k - 1) r c
         go None e = (left_outside e, outside_then e)
         go (Some d) e = (left_across d e, across_then d e)
 
   -- no ring starts what it stays committed to
-  starts_none_then : (r : Ring) (c : ℕ) → (next s row).rings.commitment r ≡ Some c → starting s.plan s.rings (rings_given s row) r ≡ None
+  starts_none_then : (r : Ring) (c : ℕ) → (after_moves s row).rings.commitment r ≡ Some c → starting s.plan s.rings (rings_given s row) r ≡ None
   unfolding moves rings_given rings_next
   starts_none_then r c h = (new_commits s.plan s.rings (rings_given s row) (yellow_done s) even x.good.rings fair r c h).0
 
-  stood_unwanted : (r : Ring) (c : ℕ) → list c ≡ false → (next s row).rings.commitment r ≡ Some c → s.rings.commitment r ≡ Some c
+  stood_unwanted : (r : Ring) (c : ℕ) → list c ≡ false → (after_moves s row).rings.commitment r ≡ Some c → s.rings.commitment r ≡ Some c
   stood_unwanted r c out h =
       elim (binds s row list n x r c h) [
         | inl k ↦ absurd (true≢false (sym k ∙ out))
@@ -188,16 +188,16 @@ module _ (s : State) (row : Row) (list : ℕ → Bool) (n : ℕ) (x : Stays s ro
   -- ## In a tick after which there is time left
 
   pub dirty_tick : (k e : ℕ) → 1 ≤ e → IsDirty t list s.plan s.phases s.rings k e →
-      IsDirty t list s.plan (next s row).phases (next s row).rings (k - 1) (e - 1)
+      IsDirty t list s.plan (after_moves s row).phases (after_moves s row).rings (k - 1) (e - 1)
   dirty_tick k e some was = record {
     greens = λ p green out. greens p out (green_after s row p (ap is_green green));
     soon = λ r c h out. (soon r c h out).1;
     late = λ r c h out. later k t.green e (soon r c h out).0 (was.late r c (stood_unwanted r c out h) out);
-    reverts = λ p h. back (revert_of t (next s row).phases p) e t.clears some (wanted_reverts s row list n x t w (e + 1 + t.clears) p h (was.reverts p h));
+    reverts = λ p h. back (revert_of t (after_moves s row).phases p) e t.clears some (wanted_reverts s row list n x t w (e + 1 + t.clears) p h (was.reverts p h));
   }
     where
-      soon : (r : Ring) (c : ℕ) → (next s row).rings.commitment r ≡ Some c → list c ≡ false →
-          (1 ≤ k) × StartsSoon t s.plan (next s row).phases (next s row).rings (k - 1) r c
+      soon : (r : Ring) (c : ℕ) → (after_moves s row).rings.commitment r ≡ Some c → list c ≡ false →
+          (1 ≤ k) × StartsSoon t s.plan (after_moves s row).phases (after_moves s row).rings (k - 1) r c
       soon r c h out =
           soon_then k r c (stood_unwanted r c out h) (was.soon r c (stood_unwanted r c out h) out) (starts_none_then r c h)
 
@@ -211,13 +211,13 @@ module _ (s : State) (row : Row) (list : ℕ → Bool) (n : ℕ) (x : Stays s ro
       soon_green i g j l h o = omega (arith, h, o)
 
       greens : (p : ℕ) → list p ≡ false → (is_started (moves s row) p ≡ true) ⊎ ((interval s p ≡ Green) × (is_ended (moves s row) p ≡ false)) →
-          green_of t (next s row).phases p ≤ e - 1
+          green_of t (after_moves s row).phases p ≤ e - 1
       greens p out (inr both) =
-          less (green_of t (next s row).phases p) (green_of t s.phases p) e (unwanted_down s row list n x t w p out both.0 both.1) (was.greens p both.0 out)
+          less (green_of t (after_moves s row).phases p) (green_of t s.phases p) e (unwanted_down s row list n x t w p out both.0 both.1) (was.greens p both.0 out)
       greens p out (inl h) =
           elim (enters s row list n x p h) [
             | inl l ↦ absurd (true≢false (sym l ∙ out))
-            | inr c ↦ soon_green (green_of t (next s row).phases p) t.green k e (begun_green s row list n x t w p h) (was.late c.0 p c.1 out)
+            | inr c ↦ soon_green (green_of t (after_moves s row).phases p) t.green k e (begun_green s row list n x t w p h) (was.late c.0 p c.1 out)
           ]
 
   -- ## In the tick in which the last of them end
@@ -326,12 +326,12 @@ module _ (s : State) (row : Row) (list : ℕ → Bool) (n : ℕ) (x : Stays s ro
             | inr both ↦ crosses (begins s.plan s.rings (rings_given s row)) refl both.0 both.1
           ]
 
-    pub clean_from : IsClean t list (next s row).phases (next s row).rings t.clears
+    pub clean_from : IsClean t list (after_moves s row).phases (after_moves s row).rings t.clears
     clean_from = record {
       greens = λ p e. greens p (green_after s row p (ap is_green e));
       commits = λ r c e. commits r c (binds s row list n x r c e);
-      clears = λ p. clear_most t (next s row).phases p;
-      reverts = λ p h. one_less (revert_of t (next s row).phases p) t.clears (wanted_reverts s row list n x t w (0 + 1 + t.clears) p h (was.reverts p h));
+      clears = λ p. clear_most t (after_moves s row).phases p;
+      reverts = λ p h. one_less (revert_of t (after_moves s row).phases p) t.clears (wanted_reverts s row list n x t w (0 + 1 + t.clears) p h (was.reverts p h));
     }
       where
         one_less : (i c : ℕ) → i ≤ 0 + 1 + c - 1 → i ≤ c

@@ -20,18 +20,17 @@ use Rattle.tsb_step.specs.tsb_ring.Rings.{Ring}
 use Rattle.tsb_step.specs.tsb_ring.Moves.{is_ended, is_cleared, is_started}
 use Rattle.tsb_step.specs.tsb_ring.Laws.{IsListed, IsPairwiseConcurrent}
 use Rattle.tsb_step.specs.State.{State, interval}
-use Rattle.tsb_step.specs.Tick.{service, target, must_end, phases_given, phase_read, rings_given, moves, next}
+use Rattle.tsb_step.specs.Tick.{service, target, must_end, phases_given, phase_read, rings_given, moves, next, after_moves}
 use Rattle.tsb_step.specs.TimeLaws.{IsSided}
 use Rattle.tsb_step.specs.Good.{IsGood}
 use Rattle.tsb_step.proofs.IntervalLemmas.{ended_was_green}
-use Rattle.tsb_step.proofs.StandLemmas.{rings_then}
 use Rattle.tsb_step.proofs.TellLemmas.{starts_no_green}
 use Rattle.tsb_laws.specs.CrossingGreens.{IsCalm}
 use Rattle.tsb_laws.proofs.safety.EnabledLemmas.{AreEnabled}
 use Rattle.tsb_laws.proofs.operation.AcrossLemmas.{GoesAcross}
 use Rattle.tsb_laws.proofs.operation.GreenEndLemmas.{ends_unwanted, ended_by_some}
 use Rattle.tsb_laws.proofs.operation.PhaseTimeLemmas.{left, past, green_left, clearing_in, clearing_left, revert_in, revert_left, IsTimed, left_most, walking_most, past_most}
-use Rattle.tsb_laws.proofs.operation.PreemptEntryLemmas.{Asks, starts_own, commits_own, told, pairs}
+use Rattle.tsb_laws.proofs.operation.PreemptEntryLemmas.{Asks, starts_own, moves_own, told, pairs}
 
 -- ## Times that no plan in effect exceeds
 
@@ -108,6 +107,9 @@ pub revert_most : (t : Limits) (phases : ℕ → Phase) (p : ℕ) → revert_of 
 revert_most t phases p =
     sum_under _ _ _ _ (reverting_most (t.yellow p) (t.revert p) (phases p).timer (phases p).red_revert (phases p).interval)
     (first_under (t.yellow p) (t.red p) t.clears (t.clears_most p)) (t.reverts_most p)
+
+pub revert_sum : (t : Limits) (phases : ℕ → Phase) (p : ℕ) → revert_of t phases p ≤ t.yellow p + t.revert p
+revert_sum t phases p = reverting_most (t.yellow p) (t.revert p) (phases p).timer (phases p).red_revert (phases p).interval
 
 pub revert_dark : (t : Limits) (phases : ℕ → Phase) (p : ℕ) → in_service (phases p).interval ≡ false → revert_of t phases p ≤ t.clears
 revert_dark t phases p h =
@@ -192,9 +194,9 @@ module _ (s : State) (row : Row) (list : ℕ → Bool) (n : ℕ) (x : Stays s ro
       ]
 
   -- and so is what a ring commits to
-  pub binds : (r : Ring) (c : ℕ) → (next s row).rings.commitment r ≡ Some c → (list c ≡ true) ⊎ (s.rings.commitment r ≡ Some c)
+  pub binds : (r : Ring) (c : ℕ) → (after_moves s row).rings.commitment r ≡ Some c → (list c ≡ true) ⊎ (s.rings.commitment r ≡ Some c)
   binds r c h =
-      elim (commits_own s row x.good (record { list = list; is_target = x.asks }) r c x.dark (ap (λ (y : rings.State). y.commitment r) (rings_then s row x.dark) ∙ h)) [
+      elim (moves_own s row x.good (record { list = list; is_target = x.asks }) r c h) [
         | inl k ↦ inl (in_list c k)
         | inr k ↦ inr k
       ]

@@ -1,5 +1,5 @@
 -- A preempt that stays in a stage has all phases of it Green in time.
-use Rattle.std.proofs.Common.{◌≡◌, ℕ, ◌+◌, ◌-◌, ◌<◌, ◌≤◌, ◌==◌, Bool, true, false, ◌&&◌, if◌then◌else◌, max, List, [], ◌∷◌, ◌++◌, Option, Some, None, is_some, option_map, refl, sym, ap, subst, ◌∙◌, inl, inr, arith}
+use Rattle.std.proofs.Common.{◌≡◌, ℕ, ◌+◌, ◌-◌, ◌<◌, ◌≤◌, ◌==◌, Bool, true, false, ◌&&◌, if◌then◌else◌, max, List, [], ◌∷◌, ◌++◌, Option, Some, None, is_some, option_map, refl, sym, ap, subst, ◌∙◌, inl, inr, ◌⊎◌, arith}
 use Rattle.std.proofs.lemmas.Bool.{and_parts, eqb-true, true≢false, false≢true}
 use Rattle.tsb_step.specs.tsb_cells.Timer.{advanced}
 use Rattle.tsb_step.specs.tsb_types.declared.row.Row.{Row}
@@ -45,7 +45,7 @@ use Rattle.tsb_laws.specs.PreemptTurns.{place}
 use Rattle.tsb_laws.specs.PreemptStages.{is_in_stage, StageTakesAtMost, time_to_stage, ReachesStage, ReachesWithin}
 use Rattle.tsb_laws.proofs.safety.StretchLemmas.{dark_now, taken_before, IsSame, Goes, ticks, stays, goes}
 use Rattle.tsb_laws.proofs.safety.DueLemmas.{largest_now, largest_more, ring_same, count_run}
-use Rattle.tsb_laws.proofs.safety.EnabledLemmas.{enabled_run}
+use Rattle.tsb_laws.proofs.safety.EnabledLemmas.{enabled_next, enabled_run}
 use Rattle.tsb_laws.proofs.operation.AcrossLemmas.{across_run}
 use Rattle.tsb_laws.proofs.operation.CalmLemmas.{calm_run}
 use Rattle.tsb_laws.proofs.operation.PhaseTimeLemmas.{clearing_left, revert_left, green_left}
@@ -53,6 +53,7 @@ use Rattle.tsb_laws.proofs.operation.PreemptTurnLemmas.{service_then}
 use Rattle.tsb_laws.proofs.operation.StageFactLemmas.{Limits, Within, clear_of, revert_of, green_of, Stays, under}
 use Rattle.tsb_laws.proofs.operation.StageTickLemmas.{IsClean, StartsSoon, IsDirty}
 use Rattle.tsb_laws.proofs.operation.StageDirtyLemmas.{dirty_first}
+use Rattle.tsb_laws.proofs.operation.StageChoiceLemmas.{near_then}
 use Rattle.tsb_laws.proofs.operation.StageArrivalLemmas.{IsRested, IsCrossing, Near, dirty, clean, rested, crosses, AreGreen, all_are_green, nearer}
 use Rattle.tsb_laws.proofs.operation.PressedRunLemmas.{timed_run}
 
@@ -275,7 +276,7 @@ module _ (t : Limits) (plan : Plan) (base : List Input) (n : ℕ) where
   }
 
 -- it is near, or reached now, or was reached before: then what is said of it
-data Course (Done : List Input → Type 0) (t : Limits) (plan : Plan) (base : List Input) (n : ℕ) (stage : Stage) (limit : ℕ) (later : List Input) : Type 0 where
+pub data Course (Done : List Input → Type 0) (t : Limits) (plan : Plan) (base : List Input) (n : ℕ) (stage : Stage) (limit : ℕ) (later : List Input) : Type 0 where
   near : (d : ℕ) → Near t (stage_phases (replay plan (later ++ base)).plan n stage) (replay plan (later ++ base)).plan (replay plan (later ++ base)).phases
       (replay plan (later ++ base)).rings d → d + (replay plan (later ++ base)).now ≤ (replay plan base).now + limit → Course Done t plan base n stage limit later
   lit : AreGreen (stage_phases (replay plan (later ++ base)).plan n stage) (replay plan (later ++ base)).plan (replay plan (later ++ base)).phases →
@@ -328,6 +329,29 @@ module _ (s : State) (row : Row) (n : ℕ) (stage : Stage) (dark : s.trip ≡ No
       (subst (λ (f : ℕ → Phase). Near t (stage_phases (step s (Tick row)).plan n stage) (step s (Tick row)).plan f (next s row).rings d) (sym (phases_then s row dark))
       (subst (λ (y : Plan). Near t (stage_phases y n stage) y (next s row).phases (next s row).rings d) (sym (plan_stays s row)) h))
 
+-- after a tick in a stage its phases are Green, or they are near
+abbrev pub Arrives : Limits → Plan → List Input → ℕ → Stage → ℕ → Type 0
+Arrives t plan is n stage d =
+    AreGreen (stage_phases (replay plan is).plan n stage) (replay plan is).plan (replay plan is).phases
+    ⊎ Near t (stage_phases (replay plan is).plan n stage) (replay plan is).plan (replay plan is).phases (replay plan is).rings d
+
+pub arrives : (t : Limits) (plan : Plan) (is : List Input) (row : Row) (n : ℕ) (stage : Stage) → IsConsistent plan → plan.phase_count ≤ 16 → AreTaken plan is →
+    (replay plan is).trip ≡ None → is_in_stage n stage (replay plan (Tick row ∷ is)).preempts.service ≡ true → Within t (replay plan is).plan n → (d : ℕ) →
+    Near t (stage_phases (replay plan is).plan n stage) (replay plan is).plan (replay plan is).phases (replay plan is).rings d →
+    Arrives t plan (Tick row ∷ is) n stage (d - 1)
+arrives t plan is row n stage ok few taken dark held within d was =
+    elim (nearer s row (stage_phases s.plan n stage) n here t within d was) [
+      | inl green ↦ inl (then_lit s row n stage dark green)
+      | inr closer ↦ inr (then_near s row n stage dark t (d - 1)
+          (near_then t (stage_phases s.plan n stage) s row (d - 1) here.asks (enabled_next s row here.good here.on).promised closer))
+    ]
+  where
+    s : State
+    s = replay plan is
+
+    here : Stays s row (stage_phases s.plan n stage) n
+    here = stays_at plan is row n stage ok few taken dark held
+
 module _ (Done : List Input → Type 0) (t : Limits) (plan : Plan) (base : List Input) (n : ℕ) (stage : Stage) (limit : ℕ) (ok : IsConsistent plan) (few : plan.phase_count ≤ 16)
     (more : (i : Input) (later : List Input) → Done later → Done (i ∷ later))
     (passes : (row : Row) (later : List Input) → AreTaken plan (later ++ base) → (replay plan (later ++ base)).trip ≡ None →
@@ -363,10 +387,9 @@ module _ (Done : List Input → Type 0) (t : Limits) (plan : Plan) (base : List 
   ticked row later taken dark before held cover (done h) = done (more (Tick row) later h)
   ticked row later taken dark before held cover (lit h time) = done (passes row later taken dark before held h time)
   ticked row later taken dark before held cover (near d was time) =
-      elim (nearer s row (stage_phases s.plan n stage) n (stays_at plan (later ++ base) row n stage ok few taken dark held) t (covers_now t plan base n later cover) d was) [
-        | inl green ↦ lit (then_lit s row n stage dark green) (soon (step s (Tick row)).now s.now d ((replay plan base).now + limit) (one_later s row) some time)
-        | inr closer ↦ near (d - 1) (then_near s row n stage dark t (d - 1) closer)
-            (later_on (step s (Tick row)).now s.now d ((replay plan base).now + limit) (one_later s row) some time)
+      elim (arrives t plan (later ++ base) row n stage ok few taken dark held (covers_now t plan base n later cover) d was) [
+        | inl green ↦ lit green (soon (step s (Tick row)).now s.now d ((replay plan base).now + limit) (one_later s row) some time)
+        | inr closer ↦ near (d - 1) closer (later_on (step s (Tick row)).now s.now d ((replay plan base).now + limit) (one_later s row) some time)
       ]
     where
       s : State
@@ -375,7 +398,7 @@ module _ (Done : List Input → Type 0) (t : Limits) (plan : Plan) (base : List 
       some : 1 ≤ d
       some = near_some t (stage_phases s.plan n stage) s.plan s.phases s.rings d was
 
-  one_on : (i : Input) (later : List Input) → AreTaken plan (i ∷ (later ++ base)) → (replay plan (later ++ base)).trip ≡ None →
+  pub one_on : (i : Input) (later : List Input) → AreTaken plan (i ∷ (later ++ base)) → (replay plan (later ++ base)).trip ≡ None →
       is_in_stage n stage (replay plan (later ++ base)).preempts.service ≡ true →
       is_in_stage n stage (replay plan (i ∷ (later ++ base))).preempts.service ≡ true → Covers t plan base n later →
       Course Done t plan base n stage limit later → Course Done t plan base n stage limit (i ∷ later)
@@ -387,7 +410,7 @@ module _ (Done : List Input → Type 0) (t : Limits) (plan : Plan) (base : List 
           (ticked row later taken.0 dark before (subst (λ (j : Input). is_in_stage n stage (replay plan (j ∷ (later ++ base))).preempts.service ≡ true) e now) cover was)
       go (stays none same) = still i later taken dark before none same was
 
-  held_now : (later : List Input) → has_held_since (λ s. is_in_stage n stage s.preempts.service) plan base later ≡ true →
+  pub held_now : (later : List Input) → has_held_since (λ s. is_in_stage n stage s.preempts.service) plan base later ≡ true →
       is_in_stage n stage (replay plan (later ++ base)).preempts.service ≡ true
   held_now [] h = h
   held_now (i ∷ later) h =
@@ -444,7 +467,7 @@ module _ (plan : Plan) (base later : List Input) (n g w c : ℕ) (ok : IsConsist
   past : (a m : ℕ) → a < m → a ≤ m
   past a m h = omega (arith, h)
 
-one_more : (plan : Plan) (base : List Input) (n : ℕ) (stage : Stage) (limit : ℕ) (i : Input) (later : List Input) → ReachesStage plan base n stage limit later →
+pub one_more : (plan : Plan) (base : List Input) (n : ℕ) (stage : Stage) (limit : ℕ) (i : Input) (later : List Input) → ReachesStage plan base n stage limit later →
     ReachesStage plan base n stage limit (i ∷ later)
 one_more plan base n stage limit i later x = record {
   older = x.older;
@@ -454,7 +477,7 @@ one_more plan base n stage limit i later x = record {
   in_time = x.in_time;
 }
 
-reached_now : (plan : Plan) (base : List Input) (n : ℕ) (stage : Stage) (limit : ℕ) (later : List Input) →
+pub reached_now : (plan : Plan) (base : List Input) (n : ℕ) (stage : Stage) (limit : ℕ) (later : List Input) →
     AreGreen (stage_phases (replay plan (later ++ base)).plan n stage) (replay plan (later ++ base)).plan (replay plan (later ++ base)).phases →
     (replay plan (later ++ base)).now ≤ (replay plan base).now + limit → ReachesStage plan base n stage limit later
 reached_now plan base n stage limit later h time = record {

@@ -31,8 +31,8 @@ use Rattle.tsb_laws.proofs.safety.StretchLemmas.{dark_now, taken_before, IsSame,
 use Rattle.tsb_laws.proofs.safety.DueLemmas.{largest_now, largest_more, not_reached}
 use Rattle.tsb_laws.proofs.operation.PreemptTurnLemmas.{before_it, may_begin_it, service_then, service_lit, gives_way}
 use Rattle.tsb_laws.proofs.operation.StageFactLemmas.{Limits}
-use Rattle.tsb_laws.proofs.operation.StageArrivalLemmas.{Near, AreGreen, all_are_green, nearer}
-use Rattle.tsb_laws.proofs.operation.StageRunLemmas.{read, same_place, stays_at, list_same, IsLike, near_like, near_some, Covers, covers_before, covers_now, so_late, soon, later_on, is_there, like_at, lit_like, then_lit, then_near, limits, covered, near_first}
+use Rattle.tsb_laws.proofs.operation.StageArrivalLemmas.{Near, AreGreen, all_are_green}
+use Rattle.tsb_laws.proofs.operation.StageRunLemmas.{read, same_place, list_same, IsLike, near_like, near_some, Covers, covers_before, covers_now, so_late, soon, later_on, is_there, like_at, lit_like, Arrives, arrives, limits, covered, near_first}
 
 -- ## The service
 
@@ -134,7 +134,7 @@ tracks s row n x dark e was now = go (preempts.beginning s.plan (preempts_given 
 -- ## Along a stretch
 
 -- how far it is: on the way to the track phases, with these Green, with the stage timer running, or on the way to the dwell phases
-data Way (plan : Plan) (base : List Input) (n : ℕ) (t : Limits) (green b limit : ℕ) (later : List Input) : Type 0 where
+pub data Way (plan : Plan) (base : List Input) (n : ℕ) (t : Limits) (green b limit : ℕ) (later : List Input) : Type 0 where
   to_track : is_in_stage n Track (replay plan (later ++ base)).preempts.service ≡ true → (d : ℕ) →
       Near t (stage_phases (replay plan (later ++ base)).plan n Track) (replay plan (later ++ base)).plan (replay plan (later ++ base)).phases
       (replay plan (later ++ base)).rings d → d + green + b + (replay plan (later ++ base)).now ≤ (replay plan base).now + limit →
@@ -193,9 +193,11 @@ runs_from Off true h = (0, refl)
 runs_from Off false h = absurd (false≢true h)
 runs_from (On m) a h = (m + 1, refl)
 
-module _ (plan : Plan) (base : List Input) (n : ℕ) (t : Limits) (green b limit : ℕ) (ok : IsConsistent plan) (few : plan.phase_count ≤ 16)
-    (near_dwell : (is : List Input) → AreTaken plan is →
-    Near t (stage_phases (replay plan is).plan n Dwell) (replay plan is).plan (replay plan is).phases (replay plan is).rings b) where
+-- `enters`: in the tick in which its dwell begins it comes near its dwell phases, while a test holds
+module _ (plan : Plan) (base : List Input) (n : ℕ) (t : Limits) (green b limit : ℕ) (ok : IsConsistent plan) (few : plan.phase_count ≤ 16) (holds : State → Bool) (long : 1 ≤ b)
+    (enters : (row : Row) (later : List Input) → AreTaken plan (later ++ base) → (replay plan (later ++ base)).trip ≡ None →
+    is_in_stage n Dwell (replay plan (Tick row ∷ (later ++ base))).preempts.service ≡ true → holds (replay plan (Tick row ∷ (later ++ base))) ≡ true →
+    Covers t plan base n later → Arrives t plan (Tick row ∷ (later ++ base)) n Dwell (b - 1)) where
   more : (i : Input) (later : List Input) → ReachesDwell plan base n limit later → ReachesDwell plan base n limit (i ∷ later)
   more i later x = record {
     older = x.older;
@@ -207,33 +209,37 @@ module _ (plan : Plan) (base : List Input) (n : ℕ) (t : Limits) (green b limit
 
   -- ## A tick
 
+  come : (u : State) → is_in_stage n Dwell u.preempts.service ≡ true → AreGreen (stage_phases u.plan n Dwell) u.plan u.phases → has_arrived n u ≡ true
+  come u held h = rw (is_dwelling_in n u.preempts.service held) (all_are_green (stage_phases u.plan n Dwell) u.plan u.phases h)
+
+  dwell_by : (row : Row) (later : List Input) → is_in_stage n Dwell (replay plan (Tick row ∷ (later ++ base))).preempts.service ≡ true → (d : ℕ) → 1 ≤ d →
+      Arrives t plan (Tick row ∷ (later ++ base)) n Dwell (d - 1) → d + (replay plan (later ++ base)).now ≤ (replay plan base).now + limit →
+      Way plan base n t green b limit (Tick row ∷ later)
+  dwell_by row later held d some comes time = go comes
+    where
+      s : State
+      s = replay plan (later ++ base)
+
+      go : Arrives t plan (Tick row ∷ (later ++ base)) n Dwell (d - 1) → Way plan base n t green b limit (Tick row ∷ later)
+      go (inl lit) = arrived (record {
+        older = Tick row ∷ later;
+        newer = [];
+        parts = refl;
+        arrived = come (step s (Tick row)) held lit;
+        in_time = soon (step s (Tick row)).now s.now d ((replay plan base).now + limit) (one_later s row) some time;
+      })
+      go (inr closer) = to_dwell held (d - 1) closer (later_on (step s (Tick row)).now s.now d ((replay plan base).now + limit) (one_later s row) some time)
+
   dwell_tick : (row : Row) (later : List Input) → AreTaken plan (later ++ base) → (replay plan (later ++ base)).trip ≡ None →
       is_in_stage n Dwell (replay plan (Tick row ∷ (later ++ base))).preempts.service ≡ true → Covers t plan base n later → (d : ℕ) →
       Near t (stage_phases (replay plan (later ++ base)).plan n Dwell) (replay plan (later ++ base)).plan (replay plan (later ++ base)).phases
       (replay plan (later ++ base)).rings d → d + (replay plan (later ++ base)).now ≤ (replay plan base).now + limit → Way plan base n t green b limit (Tick row ∷ later)
   dwell_tick row later taken dark held cover d was time =
-      elim (nearer s row (stage_phases s.plan n Dwell) n (stays_at plan (later ++ base) row n Dwell ok few taken dark held) t (covers_now t plan base n later cover) d was) [
-        | inl lit ↦ arrived (record {
-          older = Tick row ∷ later;
-          newer = [];
-          parts = refl;
-          arrived = there (then_lit s row n Dwell dark lit);
-          in_time = soon (step s (Tick row)).now s.now d ((replay plan base).now + limit) (one_later s row) some time;
-        })
-        | inr closer ↦ to_dwell held (d - 1) (then_near s row n Dwell dark t (d - 1) closer)
-            (later_on (step s (Tick row)).now s.now d ((replay plan base).now + limit) (one_later s row) some time)
-      ]
+      dwell_by row later held d (near_some t (stage_phases s.plan n Dwell) s.plan s.phases s.rings d was)
+      (arrives t plan (later ++ base) row n Dwell ok few taken dark held (covers_now t plan base n later cover) d was) time
     where
       s : State
       s = replay plan (later ++ base)
-
-      some : 1 ≤ d
-      some = near_some t (stage_phases s.plan n Dwell) s.plan s.phases s.rings d was
-
-      there : AreGreen (stage_phases (step s (Tick row)).plan n Dwell) (step s (Tick row)).plan (step s (Tick row)).phases → has_arrived n (step s (Tick row)) ≡ true
-      there h =
-          rw (is_dwelling_in n (step s (Tick row)).preempts.service held)
-          (all_are_green (stage_phases (step s (Tick row)).plan n Dwell) (step s (Tick row)).plan (step s (Tick row)).phases h)
 
   track_tick : (row : Row) (later : List Input) → AreTaken plan (later ++ base) → (replay plan (later ++ base)).trip ≡ None →
       is_in_stage n Track (replay plan (Tick row ∷ (later ++ base))).preempts.service ≡ true → Covers t plan base n later → (d : ℕ) →
@@ -241,10 +247,9 @@ module _ (plan : Plan) (base : List Input) (n : ℕ) (t : Limits) (green b limit
       (replay plan (later ++ base)).rings d → d + green + b + (replay plan (later ++ base)).now ≤ (replay plan base).now + limit →
       Way plan base n t green b limit (Tick row ∷ later)
   track_tick row later taken dark held cover d was time =
-      elim (nearer s row (stage_phases s.plan n Track) n (stays_at plan (later ++ base) row n Track ok few taken dark held) t (covers_now t plan base n later cover) d was) [
-        | inl lit ↦ in_track held (then_lit s row n Track dark lit) (first (step s (Tick row)).now s.now d green b ((replay plan base).now + limit) (one_later s row) some time)
-        | inr closer ↦ to_track held (d - 1) (then_near s row n Track dark t (d - 1) closer)
-            (second (step s (Tick row)).now s.now d green b ((replay plan base).now + limit) (one_later s row) some time)
+      elim (arrives t plan (later ++ base) row n Track ok few taken dark held (covers_now t plan base n later cover) d was) [
+        | inl lit ↦ in_track held lit (first (step s (Tick row)).now s.now d green b ((replay plan base).now + limit) (one_later s row) some time)
+        | inr closer ↦ to_track held (d - 1) closer (second (step s (Tick row)).now s.now d green b ((replay plan base).now + limit) (one_later s row) some time)
       ]
     where
       s : State
@@ -288,28 +293,29 @@ module _ (plan : Plan) (base : List Input) (n : ℕ) (t : Limits) (green b limit
   ticked : (row : Row) (later : List Input) → AreTaken plan (later ++ base) → (replay plan (later ++ base)).trip ≡ None →
       (is_in_stage n Track (replay plan (Tick row ∷ (later ++ base))).preempts.service ≡ true)
       ⊎ (is_in_stage n Dwell (replay plan (Tick row ∷ (later ++ base))).preempts.service ≡ true) → Covers t plan base n later →
-      track_green (replay plan (later ++ base)).plan n ≤ green → Way plan base n t green b limit later → Way plan base n t green b limit (Tick row ∷ later)
-  ticked row later taken dark held cover most (arrived x) = arrived (more (Tick row) later x)
-  ticked row later taken dark (inr held) cover most (to_dwell was d near time) = dwell_tick row later taken dark held cover d near time
-  ticked row later taken dark (inl held) cover most (to_dwell was d near time) = absurd (dwell_stays (replay plan (later ++ base)) row n was held)
-  ticked row later taken dark (inl held) cover most (to_track was d near time) = track_tick row later taken dark held cover d near time
-  ticked row later taken dark (inr held) cover most (to_track was d near time) =
-      dwell_tick row later taken dark held cover b (near_dwell (later ++ base) taken) (enough d green b (replay plan (later ++ base)).now ((replay plan base).now + limit) time)
+      track_green (replay plan (later ++ base)).plan n ≤ green → holds (replay plan (Tick row ∷ (later ++ base))) ≡ true → Way plan base n t green b limit later →
+      Way plan base n t green b limit (Tick row ∷ later)
+  ticked row later taken dark held cover most on (arrived x) = arrived (more (Tick row) later x)
+  ticked row later taken dark (inr held) cover most on (to_dwell was d near time) = dwell_tick row later taken dark held cover d near time
+  ticked row later taken dark (inl held) cover most on (to_dwell was d near time) = absurd (dwell_stays (replay plan (later ++ base)) row n was held)
+  ticked row later taken dark (inl held) cover most on (to_track was d near time) = track_tick row later taken dark held cover d near time
+  ticked row later taken dark (inr held) cover most on (to_track was d near time) =
+      dwell_by row later held b long (enters row later taken dark held on cover) (enough d green b (replay plan (later ++ base)).now ((replay plan base).now + limit) time)
     where
       enough : (d g c i m : ℕ) → d + g + c + i ≤ m → c + i ≤ m
       enough d g c i m h = omega (arith, h)
-  ticked row later taken dark (inr held) cover most (in_track was lit time) =
-      dwell_tick row later taken dark held cover b (near_dwell (later ++ base) taken) (enough green b (replay plan (later ++ base)).now ((replay plan base).now + limit) time)
+  ticked row later taken dark (inr held) cover most on (in_track was lit time) =
+      dwell_by row later held b long (enters row later taken dark held on cover) (enough green b (replay plan (later ++ base)).now ((replay plan base).now + limit) time)
     where
       enough : (g c i m : ℕ) → g + c + i ≤ m → c + i ≤ m
       enough g c i m h = omega (arith, h)
-  ticked row later taken dark (inr held) cover most (timed x e was k timer time) =
-      dwell_tick row later taken dark held cover b (near_dwell (later ++ base) taken)
+  ticked row later taken dark (inr held) cover most on (timed x e was k timer time) =
+      dwell_by row later held b long (enters row later taken dark held on cover)
       (enough (green - (k + 1)) b (replay plan (later ++ base)).now ((replay plan base).now + limit) time)
     where
       enough : (g c i m : ℕ) → g + c + i ≤ m → c + i ≤ m
       enough g c i m h = omega (arith, h)
-  ticked row later taken dark (inl held) cover most (in_track was lit time) = go s.preempts.service refl was
+  ticked row later taken dark (inl held) cover most on (in_track was lit time) = go s.preempts.service refl was
     where
       s : State
       s = replay plan (later ++ base)
@@ -325,7 +331,7 @@ module _ (plan : Plan) (base : List Input) (n : ℕ) (t : Limits) (green b limit
           ap (λ (m : ℕ). all_green s.plan (interval s) (is_track_phase s.plan m)) number ∙ all_are_green (stage_phases s.plan n Track) s.plan s.phases lit in
           let runs = runs_from x.stage_timer (all_green s.plan (interval s) (is_track_phase s.plan x.preempt)) all in
           timer_tick row later dark x e h held most runs.0 runs.1 (waits green b s.now ((replay plan base).now + limit) runs.0 time)
-  ticked row later taken dark (inl held) cover most (timed x e was k timer time) =
+  ticked row later taken dark (inl held) cover most on (timed x e was k timer time) =
       timer_tick row later dark x e was held most (k + 1) goes (waits green b s.now ((replay plan base).now + limit) k time)
     where
       s : State
@@ -377,6 +383,10 @@ module _ (plan : Plan) (base : List Input) (n : ℕ) (t : Limits) (green b limit
       go (in_track h lit time) = in_track (held_on Track h) (lit_on Track h lit) (late (green + b) time)
       go (timed x e h k timer time) = timed x (service_same s i dark none ∙ e) h k timer (late (green - (k + 1) + b) time)
 
+  on_parts : (i : Input) (later : List Input) → has_held_since holds plan base (i ∷ later) ≡ true →
+      (holds (replay plan (i ∷ (later ++ base))) ≡ true) × (has_held_since holds plan base later ≡ true)
+  on_parts i later on = and_parts (holds (replay plan (i ∷ (later ++ base)))) (has_held_since holds plan base later) on
+
   held_parts : (i : Input) (later : List Input) → has_held_since (λ s. is_served n s.preempts.service) plan base (i ∷ later) ≡ true →
       (is_served n (replay plan (i ∷ (later ++ base))).preempts.service ≡ true) × (has_held_since (λ s. is_served n s.preempts.service) plan base later ≡ true)
   held_parts i later held =
@@ -398,8 +408,8 @@ module _ (plan : Plan) (base : List Input) (n : ℕ) (t : Limits) (green b limit
   one_on : (i : Input) (later : List Input) → AreTaken plan (i ∷ (later ++ base)) → IsUntripped plan base (i ∷ later) → Covers t plan base n (i ∷ later) →
       largest (λ x. track_green x n) plan base (i ∷ later) ≤ green →
       (is_served n (replay plan (i ∷ (later ++ base))).preempts.service ≡ true) × (has_held_since (λ s. is_served n s.preempts.service) plan base later ≡ true) →
-      Way plan base n t green b limit later → Way plan base n t green b limit (i ∷ later)
-  one_on i later taken dark cover most held was = go (goes (replay plan (later ++ base)) i dark_before)
+      holds (replay plan (i ∷ (later ++ base))) ≡ true → Way plan base n t green b limit later → Way plan base n t green b limit (i ∷ later)
+  one_on i later taken dark cover most held on was = go (goes (replay plan (later ++ base)) i dark_before)
     where
       dark_before : (replay plan (later ++ base)).trip ≡ None
       dark_before = dark_now plan base later dark.0
@@ -410,18 +420,22 @@ module _ (plan : Plan) (base : List Input) (n : ℕ) (t : Limits) (green b limit
           (ticked row later taken.0 dark_before
           (served_in n (replay plan (Tick row ∷ (later ++ base))).preempts.service
           (subst (λ (j : Input). is_served n (replay plan (j ∷ (later ++ base))).preempts.service ≡ true) e held.0)) (covers_before t plan base n i later cover)
-          (track_now later (track_before i later most)) was)
+          (track_now later (track_before i later most)) (subst (λ (j : Input). holds (replay plan (j ∷ (later ++ base))) ≡ true) e on) was)
       go (stays none same) = still i later taken dark_before none same was
 
-  way : (later : List Input) → AreTaken plan (later ++ base) → IsUntripped plan base later →
-      has_held_since (λ s. is_served n s.preempts.service) plan base later ≡ true → Covers t plan base n later →
+  pub way : (later : List Input) → AreTaken plan (later ++ base) → IsUntripped plan base later →
+      has_held_since (λ s. is_served n s.preempts.service) plan base later ≡ true → has_held_since holds plan base later ≡ true → Covers t plan base n later →
       largest (λ x. track_green x n) plan base later ≤ green → Way plan base n t green b limit [] → Way plan base n t green b limit later
-  way [] taken dark held cover most first = first
-  way (i ∷ later) taken dark held cover most first =
-      one_on i later taken dark cover most (held_parts i later held)
-      (way later taken.0 dark.0 (held_parts i later held).1 (covers_before t plan base n i later cover) (track_before i later most) first)
+  way [] taken dark held on cover most first = first
+  way (i ∷ later) taken dark held on cover most first =
+      one_on i later taken dark cover most (held_parts i later held) (on_parts i later on).0
+      (way later taken.0 dark.0 (held_parts i later held).1 (on_parts i later on).1 (covers_before t plan base n i later cover) (track_before i later most) first)
 
 -- ## The law
+
+always : (plan : Plan) (base later : List Input) → has_held_since (λ (s : State). true) plan base later ≡ true
+always plan base [] = refl
+always plan base (i ∷ later) = always plan base later
 
 pub dwells_reached : (plan : Plan) (is later : List Input) (row : Row) (n g w c t limit : ℕ) → IsConsistent plan → plan.phase_count ≤ 16 →
     AreTaken plan (later ++ (Tick row ∷ is)) → IsUntripped plan (Tick row ∷ is) later → BeginsService plan is row n →
@@ -429,7 +443,8 @@ pub dwells_reached : (plan : Plan) (is later : List Input) (row : Row) (n g w c 
     largest (λ x. track_green x n) plan (Tick row ∷ is) later ≤ t → limit ≡ time_to_dwell (has_track (replay plan is).plan n) g w c t →
     ReachesDwell plan (Tick row ∷ is) n limit later ⊎ ((replay plan (later ++ (Tick row ∷ is))).now < (replay plan (Tick row ∷ is)).now + limit)
 dwells_reached plan is later row n g w c t limit ok few taken dark begins held most green time =
-    go (way plan base n bounds t b limit ok few near_dwell later taken dark held (covered plan base later n g w c ok most) green (first (has_track (replay plan is).plan n) refl))
+    go (way plan base n bounds t b limit ok few (λ (s : State). true) some enters later taken dark held (always plan base later) (covered plan base later n g w c ok most) green
+    (first (has_track (replay plan is).plan n) refl))
   where
     base : List Input
     base = Tick row ∷ is
@@ -446,6 +461,12 @@ dwells_reached plan is later row n g w c t limit ok few taken dark begins held m
     near_dwell : (l : List Input) → AreTaken plan l →
         Near bounds (stage_phases (replay plan l).plan n Dwell) (replay plan l).plan (replay plan l).phases (replay plan l).rings b
     near_dwell l h = near_first plan base later n g w c ok most l Dwell h
+
+    enters : (row : Row) (l : List Input) → AreTaken plan (l ++ base) → (replay plan (l ++ base)).trip ≡ None →
+        is_in_stage n Dwell (replay plan (Tick row ∷ (l ++ base))).preempts.service ≡ true → true ≡ true → Covers bounds plan base n l →
+        Arrives bounds plan (Tick row ∷ (l ++ base)) n Dwell (b - 1)
+    enters row l h unlit on k cover =
+        arrives bounds plan (l ++ base) row n Dwell ok few h unlit on (covers_now bounds plan base n l cover) b (near_dwell (l ++ base) h)
 
     starts : (stage : Stage) → (if has_track (replay plan is).plan n then Track else Dwell) ≡ stage →
         is_in_stage n stage (replay plan (Tick row ∷ is)).preempts.service ≡ true

@@ -12,7 +12,7 @@ use Rattle.tsb_step.specs.tsb_ring.Rings as rings
 use Rattle.tsb_step.specs.tsb_ring.Rings.{Ring, in_ring}
 use Rattle.tsb_step.specs.tsb_ring.Moves.{is_ended, is_started}
 use Rattle.tsb_step.specs.State.{State, interval}
-use Rattle.tsb_step.specs.Tick.{phases_given, moves, next}
+use Rattle.tsb_step.specs.Tick.{phases_given, moves, after_moves}
 use Rattle.tsb_step.proofs.TellLemmas.{is_in_green}
 use Rattle.tsb_laws.proofs.operation.PhaseTimeLemmas.{clears_at, reverts_at, clears_down, reverts_down, greens_down, begun_left}
 use Rattle.tsb_laws.proofs.operation.StageFactLemmas.{Limits, Within, clear_of, revert_of, green_of, Stays, green_after, started_green, still_green, wanted_stays, enters, binds, green_no_start, ends_it}
@@ -46,31 +46,31 @@ pub record IsDirty (t : Limits) (list : ℕ → Bool) (plan : Plan) (phases : �
 
 module _ (s : State) (row : Row) (list : ℕ → Bool) (n : ℕ) (x : Stays s row list n) (t : Limits) (w : Within t s.plan n) where
   -- what is wanted reverts
-  pub wanted_reverts : (m p : ℕ) → list p ≡ true → revert_of t s.phases p ≤ m → revert_of t (next s row).phases p ≤ m - 1
+  pub wanted_reverts : (m p : ℕ) → list p ≡ true → revert_of t s.phases p ≤ m → revert_of t (after_moves s row).phases p ≤ m - 1
   wanted_reverts m p h was = go (is_started (moves s row) p) refl
     where
-      go : (b : Bool) → is_started (moves s row) p ≡ b → revert_of t (next s row).phases p ≤ m - 1
+      go : (b : Bool) → is_started (moves s row) p ≡ b → revert_of t (after_moves s row).phases p ≤ m - 1
       go true e =
-          reverts_at (t.yellow p) (t.revert p) (m - 1) ((next s row).phases p).timer ((next s row).phases p).timer ((next s row).phases p).red_revert
-          ((next s row).phases p).red_revert (interval (next s row) p) Green refl refl (started_green s row p e) (omega arith)
+          reverts_at (t.yellow p) (t.revert p) (m - 1) ((after_moves s row).phases p).timer ((after_moves s row).phases p).timer ((after_moves s row).phases p).red_revert
+          ((after_moves s row).phases p).red_revert (interval (after_moves s row) p) Green refl refl (started_green s row p e) (omega arith)
       go false e =
-          less (revert_of t (next s row).phases p) (revert_of t s.phases p) m
+          less (revert_of t (after_moves s row).phases p) (revert_of t s.phases p) m
           (reverts_down s row p (t.yellow p) (t.revert p) (w.yellow p) (x.timed p) (wanted_stays s row list n x p h) e) was
 
   -- what is not Green clears, unless it starts
   pub dark_clears : (m p : ℕ) → is_green (interval s p) ≡ false → is_started (moves s row) p ≡ false → clear_of t s.phases p ≤ m →
-      clear_of t (next s row).phases p ≤ m - 1
+      clear_of t (after_moves s row).phases p ≤ m - 1
   dark_clears m p dark no_start was =
-      less (clear_of t (next s row).phases p) (clear_of t s.phases p) m
+      less (clear_of t (after_moves s row).phases p) (clear_of t s.phases p) m
       (clears_down s row p (t.yellow p) (t.red p) (w.yellow p) (x.timed p) dark no_start) was
 
-  pub green_clears : (m p : ℕ) → interval (next s row) p ≡ Green → clear_of t (next s row).phases p ≤ m
+  pub green_clears : (m p : ℕ) → interval (after_moves s row) p ≡ Green → clear_of t (after_moves s row).phases p ≤ m
   green_clears m p now =
-      clears_at (t.yellow p) (t.red p) m ((next s row).phases p).timer ((next s row).phases p).timer (interval (next s row) p) Green refl now (omega arith)
+      clears_at (t.yellow p) (t.red p) m ((after_moves s row).phases p).timer ((after_moves s row).phases p).timer (interval (after_moves s row) p) Green refl now (omega arith)
 
   -- ## Only what is wanted
 
-  pub clean_tick : (m : ℕ) → IsClean t list s.phases s.rings m → IsClean t list (next s row).phases (next s row).rings (m - 1)
+  pub clean_tick : (m : ℕ) → IsClean t list s.phases s.rings m → IsClean t list (after_moves s row).phases (after_moves s row).rings (m - 1)
   clean_tick m was = record {
     greens = λ p e. greens p (green_after s row p (ap is_green e));
     commits = λ r c e. commits r c (binds s row list n x r c e);
@@ -90,7 +90,7 @@ module _ (s : State) (row : Row) (list : ℕ → Bool) (n : ℕ) (x : Stays s ro
       commits r c (inl h) = h
       commits r c (inr h) = was.commits r c h
 
-      clears : (p : ℕ) (a b : Bool) → is_started (moves s row) p ≡ a → is_green (interval s p) ≡ b → clear_of t (next s row).phases p ≤ m - 1
+      clears : (p : ℕ) (a b : Bool) → is_started (moves s row) p ≡ a → is_green (interval s p) ≡ b → clear_of t (after_moves s row).phases p ≤ m - 1
       clears p true b e k = green_clears (m - 1) p (started_green s row p e)
       clears p false true e k =
           let green : interval s p ≡ Green = is_in_green (interval s p) k in
@@ -100,17 +100,17 @@ module _ (s : State) (row : Row) (list : ℕ → Bool) (n : ℕ) (x : Stays s ro
   -- ## A green that is not wanted
 
   -- one that has just started
-  begun_dark : (p : ℕ) → is_started (moves s row) p ≡ true → ((next s row).phases p).pedestrian ≡ DontWalk
+  begun_dark : (p : ℕ) → is_started (moves s row) p ≡ true → ((after_moves s row).phases p).pedestrian ≡ DontWalk
   unfolding phases_given
   begun_dark p e = rw (e, x.serves, and-false) refl
 
-  pub begun_green : (p : ℕ) → is_started (moves s row) p ≡ true → green_of t (next s row).phases p ≤ t.green - 1
+  pub begun_green : (p : ℕ) → is_started (moves s row) p ≡ true → green_of t (after_moves s row).phases p ≤ t.green - 1
   begun_green p e =
-      begun_left ((next s row).phases p) t.green (t.walk p) (t.clearance p) (rw e refl) (begun_dark p e)
+      begun_left ((after_moves s row).phases p) t.green (t.walk p) (t.clearance p) (rw e refl) (begun_dark p e)
 
   -- one that goes on
   pub unwanted_down : (p : ℕ) → list p ≡ false → interval s p ≡ Green → is_ended (moves s row) p ≡ false →
-      green_of t (next s row).phases p ≤ green_of t s.phases p - 1
+      green_of t (after_moves s row).phases p ≤ green_of t s.phases p - 1
   unwanted_down p out green no_end =
       greens_down s row p n t.green (t.walk p) (t.clearance p) (ends_it s row list n x p (x.good.rings.listed p (ap in_service green)) out)
       (w.walk p) (w.clearance p) (x.timed p) green no_end (green_no_start s row list n x p green)

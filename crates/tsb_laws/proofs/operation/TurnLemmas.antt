@@ -1,5 +1,5 @@
 -- A called phase that is still to come on the side that is served comes in time: along a run.
-use Rattle.std.proofs.Common.{◌≡◌, ℕ, ◌+◌, ◌≤◌, Bool, true, false, ◌&&◌, List, [], ◌∷◌, ◌++◌, Option, Some, None, is_some, refl, sym, ap, subst, ◌∙◌, inl, inr, ◌⊎◌, arith}
+use Rattle.std.proofs.Common.{◌≡◌, ℕ, ◌+◌, ◌≤◌, Bool, true, false, ◌&&◌, List, [], ◌∷◌, ◌++◌, Option, Some, None, is_some, is_none, refl, sym, ap, subst, ◌∙◌, inl, inr, ◌⊎◌, arith}
 use Rattle.std.proofs.lemmas.Bool.{cases_Bool, and_parts, or_cases, true≢false, false≢true}
 use Rattle.tsb_step.specs.tsb_types.declared.interval.Interval.TheVariants.{Green}
 use Rattle.tsb_step.specs.tsb_types.declared.row.Row.{Row}
@@ -18,7 +18,7 @@ use Rattle.tsb_step.specs.declared.inputs.Input.{Input}
 use Rattle.tsb_step.specs.declared.inputs.Input.TheVariants as inputs
 use Rattle.tsb_step.specs.declared.inputs.Input.TheVariants.{Tick}
 use Rattle.tsb_step.specs.State.{State, interval}
-use Rattle.tsb_step.specs.Tick.{calls_given, set, callable, rings_given, next}
+use Rattle.tsb_step.specs.Tick.{service, runs, calls_given, set, callable, rings_given, after_moves}
 use Rattle.tsb_step.specs.Step.{step}
 use Rattle.tsb_step.specs.Runs.{replay, AreTaken}
 use Rattle.tsb_step.specs.Laws.{IsConsistent}
@@ -26,6 +26,7 @@ use Rattle.tsb_step.specs.Good.{IsGood}
 use Rattle.tsb_step.specs.TimeLaws.{is_tick}
 use Rattle.tsb_step.proofs.ClearLemmas.{phases_then, one_later, plan_stays}
 use Rattle.tsb_step.proofs.GivenLemmas.{enabled_is_listed}
+use Rattle.tsb_step.proofs.GiveUpLemmas.{keeps_rings, gives_none_unserved}
 use Rattle.tsb_step.proofs.GoodLemmas.{good_run}
 use Rattle.tsb_step.proofs.LeaveLemmas.{others_leave}
 use Rattle.tsb_step.proofs.SideRunLemmas.{sided_run}
@@ -72,12 +73,12 @@ pub record IsKeptBy (s after : State) : Type 0 where
 same_phase : (x y : Phase) → y ≡ x → y ≡ record x { forced = y.forced }
 same_phase x y e = e ∙ ap (λ (b : Bool). record x { forced = b }) (sym (ap (λ (z : Phase). z.forced) e))
 
--- what the tick makes of them, where the controller has not tripped
-pub kept_then : (s : State) (row : Row) → s.trip ≡ None → IsKeptBy (next s row) (step s (Tick row))
-kept_then s row dark = record {
+-- what the moves of a tick make of them, where the controller has not tripped and no preempt is in service
+pub kept_then : (s : State) (row : Row) → s.trip ≡ None → is_free s row ≡ true → IsKeptBy (after_moves s row) (step s (Tick row))
+kept_then s row dark free = record {
   plan = plan_stays s row;
-  rings = rings_then s row dark;
-  phase = λ p. same_phase ((next s row).phases p) ((step s (Tick row)).phases p) (ap (λ (f : ℕ → Phase). f p) (phases_then s row dark));
+  rings = rings_then s row dark ∙ keeps_rings s row (gives_none_unserved s row (and_parts (is_none (service s row)) (is_none (runs s)) free).0);
+  phase = λ p. same_phase ((after_moves s row).phases p) ((step s (Tick row)).phases p) (ap (λ (f : ℕ → Phase). f p) (phases_then s row dark));
 }
 
 reset_is : (s : State) → s.trip ≡ None → step s inputs.Reset ≡ s
@@ -284,8 +285,8 @@ module _ (plan : Plan) (base : List Input) (r : Ring) (q k h : ℕ) (ok : IsCons
       clock : (replay plan (Tick row ∷ (later ++ base))).now ≡ (replay plan (later ++ base)).now + 1
       clock = one_later (replay plan (later ++ base)) row
 
-      kept : IsKeptBy (next (replay plan (later ++ base)) row) (step (replay plan (later ++ base)) (Tick row))
-      kept = kept_then (replay plan (later ++ base)) row dark
+      kept : IsKeptBy (after_moves (replay plan (later ++ base)) row) (step (replay plan (later ++ base)) (Tick row))
+      kept = kept_then (replay plan (later ++ base)) row dark both.1
 
       fair : (replay plan (later ++ base)).rings.crossing ≡ None → IsFairTick (replay plan (later ++ base)) row
       fair outside = record {
@@ -300,13 +301,13 @@ module _ (plan : Plan) (base : List Input) (r : Ring) (q k h : ℕ) (ok : IsCons
         outside = outside;
       }
 
-      further : (n : ℕ) → (replay plan (later ++ base)).now + n ≤ (replay plan base).now + limit → Comes k (next (replay plan (later ++ base)) row) r q n → Stage limit (Tick row ∷ later)
+      further : (n : ℕ) → (replay plan (later ++ base)).now + n ≤ (replay plan base).now + limit → Comes k (after_moves (replay plan (later ++ base)) row) r q n → Stage limit (Tick row ∷ later)
       further n in_time (served green some) =
           arrived (at_next (replay plan (later ++ base)) row q dark ∙ green) (omega (arith, clock, in_time, some))
       further n in_time (comes m less left coming) =
           under_way m
-          (left_stays k (next (replay plan (later ++ base)) row) (step (replay plan (later ++ base)) (Tick row)) r kept m left)
-          (coming_stays k (next (replay plan (later ++ base)) row) (step (replay plan (later ++ base)) (Tick row)) r kept q coming)
+          (left_stays k (after_moves (replay plan (later ++ base)) row) (step (replay plan (later ++ base)) (Tick row)) r kept m left)
+          (coming_stays k (after_moves (replay plan (later ++ base)) row) (step (replay plan (later ++ base)) (Tick row)) r kept q coming)
           (omega (arith, clock, in_time, less))
 
       go : Stage limit later → Stage limit (Tick row ∷ later)

@@ -25,7 +25,7 @@ use Rattle.tsb_step.proofs.tsb_ring.MoveLemmas.{ends_ready}
 use Rattle.tsb_step.proofs.tsb_ring.WaitLemmas.{first-passes, is_serving}
 use Rattle.tsb_step.proofs.tsb_ring.WantLemmas.{first-among}
 use Rattle.tsb_step.specs.State.{State, interval}
-use Rattle.tsb_step.specs.Tick.{new_service, service, runs, callable, conflict, over, reverted, ready, rings_given, moves, yellow_done, next}
+use Rattle.tsb_step.specs.Tick.{new_service, service, runs, callable, conflict, over, reverted, ready, rings_given, moves, yellow_done, after_moves}
 use Rattle.tsb_step.specs.Good.{IsGood}
 use Rattle.tsb_step.specs.TimeLaws.{IsSided}
 use Rattle.tsb_step.proofs.GivenLemmas.{listed_is_phase, enabled_is_listed, lists_ring, symmetric, given}
@@ -255,7 +255,7 @@ module _ (s : State) (row : Row) (tick : IsFairTick s row) where
       not_started s.plan s.rings (rings_given s row) (yellow_done s) (symmetric s.plan good.plan.rules) good.rings (given s row good)
       (callable_no_green s row) calm r p own none
 
-  pub starts_it : (r : Ring) (p : ℕ) → starting s.plan s.rings (rings_given s row) r ≡ Some p → interval (next s row) p ≡ Green
+  pub starts_it : (r : Ring) (p : ℕ) → starting s.plan s.rings (rings_given s row) r ≡ Some p → interval (after_moves s row) p ≡ Green
   unfolding moves
   starts_it r p e = let on_it : is_started (moves s row) p ≡ true = started_by s.plan s.rings (rings_given s row) r p e in rw on_it refl
 
@@ -310,7 +310,7 @@ module _ (s : State) (row : Row) (tick : IsFairTick s row) where
 
     bound_tick : (c m n : ℕ) → s.rings.commitment r ≡ Some c → ((p : ℕ) → in_ring s.plan r p ≡ true → clear_left s.plan p (s.phases p) ≤ m) →
         back_left s.plan c (s.phases c) ≤ m → turns s.plan k s.rings.side (later (Some c) (order s.plan r)) + longest_green s.plan c + m + 1 ≤ n →
-        IsComing s r q → Comes k (next s row) r q n
+        IsComing s r q → Comes k (after_moves s row) r q n
     bound_tick c m n e clears reverts all coming =
         elim (starts_or_waits s.plan s.rings (rings_given s row) fair r c e) [
           | inl start ↦ starts start
@@ -326,17 +326,17 @@ module _ (s : State) (row : Row) (tick : IsFairTick s row) where
         listed_c : IsListed s.plan c
         listed_c = (good.rings.owned r c e).1
 
-        beside_then : side_of s.plan q ≡ (next s row).rings.side
+        beside_then : side_of s.plan q ≡ (after_moves s row).rings.side
         beside_then = here ∙ sym (stays_beside s.plan s.rings (rings_given s row) fair none)
 
         sums : (d : ℕ) (o : Option ℕ) → d ≡ s.rings.side → o ≡ Some c →
             turns s.plan k d (later o (order s.plan r)) ≡ turns s.plan k s.rings.side (later (Some c) (order s.plan r))
         sums d o same is = rw (same, is) refl
 
-        starts : starting s.plan s.rings (rings_given s row) r ≡ Some c → Comes k (next s row) r q n
+        starts : starting s.plan s.rings (rings_given s row) r ≡ Some c → Comes k (after_moves s row) r q n
         starts start =
             elim coming.ahead [
-              | inl mine ↦ (let same : c ≡ q = cc in served (ap (λ (x : ℕ). interval (next s row) x) (sym same) ∙ green) (omega (arith, all)))
+              | inl mine ↦ (let same : c ≡ q = cc in served (ap (λ (x : ℕ). interval (after_moves s row) x) (sym same) ∙ green) (omega (arith, all)))
               | inr there ↦ comes (turns s.plan k s.rings.side (later (Some c) (order s.plan r)) + longest_green s.plan c) (omega (arith, all))
                   (serving_green c promise own_c green (omega (arith, same_sums, most)))
                   (record {
@@ -347,22 +347,22 @@ module _ (s : State) (row : Row) (tick : IsFairTick s row) where
                   })
             ]
           where
-            green : interval (next s row) c ≡ Green
+            green : interval (after_moves s row) c ≡ Green
             green = starts_it r c start
 
-            promise : (next s row).rings.commitment r ≡ None
+            promise : (after_moves s row).rings.commitment r ≡ None
             promise = promise_kept s.plan s.rings (rings_given s row) fair none r c start
 
-            last : (next s row).rings.last r ≡ Some c
+            last : (after_moves s row).rings.last r ≡ Some c
             last = last_started s.plan s.rings (rings_given s row) fair none r c start
 
-            same_sums : turns s.plan k (next s row).rings.side (later ((next s row).rings.last r) (order s.plan r)) ≡ turns s.plan k s.rings.side (later (Some c) (order s.plan r))
-            same_sums = sums (next s row).rings.side ((next s row).rings.last r) (stays_beside s.plan s.rings (rings_given s row) fair none) last
+            same_sums : turns s.plan k (after_moves s row).rings.side (later ((after_moves s row).rings.last r) (order s.plan r)) ≡ turns s.plan k s.rings.side (later (Some c) (order s.plan r))
+            same_sums = sums (after_moves s row).rings.side ((after_moves s row).rings.last r) (stays_beside s.plan s.rings (rings_given s row) fair none) last
 
-            most : green_left s.plan c ((next s row).phases c) ≤ longest_green s.plan c
-            most = green_most s.plan c ((next s row).phases c)
+            most : green_left s.plan c ((after_moves s row).phases c) ≤ longest_green s.plan c
+            most = green_most s.plan c ((after_moves s row).phases c)
 
-        waits : starting s.plan s.rings (rings_given s row) r ≡ None → Delays s.plan s.rings (rings_given s row) fair r c → Comes k (next s row) r q n
+        waits : starting s.plan s.rings (rings_given s row) r ≡ None → Delays s.plan s.rings (rings_given s row) fair r c → Comes k (after_moves s row) r q n
         waits start delay =
             comes (n - 1) (omega (arith, all))
             (committed c (m - 1) promise less_clear less_back (omega (arith, all, some, same_sums)))
@@ -373,18 +373,18 @@ module _ (s : State) (row : Row) (tick : IsFairTick s row) where
               ahead = still coming.ahead;
             })
           where
-            promise : (next s row).rings.commitment r ≡ Some c
+            promise : (after_moves s row).rings.commitment r ≡ Some c
             promise = promise_stays s.plan s.rings (rings_given s row) fair none r c start e
 
-            same_sums : turns s.plan k (next s row).rings.side (later (Some c) (order s.plan r)) ≡ turns s.plan k s.rings.side (later (Some c) (order s.plan r))
-            same_sums = sums (next s row).rings.side (Some c) (stays_beside s.plan s.rings (rings_given s row) fair none) refl
+            same_sums : turns s.plan k (after_moves s row).rings.side (later (Some c) (order s.plan r)) ≡ turns s.plan k s.rings.side (later (Some c) (order s.plan r))
+            same_sums = sums (after_moves s row).rings.side (Some c) (stays_beside s.plan s.rings (rings_given s row) fair none) refl
 
             still : ((s.rings.commitment r ≡ Some q) ⊎ (among q (still_to_come s r) ≡ true)) →
-                ((next s row).rings.commitment r ≡ Some q) ⊎ (among q (still_to_come (next s row) r) ≡ true)
+                ((after_moves s row).rings.commitment r ≡ Some q) ⊎ (among q (still_to_come (after_moves s row) r) ≡ true)
             still (inl mine) = inl (promise ∙ sym e ∙ mine)
             still (inr there) = inr (rw promise (rw e at there))
 
-            less_clear : (p : ℕ) → in_ring s.plan r p ≡ true → clear_left s.plan p ((next s row).phases p) ≤ m - 1
+            less_clear : (p : ℕ) → in_ring s.plan r p ≡ true → clear_left s.plan p ((after_moves s row).phases p) ≤ m - 1
             less_clear p own_p =
                 let down = clears_down s row p (yellow_change s.plan p) (red_clear s.plan p) (omega arith) (timed p) (calm.bound r c p e own_p) (starts_nothing r p own_p start) in
                 let was = clears p own_p in
@@ -393,7 +393,7 @@ module _ (s : State) (row : Row) (tick : IsFairTick s row) where
             dark_c : in_service (interval s c) ≡ false
             dark_c = calm.fresh outside r c e
 
-            less_back : back_left s.plan c ((next s row).phases c) ≤ m - 1
+            less_back : back_left s.plan c ((after_moves s row).phases c) ≤ m - 1
             less_back =
                 let down = reverts_down s row c (yellow_change s.plan c) (red_revert s.plan c) (omega arith) (timed c) (ends_none c (dark_is (interval s c) dark_c))
                 (starts_nothing r c own_c start) in
@@ -418,7 +418,7 @@ module _ (s : State) (row : Row) (tick : IsFairTick s row) where
 
     green_tick : (p n h : ℕ) → TurnsTakeAtMost s.plan k h → s.rings.commitment r ≡ None → in_ring s.plan r p ≡ true → interval s p ≡ Green →
         turns s.plan k s.rings.side (later (s.rings.last r) (order s.plan r)) + green_left s.plan p (s.phases p) ≤ n →
-        IsComing s r q → Comes k (next s row) r q n
+        IsComing s r q → Comes k (after_moves s row) r q n
     green_tick p n h takes e own_p green all coming = go (ready s row p) refl
       where
         serves_p : in_service (interval s p) ≡ true
@@ -448,26 +448,26 @@ module _ (s : State) (row : Row) (tick : IsFairTick s row) where
         start : starting s.plan s.rings (rings_given s row) r ≡ None
         start = starts_none s.plan s.rings (rings_given s row) fair r p e at_it
 
-        beside_then : side_of s.plan q ≡ (next s row).rings.side
+        beside_then : side_of s.plan q ≡ (after_moves s row).rings.side
         beside_then = here ∙ sym (stays_beside s.plan s.rings (rings_given s row) fair none)
 
-        outside_then : (next s row).rings.crossing ≡ None
+        outside_then : (after_moves s row).rings.crossing ≡ None
         outside_then = stays_outside s.plan s.rings (rings_given s row) fair none
 
-        last_then : (next s row).rings.last r ≡ s.rings.last r
+        last_then : (after_moves s row).rings.last r ≡ s.rings.last r
         last_then = last_stays s.plan s.rings (rings_given s row) fair none r start
 
-        promise_then : (next s row).rings.commitment r ≡ pick s.plan s.rings (rings_given s row) r
+        promise_then : (after_moves s row).rings.commitment r ≡ pick s.plan s.rings (rings_given s row) r
         promise_then = promise_made s.plan s.rings (rings_given s row) fair none r p start e at_it
 
-        side_then : (next s row).rings.side ≡ s.rings.side
+        side_then : (after_moves s row).rings.side ≡ s.rings.side
         side_then = stays_beside s.plan s.rings (rings_given s row) fair none
 
         ready_is : (b : Bool) → ready s row p ≡ b → (rings_given s row).ready p ≡ b
         ready_is b h = told_ready p listed_p ∙ h
 
         -- it ends, and the ring commits to the phase that it wants
-        ends : ready s row p ≡ true → Comes k (next s row) r q n
+        ends : ready s row p ≡ true → Comes k (after_moves s row) r q n
         ends h =
             comes (turns s.plan k s.rings.side (later (Some it.one) (order s.plan r)) + longest_green s.plan it.one + k + 1) (omega (arith, all, less))
             (committed it.one k promise clears reverts (omega (arith, same_sums)))
@@ -476,15 +476,15 @@ module _ (s : State) (row : Row) (tick : IsFairTick s row) where
             less : turn s.plan k it.one + turns s.plan k s.rings.side (later (Some it.one) (order s.plan r)) ≤ turns s.plan k s.rings.side (later (s.rings.last r) (order s.plan r))
             less = turns_of_it.less
 
-            promise : (next s row).rings.commitment r ≡ Some it.one
+            promise : (after_moves s row).rings.commitment r ≡ Some it.one
             promise = promise_then ∙ picks_green s.plan s.rings (rings_given s row) fair r p it.one true at_it it.wanted (ready_is true h)
 
-            same_sums : turns s.plan k (next s row).rings.side (later (Some it.one) (order s.plan r)) ≡ turns s.plan k s.rings.side (later (Some it.one) (order s.plan r))
+            same_sums : turns s.plan k (after_moves s row).rings.side (later (Some it.one) (order s.plan r)) ≡ turns s.plan k s.rings.side (later (Some it.one) (order s.plan r))
             same_sums = ap (λ (d : ℕ). turns s.plan k d (later (Some it.one) (order s.plan r))) side_then
 
-            clears : (x : ℕ) → in_ring s.plan r x ≡ true → clear_left s.plan x ((next s row).phases x) ≤ k
+            clears : (x : ℕ) → in_ring s.plan r x ≡ true → clear_left s.plan x ((after_moves s row).phases x) ≤ k
             clears x own_x =
-                let most = clear_most s.plan x ((next s row).phases x) in let limit = takes.clearance x in omega (arith, most, limit)
+                let most = clear_most s.plan x ((after_moves s row).phases x) in let limit = takes.clearance x in omega (arith, most, limit)
 
             dark_c : in_service (interval s it.one) ≡ false
             dark_c = go (in_service (interval s it.one)) refl
@@ -495,33 +495,33 @@ module _ (s : State) (row : Row) (tick : IsFairTick s row) where
                     let same : it.one ≡ p = good.rings.alone r it.one p turns_of_it.ringed own_p f serves_p in
                     absurd (true≢false (sym (ap is_green green) ∙ ap (λ (x : ℕ). is_green (interval s x)) (sym same) ∙ callable_no_green s row it.one turns_of_it.called_too))
 
-            red_then : interval (next s row) it.one ≡ Red
+            red_then : interval (after_moves s row) it.one ≡ Red
             red_then =
                 let red : interval s it.one ≡ Red = is-red (interval s it.one) dark_c in
                 let no_start : is_started (moves s row) it.one ≡ false = starts_nothing r it.one turns_of_it.ringed start in
                 rw (no_start, red) refl
 
-            reverts : back_left s.plan it.one ((next s row).phases it.one) ≤ k
-            reverts = let most = back_most s.plan it.one ((next s row).phases it.one) red_then in let limit = takes.revert it.one in omega (arith, most, limit)
+            reverts : back_left s.plan it.one ((after_moves s row).phases it.one) ≤ k
+            reverts = let most = back_most s.plan it.one ((after_moves s row).phases it.one) red_then in let limit = takes.revert it.one in omega (arith, most, limit)
 
             next_is : (it.one ≡ q) ⊎ (among q (later (Some it.one) (order s.plan r)) ≡ true) →
-                ((next s row).rings.commitment r ≡ Some q) ⊎ (among q (still_to_come (next s row) r) ≡ true)
+                ((after_moves s row).rings.commitment r ≡ Some q) ⊎ (among q (still_to_come (after_moves s row) r) ≡ true)
             next_is (inl same) = inl (promise ∙ ap Some same)
             next_is (inr rest) = inr (rw promise rest)
 
         -- it goes on
-        stays : ready s row p ≡ false → Comes k (next s row) r q n
+        stays : ready s row p ≡ false → Comes k (after_moves s row) r q n
         stays h =
             comes (n - 1) (omega (arith, all, some))
             (serving_green p promise own_p green_then (omega (arith, all, some, down, same_sums)))
             (record { ringed = own; beside = beside_then; outside = outside_then; ahead = inr (rw (promise, last_then) there) })
           where
-            promise : (next s row).rings.commitment r ≡ None
+            promise : (after_moves s row).rings.commitment r ≡ None
             promise = promise_then ∙ picks_green s.plan s.rings (rings_given s row) fair r p it.one false at_it it.wanted (ready_is false h)
 
-            same_sums : turns s.plan k (next s row).rings.side (later ((next s row).rings.last r) (order s.plan r))
+            same_sums : turns s.plan k (after_moves s row).rings.side (later ((after_moves s row).rings.last r) (order s.plan r))
                 ≡ turns s.plan k s.rings.side (later (s.rings.last r) (order s.plan r))
-            same_sums = ap (λ (d : ℕ). turns s.plan k d (later ((next s row).rings.last r) (order s.plan r))) side_then
+            same_sums = ap (λ (d : ℕ). turns s.plan k d (later ((after_moves s row).rings.last r) (order s.plan r))) side_then
                 ∙ ap (λ (o : Option ℕ). turns s.plan k s.rings.side (later o (order s.plan r))) last_then
 
             no_start : is_started (moves s row) p ≡ false
@@ -530,7 +530,7 @@ module _ (s : State) (row : Row) (tick : IsFairTick s row) where
             no_end : is_ended (moves s row) p ≡ false
             no_end = false_from_ne_true _ (λ f. true≢false (sym (ended_ready p f) ∙ ready_is false h))
 
-            green_then : interval (next s row) p ≡ Green
+            green_then : interval (after_moves s row) p ≡ Green
             green_then = rw (no_start, green, no_end) refl
 
             pressed : conflict s row p ≡ true
@@ -539,7 +539,7 @@ module _ (s : State) (row : Row) (tick : IsFairTick s row) where
             one : is_phase p ≡ true
             one = is_one s.plan p few listed_p
 
-            down : green_left s.plan p ((next s row).phases p) ≤ green_left s.plan p (s.phases p) - 1
+            down : green_left s.plan p ((after_moves s row).phases p) ≤ green_left s.plan p (s.phases p) - 1
             down =
                 presses_down s row p one pressed free (longest_maximum s.plan p) (longest_initial s.plan p) (walk s.plan p) (pedestrian_clear s.plan p) (omega arith) (omega arith)
                 (timed p) green no_end no_start
@@ -549,7 +549,7 @@ module _ (s : State) (row : Row) (tick : IsFairTick s row) where
                 not_ready_yet s row p one pressed free (longest_maximum s.plan p) (longest_initial s.plan p) (walk s.plan p) (pedestrian_clear s.plan p) (omega arith) (omega arith)
                 (omega arith) (omega arith) (timed p) green h
 
-        go : (b : Bool) → ready s row p ≡ b → Comes k (next s row) r q n
+        go : (b : Bool) → ready s row p ≡ b → Comes k (after_moves s row) r q n
         go true h = ends h
         go false h = stays h
 
@@ -557,7 +557,7 @@ module _ (s : State) (row : Row) (tick : IsFairTick s row) where
 
     idle_tick : (m n : ℕ) → s.rings.commitment r ≡ None → ((p : ℕ) → in_ring s.plan r p ≡ true → in_service (interval s p) ≡ false) →
         ((p : ℕ) → in_ring s.plan r p ≡ true → back_left s.plan p (s.phases p) ≤ m) →
-        turns s.plan k s.rings.side (later (s.rings.last r) (order s.plan r)) + m ≤ n → IsComing s r q → Comes k (next s row) r q n
+        turns s.plan k s.rings.side (later (s.rings.last r) (order s.plan r)) + m ≤ n → IsComing s r q → Comes k (after_moves s row) r q n
     idle_tick m n e dark reverts all coming = go (reverted s it.one) refl
       where
         at_none : serving s.plan (rings_given s row) r ≡ None
@@ -581,13 +581,13 @@ module _ (s : State) (row : Row) (tick : IsFairTick s row) where
         none : begins s.plan s.rings (rings_given s row) ≡ false
         none = none_begins s.plan s.rings (rings_given s row) fair r it.one it.wanted idle_or_green
 
-        beside_then : side_of s.plan q ≡ (next s row).rings.side
+        beside_then : side_of s.plan q ≡ (after_moves s row).rings.side
         beside_then = here ∙ sym (stays_beside s.plan s.rings (rings_given s row) fair none)
 
-        outside_then : (next s row).rings.crossing ≡ None
+        outside_then : (after_moves s row).rings.crossing ≡ None
         outside_then = stays_outside s.plan s.rings (rings_given s row) fair none
 
-        side_then : (next s row).rings.side ≡ s.rings.side
+        side_then : (after_moves s row).rings.side ≡ s.rings.side
         side_then = stays_beside s.plan s.rings (rings_given s row) fair none
 
         start_is : starting s.plan s.rings (rings_given s row) r ≡ pick s.plan s.rings (rings_given s row) r
@@ -600,10 +600,10 @@ module _ (s : State) (row : Row) (tick : IsFairTick s row) where
         reverted_is b h = told_reverted it.one listed_c ∙ h
 
         -- it starts the phase that it wants
-        starts : reverted s it.one ≡ true → Comes k (next s row) r q n
+        starts : reverted s it.one ≡ true → Comes k (after_moves s row) r q n
         starts h =
             elim turns_of_it.coming [
-              | inl same ↦ served (ap (λ (x : ℕ). interval (next s row) x) (sym same) ∙ green) (omega (arith, all, less))
+              | inl same ↦ served (ap (λ (x : ℕ). interval (after_moves s row) x) (sym same) ∙ green) (omega (arith, all, less))
               | inr rest ↦ comes (turns s.plan k s.rings.side (later (Some it.one) (order s.plan r)) + longest_green s.plan it.one) (omega (arith, all, less))
                   (serving_green it.one promise turns_of_it.ringed green (omega (arith, same_sums, most)))
                   (record { ringed = own; beside = beside_then; outside = outside_then; ahead = inr (rw (promise, last) rest) })
@@ -612,25 +612,25 @@ module _ (s : State) (row : Row) (tick : IsFairTick s row) where
             start : starting s.plan s.rings (rings_given s row) r ≡ Some it.one
             start = start_is ∙ picks_idle s.plan s.rings (rings_given s row) fair r it.one true at_none it.wanted (reverted_is true h)
 
-            green : interval (next s row) it.one ≡ Green
+            green : interval (after_moves s row) it.one ≡ Green
             green = starts_it r it.one start
 
-            promise : (next s row).rings.commitment r ≡ None
+            promise : (after_moves s row).rings.commitment r ≡ None
             promise = promise_kept s.plan s.rings (rings_given s row) fair none r it.one start
 
-            last : (next s row).rings.last r ≡ Some it.one
+            last : (after_moves s row).rings.last r ≡ Some it.one
             last = last_started s.plan s.rings (rings_given s row) fair none r it.one start
 
-            same_sums : turns s.plan k (next s row).rings.side (later ((next s row).rings.last r) (order s.plan r))
+            same_sums : turns s.plan k (after_moves s row).rings.side (later ((after_moves s row).rings.last r) (order s.plan r))
                 ≡ turns s.plan k s.rings.side (later (Some it.one) (order s.plan r))
-            same_sums = ap (λ (d : ℕ). turns s.plan k d (later ((next s row).rings.last r) (order s.plan r))) side_then
+            same_sums = ap (λ (d : ℕ). turns s.plan k d (later ((after_moves s row).rings.last r) (order s.plan r))) side_then
                 ∙ ap (λ (o : Option ℕ). turns s.plan k s.rings.side (later o (order s.plan r))) last
 
-            most : green_left s.plan it.one ((next s row).phases it.one) ≤ longest_green s.plan it.one
-            most = green_most s.plan it.one ((next s row).phases it.one)
+            most : green_left s.plan it.one ((after_moves s row).phases it.one) ≤ longest_green s.plan it.one
+            most = green_most s.plan it.one ((after_moves s row).phases it.one)
 
         -- its red revert has not passed
-        waits : reverted s it.one ≡ false → Comes k (next s row) r q n
+        waits : reverted s it.one ≡ false → Comes k (after_moves s row) r q n
         waits h =
             comes (n - 1) (omega (arith, all, some))
             (idle (m - 1) promise dark_then less_back (omega (arith, all, some, same_sums)))
@@ -639,27 +639,27 @@ module _ (s : State) (row : Row) (tick : IsFairTick s row) where
             start : starting s.plan s.rings (rings_given s row) r ≡ None
             start = start_is ∙ picks_idle s.plan s.rings (rings_given s row) fair r it.one false at_none it.wanted (reverted_is false h)
 
-            promise : (next s row).rings.commitment r ≡ None
+            promise : (after_moves s row).rings.commitment r ≡ None
             promise = none_promised s.plan s.rings (rings_given s row) fair none r start e at_none
 
-            last_then : (next s row).rings.last r ≡ s.rings.last r
+            last_then : (after_moves s row).rings.last r ≡ s.rings.last r
             last_then = last_stays s.plan s.rings (rings_given s row) fair none r start
 
-            same_sums : turns s.plan k (next s row).rings.side (later ((next s row).rings.last r) (order s.plan r))
+            same_sums : turns s.plan k (after_moves s row).rings.side (later ((after_moves s row).rings.last r) (order s.plan r))
                 ≡ turns s.plan k s.rings.side (later (s.rings.last r) (order s.plan r))
-            same_sums = ap (λ (d : ℕ). turns s.plan k d (later ((next s row).rings.last r) (order s.plan r))) side_then
+            same_sums = ap (λ (d : ℕ). turns s.plan k d (later ((after_moves s row).rings.last r) (order s.plan r))) side_then
                 ∙ ap (λ (o : Option ℕ). turns s.plan k s.rings.side (later o (order s.plan r))) last_then
 
-            red_then : (p : ℕ) → in_ring s.plan r p ≡ true → interval (next s row) p ≡ Red
+            red_then : (p : ℕ) → in_ring s.plan r p ≡ true → interval (after_moves s row) p ≡ Red
             red_then p own_p =
                 let red : interval s p ≡ Red = is-red (interval s p) (dark p own_p) in
                 let no_start : is_started (moves s row) p ≡ false = starts_nothing r p own_p start in
                 rw (no_start, red) refl
 
-            dark_then : (p : ℕ) → in_ring s.plan r p ≡ true → in_service (interval (next s row) p) ≡ false
+            dark_then : (p : ℕ) → in_ring s.plan r p ≡ true → in_service (interval (after_moves s row) p) ≡ false
             dark_then p own_p = ap in_service (red_then p own_p)
 
-            less_back : (p : ℕ) → in_ring s.plan r p ≡ true → back_left s.plan p ((next s row).phases p) ≤ m - 1
+            less_back : (p : ℕ) → in_ring s.plan r p ≡ true → back_left s.plan p ((after_moves s row).phases p) ≤ m - 1
             less_back p own_p =
                 let down = reverts_down s row p (yellow_change s.plan p) (red_revert s.plan p) (omega arith) (timed p)
                 (ends_none p (dark_is (interval s p) (dark p own_p))) (starts_nothing r p own_p start) in
@@ -673,13 +673,13 @@ module _ (s : State) (row : Row) (tick : IsFairTick s row) where
                 let was = reverts it.one turns_of_it.ringed in
                 omega (arith, left_c, was)
 
-        go : (b : Bool) → reverted s it.one ≡ b → Comes k (next s row) r q n
+        go : (b : Bool) → reverted s it.one ≡ b → Comes k (after_moves s row) r q n
         go true h = starts h
         go false h = waits h
 
     -- ## Whatever the ring does
 
-    pub one_tick : (n h : ℕ) → TurnsTakeAtMost s.plan k h → IsLeft k s r n → IsComing s r q → Comes k (next s row) r q n
+    pub one_tick : (n h : ℕ) → TurnsTakeAtMost s.plan k h → IsLeft k s r n → IsComing s r q → Comes k (after_moves s row) r q n
     one_tick n h takes (committed c m e clears reverts all) coming = bound_tick c m n e clears reverts all coming
     one_tick n h takes (serving_green p e own_p green all) coming = green_tick p n h takes e own_p green all coming
     one_tick n h takes (idle m e dark reverts all) coming = idle_tick m n e dark reverts all coming

@@ -10,6 +10,7 @@ use Rattle.tsb_step.proofs.ClearLemmas.{clears_in_time, clears_at_zero, clears_w
 use Rattle.tsb_step.proofs.EndLemmas.{ends_in_time}
 use Rattle.tsb_step.proofs.FieldLemmas.{fields_are_quiet}
 use Rattle.tsb_step.proofs.GoodLemmas.{good_run}
+use Rattle.tsb_step.proofs.GiveUpHeadLemmas.{shows_the_same, wants_commitments}
 use Rattle.tsb_step.proofs.HeldLemmas.{has_held}
 use Rattle.tsb_step.proofs.OverlapRunLemmas.{overlaps_clear}
 use Rattle.tsb_step.proofs.RestLemmas.{rests_run}
@@ -37,6 +38,7 @@ use Rattle.tsb_laws.proofs.operation.PreemptTurnLemmas.{gives_way, ends_from}
 use Rattle.tsb_laws.proofs.operation.PressedRunLemmas.{pressed_may_end}
 use Rattle.tsb_laws.proofs.operation.RunningMaximumLemmas.{bounded, moves_by_a_step, others_leave_it}
 use Rattle.tsb_laws.proofs.operation.ServedRunLemmas.{served_in_time}
+use Rattle.tsb_laws.proofs.operation.ChosenStageLemmas.{chosen_stages, chosen_dwells}
 use Rattle.tsb_laws.proofs.operation.StageRunLemmas.{stages_reached, exits_end}
 use Rattle.tsb_laws.proofs.operation.StageServiceLemmas.{dwells_reached}
 use Rattle.tsb_laws.proofs.operation.TurnLemmas.{comes_in_time}
@@ -88,6 +90,8 @@ module _ (plan : Plan) (held : IsHeld plan) where
     starts_after_red_revert = starts_after_red_revert plan is ok taken;
     phases_rest = rests_run plan is;
     commitments_stand_in_runs = stands_in_runs (replay plan is) good;
+    commitments_are_wanted = wants_commitments (replay plan is);
+    giving_up_shows_nothing = shows_the_same (replay plan is);
     fields_are_safe_unless_tripped = fields_are_quiet plan is ok taken;
     phases_clear_in_yellow = clears_in_yellow plan is ok taken;
     overlaps_clear_in_yellow = overlaps_clear plan is ok taken;
@@ -98,8 +102,9 @@ module _ (plan : Plan) (held : IsHeld plan) where
     intergreens_hold_walks = λ older later row next p q e x. has_walked plan older later row next p q ok (rw e at taken) x;
     red_reverts_hold = λ base later row p e x. reverts_hold plan base later row p ok (rw e at taken) x;
     enabled_are_served = record { serves = (enabled_run plan is ok taken).serves; promised = (enabled_run plan is ok taken).promised };
-    commitments_are_served = λ older later row p r c e dark x. are_served plan older later row p r c ok (few plan held) (rw e at taken) dark x;
-    crossings_complete = λ older later row d n e dark x most. completes_in_time plan older later row d n ok (few plan held) (rw e at taken) dark x most;
+    commitments_are_served = λ older later row p r c e dark none x. are_served plan older later row p r c ok (few plan held) (rw e at taken) dark none x;
+    crossings_complete = λ older later row d n e dark none x most.
+        completes_in_time plan older later row d n ok (few plan held) (rw e at taken) dark none x most;
     coordinated_end_by_force_off = λ dark row p ends on none. ends_by_force_off plan is row p ok (few plan held) taken dark ends on none;
     omitted_are_not_served = λ dark row q off none. omits_hold plan is row q ok (few plan held) taken dark off none;
     all_red_ends = λ base later n e dark red wanted most.
@@ -121,6 +126,10 @@ module _ (plan : Plan) (held : IsHeld plan) where
     preempts_reach_their_stages_exits = λ base later n g w c e dark on most. exits_end plan base later n g w c ok (few plan held) (rw e at taken) dark on most;
     preempts_reach_dwell_in_time = λ older later row n g w c t limit e dark begins on most green due.
         dwells_reached plan older later row n g w c t limit ok (few plan held) (rw e at taken) dark begins on most green due;
+    preempts_that_choose_come_sooner = λ base later n stage g w c v e dark chosen on most.
+        chosen_stages plan base later n stage g w c v ok (few plan held) (rw e at taken) dark chosen on most;
+    preempts_that_choose_come_sooner_dwells = λ older later row n g w c v t limit e dark begins chosen serves most green due.
+        chosen_dwells plan older later row n g w c v t limit ok (few plan held) (rw e at taken) dark begins chosen serves most green due;
     crossings_have_no_green = calm_run plan is ok taken;
     unwanted_greens_end = λ dark row n p. waits_or_ends plan is row n p ok (few plan held) taken dark;
     wanted_phases_start = λ dark row n r p. wanted_starts plan is row n r p ok (few plan held) taken dark;

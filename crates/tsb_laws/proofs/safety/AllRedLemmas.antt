@@ -14,15 +14,17 @@ use Rattle.tsb_step.specs.tsb_ring.Rings as rings
 use Rattle.tsb_step.specs.tsb_ring.Rings.{Ring, Ring1, Ring2, number, in_ring, serving}
 use Rattle.tsb_step.specs.tsb_preempt.Preempts.{wanted_by}
 use Rattle.tsb_step.specs.tsb_preempt.Service.{Service, stage_phases}
-use Rattle.tsb_step.specs.tsb_ring.Crossings.{target_side}
+use Rattle.tsb_step.specs.tsb_ring.Crossings.{begins, target_side}
+use Rattle.tsb_step.specs.tsb_ring.GivenUp.{given_up}
 use Rattle.tsb_step.specs.tsb_ring.Next.{starting, new_crossing, next as rings_next}
 use Rattle.tsb_step.specs.tsb_ring.Moves.{is_started}
 use Rattle.tsb_step.specs.tsb_ring.Laws.{IsListed, IsSymmetric, IsGiven}
+use Rattle.tsb_step.proofs.tsb_ring.GivenUpLemmas.{all_stays}
 use Rattle.tsb_step.proofs.tsb_ring.WaitLemmas.{first-passes}
 use Rattle.tsb_step.specs.declared.inputs.Input.{Input}
 use Rattle.tsb_step.specs.declared.inputs.Input.TheVariants.{Tick}
 use Rattle.tsb_step.specs.State.{State, interval}
-use Rattle.tsb_step.specs.Tick.{new_service, service, callable, rings_given, moves, reverted, yellow_done}
+use Rattle.tsb_step.specs.Tick.{new_service, service, target, callable, rings_given, moves, reverted, yellow_done, after_moves, next}
 use Rattle.tsb_step.specs.Step.{step, kind_of}
 use Rattle.tsb_step.specs.Runs.{replay, AreTaken}
 use Rattle.tsb_step.specs.Past.{ticks_of}
@@ -30,6 +32,7 @@ use Rattle.tsb_step.specs.Laws.{IsConsistent}
 use Rattle.tsb_step.specs.Good.{IsGood}
 use Rattle.tsb_step.specs.TimeLaws.{held_for}
 use Rattle.tsb_step.proofs.GivenLemmas.{lists_now, lists_ring, listed_is_phase, enabled_is_listed, symmetric, new_in_stage, given}
+use Rattle.tsb_step.proofs.GiveUpLemmas.{by_rings, outside_then}
 use Rattle.tsb_step.proofs.GoodLemmas.{good_run}
 use Rattle.tsb_step.proofs.StandLemmas.{rings_then}
 use Rattle.tsb_step.proofs.TellLemmas.{held_on}
@@ -42,7 +45,7 @@ use Rattle.tsb_laws.proofs.safety.DueLemmas.{largest_now, largest_more, count_ru
 use Rattle.tsb_laws.proofs.safety.SideSoughtLemmas.{Found, some_found}
 use Rattle.tsb_laws.proofs.safety.CrossingRingLemmas.{is_over}
 use Rattle.tsb_laws.proofs.safety.PreemptPhaseLemmas.{in_range_run, Wants, wants_one}
-use Rattle.tsb_laws.proofs.safety.AllRedRingLemmas.{IsServing, SomeWanted, by_target, by_calls, completes_now, starts_committed, started_by, Outcome, starts, enters, outcome}
+use Rattle.tsb_laws.proofs.safety.AllRedRingLemmas.{IsServing, SomeWanted, by_target, by_calls, completes_now, starts_committed, started_by, enters_in_target, Outcome, starts, enters, outcome}
 
 -- ## What the rings are given
 
@@ -150,8 +153,22 @@ module _ (s : State) (row : Row) (good : IsGood s) (few : s.plan.phase_count ≤
   ends_crossing d e =
       fresh (ap is_some e)
       (ap (λ (x : rings.State). x.crossing) (rings_then s row dark)
-      ∙ is_over s.plan s.rings (rings_given s row) (yellow_done s) even good.rings told d e
-      (completes_now s.plan s.rings (rings_given s row) idle back_all (ap is_some e)))
+      ∙ outside_then s row
+      (is_over s.plan s.rings (rings_given s row) (yellow_done s) even good.rings told d e
+      (completes_now s.plan s.rings (rings_given s row) idle back_all (ap is_some e))))
+
+  -- what a crossing that begins commits the rings to is of the target, and so they give up none of it
+  all_kept : begins s.plan s.rings (rings_given s row) ≡ true → (next s row).rings ≡ (after_moves s row).rings
+  unfolding rings_given rings_next given_up
+  all_kept b = by_rings (λ (x : rings.State). x ≡ (after_moves s row).rings) s row refl (go (target s row) refl)
+    where
+      go : (t : Option (ℕ → Bool)) → target s row ≡ t → given_up s.plan t (after_moves s row).rings ≡ (after_moves s row).rings
+      go None e = refl
+      go (Some t) e =
+          all_stays s.plan t (after_moves s row).rings (λ r c h. enters_in_target s.plan s.rings (rings_given s row) t r c e b h)
+
+  rings_entered : begins s.plan s.rings (rings_given s row) ≡ true → (step s (Tick row)).rings ≡ (after_moves s row).rings
+  rings_entered b = rings_then s row dark ∙ all_kept b
 
   -- without one a crossing begins
   begins_crossing : s.rings.crossing ≡ None → is_wanted s (Tick row) ≡ true → After s row
@@ -162,8 +179,8 @@ module _ (s : State) (row : Row) (good : IsGood s) (few : s.plan.phase_count ≤
       go : Outcome s.plan s.rings (rings_given s row) → After s row
       go (starts r p e) = absurd (none_starts r p e)
       go (enters r c b e) =
-          crosses (target_side s.plan s.rings (rings_given s row)) r c (ap (λ (x : rings.State). x.crossing) (rings_then s row dark) ∙ rw b refl)
-          (ap (λ (x : rings.State). x.commitment r) (rings_then s row dark) ∙ e)
+          crosses (target_side s.plan s.rings (rings_given s row)) r c (ap (λ (x : rings.State). x.crossing) (rings_entered b) ∙ rw b refl)
+          (ap (λ (x : rings.State). x.commitment r) (rings_entered b) ∙ e)
 
   pub after_it : is_wanted s (Tick row) ≡ true → After s row
   after_it wanted = go (s.rings.crossing) refl

@@ -129,6 +129,16 @@ unfolding moves
 started_by plan s given Ring1 p e = rw (e, eq-eqb p p refl) refl
 started_by plan s given Ring2 p e = or_right (is p (starting plan s given Ring1)) _ (rw e (eq-eqb p p refl))
 
+-- what a crossing that begins commits the rings to is of the target
+pub enters_in_target : (plan : Plan) (s : State) (given : Given) (target : ℕ → Bool) (r : Ring) (c : ℕ) → given.target ≡ Some target →
+    begins plan s given ≡ true → new_commitment plan s given r ≡ Some c → is_targeted plan target c ≡ true
+unfolding new_commitment committed entry
+enters_in_target plan s given target r c some b h =
+    (and_parts (in_ring plan r c) (is_targeted plan target c) (first-passes (λ p. in_ring plan r p && is_targeted plan target p) (phases plan) c entered)).1
+  where
+    entered : entry_for plan s given r (Some target) ≡ Some c
+    entered = sym (ap (λ (t : Option (ℕ → Bool)). entry_for plan s given r t) some) ∙ (rw (begins_alone plan s given r b, b) at h)
+
 -- ## Idle rings without a commitment
 
 -- a phase starts, or a crossing begins and commits a ring

@@ -41,6 +41,7 @@ use Rattle.tsb_step.proofs.ClipLemmas.{clipped_holds}
 use Rattle.tsb_step.proofs.EventLemmas.{ended_now}
 use Rattle.tsb_step.proofs.ClearLemmas.{plan_stays}
 use Rattle.tsb_step.proofs.GivenLemmas.{symmetric, given}
+use Rattle.tsb_step.proofs.GiveUpLemmas.{committed_by_moves}
 use Rattle.tsb_step.proofs.GoodLemmas.{good_run}
 use Rattle.tsb_step.proofs.RestLemmas.{rests_run}
 use Rattle.tsb_step.proofs.StandLemmas.{rings_then}
@@ -336,7 +337,7 @@ commits_committed s row r q good dark few listed omits quiet h =
     even = symmetric s.plan good.plan.rules
 
     now : new_commitment s.plan s.rings (rings_given s row) r ≡ Some q
-    now = sym (ap (λ (x : rings.State). x.commitment r) (rings_then s row dark)) ∙ h
+    now = committed_by_moves s row r q (sym (ap (λ (x : rings.State). x.commitment r) (rings_then s row dark)) ∙ h)
 
     not_so : (rings_given s row).omitted q ≡ false → ⊥
     not_so k = true≢false (sym omits ∙ sym (told_omitted s row q few listed) ∙ k)

@@ -1,6 +1,6 @@
 -- A crossing that begins is completed in time.
 use Rattle.std.proofs.Common.{suc, ◌≡◌, ℕ, ◌+◌, ◌<◌, ◌≤◌, Bool, true, false, not, ◌||◌, List, [], ◌∷◌, ◌++◌, Some, None, refl, sym, ap, subst, ◌∙◌, inl, inr, ◌⊎◌, arith}
-use Rattle.std.proofs.lemmas.Bool.{cases_Bool, false≢true}
+use Rattle.std.proofs.lemmas.Bool.{cases_Bool, and_parts, not-true, false≢true}
 use Rattle.tsb_step.specs.tsb_types.declared.interval.Interval.{Interval}
 use Rattle.tsb_step.specs.tsb_types.declared.interval.Interval.TheVariants.{Red, Green, Yellow, RedClear}
 use Rattle.tsb_step.specs.tsb_types.declared.row.Row.{Row}
@@ -17,7 +17,8 @@ use Rattle.tsb_step.proofs.tsb_ring.SoundLemmas.{after_tick}
 use Rattle.tsb_step.specs.declared.inputs.Input.{Input}
 use Rattle.tsb_step.specs.declared.inputs.Input.TheVariants.{Tick}
 use Rattle.tsb_step.specs.State.{State, interval}
-use Rattle.tsb_step.specs.Tick.{rings_given, phase_read, moves, over, reverted, yellow_done, next}
+use Rattle.tsb_step.specs.Tick.{rings_given, phase_read, moves, over, reverted, yellow_done, gives_up, after_moves, next}
+use Rattle.tsb_step.specs.Signs.{is_choosing}
 use Rattle.tsb_step.specs.Step.{step, kind_of}
 use Rattle.tsb_step.specs.Runs.{replay, AreTaken}
 use Rattle.tsb_step.specs.Past.{ticks_of}
@@ -29,9 +30,10 @@ use Rattle.tsb_step.proofs.GivenLemmas.{symmetric, given}
 use Rattle.tsb_step.proofs.GoodLemmas.{good_run}
 use Rattle.tsb_step.proofs.IntervalLemmas.{intervals_after}
 use Rattle.tsb_step.proofs.SideRunLemmas.{sided_run}
-use Rattle.tsb_step.proofs.StandLemmas.{rings_then}
+use Rattle.tsb_step.proofs.GiveUpLemmas.{crossing_by_moves}
+use Rattle.tsb_step.proofs.StandLemmas.{rings_then, rings_moved, gives_none_then}
 use Rattle.tsb_step.proofs.TellLemmas.{held_on, dark_before, timers_tell_time}
-use Rattle.tsb_laws.specs.Stretches.{IsUntripped, largest, StartsGreen}
+use Rattle.tsb_laws.specs.Stretches.{IsUntripped, has_held_since, NoneChooses, largest, StartsGreen}
 use Rattle.tsb_laws.specs.Crossings.{BeginsCrossing, TakesAtMost, IsCompleted, CompletesWithin}
 use Rattle.tsb_laws.proofs.safety.StretchLemmas.{dark_now, taken_before, IsSame, Goes, ticks, stays, goes, at_next}
 use Rattle.tsb_laws.proofs.safety.EnabledLemmas.{callable_on}
@@ -151,12 +153,13 @@ module _ (plan : Plan) (base : List Input) (d n : ℕ) (ok : IsConsistent plan) 
         ⊎ ((r : Ring) × (c : ℕ) × ((replay plan (later ++ base)).rings.commitment r ≡ Some c) × (reverted (replay plan (later ++ base)) c ≡ false))
 
   waiting : (row : Row) (later : List Input) → AreTaken plan (later ++ base) → (replay plan (later ++ base)).trip ≡ None → Crosses plan base d n later →
+      gives_up (replay plan (later ++ base)) row ≡ false →
       completes (replay plan (later ++ base)).plan (replay plan (later ++ base)).rings (rings_given (replay plan (later ++ base)) row) ≡ false → Waiting row later
   unfolding moves rings_given rings_next
-  waiting row later taken dark was not_done = record {
-    way = ap (λ (x : rings.State). x.crossing) (rings_then s row dark) ∙ goes_on s.plan s.rings (rings_given s row) (yellow_done s) even good.rings told d was.under_way not_done;
-    side = ap (λ (x : rings.State). x.side) (rings_then s row dark) ∙ side_stays s.plan s.rings (rings_given s row) (yellow_done s) even good.rings told d was.under_way not_done;
-    commitment = λ r. ap (λ (x : rings.State). x.commitment r) (rings_then s row dark)
+  waiting row later taken dark was none not_done = record {
+    way = ap (λ (x : rings.State). x.crossing) (rings_moved s row dark none) ∙ goes_on s.plan s.rings (rings_given s row) (yellow_done s) even good.rings told d was.under_way not_done;
+    side = ap (λ (x : rings.State). x.side) (rings_moved s row dark none) ∙ side_stays s.plan s.rings (rings_given s row) (yellow_done s) even good.rings told d was.under_way not_done;
+    commitment = λ r. ap (λ (x : rings.State). x.commitment r) (rings_moved s row dark none)
         ∙ commitment_stays s.plan s.rings (rings_given s row) (yellow_done s) even good.rings told d was.under_way r not_done;
     no_start = λ p. none_is_started s.plan s.rings (rings_given s row) (yellow_done s) even good.rings told d was.under_way p not_done;
     stays = λ p h. stays_so p (ap in_service (sym (at_next s row p dark)) ∙ h);
@@ -303,17 +306,18 @@ module _ (plan : Plan) (base : List Input) (d n : ℕ) (ok : IsConsistent plan) 
 
   -- the tick in which it is completed
   completes_now : (row : Row) (later : List Input) → AreTaken plan (later ++ base) → (replay plan (later ++ base)).trip ≡ None → Crosses plan base d n later →
+      gives_up (replay plan (later ++ base)) row ≡ false →
       completes (replay plan (later ++ base)).plan (replay plan (later ++ base)).rings (rings_given (replay plan (later ++ base)) row) ≡ true →
       IsCompleted plan base d (suc n) (Tick row ∷ later)
   unfolding moves rings_given rings_next
-  completes_now row later taken dark was now_done = record {
+  completes_now row later taken dark was none now_done = record {
     older = later;
     next = row;
     newer = [];
     parts = refl;
     under_way = was.under_way;
-    completed = ap (λ (x : rings.State). x.crossing) (rings_then s row dark) ∙ is_over s.plan s.rings (rings_given s row) (yellow_done s) even good.rings told d was.under_way now_done;
-    side = ap (λ (x : rings.State). x.side) (rings_then s row dark) ∙ side_goes s.plan s.rings (rings_given s row) (yellow_done s) even good.rings told d was.under_way now_done;
+    completed = ap (λ (x : rings.State). x.crossing) (rings_moved s row dark none) ∙ is_over s.plan s.rings (rings_given s row) (yellow_done s) even good.rings told d was.under_way now_done;
+    side = ap (λ (x : rings.State). x.side) (rings_moved s row dark none) ∙ side_goes s.plan s.rings (rings_given s row) (yellow_done s) even good.rings told d was.under_way now_done;
     started = λ r c e. starts r c (was.commitment r ∙ e);
     in_time = (let clock : (replay plan (Tick row ∷ (later ++ base))).now ≡ (replay plan (later ++ base)).now + 1 = one_later s row in
         let early = was.early in omega (arith, clock, early));
@@ -353,28 +357,34 @@ module _ (plan : Plan) (base : List Input) (d n : ℕ) (ok : IsConsistent plan) 
   }
 
   one_on : (i : Input) (later : List Input) → AreTaken plan (i ∷ (later ++ base)) → (replay plan (later ++ base)).trip ≡ None → TakesAtMost plan base n later →
-      Stage plan base d n later → Stage plan base d n (i ∷ later)
-  one_on i later taken dark limit (completed x) = completed (one_more i later x)
-  one_on i later taken dark limit (crosses was) = go (goes (replay plan (later ++ base)) i dark)
+      is_choosing (replay plan (i ∷ (later ++ base))) ≡ false → Stage plan base d n later → Stage plan base d n (i ∷ later)
+  one_on i later taken dark limit none (completed x) = completed (one_more i later x)
+  one_on i later taken dark limit none (crosses was) = go (goes (replay plan (later ++ base)) i dark)
     where
-      tick : (row : Row) → AreTaken plan (Tick row ∷ (later ++ base)) → Stage plan base d n (Tick row ∷ later)
-      tick row there =
+      tick : (row : Row) → AreTaken plan (Tick row ∷ (later ++ base)) → is_choosing (replay plan (Tick row ∷ (later ++ base))) ≡ false →
+          Stage plan base d n (Tick row ∷ later)
+      tick row there chooses_not =
           elim (cases_Bool (completes (replay plan (later ++ base)).plan (replay plan (later ++ base)).rings (rings_given (replay plan (later ++ base)) row))) [
-            | inl h ↦ completed (completes_now row later there.0 dark was h)
-            | inr h ↦ crosses (waits_on row later there dark limit was (waiting row later there.0 dark was h))
+            | inl h ↦ completed (completes_now row later there.0 dark was (gives_none_then (replay plan (later ++ base)) row dark chooses_not) h)
+            | inr h ↦ crosses (waits_on row later there dark limit was
+                (waiting row later there.0 dark was (gives_none_then (replay plan (later ++ base)) row dark chooses_not) h))
           ]
 
       go : Goes (replay plan (later ++ base)) i → Stage plan base d n (i ∷ later)
       go (ticks row e) =
-          subst (λ (j : Input). Stage plan base d n (j ∷ later)) (sym e) (tick row (subst (λ (j : Input). AreTaken plan (j ∷ (later ++ base))) e taken))
-      go (stays none same) = crosses (still i later taken none same was)
+          subst (λ (j : Input). Stage plan base d n (j ∷ later)) (sym e)
+          (tick row (subst (λ (j : Input). AreTaken plan (j ∷ (later ++ base))) e taken)
+          (subst (λ (j : Input). is_choosing (replay plan (j ∷ (later ++ base))) ≡ false) e none))
+      go (stays no_tick same) = crosses (still i later taken no_tick same was)
 
-  stage : (later : List Input) → AreTaken plan (later ++ base) → IsUntripped plan base later → TakesAtMost plan base n later →
+  stage : (later : List Input) → AreTaken plan (later ++ base) → IsUntripped plan base later → NoneChooses plan base later → TakesAtMost plan base n later →
       Stage plan base d n [] → Stage plan base d n later
-  stage [] taken dark limit first = first
-  stage (i ∷ later) taken dark limit first =
+  stage [] taken dark none limit first = first
+  stage (i ∷ later) taken dark none limit first =
+      let both = and_parts (not (is_choosing (replay plan (i ∷ (later ++ base))))) (has_held_since (λ s. not (is_choosing s)) plan base later) none in
       one_on i later taken (dark_now plan base later dark.0) (at_most_before plan base n later i limit)
-      (stage later taken.0 dark.0 (at_most_before plan base n later i limit) first)
+      (not-true (is_choosing (replay plan (i ∷ (later ++ base)))) both.0)
+      (stage later taken.0 dark.0 both.1 (at_most_before plan base n later i limit) first)
 
 -- ## As it begins
 
@@ -390,8 +400,12 @@ begun s row d good dark out h = record {
   clears = λ p serves green. ends p serves green;
 }
   where
+    -- a crossing that is under way after the tick is what the moves left
+    moved : (step s (Tick row)).rings ≡ (after_moves s row).rings
+    moved = rings_then s row dark ∙ crossing_by_moves s row d (sym (ap (λ (x : rings.State). x.crossing) (rings_then s row dark)) ∙ h)
+
     crossing_then : new_crossing s.plan s.rings (rings_given s row) ≡ Some d
-    crossing_then = sym (ap (λ (x : rings.State). x.crossing) (rings_then s row dark)) ∙ h
+    crossing_then = sym (ap (λ (x : rings.State). x.crossing) moved) ∙ h
 
     now_begins : begins s.plan s.rings (rings_given s row) ≡ true
     now_begins =
@@ -404,7 +418,7 @@ begun s row d good dark out h = record {
     same_side = let same : Some (target_side s.plan s.rings (rings_given s row)) ≡ Some d = rw now_begins at crossing_then in cc
 
     side_then : (step s (Tick row)).rings.side ≡ s.rings.side
-    side_then = ap (λ (x : rings.State). x.side) (rings_then s row dark) ∙ rw out refl
+    side_then = ap (λ (x : rings.State). x.side) moved ∙ rw out refl
 
     starts_none_in : (r : Ring) (p : ℕ) → starting s.plan s.rings (rings_given s row) r ≡ Some p → ⊥
     starts_none_in r p e =
@@ -436,10 +450,10 @@ begun s row d good dark out h = record {
         by RedClear false b e l m was = false≢true (rw (is_not_started p, e, l) at green)
 
 pub completes_in_time : (plan : Plan) (is later : List Input) (row : Row) (d n : ℕ) → IsConsistent plan → plan.phase_count ≤ 16 →
-    AreTaken plan (later ++ (Tick row ∷ is)) → IsUntripped plan (Tick row ∷ is) later → BeginsCrossing plan is row d →
-    TakesAtMost plan (Tick row ∷ is) n later → CompletesWithin plan (Tick row ∷ is) d (suc n) later
-completes_in_time plan is later row d n ok few taken dark x limit =
-    go (stage plan (Tick row ∷ is) d n ok few later taken dark limit (crosses first))
+    AreTaken plan (later ++ (Tick row ∷ is)) → IsUntripped plan (Tick row ∷ is) later → NoneChooses plan (Tick row ∷ is) later →
+    BeginsCrossing plan is row d → TakesAtMost plan (Tick row ∷ is) n later → CompletesWithin plan (Tick row ∷ is) d (suc n) later
+completes_in_time plan is later row d n ok few taken dark none x limit =
+    go (stage plan (Tick row ∷ is) d n ok few later taken dark none limit (crosses first))
   where
     there : AreTaken plan (Tick row ∷ is)
     there = taken_before plan (Tick row ∷ is) later taken

@@ -1,5 +1,5 @@
 -- Only enabled phases are in service or committed to, through inputs of every kind.
-use Rattle.std.proofs.Common.{◌≡◌, ℕ, ◌==◌, Bool, true, false, not, ◌&&◌, List, Some, None, refl, sym, ap, ◌∙◌, inl, inr}
+use Rattle.std.proofs.Common.{◌≡◌, ℕ, ◌==◌, Bool, true, false, not, ◌&&◌, List, Option, Some, None, refl, sym, ap, ◌∙◌, inl, inr}
 use Rattle.std.proofs.lemmas.Bool.{and_parts, or_cases}
 use Rattle.tsb_step.specs.tsb_types.declared.interval.Interval.{Interval}
 use Rattle.tsb_step.specs.tsb_types.declared.row.Row.{Row}
@@ -14,13 +14,15 @@ use Rattle.tsb_step.specs.tsb_ring.Rings as rings
 use Rattle.tsb_step.specs.tsb_ring.Rings.{Ring, Ring1, Ring2}
 use Rattle.tsb_step.specs.tsb_ring.Next.{starting, new_commitment, next as rings_after}
 use Rattle.tsb_step.specs.tsb_ring.Moves.{moves as moves_in, interval_after}
+use Rattle.tsb_step.specs.tsb_ring.GivenUp.{given_up}
 use Rattle.tsb_step.specs.tsb_ring.Laws.{Serves, IsSymmetric, IsGiven, IsSound}
+use Rattle.tsb_step.proofs.tsb_ring.GivenUpLemmas.{was_before}
 use Rattle.tsb_step.proofs.tsb_ring.SoundLemmas.{Claim, serves, promises, picks, Starting, starting_is, after_tick, Commits, enters, stands, makes, commits, new_commits}
 use Rattle.tsb_step.specs.tsb_transact.Desk.{with_edits}
 use Rattle.tsb_step.specs.tsb_transact.Commit.{changes_structure}
 use Rattle.tsb_step.specs.declared.inputs.Input.{Input}
 use Rattle.tsb_step.specs.State.{State, interval}
-use Rattle.tsb_step.specs.Tick.{calls_given, set, callable, rings_given, moves, yellow_done, next}
+use Rattle.tsb_step.specs.Tick.{calls_given, set, callable, rings_given, moves, yellow_done, after_moves, next}
 use Rattle.tsb_step.specs.Runs.{replay, AreTaken}
 use Rattle.tsb_step.specs.Laws.{IsConsistent}
 use Rattle.tsb_step.specs.Good.{IsGood}
@@ -108,12 +110,19 @@ enabled_still plan interval s idle none = record {
   promised = λ r c e. (let bad : None ≡ Some c = sym (none r) ∙ e in absurd cc);
 }
 
-enabled_next : (s : State) (row : Row) → IsGood s → AreEnabledIn s → AreEnabledIn (next s row)
+pub enabled_next : (s : State) (row : Row) → IsGood s → AreEnabledIn s → AreEnabled s.plan (interval (next s row)) (after_moves s row).rings
 unfolding moves rings_given
 enabled_next s row good was =
     rw (intervals_after s row)
     (enabled_after s.plan s.rings (rings_given s row) (yellow_done s) (symmetric s.plan good.plan.rules) good.rings (given s row good)
     (callable_on s row) was)
+
+enabled_given : (plan : Plan) (interval : ℕ → Interval) (target : Option (ℕ → Bool)) (s : rings.State) → AreEnabled plan interval s →
+    AreEnabled plan interval (given_up plan target s)
+enabled_given plan interval target s was = record {
+  serves = was.serves;
+  promised = λ r c e. was.promised r c (was_before plan target s r c e);
+}
 
 enabled_committed : (s : State) → changes_structure s.plan s.desk.edits ≡ false → AreEnabledIn s →
     AreEnabled (with_edits s.plan s.desk.edits) (interval s) s.rings
@@ -126,7 +135,7 @@ enabled_committed s unchanged was = record {
     on p = ap (λ (v : ℕ). v == 1) (kept is_structural s.plan s.desk.edits unchanged PhaseEnabled p refl)
 
 enabled_kept : IsKept AreEnabled
-enabled_kept = record { still = enabled_still; ticks = enabled_next; commits = enabled_committed }
+enabled_kept = record { still = enabled_still; ticks = enabled_next; gives = enabled_given; commits = enabled_committed }
 
 pub enabled_run : (plan : Plan) (is : List Input) → IsConsistent plan → AreTaken plan is →
     AreEnabled (replay plan is).plan (interval (replay plan is)) (replay plan is).rings

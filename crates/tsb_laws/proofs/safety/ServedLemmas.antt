@@ -1,6 +1,6 @@
 -- A commitment that is made as a green ends starts in time.
 use Rattle.std.proofs.Common.{◌≡◌, ℕ, ◌+◌, ◌<◌, ◌≤◌, ◌==◌, Bool, true, false, not, ◌||◌, max, List, [], ◌∷◌, ◌++◌, Some, None, refl, sym, ap, subst, ◌∙◌, inl, inr, ◌⊎◌, arith}
-use Rattle.std.proofs.lemmas.Bool.{cases_Bool, true≢false}
+use Rattle.std.proofs.lemmas.Bool.{cases_Bool, and_parts, not-true, true≢false}
 use Rattle.tsb_step.specs.tsb_types.declared.interval.Interval.TheVariants.{Green, Yellow, RedClear}
 use Rattle.tsb_step.specs.tsb_types.declared.row.Row.{Row}
 use Rattle.tsb_step.specs.tsb_types.Intervals.{is_green, is_yellow, is_red_clear, in_service}
@@ -18,20 +18,22 @@ use Rattle.tsb_step.specs.declared.inputs.Input.{Input}
 use Rattle.tsb_step.specs.declared.inputs.Input.TheVariants.{Tick}
 use Rattle.tsb_step.specs.State.{State, interval}
 use Rattle.tsb_step.specs.Tick.{rings_given, phase_read, moves, over, reverted, yellow_done, next}
+use Rattle.tsb_step.specs.Signs.{is_choosing}
 use Rattle.tsb_step.specs.Step.{step, kind_of}
 use Rattle.tsb_step.specs.Runs.{replay, AreTaken}
 use Rattle.tsb_step.specs.Past.{ticks_of}
 use Rattle.tsb_step.specs.Laws.{IsConsistent}
 use Rattle.tsb_step.specs.Good.{IsGood}
-use Rattle.tsb_step.specs.TimeLaws.{held_for, TellsTime}
+use Rattle.tsb_step.specs.TimeLaws.{held_for, TellsTime, StandsOrStarts}
 use Rattle.tsb_step.proofs.ClearLemmas.{plan_stays, one_later}
 use Rattle.tsb_step.proofs.EventLemmas.{ended_now}
 use Rattle.tsb_step.proofs.GivenLemmas.{symmetric, given}
 use Rattle.tsb_step.proofs.GoodLemmas.{good_run}
-use Rattle.tsb_step.proofs.StandLemmas.{rings_then, StandsOrStarts, stands_in_runs}
+use Rattle.tsb_step.proofs.GiveUpLemmas.{committed_by_moves, outside_by_moves, outside_then}
+use Rattle.tsb_step.proofs.StandLemmas.{rings_then, stands_in_runs}
 use Rattle.tsb_step.proofs.TellLemmas.{held_on, held_none, dark_before, timers_tell_time}
 use Rattle.tsb_step.proofs.YellowLemmas.{long_yellow}
-use Rattle.tsb_laws.specs.Stretches.{IsUntripped, largest, StartsGreen}
+use Rattle.tsb_laws.specs.Stretches.{IsUntripped, has_held_since, NoneChooses, largest, StartsGreen}
 use Rattle.tsb_laws.specs.Commitments.{CommitsTo, wait, HasStarted, StartsWithin}
 use Rattle.tsb_laws.proofs.safety.StretchLemmas.{dark_now, taken_before, IsSame, Goes, ticks, stays, goes, at_next}
 use Rattle.tsb_laws.proofs.safety.IntergreenLemmas.{turns_yellow}
@@ -169,7 +171,8 @@ module _ (plan : Plan) (base : List Input) (p : ℕ) (r : Ring) (c : ℕ) (ok : 
   quiet row later taken dark was stands = record {
     no_start = starts_not s.plan s.rings (rings_given s row) (yellow_done s) even good.rings (given s row good) r p was.ringed none;
     no_clear = clears_not s.plan s.rings (rings_given s row) r p c was.ringed was.commits none;
-    out = ap (λ (x : rings.State). x.crossing) (rings_then s row dark) ∙ stays_outside s.plan s.rings (rings_given s row) r c was.commits was.outside;
+    out = ap (λ (x : rings.State). x.crossing) (rings_then s row dark)
+        ∙ outside_then s row (stays_outside s.plan s.rings (rings_given s row) r c was.commits was.outside);
     late = late (waits_for s.plan s.rings (rings_given s row) r p c good.rings was.ringed serves was.outside was.commits none);
   }
     where
@@ -187,7 +190,7 @@ module _ (plan : Plan) (base : List Input) (p : ℕ) (r : Ring) (c : ℕ) (ok : 
 
       none : starting s.plan s.rings (rings_given s row) r ≡ None
       none = (new_commits s.plan s.rings (rings_given s row) (yellow_done s) even good.rings (given s row good) r c
-          (sym (ap (λ (x : rings.State). x.commitment r) (rings_then s row dark)) ∙ stands)).0
+          (committed_by_moves s row r c (sym (ap (λ (x : rings.State). x.commitment r) (rings_then s row dark)) ∙ stands))).0
 
       late : ((rings_given s row).over p ≡ false) ⊎ ((rings_given s row).reverted c ≡ false) →
           (over (replay plan (later ++ base)) p ≡ false) ⊎ (reverted (replay plan (later ++ base)) c ≡ false)
@@ -320,12 +323,14 @@ module _ (plan : Plan) (base : List Input) (p : ℕ) (r : Ring) (c : ℕ) (ok : 
       }
 
   one_on : (i : Input) (later : List Input) → AreTaken plan (i ∷ (later ++ base)) → (replay plan (later ++ base)).trip ≡ None →
-      Stage plan base p r c later → Stage plan base p r c (i ∷ later)
-  one_on i later taken dark (started x) = started (one_more i later x)
-  one_on i later taken dark (waits was) = go (goes (replay plan (later ++ base)) i dark)
+      is_choosing (replay plan (i ∷ (later ++ base))) ≡ false → Stage plan base p r c later → Stage plan base p r c (i ∷ later)
+  one_on i later taken dark none (started x) = started (one_more i later x)
+  one_on i later taken dark none (waits was) = go (goes (replay plan (later ++ base)) i dark)
     where
-      tick : (row : Row) → AreTaken plan (Tick row ∷ (later ++ base)) → Stage plan base p r c (Tick row ∷ later)
-      tick row taken' = by (stands_in_runs (replay plan (later ++ base)) (good_run plan (later ++ base) ok taken'.0) (Tick row) r c dark was.commits)
+      tick : (row : Row) → AreTaken plan (Tick row ∷ (later ++ base)) → is_choosing (replay plan (Tick row ∷ (later ++ base))) ≡ false →
+          Stage plan base p r c (Tick row ∷ later)
+      tick row taken' chooses_not =
+          by (stands_in_runs (replay plan (later ++ base)) (good_run plan (later ++ base) ok taken'.0) (Tick row) r c dark chooses_not was.commits)
         where
           by : StandsOrStarts (replay plan (later ++ base)) (Tick row) r c → Stage plan base p r c (Tick row ∷ later)
           by (inl stands) = waits (ticked_on row later taken' dark was stands)
@@ -333,12 +338,18 @@ module _ (plan : Plan) (base : List Input) (p : ℕ) (r : Ring) (c : ℕ) (ok : 
 
       go : Goes (replay plan (later ++ base)) i → Stage plan base p r c (i ∷ later)
       go (ticks row e) =
-          subst (λ (j : Input). Stage plan base p r c (j ∷ later)) (sym e) (tick row (subst (λ (j : Input). AreTaken plan (j ∷ (later ++ base))) e taken))
-      go (stays none same) = waits (still i later taken none same was)
+          subst (λ (j : Input). Stage plan base p r c (j ∷ later)) (sym e)
+          (tick row (subst (λ (j : Input). AreTaken plan (j ∷ (later ++ base))) e taken)
+          (subst (λ (j : Input). is_choosing (replay plan (j ∷ (later ++ base))) ≡ false) e none))
+      go (stays no_tick same) = waits (still i later taken no_tick same was)
 
-  stage : (later : List Input) → AreTaken plan (later ++ base) → IsUntripped plan base later → Stage plan base p r c [] → Stage plan base p r c later
-  stage [] taken dark first = first
-  stage (i ∷ later) taken dark first = one_on i later taken (dark_now plan base later dark.0) (stage later taken.0 dark.0 first)
+  stage : (later : List Input) → AreTaken plan (later ++ base) → IsUntripped plan base later → NoneChooses plan base later →
+      Stage plan base p r c [] → Stage plan base p r c later
+  stage [] taken dark none first = first
+  stage (i ∷ later) taken dark none first =
+      let both = and_parts (not (is_choosing (replay plan (i ∷ (later ++ base))))) (has_held_since (λ s. not (is_choosing s)) plan base later) none in
+      one_on i later taken (dark_now plan base later dark.0) (not-true (is_choosing (replay plan (i ∷ (later ++ base)))) both.0)
+      (stage later taken.0 dark.0 both.1 first)
 
 -- ## As the commitment is made
 
@@ -359,13 +370,16 @@ made_so : (s : State) (row : Row) (r : Ring) (p c : ℕ) → IsGood s → s.trip
 unfolding moves rings_given rings_next
 made_so s row r p c good dark own ended made out =
     made_by_pick s.plan s.rings (rings_given s row) (yellow_done s) (symmetric s.plan good.plan.rules) good.rings (given s row good) r p c own ended
-    (sym (ap (λ (x : rings.State). x.crossing) (rings_then s row dark)) ∙ out)
-    (sym (ap (λ (x : rings.State). x.commitment r) (rings_then s row dark)) ∙ made)
+    (outside_by_moves s row r c (sym (ap (λ (x : rings.State). x.crossing) (rings_then s row dark)) ∙ out) made_then)
+    (committed_by_moves s row r c made_then)
+  where
+    made_then : (next s row).rings.commitment r ≡ Some c
+    made_then = sym (ap (λ (x : rings.State). x.commitment r) (rings_then s row dark)) ∙ made
 
 pub are_served : (plan : Plan) (is later : List Input) (row : Row) (p : ℕ) (r : Ring) (c : ℕ) → IsConsistent plan → plan.phase_count ≤ 16 →
-    AreTaken plan (later ++ (Tick row ∷ is)) → IsUntripped plan (Tick row ∷ is) later → CommitsTo plan is row p r c →
-    StartsWithin plan (Tick row ∷ is) c (wait plan (Tick row ∷ is) p c later) later
-are_served plan is later row p r c ok few taken dark x = go (stage plan (Tick row ∷ is) p r c ok few apart later taken dark (waits first))
+    AreTaken plan (later ++ (Tick row ∷ is)) → IsUntripped plan (Tick row ∷ is) later → NoneChooses plan (Tick row ∷ is) later →
+    CommitsTo plan is row p r c → StartsWithin plan (Tick row ∷ is) c (wait plan (Tick row ∷ is) p c later) later
+are_served plan is later row p r c ok few taken dark none x = go (stage plan (Tick row ∷ is) p r c ok few apart later taken dark none (waits first))
   where
     there : AreTaken plan (Tick row ∷ is)
     there = taken_before plan (Tick row ∷ is) later taken

@@ -1,5 +1,5 @@
 -- A tick makes the same of both benches.
-use Rattle.std.proofs.Common.{◌≡◌, ℕ, ◌+◌, ◌≤◌, Bool, true, false, ◌&&◌, List, ◌++◌, Option, Some, None, option_map, refl, sym, ◌∙◌, ap, ap₂, inl, inr}
+use Rattle.std.proofs.Common.{◌≡◌, ℕ, ◌+◌, ◌==◌, ◌≤◌, Bool, true, false, ◌&&◌, List, ◌++◌, Option, Some, None, option_map, refl, sym, ◌∙◌, ap, ap₂, inl, inr}
 use Rattle.std.proofs.Math.Path.{fun_ext}
 use Rattle.std.proofs.lemmas.Bool.{cases_Bool}
 use Rattle.tsb_step.specs.tsb_cells.declared.timer.Timer.{Timer}
@@ -7,7 +7,8 @@ use Rattle.tsb_step.specs.tsb_types.declared.row.Row.{Row}
 use Rattle.tsb_step.specs.tsb_types.Clip.{clipped, within}
 use Rattle.tsb_step.specs.tsb_types.Sets.{has_number, is_phase}
 use Rattle.tsb_step.specs.tsb_plan.Plan.{Plan}
-use Rattle.tsb_step.specs.tsb_plan.Parts.{call_phase}
+use Rattle.tsb_step.specs.tsb_plan.declared.object.Object.TheVariants.{PreemptChoosesAnew}
+use Rattle.tsb_step.specs.tsb_plan.Parts.{call_phase, is_anew}
 use Rattle.tsb_step.specs.tsb_detect.Detector.{Detector, all_after}
 use Rattle.tsb_step.specs.tsb_preempt.Preempts.{Preempts}
 use Rattle.tsb_step.specs.tsb_calls.Memories.{Memories, has_output}
@@ -22,7 +23,8 @@ use Rattle.tsb_step.specs.tsb_ring.Next as rings_next
 use Rattle.tsb_step.specs.tsb_ring.Moves.{is_ended, is_started}
 use Rattle.tsb_step.specs.tsb_coord.Coordinated.{serving_order}
 use Rattle.tsb_step.specs.State.{State, interval}
-use Rattle.tsb_step.specs.Tick.{new_service, service, hold, forced, recycle, omitted, green_timer, new_detectors, calls_given, set, callable, conflict, pedestrian_call, phases_given, phase_read, ready, over, reverted, gapped, walks_again, rings_given, moves, moved, done, next, preempts_given, preempts_read}
+use Rattle.tsb_step.specs.Tick.{new_service, service, hold, forced, recycle, omitted, green_timer, new_detectors, calls_given, set, callable, conflict, pedestrian_call, phases_given, phase_read, ready, over, reverted, gapped, walks_again, rings_given, moves, moved, done, gives_up, next, preempts_given, preempts_read}
+use Rattle.tsb_step.proofs.GiveUpLemmas.{gives_none, keeps_rings}
 use Rattle.tsb_step.proofs.tsb_phase.MoveLemmas.{stays_at_power_up}
 use Rattle.tsb_laws.specs.Widened.{IsNarrow, widened, widened_state, AreOfTable, IsLampWithin}
 use Rattle.tsb_laws.proofs.versions.ListLemmas.{is_narrow, IsSameOnNarrow, IsBeyondNarrow}
@@ -237,6 +239,23 @@ tick-rings-same s row is =
     rw (rings_given-same s row is)
     (rings-same s.plan s.rings (wide_omitted s) (rings_given s row) is.plan (none-wanted s row is.plan) (omitted-given s row is.plan) is.side)
 
+-- version 1 has no preempts that choose anew
+none-chooses : (plan : Plan) (service : Option ℕ) → IsNarrow plan → is_anew plan service ≡ false
+none-chooses plan None narrow = refl
+none-chooses plan (Some n) narrow = ap (λ (v : ℕ). v == 1) (narrow.placed PreemptChoosesAnew n refl)
+
+gives-none : (s : State) (row : Row) → IsNarrowState s → gives_up s row ≡ false
+gives-none s row is = gives_none s row (none-chooses s.plan (service s row) is.plan)
+
+wide-gives-none : (s : State) (row : Row) → IsNarrowState s → gives_up (widened_state s) row ≡ false
+wide-gives-none s row is =
+    gives_none (widened_state s) row
+    (ap (is_anew (widened s.plan)) (service-same s row is.plan) ∙ none-chooses s.plan (service s row) is.plan)
+
+new_rings-same : (s : State) (row : Row) → IsNarrowState s → (next (widened_state s) row).rings ≡ (next s row).rings
+new_rings-same s row is =
+    keeps_rings (widened_state s) row (wide-gives-none s row is) ∙ tick-rings-same s row is ∙ sym (keeps_rings s row (gives-none s row is))
+
 moved-same : (s : State) (row : Row) → IsNarrowState s → moved (widened_state s) row ≡ moved s row
 moved-same s row is = rw (tick-moves-same s row is) refl
 
@@ -295,7 +314,7 @@ next-same s row is =
     parts-same (widened_state s) (new_detectors (widened_state s) row) (new_detectors s row)
     (next (widened_state s) row).memories (next s row).memories (next (widened_state s) row).phases (next s row).phases
     (next (widened_state s) row).rings (next s row).rings (next (widened_state s) row).preempts (next s row).preempts
-    (detectors-same s row) (memories-same s row is) (phases-same s row is) (tick-rings-same s row is)
+    (detectors-same s row) (memories-same s row is) (phases-same s row is) (new_rings-same s row is)
     (preempts.preempts-same s.plan (preempts_given s row) s.preempts is.plan)
 
 pub next-narrow : (s : State) (row : Row) → IsNarrowState s → IsNarrowState (next s row)
@@ -303,8 +322,8 @@ next-narrow s row is = record {
   plan = is.plan;
   edits = is.edits;
   resting = λ p out. stays s row p is out;
-  commitments = λ r. commitment-narrow s.plan s.rings (rings_given s row) r is.plan (is.commitments r);
-  side = side-low s.plan s.rings (rings_given s row) is.side is.crossing;
-  crossing = crossing-low s.plan s.rings (rings_given s row) is.plan is.side is.crossing;
+  commitments = λ r. rw (keeps_rings s row (gives-none s row is)) (commitment-narrow s.plan s.rings (rings_given s row) r is.plan (is.commitments r));
+  side = rw (keeps_rings s row (gives-none s row is)) (side-low s.plan s.rings (rings_given s row) is.side is.crossing);
+  crossing = rw (keeps_rings s row (gives-none s row is)) (crossing-low s.plan s.rings (rings_given s row) is.plan is.side is.crossing);
   lamp = is.lamp;
 }

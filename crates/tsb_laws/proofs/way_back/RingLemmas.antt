@@ -1,5 +1,5 @@
 -- Rings are in range after a tick, and they start and end phases of the plan alone.
-use Rattle.std.proofs.Common.{◌≡◌, ℕ, ◌+◌, ◌-◌, ◌<◌, ◌≤◌, Bool, true, false, ◌&&◌, ◌⊎◌, if◌then◌else◌, List, [], ◌∷◌, ◌++◌, Option, Some, None, IfSome, is_none, refl, sym, arith, ◌∙◌, inl, inr}
+use Rattle.std.proofs.Common.{◌≡◌, ℕ, ◌+◌, ◌-◌, ◌<◌, ◌≤◌, Bool, true, false, ◌&&◌, ◌⊎◌, if◌then◌else◌, List, [], ◌∷◌, ◌++◌, Option, Some, None, IfSome, is_none, refl, sym, ap, subst, arith, ◌∙◌, inl, inr}
 use Rattle.std.proofs.lemmas.Bool.{or_cases, true≢false}
 use Rattle.tsb_step.specs.tsb_types.Lists.{first, is, run_from, or_else, or_number}
 use Rattle.tsb_step.specs.tsb_types.Sets.{is_phase}
@@ -13,6 +13,8 @@ use Rattle.tsb_step.specs.tsb_ring.Rings.{Ring, Ring1, Ring2, State, Given}
 use Rattle.tsb_step.specs.tsb_ring.Wants.{is_targeted}
 use Rattle.tsb_step.specs.tsb_ring.Crossings.{begins, is_called_on, side_of_or, side_sought, target_side}
 use Rattle.tsb_step.specs.tsb_ring.Next.{completes, starting, new_last, new_side, new_crossing, next}
+use Rattle.tsb_step.specs.tsb_ring.GivenUp.{given_up}
+use Rattle.tsb_step.proofs.tsb_ring.GivenUpLemmas.{crossing_left, last_stays, side_stays, was_before}
 use Rattle.tsb_step.specs.tsb_ring.Moves.{moves, is_ended, is_started}
 use Rattle.tsb_step.specs.tsb_ring.Laws.{IsListed, IsSymmetric, IsGiven, IsSound, IsUpTo, IsInRange}
 use Rattle.tsb_step.proofs.tsb_ring.MoveLemmas.{is-Some, ends_ready}
@@ -129,4 +131,15 @@ rings-after plan s given held symmetric sound ok listed was = record {
   crossing = if-in (IsUpTo 4) (begins plan s given) (Some (target_side plan s given)) (if completes plan s given then None else s.crossing)
       (target-in plan s given held was.side)
       (if-in (IsUpTo 4) (completes plan s given) None s.crossing tt was.crossing);
+}
+
+-- what is given up leaves them in range
+pub rings-given : (plan : Plan) (target : Option (ℕ → Bool)) (s : State) → IsInRange s → IsInRange (given_up plan target s)
+rings-given plan target s was = record {
+  last = λ r. subst (λ (o : Option ℕ). IfSome o (IsUpTo 16)) (sym (last_stays plan target s r)) (was.last r);
+  commitment = λ r. none-or (IsUpTo 16) _ (λ p h. subst (λ (o : Option ℕ). IfSome o (IsUpTo 16)) (was_before plan target s r p h) (was.commitment r));
+  side = subst (IsUpTo 4) (sym (side_stays plan target s)) was.side;
+  crossing = none-or (IsUpTo 4) _ (λ d h.
+      (let all = crossing_left plan target s d h in
+      subst (λ (o : Option ℕ). IfSome o (IsUpTo 4)) (sym (ap (λ (x : State). x.crossing) all) ∙ h) was.crossing));
 }

@@ -34,7 +34,8 @@ use Rattle.tsb_step.specs.Tick as tick
 use Rattle.tsb_step.specs.Tick.{new_detectors, phases_given, moved, moves, rings_given, calls_given, done, preempts_given, green_timer}
 use Rattle.tsb_step.proofs.EditLemmas.{same_phase_count, same_side_count}
 use Rattle.tsb_step.proofs.GivenLemmas.{symmetric, given}
-use Rattle.tsb_step.proofs.GoodLemmas.{good_next, good_step, good_run}
+use Rattle.tsb_step.proofs.GiveUpLemmas.{by_rings}
+use Rattle.tsb_step.proofs.GoodLemmas.{rings_after_moves, good_next, good_step, good_run}
 use Rattle.tsb_step.proofs.PlaceLemmas.{same_refusal}
 use Rattle.tsb_step.proofs.tsb_phase.MoveLemmas.{stays_at_power_up}
 use Rattle.tsb_laws.specs.Runs.{IsHeld, IsTyped, AreTyped}
@@ -44,7 +45,7 @@ use Rattle.tsb_laws.proofs.way_back.CorrectionLemmas.{cycles-within, ahead-selec
 use Rattle.tsb_laws.proofs.way_back.DetectLemmas.{detectors-after, detectors-begin}
 use Rattle.tsb_laws.proofs.way_back.CallLemmas.{IsSettled, memories-after, memories-begin}
 use Rattle.tsb_laws.proofs.way_back.PhaseLemmas.{RunsIn, runs-after, runs-begin, runs-unforced}
-use Rattle.tsb_laws.proofs.way_back.RingLemmas.{none-started, none-ended, rings-after}
+use Rattle.tsb_laws.proofs.way_back.RingLemmas.{rings-given, none-started, none-ended, rings-after}
 use Rattle.tsb_laws.proofs.way_back.PreemptLemmas.{preempts-after, preempts-begin, preempts-reset, preempts-switched}
 use Rattle.tsb_laws.proofs.way_back.TripLemmas.{tripped-at, judged-trip, clock-now, clock-stands, clock-runs, trip-stays}
 
@@ -89,11 +90,14 @@ module _ (s : State) (row : Row) (good : IsGood s) (held : IsHeld s.plan) (was :
   unfolding new_detectors
   detectors-next = detectors-after s.plan s.now (has_number row.vehicles) (λ d. green_timer s (call_phase s.plan d)) s.detectors was.detectors
 
-  rings-next : rings.IsInRange (tick.next s row).rings
+  rings-moved : rings.IsInRange (tick.after_moves s row).rings
   unfolding rings_given
-  rings-next =
+  rings-moved =
       rings-after s.plan s.rings (rings_given s row) held (symmetric s.plan good.plan.rules) good.rings (given s row good)
-      (λ r p h. ((good_next s row good).rings.owned r p h).1) was.rings
+      (λ r p h. ((rings_after_moves s row good).owned r p h).1) was.rings
+
+  rings-next : rings.IsInRange (tick.next s row).rings
+  rings-next = by_rings rings.IsInRange s row rings-moved (rings-given s.plan (tick.target s row) (tick.after_moves s row).rings rings-moved)
 
   settled : IsSettled s.plan (done s row)
   settled = record {

@@ -1,14 +1,14 @@
 //! What a plan says of preempts. Times are in tenths of a second.
 #![tactic(auto, unfolding(crate::specs::PlanOf::plan_of))]
 
-ghost use Rattle.std.specs.Prelude.{◌≡◌, ℕ, ◌+◌, ◌-◌, ◌*◌, ◌≤◌};
+ghost use Rattle.std.specs.Prelude.{◌≡◌, ℕ, ◌+◌, ◌-◌, ◌*◌, ◌≤◌, ◌==◌};
 
 use crate::object::Object;
 use crate::plan::Plan;
 use tsb_types::{PhaseSet, Preempt};
 
 impl Plan {
-    ghost use Rattle.tsb_plan.specs.Parts.{preempt_delay, minimum_duration, preempt_maximum_presence, preempt_minimum_green, preempt_minimum_walk, enter_pedestrian_clear, track_green, is_track_phase, is_dwell_phase, is_exit_phase};
+    ghost use Rattle.tsb_plan.specs.Parts.{preempt_delay, minimum_duration, preempt_maximum_presence, preempt_minimum_green, preempt_minimum_walk, enter_pedestrian_clear, track_green, chooses_anew, is_track_phase, is_dwell_phase, is_exit_phase};
     ghost use Rattle.tsb_plan.specs.PlanOf.{plan_of};
     ghost use Rattle.tsb_types.specs.Sets.{has};
 
@@ -64,6 +64,14 @@ impl Plan {
         ensures { result ≡ track_green (plan_of self.now) preempt }
     {
         10 * self.value(Object::PreemptTrackGreen, u32::from(preempt.number()))
+    }
+
+    /// Whether rings give up what they are committed to, where the preempt in service does not want it
+    /// (`preemptChoosesAnew`).
+    pub fn chooses_anew(&self, preempt: Preempt) -> bool
+        ensures { result ≡ chooses_anew (plan_of self.now) preempt }
+    {
+        self.value(Object::PreemptChoosesAnew, u32::from(preempt.number())) == 1
     }
 
     /// The phases that clear the track (`preemptTrackPhase`).

@@ -21,7 +21,7 @@ use Rattle.tsb_calls.specs.Memories as calls
 use Rattle.tsb_calls.specs.Memories.{Memories, actuations, counted, has_button, has_output, pedestrian_memory, vehicle_memory}
 use Rattle.tsb_coord.specs.Coordinated.{force_off}
 use Rattle.tsb_heads.specs.Monitoring.{conflict, conflict_of, green_to_red}
-use Rattle.tsb_heads.specs.Overlaps.{is_kept_green, is_on_yellow}
+use Rattle.tsb_heads.specs.Overlaps.{is_kept_green, is_on_yellow, lasts, some_lasts}
 use Rattle.tsb_phase.specs.DynamicMaximum.{maximum_in_use}
 use Rattle.tsb_phase.specs.Green.{cars_waiting, gap, initial, reduction_timer}
 use Rattle.tsb_phase.specs.Pedestrian.{pedestrian_now}
@@ -32,6 +32,7 @@ use Rattle.tsb_preempt.specs.Preempts as preempts
 use Rattle.tsb_preempt.specs.Preempts.{beginning, dwell_ends, new_service, requesting}
 use Rattle.tsb_preempt.specs.Service.{all_green}
 use Rattle.tsb_ring.specs.Crossings.{begins, committed, entry, target_side}
+use Rattle.tsb_ring.specs.GivenUp.{given_up}
 use Rattle.tsb_ring.specs.Moves.{moves}
 use Rattle.tsb_ring.specs.Next.{clears, completes, ends, new_commitment, new_crossing, new_last, new_side, next, starting}
 use Rattle.tsb_ring.specs.Rings as rings
@@ -46,7 +47,7 @@ use Rattle.tsb_step.specs.Tick as tick
 
 -- what a computed example opens
 unfoldable pub opened : Unit {0}
-unfolding run_from quad coordinated_count side_sum split_end split_sum broken_by_extensions broken_by_parts broken_by_phases broken_by_rings first_broken has_conflict is_callable actuations counted has_button has_output pedestrian_memory vehicle_memory force_off conflict conflict_of green_to_red is_kept_green is_on_yellow maximum_in_use cars_waiting gap initial reduction_timer pedestrian_now is_over is_ready red_revert_passed beginning dwell_ends new_service requesting all_green begins committed entry target_side moves clears completes ends new_commitment new_crossing new_last new_side next starting serving fits pick pick_of_ring_1 want want_of display field watched step verdict tick.moves tick.new_detectors tick.new_service tick.phases_given tick.rings_given
+unfolding run_from quad coordinated_count side_sum split_end split_sum broken_by_extensions broken_by_parts broken_by_phases broken_by_rings first_broken has_conflict is_callable actuations counted has_button has_output pedestrian_memory vehicle_memory force_off conflict conflict_of green_to_red is_kept_green is_on_yellow lasts some_lasts given_up maximum_in_use cars_waiting gap initial reduction_timer pedestrian_now is_over is_ready red_revert_passed beginning dwell_ends new_service requesting all_green begins committed entry target_side moves clears completes ends new_commitment new_crossing new_last new_side next starting serving fits pick pick_of_ring_1 want want_of display field watched step verdict tick.moves tick.new_detectors tick.new_service tick.phases_given tick.rings_given tick.gives_up tick.new_rings
 opened = tt
 
 -- ## Words

@@ -2,7 +2,7 @@
 use Rattle.std.proofs.Common.{◌≡◌, ℕ, ◌-◌, ◌%◌, nat_lt, Bool, true, false, not, ◌&&◌, ◌||◌, Option, Some, None, is_some, is_none, refl}
 use Rattle.tsb_step.specs.tsb_cells.declared.timer.Timer.TheVariants.{Off, On}
 use Rattle.tsb_step.specs.tsb_cells.Timer.{has_reached}
-use Rattle.tsb_step.specs.tsb_plan.Parts.{cycle, permissive_time}
+use Rattle.tsb_step.specs.tsb_plan.Parts.{cycle, permissive_time, is_anew}
 use Rattle.tsb_step.specs.tsb_plan.Plan.{Plan, maximum, yellow_change, red_clear}
 use Rattle.tsb_step.specs.tsb_plan.Quad.{quad}
 use Rattle.tsb_step.specs.tsb_plan.Running.{running, is_coordinated_now, split_green}
@@ -31,6 +31,7 @@ two_has_none = record {
   phase_pedestrian_recycle = λ p. refl;
   coord_correction_mode = refl;
   overlap_across_rings = λ o. refl;
+  preempt_chooses_anew = λ n. refl;
 }
 
 quad_has_none : HasNoOptions quad
@@ -43,6 +44,7 @@ quad_has_none = record {
   phase_pedestrian_recycle = λ p. refl;
   coord_correction_mode = refl;
   overlap_across_rings = λ o. refl;
+  preempt_chooses_anew = λ n. refl;
 }
 
 -- ## Force-off that is late whatever the mode is
@@ -229,3 +231,15 @@ is_not_followed = refl
 would_follow : across_always (over 0).plan (shown (over 0)) 1 1 ≡ true
 unfolding opened
 would_follow = refl
+
+-- ## Preempts that choose anew whatever the option is
+
+abbrev anew_always : Option ℕ → Bool
+anew_always service = is_some service
+
+is_not_anew : is_anew quad (Some 1) ≡ false
+unfolding opened
+is_not_anew = refl
+
+would_choose_anew : anew_always (Some 1) ≡ true
+would_choose_anew = refl

@@ -1,5 +1,5 @@
 -- Runs from power-up in which a preempt is in its stages, and mistakes that the laws of these refuse.
-use Rattle.std.proofs.Common.{◌≡◌, ℕ, ◌+◌, ◌*◌, ◌≤◌, Bool, true, false, if◌then◌else◌, min, max, List, [], ◌∷◌, ◌++◌, Some, None, refl, sym, ap, arith}
+use Rattle.std.proofs.Common.{◌≡◌, ℕ, ◌+◌, ◌*◌, ◌≤◌, nat_lt, Bool, true, false, if◌then◌else◌, min, max, List, [], ◌∷◌, ◌++◌, Some, None, refl, sym, ap, arith}
 use Rattle.tsb_step.specs.tsb_cells.declared.timer.Timer.TheVariants.{Off, On}
 use Rattle.tsb_step.specs.tsb_types.Sets.{all_off}
 use Rattle.tsb_step.specs.tsb_types.declared.interval.Interval.{Interval}
@@ -7,7 +7,7 @@ use Rattle.tsb_step.specs.tsb_types.declared.row.Row.{Row}
 use Rattle.tsb_step.specs.tsb_types.declared.stage.Stage.{Stage}
 use Rattle.tsb_step.specs.tsb_types.declared.stage.Stage.TheVariants.{Dwell, Exit}
 use Rattle.tsb_step.specs.tsb_plan.declared.object.Object.{Object}
-use Rattle.tsb_step.specs.tsb_plan.declared.object.Object.TheVariants.{PhaseYellowChange, PhaseRedClear, PhaseRedRevert, UnitRedRevert, PreemptMinimumDuration, PreemptMinimumGreen, PreemptMinimumWalk, PreemptEnterPedClear, PreemptTrackGreen, PreemptDwellPhase, PreemptExitPhase}
+use Rattle.tsb_step.specs.tsb_plan.declared.object.Object.TheVariants.{PhaseYellowChange, PhaseRedClear, PhaseRedRevert, UnitRedRevert, PreemptMinimumDuration, PreemptMinimumGreen, PreemptMinimumWalk, PreemptEnterPedClear, PreemptTrackGreen, PreemptDwellPhase, PreemptExitPhase, PreemptChoosesAnew}
 use Rattle.tsb_step.specs.tsb_plan.Objects.{greatest}
 use Rattle.tsb_step.specs.tsb_plan.Parts.{is_dwell_phase, preempt_minimum_green, track_green}
 use Rattle.tsb_step.specs.tsb_plan.Plan.{Plan, with_values, yellow_change, red_clear, red_revert}
@@ -28,14 +28,15 @@ use Rattle.tsb_step.specs.Runs.{replay, AreTaken}
 use Rattle.tsb_step.specs.Laws.{IsConsistent}
 use Rattle.tsb_step.proofs.Examples.Scenes.{opened, after, preempt, resting}
 use Rattle.tsb_laws.specs.Stretches.{IsUntripped, has_held_since, largest}
+use Rattle.tsb_laws.specs.PreemptChoices.{HasChosen, ChoiceTakesAtMost, time_by_choice}
 use Rattle.tsb_laws.specs.PreemptDwells.{BeginsService, is_served}
 use Rattle.tsb_laws.specs.PreemptStages.{is_in_stage, StageTakesAtMost, time_to_dwell}
 use Rattle.tsb_laws.proofs.safety.Examples.PlanFits.{Fits, values_fit, quad_fits, consistent}
 
--- ## Preempt 1 dwells with 2 and 6 and leaves by 1 and 5; it is switched on, and off again
+-- ## Preempt 1 dwells with 2 and 6, leaves by 1 and 5, and chooses anew; it is switched on, and off again
 
 abbrev leads_values : List (Object × ℕ × ℕ)
-leads_values = (PreemptDwellPhase, 1, 34) ∷ (PreemptExitPhase, 1, 17) ∷ (PreemptMinimumDuration, 1, 0) ∷ []
+leads_values = (PreemptDwellPhase, 1, 34) ∷ (PreemptExitPhase, 1, 17) ∷ (PreemptMinimumDuration, 1, 0) ∷ (PreemptChoosesAnew, 1, 1) ∷ []
 
 unfoldable leads : Plan
 leads = with_values quad leads_values
@@ -221,6 +222,48 @@ a_dwell = record {
   where
     ten : (a : ℕ) → a ≤ 255 → 10 * a ≤ 2550
     ten a h = omega (arith, h)
+
+-- ## The same, as it chooses anew
+
+chosen_on : HasChosen leads began off
+unfolding opened leads
+chosen_on = refl
+
+takes_anew : (base : List Input) (i : Input) → (replay leads base).plan ≡ leads → (replay leads (i ∷ base)).plan ≡ leads →
+    ChoiceTakesAtMost leads base 1 2550 5100 510 510 (i ∷ [])
+takes_anew base i e f = (let k = takes base i e f in record { stage = k; revert = k.revert })
+
+record Choice (plan : Plan) (base later : List Input) (n : ℕ) (stage : Stage) (g w c v : ℕ) : Type 0 where
+  consistent : IsConsistent plan
+  few : plan.phase_count ≤ 16
+  taken : AreTaken plan (later ++ base)
+  untripped : IsUntripped plan base later
+  chosen : HasChosen plan base later
+  held : has_held_since (λ s. is_in_stage n stage s.preempts.service) plan base later ≡ true
+  times : ChoiceTakesAtMost plan base n g w c v later
+
+a_choice : Choice leads began off 1 Dwell 2550 5100 510 510
+a_choice = record {
+  consistent = leads_consistent;
+  few = (let count = leads_count in omega (arith, count));
+  taken = taken_on;
+  untripped = dark_on;
+  chosen = chosen_on;
+  held = dwells_on;
+  times = takes_anew began (Switch 1 false) plan_began plan_on;
+}
+
+-- ## A preempt that chooses anew, and still has rings serve what they were committed to: with a least green of 5 s, 6 s of
+-- pedestrian clearance, 5.8 s of yellow and red clearance, and 2 s of red revert
+
+abbrev serves_first : ℕ → ℕ → ℕ
+serves_first g c = c + g + c
+
+lasts_for_166 : serves_first 50 58 ≡ 166
+lasts_for_166 = refl
+
+would_be_late : nat_lt (time_by_choice 50 60 58 20) (serves_first 50 58) ≡ true
+would_be_late = refl
 
 -- ## A preempt whose rings rest where it wants phases across the barrier: 2 and 6 are Green, and it wants 3 and 8
 

@@ -5,8 +5,7 @@ use Rattle.tsb_step.specs.tsb_types.Sets.{all_off}
 use Rattle.tsb_step.specs.tsb_types.declared.interval.Interval.TheVariants.{Green, Yellow}
 use Rattle.tsb_step.specs.tsb_types.declared.row.Row.{Row}
 use Rattle.tsb_step.specs.tsb_plan.declared.object.Object.{Object}
-use Rattle.tsb_step.specs.tsb_plan.declared.object.Object.TheVariants.{PhaseMinRecall, PhasePedRecall, PhaseMinimumGreen, PhasePassage, PhaseMinimumGap}
-use Rattle.tsb_step.specs.tsb_plan.Objects.{greatest}
+use Rattle.tsb_step.specs.tsb_plan.declared.object.Object.TheVariants.{PhaseMinRecall, PhasePedRecall, PhaseMinimumGreen, PhasePassage, PhaseMinimumGap, PreemptChoosesAnew}
 use Rattle.tsb_step.specs.tsb_plan.Plan.{Plan, is_concurrent, yellow_change, red_clear, red_revert, with_values}
 use Rattle.tsb_step.specs.tsb_plan.Quad.{quad}
 use Rattle.tsb_step.specs.tsb_rules.Rules.{first_broken}
@@ -17,22 +16,23 @@ use Rattle.tsb_step.specs.State.{interval}
 use Rattle.tsb_step.specs.Runs.{replay, AreTaken}
 use Rattle.tsb_step.specs.Laws.{IsConsistent, is_unlit}
 use Rattle.tsb_step.proofs.Examples.Scenes.{opened}
-use Rattle.tsb_laws.specs.Stretches.{IsUntripped, EndsGreen, StartsGreen}
+use Rattle.tsb_laws.specs.Stretches.{IsUntripped, NoneChooses, EndsGreen, StartsGreen}
 use Rattle.tsb_laws.specs.Intergreens.{AreApart}
 use Rattle.tsb_laws.specs.Commitments.{CommitsTo, wait, StartsWithin}
 use Rattle.tsb_laws.proofs.safety.ServedLemmas.{are_served}
-use Rattle.tsb_laws.proofs.safety.Examples.PlanFits.{Fits, values_fit, quad_fits, consistent}
-use Rattle.tsb_laws.proofs.safety.Examples.TickRuns.{ticks, now_then, plan_then, largest_then, all_taken, none_trips, AreTicks, older_ticks}
+use Rattle.tsb_laws.proofs.safety.Examples.PlanFits.{Fits, no_choice, values_fit, quad_fits, consistent}
+use Rattle.tsb_laws.proofs.safety.Examples.TickRuns.{ticks, now_then, plan_then, none_choose, largest_then, all_taken, none_trips, AreTicks, older_ticks}
 
 -- ## A run that is known as far as its newest input, and ticks after it
 
--- the plan breaks no rule, each input was taken, no lamp was lit, and there is room for ticks
+-- the plan breaks no rule, each input was taken, no lamp was lit, there is room for ticks, and no preempt chooses anew
 pub record IsKnown (plan : Plan) (base : List Input) : Type 0 where
   pub consistent : IsConsistent plan
   pub few : plan.phase_count ≤ 16
   pub taken : AreTaken plan base
   pub unlit : is_unlit plan base ≡ true
   pub early : (replay plan base).now ≤ 100
+  pub choice : (n : ℕ) → (replay plan base).plan.value PreemptChoosesAnew n ≤ 0
 
 -- c starts in the tick after so many
 pub record Starts (plan : Plan) (base : List Input) (row : Row) (c n : ℕ) : Type 0 where
@@ -47,7 +47,8 @@ pub starts_then : (plan : Plan) (is : List Input) (row last : Row) (p : ℕ) (r 
     n ≤ 500 → Starts plan (Tick last ∷ is) row c n
 starts_then plan is row last p r c n known x most few =
     go (are_served plan is (ticks row n) last p r c known.consistent known.few (all_taken plan row (Tick last ∷ is) n known.taken in_time)
-    (none_trips plan row (Tick last ∷ is) known.consistent known.taken known.unlit n in_time) x)
+    (none_trips plan row (Tick last ∷ is) known.consistent known.taken known.unlit n in_time)
+    (none_choose plan row (Tick last ∷ is) n known.choice) x)
   where
     in_time : (replay plan (Tick last ∷ is)).now + n ≤ 1000
     in_time = let early = known.early in omega (arith, early, few)
@@ -79,9 +80,9 @@ brief_values =
 unfoldable pub brief : Plan
 brief = with_values quad brief_values
 
-brief_fits : Fits greatest brief.value
+brief_fits : Fits no_choice brief.value
 unfolding brief
-brief_fits = values_fit greatest brief_values quad refl (quad_fits greatest refl refl)
+brief_fits = values_fit no_choice brief_values quad refl (quad_fits no_choice refl refl)
 
 brief_count : brief.phase_count ≡ 16
 unfolding quad brief
@@ -107,11 +108,14 @@ ticked_2 = refl
 
 pub brief_known : IsKnown brief ended
 brief_known = record {
-  consistent = consistent greatest brief brief_count breaks_none brief_fits;
+  consistent = consistent no_choice brief brief_count breaks_none brief_fits;
   few = (let count = brief_count in omega (arith, count));
   taken = taken;
   unlit = unlit;
   early = (let now = ticked_2 in omega (arith, now));
+  choice = λ n. (let same : (replay brief ended).plan.value PreemptChoosesAnew n ≡ brief.value PreemptChoosesAnew n =
+      ap (λ (x : Plan). x.value PreemptChoosesAnew n) (plan_then brief all_off [] 2) in
+      let most : brief.value PreemptChoosesAnew n ≤ 0 = brief_fits.bounded PreemptChoosesAnew n in omega (arith, same, most));
 }
 
 was_green : interval (replay brief (Tick all_off ∷ [])) 1 ≡ Green
@@ -162,6 +166,7 @@ record Commitment (plan : Plan) (is later : List Input) (row : Row) (p : ℕ) (r
   few : plan.phase_count ≤ 16
   taken : AreTaken plan (later ++ (Tick row ∷ is))
   untripped : IsUntripped plan (Tick row ∷ is) later
+  choice : NoneChooses plan (Tick row ∷ is) later
   commits : CommitsTo plan is row p r c
 
 a_commitment : Commitment brief (Tick all_off ∷ []) (ticks all_off starts_2.count) all_off 1 Ring1 2
@@ -170,6 +175,7 @@ a_commitment = record {
   few = brief_known.few;
   taken = all_taken brief all_off ended starts_2.count taken in_time;
   untripped = none_trips brief all_off ended brief_known.consistent taken unlit starts_2.count in_time;
+  choice = none_choose brief all_off ended starts_2.count brief_known.choice;
   commits = commits_to_2;
 }
 

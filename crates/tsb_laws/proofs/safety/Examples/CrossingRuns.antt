@@ -4,7 +4,7 @@ use Rattle.tsb_step.specs.tsb_types.Sets.{all_off}
 use Rattle.tsb_step.specs.tsb_types.declared.row.Row.{Row}
 use Rattle.tsb_step.specs.tsb_types.Intervals.{in_service}
 use Rattle.tsb_step.specs.tsb_plan.declared.object.Object.{Object}
-use Rattle.tsb_step.specs.tsb_plan.declared.object.Object.TheVariants.{PhaseYellowChange, PhaseRedClear, PhaseRedRevert, UnitRedRevert, PhasePedRecall, PreemptMinimumGreen, PreemptMinimumWalk, PreemptEnterPedClear}
+use Rattle.tsb_step.specs.tsb_plan.declared.object.Object.TheVariants.{PhaseYellowChange, PhaseRedClear, PhaseRedRevert, UnitRedRevert, PhasePedRecall, PreemptMinimumGreen, PreemptMinimumWalk, PreemptEnterPedClear, PreemptChoosesAnew}
 use Rattle.tsb_step.specs.tsb_plan.Objects.{greatest}
 use Rattle.tsb_step.specs.tsb_plan.Plan.{Plan, yellow_change, red_clear, red_revert, with_values}
 use Rattle.tsb_step.specs.tsb_plan.Quad.{quad}
@@ -18,11 +18,11 @@ use Rattle.tsb_step.specs.Runs.{replay, AreTaken}
 use Rattle.tsb_step.specs.Laws.{IsConsistent, is_unlit}
 use Rattle.tsb_step.proofs.ClearLemmas.{plan_stays}
 use Rattle.tsb_step.proofs.Examples.Scenes.{opened}
-use Rattle.tsb_laws.specs.Stretches.{IsUntripped, largest, StartsGreen}
+use Rattle.tsb_laws.specs.Stretches.{IsUntripped, NoneChooses, largest, StartsGreen}
 use Rattle.tsb_laws.specs.Crossings.{BeginsCrossing, TakesAtMost, CompletesWithin}
 use Rattle.tsb_laws.proofs.safety.CrossingLemmas.{completes_in_time}
 use Rattle.tsb_laws.proofs.safety.Examples.PlanFits.{Fits, values_fit, quad_fits, consistent}
-use Rattle.tsb_laws.proofs.safety.Examples.TickRuns.{ticks, now_then, largest_then, all_taken, none_trips, AreTicks, older_ticks}
+use Rattle.tsb_laws.proofs.safety.Examples.TickRuns.{ticks, now_then, none_choose, largest_then, all_taken, none_trips, AreTicks, older_ticks}
 use Rattle.tsb_laws.proofs.safety.Examples.CommitmentRuns.{IsKnown}
 
 -- ## A crossing that a preempt asks for in the second tick: it ends the walk of 2 and the greens of 2 and 6 at once
@@ -33,12 +33,13 @@ quick_values = (PhasePedRecall, 2, 1) ∷ (PreemptMinimumGreen, 1, 0) ∷ (Preem
 unfoldable pub quick : Plan
 quick = with_values quad quick_values
 
--- no phase has a longer clearance or red revert
+-- no phase has a longer clearance or red revert, and no preempt chooses anew
 abbrev limit : Object → ℕ
 limit PhaseYellowChange = 30
 limit PhaseRedClear = 10
 limit PhaseRedRevert = 0
 limit UnitRedRevert = 20
+limit PreemptChoosesAnew = 0
 limit o = greatest o
 
 quick_fits : Fits limit quick.value
@@ -70,6 +71,10 @@ ticked_2 : (replay quick crossed).now ≡ 2
 unfolding opened quick
 ticked_2 = refl
 
+same_plan : (replay quick crossed).plan ≡ quick
+unfolding step
+same_plan = plan_stays (replay quick (Switch 1 true ∷ walked)) all_off ∙ plan_stays (start quick) all_off
+
 pub known : IsKnown quick crossed
 known = record {
   consistent = consistent limit quick quick_count breaks_none quick_fits;
@@ -77,11 +82,10 @@ known = record {
   taken = taken;
   unlit = unlit;
   early = (let now = ticked_2 in omega (arith, now));
+  choice = λ n. (let same : (replay quick crossed).plan.value PreemptChoosesAnew n ≡ quick.value PreemptChoosesAnew n =
+      ap (λ (x : Plan). x.value PreemptChoosesAnew n) same_plan in
+      let most : quick.value PreemptChoosesAnew n ≤ 0 = quick_fits.bounded PreemptChoosesAnew n in omega (arith, same, most));
 }
-
-same_plan : (replay quick crossed).plan ≡ quick
-unfolding step
-same_plan = plan_stays (replay quick (Switch 1 true ∷ walked)) all_off ∙ plan_stays (start quick) all_off
 
 none_before : (replay quick (Switch 1 true ∷ walked)).rings.crossing ≡ None
 unfolding opened quick
@@ -117,6 +121,7 @@ record Crossing (plan : Plan) (is later : List Input) (row : Row) (d n : ℕ) : 
   few : plan.phase_count ≤ 16
   taken : AreTaken plan (later ++ (Tick row ∷ is))
   untripped : IsUntripped plan (Tick row ∷ is) later
+  choice : NoneChooses plan (Tick row ∷ is) later
   begins : BeginsCrossing plan is row d
   limit : TakesAtMost plan (Tick row ∷ is) n later
 
@@ -129,6 +134,7 @@ a_crossing = record {
   few = known.few;
   taken = all_taken quick all_off crossed 41 taken (in_time 41 (omega arith));
   untripped = none_trips quick all_off crossed known.consistent taken unlit 41 (in_time 41 (omega arith));
+  choice = none_choose quick all_off crossed 41 known.choice;
   begins = begins_crossing;
   limit = takes_40 41;
 }
@@ -145,7 +151,7 @@ record Starts3 : Type 0 where
   started : StartsGreen quick (ticks all_off count ++ crossed) next 3
 
 starts_3 : Starts3
-starts_3 = go (completes_in_time quick (Switch 1 true ∷ walked) (ticks all_off 41) all_off 2 40 a_crossing.consistent a_crossing.few a_crossing.taken a_crossing.untripped a_crossing.begins a_crossing.limit)
+starts_3 = go (completes_in_time quick (Switch 1 true ∷ walked) (ticks all_off 41) all_off 2 40 a_crossing.consistent a_crossing.few a_crossing.taken a_crossing.untripped a_crossing.choice a_crossing.begins a_crossing.limit)
   where
     go : CompletesWithin quick crossed 2 41 (ticks all_off 41) → Starts3
     go (inl h) =

@@ -4,6 +4,7 @@ use Rattle.std.proofs.Common.{◌≡◌, ℕ, ◌≤◌, nat_le, Bool, true, fal
 use Rattle.std.specs.List.{list_all}
 use Rattle.std.proofs.lemmas.Bool.{and_parts, leb-true, true≢false}
 use Rattle.tsb_step.specs.tsb_plan.declared.object.Object.{Object}
+use Rattle.tsb_step.specs.tsb_plan.declared.object.Object.TheVariants.{PreemptChoosesAnew}
 use Rattle.tsb_step.specs.tsb_plan.Objects.{has_index, greatest}
 use Rattle.tsb_step.specs.tsb_plan.Plan.{Plan, empty, is_same, with_value, with_values}
 use Rattle.tsb_step.specs.tsb_plan.Quad.{row, with_rows, quad_rows, quad_values, quad}
@@ -19,6 +20,11 @@ use Rattle.tsb_step.proofs.Examples.Scenes.{opened}
 pub record Fits (limit : Object → ℕ) (value : Object → ℕ → ℕ) : Type 0 where
   pub none : (o : Object) (i : ℕ) → has_index o i ≡ false → value o i ≡ 0
   pub bounded : (o : Object) (i : ℕ) → value o i ≤ limit o
+
+-- the limits of a plan in which no preempt chooses anew
+abbrev pub no_choice : Object → ℕ
+no_choice PreemptChoosesAnew = 0
+no_choice o = greatest o
 
 -- the object of an entry has its index, and its limit allows the value
 abbrev pub keeps : (Object → ℕ) → Object × ℕ × ℕ → Bool

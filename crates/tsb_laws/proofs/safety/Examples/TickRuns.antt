@@ -1,20 +1,25 @@
 -- Runs that end in ticks of one row: each tick is taken, none trips the controller where no lamp was lit, and none changes the
 -- plan. By these lemmas a run of 40 ticks meets premises of the laws without being computed tick by tick.
-use Rattle.std.proofs.Common.{zero, suc, ◌≡◌, ℕ, ◌+◌, ◌≤◌, nat_lt, true, max, List, [], ◌∷◌, ◌++◌, None, refl, sym, ap, arith, append_assoc, ◌∙◌}
+use Rattle.std.proofs.Common.{zero, suc, ◌≡◌, ℕ, ◌+◌, ◌≤◌, nat_lt, Bool, true, false, not, max, List, [], ◌∷◌, ◌++◌, Option, Some, None, option_map, refl, sym, ap, arith, append_assoc, ◌∙◌}
+use Rattle.std.proofs.lemmas.Bool.{and_from}
 use Rattle.std.proofs.lemmas.Bool.Decides.{nat_tests}
 use Rattle.tsb_step.specs.tsb_types.declared.limits.TheConstants.{TICKS}
 use Rattle.tsb_step.specs.tsb_types.declared.row.Row.{Row}
+use Rattle.tsb_step.specs.tsb_plan.declared.object.Object.TheVariants.{PreemptChoosesAnew}
+use Rattle.tsb_step.specs.tsb_plan.Parts.{is_anew}
 use Rattle.tsb_step.specs.tsb_plan.Plan.{Plan}
+use Rattle.tsb_step.specs.tsb_preempt.Service.{Service}
 use Rattle.tsb_step.specs.declared.inputs.Input.{Input}
 use Rattle.tsb_step.specs.declared.inputs.Input.TheVariants.{Tick}
 use Rattle.tsb_step.specs.State.{State}
+use Rattle.tsb_step.specs.Signs.{is_choosing}
 use Rattle.tsb_step.specs.Step.{step, verdict}
 use Rattle.tsb_step.specs.Runs.{replay, AreTaken}
 use Rattle.tsb_step.specs.Laws.{IsConsistent, is_unlit}
 use Rattle.tsb_step.specs.ClearanceLaws.{after_ticks}
 use Rattle.tsb_step.proofs.ClearLemmas.{plan_stays}
 use Rattle.tsb_step.proofs.TripLemmas.{faults_alone_trip}
-use Rattle.tsb_laws.specs.Stretches.{IsUntripped, largest}
+use Rattle.tsb_laws.specs.Stretches.{IsUntripped, has_held_since, NoneChooses, largest}
 use Rattle.tsb_step.proofs.ClearLemmas.{one_later}
 
 -- so many ticks with these inputs on
@@ -46,6 +51,29 @@ module _ (plan : Plan) (row : Row) (is : List Input) where
   pub plan_then : (n : ℕ) → (replay plan (ticks row n ++ is)).plan ≡ (replay plan is).plan
   plan_then zero = refl
   plan_then (suc n) = plan_stays (replay plan (ticks row n ++ is)) row ∙ plan_then n
+
+  -- no preempt chooses anew where no preempt of the plan does
+  anew_off : (x : Plan) (o : Option ℕ) → ((p : ℕ) → x.value PreemptChoosesAnew p ≤ 0) → is_anew x o ≡ false
+  anew_off x None h = refl
+  anew_off x (Some p) h =
+      let most = h p in
+      let none : x.value PreemptChoosesAnew p ≡ 0 = omega (arith, most) in
+      rw none refl
+
+  none_choose_now : (s : State) → ((p : ℕ) → s.plan.value PreemptChoosesAnew p ≤ 0) → not (is_choosing s) ≡ true
+  none_choose_now s h = ap (λ (b : Bool). not b) (anew_off s.plan (option_map (λ (x : Service). x.preempt) s.preempts.service) h)
+
+  pub none_choose : (n : ℕ) → ((p : ℕ) → (replay plan is).plan.value PreemptChoosesAnew p ≤ 0) → NoneChooses plan is (ticks row n)
+  none_choose zero h = none_choose_now (replay plan is) h
+  none_choose (suc n) h =
+      and_from (not (is_choosing (replay plan (ticks row (suc n) ++ is)))) (has_held_since (λ s. not (is_choosing s)) plan is (ticks row n))
+      (none_choose_now (replay plan (ticks row (suc n) ++ is)) later) (none_choose n h)
+    where
+      later : (p : ℕ) → (replay plan (ticks row (suc n) ++ is)).plan.value PreemptChoosesAnew p ≤ 0
+      later p =
+          let same = ap (λ (x : Plan). x.value PreemptChoosesAnew p) (plan_then (suc n)) in
+          let most = h p in
+          omega (arith, same, most)
 
   pub largest_then : (time : Plan → ℕ) (n : ℕ) → largest time plan is (ticks row n) ≡ time (replay plan is).plan
   largest_then time zero = refl

@@ -7,8 +7,7 @@ use Rattle.tsb_step.specs.tsb_types.declared.interval.Interval.TheVariants.{Gree
 use Rattle.tsb_step.specs.tsb_types.declared.interval.PedestrianInterval.TheVariants.{DontWalk, Walk}
 use Rattle.tsb_step.specs.tsb_types.declared.row.Row.{Row}
 use Rattle.tsb_step.specs.tsb_plan.declared.object.Object.{Object}
-use Rattle.tsb_step.specs.tsb_plan.declared.object.Object.TheVariants.{PhaseWalk, PhasePedestrianClear, PhasePedRecall, PhaseMinimumGreen, PhasePassage, PhaseMinimumGap}
-use Rattle.tsb_step.specs.tsb_plan.Objects.{greatest}
+use Rattle.tsb_step.specs.tsb_plan.declared.object.Object.TheVariants.{PhaseWalk, PhasePedestrianClear, PhasePedRecall, PhaseMinimumGreen, PhasePassage, PhaseMinimumGap, PreemptChoosesAnew}
 use Rattle.tsb_step.specs.tsb_plan.Plan.{Plan, is_concurrent, yellow_change, red_clear, red_revert, with_values}
 use Rattle.tsb_step.specs.tsb_plan.Quad.{quad}
 use Rattle.tsb_step.specs.tsb_rules.Rules.{first_broken}
@@ -23,7 +22,7 @@ use Rattle.tsb_step.proofs.Examples.Scenes.{opened, vehicle}
 use Rattle.tsb_laws.specs.Stretches.{StartsGreen}
 use Rattle.tsb_laws.specs.Intergreens.{WalksBefore}
 use Rattle.tsb_laws.specs.Commitments.{CommitsTo}
-use Rattle.tsb_laws.proofs.safety.Examples.PlanFits.{Fits, values_fit, quad_fits, consistent}
+use Rattle.tsb_laws.proofs.safety.Examples.PlanFits.{Fits, no_choice, values_fit, quad_fits, consistent}
 use Rattle.tsb_laws.proofs.safety.Examples.TickRuns.{ticks, now_then, plan_then, all_taken, unlit_then, none_trips, none_trips_since}
 use Rattle.tsb_laws.proofs.safety.Examples.CommitmentRuns.{IsKnown, Starts, starts_then}
 
@@ -35,9 +34,9 @@ strolling_values =
 unfoldable strolling : Plan
 strolling = with_values quad strolling_values
 
-strolling_fits : Fits greatest strolling.value
+strolling_fits : Fits no_choice strolling.value
 unfolding strolling
-strolling_fits = values_fit greatest strolling_values quad refl (quad_fits greatest refl refl)
+strolling_fits = values_fit no_choice strolling_values quad refl (quad_fits no_choice refl refl)
 
 strolling_count : strolling.phase_count ≡ 16
 unfolding quad strolling
@@ -48,7 +47,7 @@ unfolding opened strolling
 breaks_none = refl
 
 strolling_consistent : IsConsistent strolling
-strolling_consistent = consistent greatest strolling strolling_count breaks_none strolling_fits
+strolling_consistent = consistent no_choice strolling strolling_count breaks_none strolling_fits
 
 -- ## The walk begins
 
@@ -144,6 +143,9 @@ known = record {
   taken = all_taken strolling (vehicle 1) walked 20 taken_1 (let at = ticked_1 in omega (arith, at));
   unlit = unlit_then strolling (vehicle 1) walked 20 unlit_1;
   early = (let at = ticked_1 in let clock = now_then strolling (vehicle 1) walked 20 in omega (arith, at, clock));
+  choice = λ n. (let same : (replay strolling (mid ++ walked)).plan.value PreemptChoosesAnew n ≡ strolling.value PreemptChoosesAnew n =
+      ap (λ (x : Plan). x.value PreemptChoosesAnew n) (plan_then strolling (vehicle 1) walked 20 ∙ plan_then strolling all_off [] 1) in
+      let most : strolling.value PreemptChoosesAnew n ≤ 0 = strolling_fits.bounded PreemptChoosesAnew n in omega (arith, same, most));
 }
 
 starts_1 : Starts strolling (mid ++ walked) all_off 1 40
