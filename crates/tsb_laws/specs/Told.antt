@@ -18,7 +18,8 @@ use Rattle.tsb_step.specs.Runs.{replay, AreTaken}
 use Rattle.tsb_step.specs.Signs.{display}
 use Rattle.tsb_step.specs.State.{State}
 use Rattle.tsb_text.specs.Answers.{display_line}
-use Rattle.tsb_text.specs.recording.Along.{last_row, told_along}
+use Rattle.tsb_text.specs.kept.Kept.{last_row}
+use Rattle.tsb_text.specs.recording.Along.{told_along}
 use Rattle.tsb_log_text.specs.declared.log.LogRow.{LogRow}
 use Rattle.tsb_field_display.specs.declared.shown.Shown.{Shown}
 use Rattle.tsb_field_display.specs.declared.shown.Signals.{Signals}

@@ -14,7 +14,7 @@ use Rattle.tsb_text.specs.declared.faults.OnFault.TheVariants.{Stop as StopRun, 
 use Rattle.tsb_text.specs.Blame.{Blames}
 use Rattle.tsb_text.specs.Faults.{fault_line}
 use Rattle.tsb_live_text.specs.LiveEnded.{LiveEnded}
-use Rattle.tsb_live_text.specs.declared.stop.Stop.{Stop}
+use Rattle.tsb_text.specs.declared.stop.Stop.{Stop}
 use Rattle.tsb_program.specs.tsb_lines.Seen.{GoesOut, Seen, Tells}
 use Rattle.tsb_program.specs.tsb_lines.Writes.{AppendsFront}
 use Rattle.tsb_program.specs.Failures.{Fails}

@@ -1,5 +1,7 @@
 -- What is said of ticks of which only the changes are told.
-use Rattle.std.proofs.Common.{◌≡◌, ℕ, List, [], ◌∷◌, ◌++◌, Bool, false, not, refl, sym, ap, ◌∙◌, append_assoc, Ok, Err, subst, zero, suc, OnOk, inl, inr, Some, None}
+use Rattle.std.proofs.Common.{◌≡◌, ◌+◌, ℕ, List, [], ◌∷◌, ◌++◌, Bool, false, not, refl, sym, ap, ◌∙◌, append_assoc, Ok, Err, subst, zero, suc, OnOk, inl, inr, Some, None, nat_le, arith}
+use Rattle.std.proofs.lemmas.Bool.{cases_Bool}
+use Rattle.std.proofs.lemmas.Bool.Decides.{nat_tests}
 use Rattle.std.specs.declared.option.Option.{Option}
 use Rattle.std.specs.declared.result.Result.{Result}
 use Rattle.tsb_bench.specs.Held.{state_of, whole}
@@ -17,7 +19,10 @@ use Rattle.tsb_types.specs.declared.refusal.Refusal.{Refusal}
 use Rattle.tsb_types.specs.declared.row.Row.{Row}
 use Rattle.tsb_dialog.specs.Said.{IsCutShort, Said, SaidUntilFault, Wrote, with_feed}
 use Rattle.tsb_dialog.proofs.SaidLemmas.{said-more, said-nothing}
-use Rattle.tsb_text.specs.Answers.{Setup, display_line, refused_line}
+use Rattle.tsb_log_text.specs.Logs.{row_at}
+use Rattle.tsb_text.specs.declared.rows.Rows.TheVariants.{Held}
+use Rattle.tsb_text.specs.Rows.{rows_in}
+use Rattle.tsb_text.specs.Answers.{Setup, display_line, next_tick, refused_line}
 use Rattle.tsb_text.specs.Obeyed.{Done, OnCourse, Stands, Took, news_in, tells_in}
 use Rattle.tsb_text.specs.Obeys.{Besides, if_told}
 use Rattle.tsb_text.proofs.CourseLemmas.{follows-state, told-alike}
@@ -48,6 +53,22 @@ some-changes : (plan : Plan) (besides : Besides) (row : Row) (n : ℕ) (is : Lis
 some-changes plan besides row zero is before is_owed = record { text = owed is_owed before; refusal = None; left = is; so = (refl, refl, refl) }
 some-changes plan besides row (suc n) is before is_owed =
     one-change plan besides row n is before is_owed (some-changes plan besides row n (Tick row ∷ is) (line_after plan (Tick row ∷ is)) (shows_same (line_after plan (Tick row ∷ is)) before)) (verdict (replay plan is) (Tick row)) refl
+
+-- ## The row that is held
+
+-- a row that is held is in force at each tick
+pub held-row : (row : Row) (n : ℕ) → row_at (rows_in (Held row)) (n + 1) ≡ row
+held-row row n = elim (cases_Bool (nat_le 1 (n + 1))) [
+  | inl is ↦ rw is refl
+  | inr isnt ↦ absurd (grind (arith, nat_tests, isnt))
+]
+
+-- the next tick has it
+pub held-took : (r : Result (Unit {0}) Refusal) (given : Setup) (log : List LogRow) (old new : OnCourse) (is : List Input) (row : Row) → Stands given log old is → log ≡ rows_in (Held row) → Took r given log new is (next_tick given is)
+    → Took r given log new is (Tick row)
+held-took r given log old new is row stands held took =
+    let there : row_at given.log ((replay given.plan is).now + 1) ≡ row = ap (λ (l : List LogRow). row_at l ((replay given.plan is).now + 1)) (stands.same ∙ held) ∙ held-row row (replay given.plan is).now in
+    subst (λ (i : Input). Took r given log new is i) (ap Tick there) took
 
 -- ## So far
 
@@ -114,11 +135,11 @@ taken given log besides row is first n old new before is_owed left k line same a
 
 pub changes-more : (given : Setup) (log : List LogRow) (besides : Besides) (row : Row) (is : List Input) (first : List ℕ) (n : ℕ) (old new : OnCourse) (before : List ℕ) (is_owed : Bool) (left k : ℕ) (line : List ℕ) (same : Bool) (a b c : Option (List ℕ)) (p q r : List ℕ)
     → Changing given log besides row is first n old before is_owed left a b p q → left ≡ suc k → tells_in new.mode ≡ besides.tells
-    → ((given : Setup) (log : List LogRow) (inputs : List Input) → Stands given log old inputs → Took (Ok tt) given log new inputs (Tick row))
+    → ((inputs : List Input) → Stands given log old inputs → Took (Ok tt) given log new inputs (Tick row))
     → line ≡ display_line (state_of new.bench) → same ≡ shows_same line before → Said b c q r (news_in new ++ owed (not same) line) → Changing given log besides row is first n new line same k a c p r
 changes-more given log besides row is first n old new before is_owed left k line same a b c p q r s one mode took tells alike said =
     let x : Taken given log besides row is first n s.now new line same k s.wrote.text =
-    taken given log besides row is first n old new before is_owed left k line same a b p q s one mode (took given log s.now s.stands) tells alike in
+    taken given log besides row is first n old new before is_owed left k line same a b p q s one mode (took s.now s.stands) tells alike in
     record {
       now = Tick row ∷ s.now;
       stands = x.stands;
@@ -137,12 +158,12 @@ rejoin said cut rest more =
 -- a fault within what a tick tells
 pub changes-fault : (given : Setup) (log : List LogRow) (besides : Besides) (row : Row) (is : List Input) (first : List ℕ) (n : ℕ) (old new : OnCourse) (before : List ℕ) (is_owed : Bool) (left k : ℕ) (line : List ℕ) (same : Bool) (a b c : Option (List ℕ)) (p q r : List ℕ) (e : WriteError)
     → Changing given log besides row is first n old before is_owed left a b p q → left ≡ suc k → tells_in new.mode ≡ besides.tells
-    → ((given : Setup) (log : List LogRow) (inputs : List Input) → Stands given log old inputs → Took (Ok tt) given log new inputs (Tick row))
+    → ((inputs : List Input) → Stands given log old inputs → Took (Ok tt) given log new inputs (Tick row))
     → line ≡ display_line (state_of new.bench) → same ≡ shows_same line before → IsCutShort b c q r (news_in new ++ owed (not same) line)
     → Done (Err e) given log new (Changes given.plan besides row is first false n) a c p r
 changes-fault given log besides row is first n old new before is_owed left k line same a b c p q r e s one mode took tells alike cut =
     let x : Taken given log besides row is first n s.now new line same k s.wrote.text =
-    taken given log besides row is first n old new before is_owed left k line same a b p q s one mode (took given log s.now s.stands) tells alike in
+    taken given log besides row is first n old new before is_owed left k line same a b p q s one mode (took s.now s.stands) tells alike in
     let rest : SomeChanges given.plan besides row (Tick row ∷ s.now) line same k = some-changes given.plan besides row k (Tick row ∷ s.now) line same in
     record {
       text = s.wrote.text ++ cut.text;
@@ -167,17 +188,17 @@ refused given log besides row is first n old new before is_owed left k a b p q e
 
 pub changes-stop : (result : Result (Option Refusal) WriteError) (given : Setup) (log : List LogRow) (besides : Besides) (row : Row) (is : List Input) (first : List ℕ) (n : ℕ) (old new : OnCourse) (before : List ℕ) (is_owed : Bool) (left k : ℕ) (a b c : Option (List ℕ)) (p q r : List ℕ) (e : Refusal)
     → Changing given log besides row is first n old before is_owed left a b p q → left ≡ suc k
-    → ((given : Setup) (log : List LogRow) (inputs : List Input) → Stands given log old inputs → Took (Err e) given log new inputs (Tick row))
+    → ((inputs : List Input) → Stands given log old inputs → Took (Err e) given log new inputs (Tick row))
     → OnOk result (result ≡ Ok (Some e)) → SaidUntilFault result b c q r (owed is_owed before ++ (besides.echo ++ with_feed (refused_line e)))
     → Done result given log new (Changes given.plan besides row is first false n) a c p r
 changes-stop (Ok refusal) given log besides row is first n old new before is_owed left k a b c p q r e s one took why said =
     subst (λ (x : Result (Option Refusal) WriteError). Done x given log new (Changes given.plan besides row is first false n) a c p r) (sym why) (
       s.now,
-      (took given log s.now s.stands).1,
+      (took s.now s.stands).1,
       record {
         text = s.wrote.text ++ (owed is_owed before ++ (besides.echo ++ with_feed (refused_line e)));
         said = said-more a b c p q r s.wrote.text (owed is_owed before ++ (besides.echo ++ with_feed (refused_line e))) s.wrote.said said;
-        so = refused given log besides row is first n old new before is_owed left k a b p q e s one (took given log s.now s.stands);
+        so = refused given log besides row is first n old new before is_owed left k a b p q e s one (took s.now s.stands);
       },
     )
 changes-stop (Err f) given log besides row is first n old new before is_owed left k a b c p q r e s one took why cut = record {
@@ -189,7 +210,7 @@ changes-stop (Err f) given log besides row is first n old new before is_owed lef
     s.now,
     subst (λ (v : List ℕ). Changes given.plan besides row is first false n v (Some e) s.now)
         (ap (λ (v : List ℕ). s.wrote.text ++ v) cut.so.1 ∙ sym (append_assoc s.wrote.text cut.text cut.so.0))
-        (refused given log besides row is first n old new before is_owed left k a b p q e s one (took given log s.now s.stands)),
+        (refused given log besides row is first n old new before is_owed left k a b p q e s one (took s.now s.stands)),
   );
 }
 

@@ -10,9 +10,10 @@ use Rattle.tsb_dialog.specs.Says.{Saying}
 use Rattle.tsb_step.specs.tsb_plan.Plan.{Plan}
 use Rattle.tsb_text.specs.Blame.{Blames}
 use Rattle.tsb_text.specs.declared.faults.OnFault.{OnFault}
-use Rattle.tsb_live_text.specs.Live.{Live, Stopped, stop_in}
+use Rattle.tsb_live_text.specs.Live.{Live}
+use Rattle.tsb_text.specs.Stops.{Stopped, stop_in}
 use Rattle.tsb_live_text.specs.LiveEnded.{EndedAs, HasStopped, LiveEnded, ended_with}
-use Rattle.tsb_live_text.specs.declared.stop.Stop.{Stop}
+use Rattle.tsb_text.specs.declared.stop.Stop.{Stop}
 
 -- what is known of what answers is known of the line that ended the run
 abbrev Tells : {A : Type 0} → (A → Live → Type 0) → A → Option Stopped → Type 0

@@ -1,17 +1,14 @@
 -- Live runs leave what remains of right answers, and are answered as sessions are.
-use Rattle.std.proofs.Common.{zero, suc, ◌≡◌, ◌∙◌, ℕ, ◌+◌, Bool, false, List, [], ◌∷◌, ◌++◌, length, ap, refl, sym, subst, inl, inr, nat_le, arith}
-use Rattle.std.proofs.lemmas.Bool.{cases_Bool}
-use Rattle.std.proofs.lemmas.Bool.Decides.{nat_tests}
+use Rattle.std.proofs.Common.{zero, suc, ◌≡◌, ◌∙◌, ℕ, ◌+◌, Bool, false, List, [], ◌∷◌, ◌++◌, length, ap, refl, sym, subst, inl, inr}
 use Rattle.std.specs.declared.option.Option.{Option}
 use Rattle.tsb_types.specs.declared.refusal.Refusal.{Refusal}
 use Rattle.tsb_types.specs.declared.row.Row.{Row}
-use Rattle.tsb_bench.specs.tsb_machine.declared.commands.Answer.{Answer}
 use Rattle.tsb_bench.specs.tsb_machine.declared.commands.Answer.TheVariants.{Took, Refused}
 use Rattle.tsb_bench.specs.tsb_machine.declared.commands.Command.TheVariants as asks
 use Rattle.tsb_step.specs.tsb_plan.Plan.{Plan}
 use Rattle.tsb_step.specs.declared.inputs.Input.{Input}
 use Rattle.tsb_step.specs.declared.inputs.Input.TheVariants.{Tick as TakesTick}
-use Rattle.tsb_step.specs.Play.{AreRightFrom, Cmd, IsRight, remaining_after, remaining_from}
+use Rattle.tsb_step.specs.Play.{Cmd, IsRight, remaining_after}
 use Rattle.tsb_step.specs.Runs.{AreTaken, replay}
 use Rattle.tsb_step.proofs.RemainLemmas.{remaining_taken}
 use Rattle.tsb_command_text.specs.declared.command.Command.{Command}
@@ -32,8 +29,7 @@ use Rattle.tsb_text.specs.declared.task.Task.{Task}
 use Rattle.tsb_text.specs.declared.task.Task.TheVariants as tasks
 use Rattle.tsb_text.specs.Obeys as session
 use Rattle.tsb_text.specs.Obeys.{AsksOnce, Besides, TakesTicks, nothing_besides}
-use Rattle.tsb_text.specs.declared.rows.Rows.TheVariants.{Held}
-use Rattle.tsb_text.specs.Rows.{rows_in}
+use Rattle.tsb_live_text.proofs.ChangeLemmas.{held-row}
 use Rattle.tsb_dialog.specs.Said.{with_feed}
 use Rattle.tsb_text.specs.Tasks.{task_of}
 use Rattle.tsb_text.proofs.ObeyLemmas.{plain-answers}
@@ -44,12 +40,13 @@ use Rattle.tsb_command_text.specs.Readings.{reading}
 use Rattle.tsb_command_text.specs.declared.command.Reading.{Reading}
 use Rattle.tsb_command_text.specs.declared.command.Command.TheVariants.{Quit, Show}
 use Rattle.tsb_text.specs.Answers.{Asked, told}
-use Rattle.tsb_live_text.specs.Live.{Stopped, flow_in}
+use Rattle.tsb_live_text.specs.Live.{quits}
+use Rattle.tsb_text.specs.Stops.{Stopped, flow_after as flow_of, stopped_at}
 use Rattle.tsb_dialog.specs.Heard.{asked}
 use Rattle.tsb_text.specs.declared.faults.OnFault.TheVariants.{GoOn}
 use Rattle.std.specs.Prelude.{codes}
 use Rattle.std.proofs.Common.{Some, None, length}
-use Rattle.tsb_live_text.specs.Live.{AsksLive, Leaves, Live, Obeys, Reads, Says, begun, besides, echo_of, present, setup, stopped_at, with_inputs, with_row, with_stop}
+use Rattle.tsb_live_text.specs.Live.{AsksLive, Leaves, Live, Obeys, Reads, Says, begun, besides, echo_of, present, setup, with_inputs, with_row, with_stop}
 use Rattle.tsb_text.proofs.recording.CommandLemmas.{Leads, one, onto, stay, then}
 
 -- ## What remains
@@ -148,13 +145,6 @@ answered-as s t line text c fault tells echoes o =
     subst (λ (x : Live). Answers (setup s) s.inputs c text x.inputs) (sym o.4)
     (plain-answers (setup s) s.inputs c text o.0 o.1 (subst (λ (b : Besides). session.Obeys (setup s) b s.inputs (task_of c) text o.0 o.1) (quiet-besides s line tells echoes) o.2))
 
--- a row that is held is in force at each tick
-held-row : (row : Row) (n : ℕ) → row_at (rows_in (Held row)) (n + 1) ≡ row
-held-row row n = elim (cases_Bool (nat_le 1 (n + 1))) [
-  | inl is ↦ rw is refl
-  | inr isnt ↦ absurd (grind (arith, nat_tests, isnt))
-]
-
 ticked-as : (given other : Setup) (is : List Input) (text rest : List ℕ) → other.plan ≡ given.plan → next_tick other is ≡ next_tick given is → Ticked given is text rest → Ticked other is text rest
 ticked-as given other is text rest p e t = record {
   right = subst (λ (x : Input). IsRight other.plan is (asks.Apply x) Took) (sym e) (subst (λ (q : Plan). IsRight q is (asks.Apply (next_tick given is)) Took) (sym p) t.right);
@@ -195,7 +185,7 @@ other-log given other is Quit text new p none a = a
 other-log given other is c text new p none a = asked-as given other is _ text new p a
 
 -- where a live run goes on after a command, a session does
-goes-on : (c : Command) (x : Option Stopped) → On ≡ flow_in (Ask (live.Session c)) x → On ≡ flow_after c
+goes-on : (c : Command) (x : Option Stopped) → On ≡ flow_of (quits (Ask (live.Session c))) x → On ≡ flow_after c
 goes-on Quit (Some x) e = e
 goes-on Quit None e = e
 goes-on c x e = refl
@@ -207,7 +197,7 @@ record Alike (given : Setup) (s : Live) : Type 0 where
   echoes : s.echoes ≡ false
 
 replied : (given : Setup) (s t : Live) (line text : List ℕ) (asks : LiveReading) (there : Reading) (fault : Option LineFault) (x : Option Stopped) → Alike given s → AsksAsThere given s asks there
-    → Reads s line asks text fault t → On ≡ flow_in asks x → Replies (stand given s.inputs) there text On (stand given t.inputs)
+    → Reads s line asks text fault t → On ≡ flow_of (quits asks) x → Replies (stand given s.inputs) there text On (stand given t.inputs)
 replied given s t line text Skip there fault x same asks a on = subst (λ (r : Reading). Replies (stand given s.inputs) r text On (stand given t.inputs)) (sym asks) (a.0, refl, ap (λ (u : Live). stand given u.inputs) a.2)
 replied given s t line text Bad there fault x same asks a on =
     subst (λ (r : Reading). Replies (stand given s.inputs) r text On (stand given t.inputs)) (sym asks)

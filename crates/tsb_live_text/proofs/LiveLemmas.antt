@@ -21,15 +21,16 @@ use Rattle.tsb_dialog.specs.Says.{Answered}
 use Rattle.tsb_dialog.proofs.SaidLemmas.{said-nothing, until-more}
 use Rattle.tsb_text.specs.Answers.{display_line, refused_line}
 use Rattle.tsb_text.specs.declared.course.Mode.{Mode}
-use Rattle.tsb_text.specs.declared.course.Mode.TheVariants.{Plain, Keeping as KeepsInputs, Telling}
+use Rattle.tsb_text.specs.declared.course.Mode.TheVariants.{Plain, Keeping as KeepsInputs, Telling, Recording}
 use Rattle.tsb_text.specs.declared.faults.LineFault.{LineFault}
 use Rattle.tsb_text.specs.declared.faults.LineFault.TheVariants as faults
 use Rattle.tsb_text.specs.declared.faults.OnFault.{OnFault}
-use Rattle.tsb_text.specs.Obeyed.{Done, IsKept, Keeps, OnCourse, Stands, besides_of, mode_with, tells_in}
+use Rattle.tsb_text.specs.Obeyed.{Done, IsKept, Keeps, OnCourse, Stands, besides_of, holding, mode_with, tells_in}
 use Rattle.tsb_text.specs.Obeys as session
 use Rattle.tsb_text.specs.Obeys.{Besides}
 use Rattle.tsb_text.specs.Tasks.{task_of}
-use Rattle.tsb_text.proofs.CourseLemmas.{course-begins, follows-state, is-kept}
+use Rattle.tsb_text.proofs.CourseLemmas.{course-begins, follows-state, is-kept, not-recorded}
+use Rattle.tsb_text.specs.recording.Told.{nothing_told}
 use Rattle.tsb_text.specs.declared.rows.Rows.TheVariants.{Held as HeldRow}
 use Rattle.tsb_text.specs.Rows.{rows_in}
 use Rattle.tsb_command_text.specs.declared.live_command.LiveCommand.{LiveCommand}
@@ -37,8 +38,9 @@ use Rattle.tsb_command_text.specs.declared.live_command.LiveCommand.TheVariants 
 use Rattle.tsb_command_text.specs.declared.live_command.LiveReading.{LiveReading}
 use Rattle.tsb_command_text.specs.declared.live_command.LiveReading.TheVariants.{Skip}
 use Rattle.tsb_command_text.specs.LiveReadings.{live_reading}
+use Rattle.tsb_text.specs.Stops.{Stopped, flow_after, stop_in, stopped_at}
 use Rattle.tsb_live_text.specs.Changes.{Changes}
-use Rattle.tsb_live_text.specs.Live.{AsksLive, Leaves, Live, Reads, Says, Stopped, Tells, besides, echo_of, fault_by, flow_in, present, begun, setup, stop_in, stopped_at, with_echo, with_events, with_inputs, with_row, with_stop}
+use Rattle.tsb_live_text.specs.Live.{AsksLive, Leaves, Live, Reads, Says, Tells, besides, echo_of, fault_by, present, begun, quits, setup, with_echo, with_events, with_inputs, with_row, with_stop}
 use Rattle.tsb_live_text.specs.Standing.{Does, StandsLive, TellsOnce, TellsPlan}
 use Rattle.tsb_live_text.specs.declared.run.LiveRun.{LiveRun}
 
@@ -66,11 +68,10 @@ keeps-on old new same k = subst Keeps (sym same) k
 
 -- the run after a command that left these inputs
 pub stands-on : (run new : LiveRun) (s : Live) (left : List Input) → StandsLive run s → Stands (setup s) (rows_in (HeldRow s.row)) new.course left → new.course.mode ≡ run.course.mode
-    → new.row ≡ run.row → new.echoes ≡ run.echoes → new.on_fault ≡ run.on_fault → new.stop ≡ run.stop → StandsLive new (with_inputs left s)
-stands-on run new s left stands course mode row echoes on_fault stop = record {
+    → new.echoes ≡ run.echoes → new.on_fault ≡ run.on_fault → new.stop ≡ run.stop → StandsLive new (with_inputs left s)
+stands-on run new s left stands course mode echoes on_fault stop = record {
   stands = course;
   keeps = keeps-on run.course.mode new.course.mode mode stands.keeps;
-  row = row ∙ stands.row;
   tells = ap tells_in mode ∙ stands.tells;
   echoes = echoes ∙ stands.echoes;
   on_fault = on_fault ∙ stands.on_fault;
@@ -78,11 +79,10 @@ stands-on run new s left stands course mode row echoes on_fault stop = record {
 }
 
 -- a row was given
-pub row-stands : (run new : LiveRun) (s : Live) (row : Row) → StandsLive run s → new.course ≡ run.course → new.row ≡ row → new.echoes ≡ run.echoes → new.on_fault ≡ run.on_fault → new.stop ≡ run.stop → StandsLive new (with_row row s)
-row-stands run new s row stands course given echoes on_fault stop = record {
-  stands = subst (λ (x : OnCourse). Stands (setup (with_row row s)) (rows_in (HeldRow row)) x s.inputs) (sym course) (record { same = refl; follows = stands.stands.follows; keeps = stands.stands.keeps });
+pub row-stands : (run new : LiveRun) (s : Live) (row : Row) → StandsLive run s → new.course ≡ holding row run.course → new.echoes ≡ run.echoes → new.on_fault ≡ run.on_fault → new.stop ≡ run.stop → StandsLive new (with_row row s)
+row-stands run new s row stands course echoes on_fault stop = record {
+  stands = subst (λ (x : OnCourse). Stands (setup (with_row row s)) (rows_in (HeldRow row)) x s.inputs) (sym course) (record { same = refl; rows = refl; follows = stands.stands.follows; keeps = stands.stands.keeps; tells = not-recorded run.course.mode run.course.told.told (setup (with_row row s)) s.inputs stands.keeps });
   keeps = subst (λ (x : OnCourse). Keeps x.mode) (sym course) stands.keeps;
-  row = given;
   tells = ap (λ (x : OnCourse). tells_in x.mode) course ∙ stands.tells;
   echoes = echoes ∙ stands.echoes;
   on_fault = on_fault ∙ stands.on_fault;
@@ -92,6 +92,7 @@ row-stands run new s row stands course given echoes on_fault stop = record {
 -- inputs tell their events from now on, or not
 mode-keeps : (on : Bool) (m : Mode) → Keeps m → Keeps (mode_with on m)
 mode-keeps on Plain k = absurd k
+mode-keeps on (Recording form) k = absurd k
 mode-keeps true KeepsInputs k = tt
 mode-keeps false KeepsInputs k = tt
 mode-keeps true Telling k = tt
@@ -99,6 +100,7 @@ mode-keeps false Telling k = tt
 
 mode-tells : (on : Bool) (m : Mode) → Keeps m → tells_in (mode_with on m) ≡ on
 mode-tells on Plain k = absurd k
+mode-tells on (Recording form) k = absurd k
 mode-tells true KeepsInputs k = refl
 mode-tells false KeepsInputs k = refl
 mode-tells true Telling k = refl
@@ -106,22 +108,24 @@ mode-tells false Telling k = refl
 
 mode-kept : (on : Bool) (m : Mode) (kept : Keeping) (plan : Plan) (is : List Input) → Keeps m → IsKept m kept plan is → IsKept (mode_with on m) kept plan is
 mode-kept on Plain kept plan is k same = absurd k
+mode-kept on (Recording form) kept plan is k same = absurd k
 mode-kept true KeepsInputs kept plan is k same = same
 mode-kept false KeepsInputs kept plan is k same = same
 mode-kept true Telling kept plan is k same = same
 mode-kept false Telling kept plan is k same = same
 
-pub events-stands : (run new : LiveRun) (s : Live) (on : Bool) → StandsLive run s → new.course.mode ≡ mode_with on run.course.mode → new.course.bench ≡ run.course.bench → new.course.kept ≡ run.course.kept
-    → new.row ≡ run.row → new.echoes ≡ run.echoes → new.on_fault ≡ run.on_fault → new.stop ≡ run.stop → StandsLive new (with_events on s)
-events-stands run new s on stands mode bench kept row echoes on_fault stop = record {
+pub events-stands : (run new : LiveRun) (s : Live) (on : Bool) → StandsLive run s → new.course.mode ≡ mode_with on run.course.mode → new.course.bench ≡ run.course.bench → new.course.rows ≡ run.course.rows → new.course.kept ≡ run.course.kept
+    → new.echoes ≡ run.echoes → new.on_fault ≡ run.on_fault → new.stop ≡ run.stop → StandsLive new (with_events on s)
+events-stands run new s on stands mode bench rows kept echoes on_fault stop = record {
   stands = record {
     same = stands.stands.same;
+    rows = rows ∙ stands.stands.rows;
     follows = subst (λ (b : Held). Follows s.plan (whole b) s.inputs) (sym bench) stands.stands.follows;
     keeps = subst (λ (m : Mode). IsKept m new.course.kept s.plan s.inputs) (sym mode)
         (subst (λ (k : Keeping). IsKept (mode_with on run.course.mode) k s.plan s.inputs) (sym kept) (mode-kept on run.course.mode run.course.kept s.plan s.inputs stands.keeps stands.stands.keeps));
+    tells = not-recorded new.course.mode new.course.told.told (setup s) s.inputs (subst Keeps (sym mode) (mode-keeps on run.course.mode stands.keeps));
   };
   keeps = subst Keeps (sym mode) (mode-keeps on run.course.mode stands.keeps);
-  row = row ∙ stands.row;
   tells = ap tells_in mode ∙ mode-tells on run.course.mode stands.keeps;
   echoes = echoes ∙ stands.echoes;
   on_fault = on_fault ∙ stands.on_fault;
@@ -129,11 +133,10 @@ events-stands run new s on stands mode bench kept row echoes on_fault stop = rec
 }
 
 -- answers stand after their command from now on, or not
-pub echo-stands : (run new : LiveRun) (s : Live) (on : Bool) → StandsLive run s → new.course ≡ run.course → new.row ≡ run.row → new.echoes ≡ on → new.on_fault ≡ run.on_fault → new.stop ≡ run.stop → StandsLive new (with_echo on s)
-echo-stands run new s on stands course row echoes on_fault stop = record {
+pub echo-stands : (run new : LiveRun) (s : Live) (on : Bool) → StandsLive run s → new.course ≡ run.course → new.echoes ≡ on → new.on_fault ≡ run.on_fault → new.stop ≡ run.stop → StandsLive new (with_echo on s)
+echo-stands run new s on stands course echoes on_fault stop = record {
   stands = subst (λ (x : OnCourse). Stands (setup s) (rows_in (HeldRow s.row)) x s.inputs) (sym course) stands.stands;
   keeps = subst (λ (x : OnCourse). Keeps x.mode) (sym course) stands.keeps;
-  row = row ∙ stands.row;
   tells = ap (λ (x : OnCourse). tells_in x.mode) course ∙ stands.tells;
   echoes = echoes;
   on_fault = on_fault ∙ stands.on_fault;
@@ -141,12 +144,11 @@ echo-stands run new s on stands course row echoes on_fault stop = record {
 }
 
 -- at power-up
-pub run-begins : (on_fault : OnFault) (plan : Plan) (run : LiveRun) → run.course.mode ≡ KeepsInputs → run.on_fault ≡ on_fault → Follows plan (whole run.course.bench) [] → run.course.kept ≡ nothing_kept → run.row ≡ all_off
+pub run-begins : (on_fault : OnFault) (plan : Plan) (run : LiveRun) → run.course.mode ≡ KeepsInputs → run.on_fault ≡ on_fault → Follows plan (whole run.course.bench) [] → run.course.rows ≡ rows_in (HeldRow all_off) → run.course.kept ≡ nothing_kept → run.course.told.told ≡ nothing_told
     → run.echoes ≡ false → run.stop ≡ None → StandsLive run (begun on_fault plan)
-run-begins on_fault plan run mode strict follows kept row echoes stop = record {
-  stands = course-begins (setup (begun on_fault plan)) (rows_in (HeldRow all_off)) run.course refl follows kept;
+run-begins on_fault plan run mode strict follows rows kept told echoes stop = record {
+  stands = course-begins (setup (begun on_fault plan)) (rows_in (HeldRow all_off)) run.course refl rows follows kept told;
   keeps = subst Keeps (sym mode) tt;
-  row = row;
   tells = ap tells_in mode;
   echoes = echoes;
   on_fault = strict;
@@ -160,11 +162,11 @@ abbrev Carries : (List ℕ → Option Refusal → List Input → Type 0) → (Li
 Carries P Q = (text : List ℕ) (refusal : Option Refusal) (left : List Input) → P text refusal left → Q text refusal left
 
 pub does-leave : (P Q : List ℕ → Option Refusal → List Input → Type 0) (refusal : Option Refusal) (fault : Option LineFault) (run new : LiveRun) (s : Live) (a b : Option (List ℕ)) (p q : List ℕ)
-    → StandsLive run s → new.course.mode ≡ run.course.mode → new.row ≡ run.row → new.echoes ≡ run.echoes → new.on_fault ≡ run.on_fault → new.stop ≡ run.stop
+    → StandsLive run s → new.course.mode ≡ run.course.mode → new.echoes ≡ run.echoes → new.on_fault ≡ run.on_fault → new.stop ≡ run.stop
     → Carries P Q → fault ≡ fault_by refusal → Done (Ok refusal) (setup s) (rows_in (HeldRow s.row)) new.course P a b p q → Does (Ok fault) new (Leaves s Q) a b p q
-does-leave P Q refusal fault run new s a b p q stands mode row echoes on_fault stop carries faults d = (
+does-leave P Q refusal fault run new s a b p q stands mode echoes on_fault stop carries faults d = (
   with_inputs d.0 s,
-  stands-on run new s d.0 stands d.1 mode row echoes on_fault stop,
+  stands-on run new s d.0 stands d.1 mode echoes on_fault stop,
   record { text = d.2.text; said = d.2.said; so = (refusal, d.0, carries d.2.text refusal d.0 d.2.so, faults, refl) },
 )
 
@@ -183,25 +185,11 @@ obeys-so run s line echo c stands is = λ text refusal left o. subst (λ (x : Be
 
 -- of ticks of which the changes are told
 pub changes-so : (run : LiveRun) (s : Live) (line echo : List ℕ) (n : ℕ) → StandsLive run s → echo ≡ echo_of run.echoes line
-    → Carries (Changes s.plan (besides_of run.course echo) run.row s.inputs (display_line (state_of run.course.bench)) false n)
+    → Carries (Changes s.plan (besides_of run.course echo) s.row s.inputs (display_line (state_of run.course.bench)) false n)
     (Changes s.plan (besides s line) s.row s.inputs (display_line (present s)) false n)
 changes-so run s line echo n stands is = λ text refusal left o.
     subst (λ (x : Besides). Changes s.plan x s.row s.inputs (display_line (present s)) false n text refusal left) (same-besides run s line echo stands is)
-    (subst (λ (r : Row). Changes s.plan (besides_of run.course echo) r s.inputs (display_line (present s)) false n text refusal left) stands.row
-    (subst (λ (v : State). Changes s.plan (besides_of run.course echo) run.row s.inputs (display_line v) false n text refusal left) (present-state run s stands) o))
-
--- the rows of a run are those of the row last given
-pub held-stands : (run : LiveRun) (s : Live) → StandsLive run s → Stands (setup s) (rows_in (HeldRow run.row)) run.course s.inputs
-held-stands run s stands = subst (λ (r : Row). Stands (setup s) (rows_in (HeldRow r)) run.course s.inputs) (sym stands.row) stands.stands
-
-pub held-done : (r : Result (Option Refusal) WriteError) (run : LiveRun) (course : OnCourse) (s : Live) (P : List ℕ → Option Refusal → List Input → Type 0) (a b : Option (List ℕ)) (p q : List ℕ)
-    → StandsLive run s → Done r (setup s) (rows_in (HeldRow run.row)) course P a b p q → Done r (setup s) (rows_in (HeldRow s.row)) course P a b p q
-held-done r run course s P a b p q stands d = subst (λ (x : Row). Done r (setup s) (rows_in (HeldRow x)) course P a b p q) stands.row d
-
-pub held-obeyed : (r : Result (Option Refusal) WriteError) (run : LiveRun) (course : OnCourse) (s : Live) (echo : List ℕ) (c : Command) (a b : Option (List ℕ)) (p q : List ℕ) → StandsLive run s
-    → Done r (setup s) (rows_in (HeldRow run.row)) course (session.Obeys (setup s) (besides_of run.course echo) s.inputs (task_of c)) a b p q
-    → Done r (setup s) (rows_in (HeldRow s.row)) course (session.Obeys (setup s) (besides_of run.course echo) s.inputs (task_of c)) a b p q
-held-obeyed r run course s echo c a b p q stands d = held-done r run course s (session.Obeys (setup s) (besides_of run.course echo) s.inputs (task_of c)) a b p q stands d
+    (subst (λ (v : State). Changes s.plan (besides_of run.course echo) s.row s.inputs (display_line v) false n text refusal left) (present-state run s stands) o)
 
 -- ## Answers of one line
 
@@ -265,25 +253,24 @@ does-as r s new line asked c a b p q is d = subst (λ (x : LiveCommand). Does r 
 -- ## A line that was read
 
 -- it is noted that a line ended the run
-with-stop-stands : (run new : LiveRun) (s : Live) (stopped : Option Stopped) → StandsLive run s → new.course ≡ run.course → new.row ≡ run.row → new.echoes ≡ run.echoes → new.on_fault ≡ run.on_fault
+with-stop-stands : (run new : LiveRun) (s : Live) (stopped : Option Stopped) → StandsLive run s → new.course ≡ run.course → new.echoes ≡ run.echoes → new.on_fault ≡ run.on_fault
     → stop_in new.stop ≡ stopped → StandsLive new (with_stop stopped s)
-with-stop-stands run new s stopped stands course row echoes on_fault stop = record {
+with-stop-stands run new s stopped stands course echoes on_fault stop = record {
   stands = subst (λ (x : OnCourse). Stands (setup s) (rows_in (HeldRow s.row)) x s.inputs) (sym course) stands.stands;
   keeps = subst (λ (x : OnCourse). Keeps x.mode) (sym course) stands.keeps;
-  row = row ∙ stands.row;
   tells = ap (λ (x : OnCourse). tells_in x.mode) course ∙ stands.tells;
   echoes = echoes ∙ stands.echoes;
   on_fault = on_fault ∙ stands.on_fault;
   stop = stop;
 }
 
-pub answered-ok : (flow : Flow) (asked : LiveReading) (fault : Option LineFault) (s : Live) (n : ℕ) (line : List ℕ) (old run new : LiveRun) (a b : Option (List ℕ)) (p q : List ℕ) → StandsLive old s → asked ≡ live_reading line
-    → run.on_fault ≡ old.on_fault → Does (Ok fault) run (Reads s line asked) a b p q → new.course ≡ run.course → new.row ≡ run.row → new.echoes ≡ run.echoes → new.on_fault ≡ run.on_fault
-    → stop_in new.stop ≡ stopped_at run.on_fault n line fault → flow ≡ flow_in asked (stop_in new.stop) → Answered StandsLive (Says s n line) (Ok flow) new a b p q
-answered-ok flow asked fault s n line old run new a b p q stands reads kept d course row echoes on_fault stop flows =
+pub answered-ok : (flow : Flow) (asked : LiveReading) (is_quit : Bool) (fault : Option LineFault) (s : Live) (n : ℕ) (line : List ℕ) (old run new : LiveRun) (a b : Option (List ℕ)) (p q : List ℕ) → StandsLive old s → asked ≡ live_reading line
+    → run.on_fault ≡ old.on_fault → Does (Ok fault) run (Reads s line asked) a b p q → new.course ≡ run.course → new.echoes ≡ run.echoes → new.on_fault ≡ run.on_fault
+    → stop_in new.stop ≡ stopped_at run.on_fault n line fault → is_quit ≡ quits asked → flow ≡ flow_after is_quit (stop_in new.stop) → Answered StandsLive (Says s n line) (Ok flow) new a b p q
+answered-ok flow asked is_quit fault s n line old run new a b p q stands reads kept d course echoes on_fault stop quit flows =
     let stopped : stop_in new.stop ≡ stopped_at s.on_fault n line fault = stop ∙ ap (λ (o : OnFault). stopped_at o n line fault) (kept ∙ stands.on_fault) in (
       with_stop (stopped_at s.on_fault n line fault) d.0,
-      with-stop-stands run new d.0 (stopped_at s.on_fault n line fault) d.1 course row echoes on_fault stopped,
+      with-stop-stands run new d.0 (stopped_at s.on_fault n line fault) d.1 course echoes on_fault stopped,
       record {
         text = d.2.text;
         said = d.2.said;
@@ -292,7 +279,7 @@ answered-ok flow asked fault s n line old run new a b p q stands reads kept d co
           left = d.0;
           reads = subst (λ (x : LiveReading). Reads s line x d.2.text fault d.0) reads d.2.so;
           stops = refl;
-          goes = flows ∙ (λ j. flow_in (reads j) (stopped j));
+          goes = flows ∙ (λ j. flow_after ((quit ∙ ap quits reads) j) (stopped j));
         };
       },
     )
@@ -304,7 +291,7 @@ answered-fault e asked s n line run a b p q reads d = record {
   said = d.said;
   so = (
     d.so.0,
-    flow_in (live_reading line) (stopped_at s.on_fault n line d.so.1),
+    flow_after (quits (live_reading line)) (stopped_at s.on_fault n line d.so.1),
     with_stop (stopped_at s.on_fault n line d.so.1) d.so.2,
     record { fault = d.so.1; left = d.so.2; reads = subst (λ (x : LiveReading). Reads s line x (d.text ++ d.so.0) d.so.1 d.so.2) reads d.so.3; stops = refl; goes = refl },
   );

@@ -15,7 +15,6 @@ use Rattle.tsb_step.specs.Status.{status}
 use Rattle.tsb_command_text.specs.declared.command.Command.{Command}
 use Rattle.tsb_command_text.specs.declared.command.Command.TheVariants.{Quit, Step}
 use Rattle.tsb_dialog.specs.declared.answers.Flow.{Flow}
-use Rattle.tsb_dialog.specs.declared.answers.Flow.TheVariants.{On, Over}
 use Rattle.tsb_dialog.specs.Said.{with_feed}
 use Rattle.tsb_command_text.specs.declared.live_command.LiveCommand.{LiveCommand}
 use Rattle.tsb_command_text.specs.declared.live_command.LiveCommand.TheVariants as asks
@@ -35,15 +34,8 @@ use Rattle.tsb_text.specs.Tasks.{task_of}
 use Rattle.tsb_text.specs.declared.faults.LineFault.{LineFault}
 use Rattle.tsb_text.specs.declared.faults.LineFault.TheVariants as faults
 use Rattle.tsb_text.specs.declared.faults.OnFault.{OnFault}
-use Rattle.tsb_text.specs.declared.faults.OnFault.TheVariants.{Stop}
-use Rattle.tsb_live_text.specs.declared.stop.Stop as stop
+use Rattle.tsb_text.specs.Stops.{Stopped, flow_after, stopped_at}
 use Rattle.tsb_live_text.specs.Changes.{Changes}
-
--- the line that ended a run: its number from 1 on, its first 200 bytes, and what was fault with it
-pub record Stopped : Type 0 where
-  pub number : ℕ
-  pub line : List ℕ
-  pub fault : LineFault
 
 -- the plan that the run began with, the inputs that remain, the newest first, and the row last given
 pub record Live : Type 0 where
@@ -139,24 +131,14 @@ Reads s line (Ask c) text fault t = AsksLive s line c text fault t
 
 -- ## The end
 
--- a line with which something is wrong ends a strict run
-abbrev pub stopped_at : OnFault → ℕ → List ℕ → Option LineFault → Option Stopped
-stopped_at Stop number line (Some fault) = Some (record { number = number; line = take 200 line; fault = fault })
-stopped_at on_fault number line fault = None
-
--- the line that a call gave
-abbrev pub stop_in : Option stop.Stop → Option Stopped
-stop_in s = option_map (λ (x : stop.Stop). record { number = x.number; line = x.line.items; fault = x.fault }) s
-
 -- it is noted
 abbrev pub with_stop : Option Stopped → Live → Live
 with_stop stopped s = record s { stopped = stopped }
 
--- whether a run goes on after what a line asked, where this ended it
-abbrev pub flow_in : LiveReading → Option Stopped → Flow
-flow_in asked (Some stopped) = Over
-flow_in (Ask (asks.Session Quit)) None = Over
-flow_in asked None = On
+-- a line that reads so is `quit`
+abbrev pub quits : LiveReading → Bool
+quits (Ask (asks.Session Quit)) = true
+quits asked = false
 
 -- what may be said to a line
 pub record Says (s : Live) (number : ℕ) (line text : List ℕ) (flow : Flow) (t : Live) : Type 0 where
@@ -164,4 +146,4 @@ pub record Says (s : Live) (number : ℕ) (line text : List ℕ) (flow : Flow) (
   pub left : Live
   pub reads : Reads s line (live_reading line) text fault left
   pub stops : t ≡ with_stop (stopped_at s.on_fault number line fault) left
-  pub goes : flow ≡ flow_in (live_reading line) (stopped_at s.on_fault number line fault)
+  pub goes : flow ≡ flow_after (quits (live_reading line)) (stopped_at s.on_fault number line fault)

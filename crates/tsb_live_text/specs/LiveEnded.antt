@@ -7,10 +7,12 @@ use Rattle.tsb_dialog.specs.Ended.{Ended}
 use Rattle.tsb_step.specs.tsb_plan.Plan.{Plan}
 use Rattle.tsb_text.specs.declared.error.SessionError.{SessionError}
 use Rattle.tsb_text.specs.declared.error.SessionError.TheVariants.{Memory, Read, Write, TooLarge}
+use Rattle.tsb_text.specs.Replies.{fault_of}
 use Rattle.tsb_text.specs.declared.faults.OnFault.{OnFault}
 use Rattle.tsb_live_text.specs.declared.run.TheConstants.{BYTES}
-use Rattle.tsb_live_text.specs.declared.stop.Stop.{Stop}
-use Rattle.tsb_live_text.specs.Live.{Live, Says, Stopped, begun, stop_in}
+use Rattle.tsb_text.specs.declared.stop.Stop.{Stop}
+use Rattle.tsb_text.specs.Stops.{Stopped, stop_in}
+use Rattle.tsb_live_text.specs.Live.{Live, Says, begun}
 
 -- it is known of the run which line ended it, if one did
 abbrev pub HasStopped : Option Stopped → Live → Type 0
@@ -27,9 +29,7 @@ EndedBy fault on_fault plan input left old new = (stopped : Option Stopped) × E
 -- how a run ends whose dialog ended so, with the line that ended it, if one did
 abbrev pub ended_with : Result (Unit {0}) DialogError → Option Stop → Result (Option Stop) SessionError
 ended_with (Ok u) stop = Ok stop
-ended_with (Err ends.Read) stop = Err Read
-ended_with (Err ends.Write) stop = Err Write
-ended_with (Err ends.TooLarge) stop = Err TooLarge
+ended_with (Err e) stop = Err (fault_of e)
 
 -- a live run ended as its dialog did. With no memory to begin with nothing was read and nothing was written.
 abbrev pub LiveEnded : Result (Option Stop) SessionError → OnFault → Plan → Option (List ℕ) → Option (List ℕ) → Option (List ℕ) → Option (List ℕ) → Type 0

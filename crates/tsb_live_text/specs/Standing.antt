@@ -12,13 +12,13 @@ use Rattle.tsb_text.specs.declared.rows.Rows.TheVariants.{Held}
 use Rattle.tsb_text.specs.Obeyed.{Keeps, Stands, tells_in}
 use Rattle.tsb_text.specs.Rows.{rows_in}
 use Rattle.tsb_live_text.specs.declared.run.LiveRun.{LiveRun}
-use Rattle.tsb_live_text.specs.Live.{Live, setup, stop_in}
+use Rattle.tsb_live_text.specs.Live.{Live, setup}
+use Rattle.tsb_text.specs.Stops.{stop_in}
 
 -- a run has come to this
 pub record StandsLive (run : LiveRun) (s : Live) : Type 0 where
   pub stands : Stands (setup s) (rows_in (Held s.row)) run.course s.inputs
   pub keeps : Keeps run.course.mode
-  pub row : run.row ≡ s.row
   pub tells : tells_in run.course.mode ≡ s.tells
   pub echoes : run.echoes ≡ s.echoes
   pub on_fault : run.on_fault ≡ s.on_fault

@@ -6,16 +6,17 @@ ghost use Rattle.tsb_dialog.specs.Blame.{AfterCalls};
 ghost use Rattle.tsb_live_text.specs.Changes.{Changes, owed, shows_same};
 ghost use Rattle.tsb_log_text.specs.declared.log.LogRow.{LogRow};
 ghost use Rattle.tsb_step.specs.declared.inputs.Input.{Input as InputValue};
+ghost use Rattle.tsb_types.specs.declared.row.Row.{Row as RowValue};
+ghost use Rattle.tsb_text.specs.declared.rows.Rows.TheVariants.{Held};
+ghost use Rattle.tsb_text.specs.Rows.{rows_in};
 ghost use Rattle.tsb_text.specs.Answers.{Setup, display_line, refused_line};
 ghost use Rattle.tsb_text.specs.Obeyed.{Done, Stands, besides_of, news_in};
 
 use std::io::Write;
-use tsb_bench::Input;
 use tsb_dialog::{Pending, Watched, WriteError};
 use tsb_display_text::{LineBytes, LineMaker};
 use tsb_objects::Refusal;
 use tsb_text::{Course, line_bytes, say_refusal};
-use tsb_types::Row;
 
 /// Where the fields of a display line begin that tell heads and the preempt.
 const SHOWN: usize = 8;
@@ -23,18 +24,17 @@ const SHOWN: usize = 8;
 /// Where those fields end.
 const SHOWN_END: usize = 48;
 
-/// So many ticks with these inputs, up to one that is refused, and why it was. It says what each tick tells, each
+/// So many ticks with the row that is held, up to one that is refused, and why it was. It says what each tick tells, each
 /// display line that shows another head or preempt than the line before, and the last; and a refusal, behind `echo`.
 pub(crate) fn changes<W: Write>(
     course: &mut Course,
     lines: &mut LineMaker,
-    row: Row,
     ticks: u32,
     echo: &[u8],
     pending: &mut Pending,
     writer: &mut Watched<W>,
 ) -> Result<Option<Refusal>, WriteError>
-    ensures done { (given : Setup) (log : List LogRow) (inputs : List InputValue) → Stands given log course.old inputs
+    ensures done { (given : Setup) (log : List LogRow) (row : RowValue) (inputs : List InputValue) → Stands given log course.old inputs → log ≡ rows_in (Held row)
         → Done result given log course.new (Changes given.plan (besides_of course.old echo.now) row inputs (display_line (state_of course.old.bench)) false ticks) (W.contents writer.old.device) (W.contents writer.new.device) pending.old pending.new }
     ensures mode { course.new.mode ≡ course.old.mode }
     ensures blame { writer.old.failed ≡ false → AfterCalls result writer.new.failed }
@@ -42,7 +42,7 @@ pub(crate) fn changes<W: Write>(
     let mut before = line_bytes(lines, course.bench());
     let mut is_owed = false;
     for _i in 0..ticks {
-        if let Err(refusal) = course.take(Input::Tick(row)) {
+        if let Err(refusal) = course.tick() {
             return say_stop(&before, is_owed, &refusal, echo, pending, writer);
         }
         let now = line_bytes(lines, course.bench());

@@ -7,8 +7,7 @@ mod changes;
 pub mod laws;
 mod run;
 pub mod saved;
-pub mod stop;
 
 pub use run::{BYTES, live};
 pub use saved::say_saved;
-pub use stop::Stop;
+pub use tsb_text::Stop;

@@ -8,13 +8,12 @@ ghost use Rattle.tsb_command_text.specs.declared.live_command.LiveCommand.TheVar
 ghost use Rattle.tsb_text.specs.Blame.{Blames};
 ghost use Rattle.tsb_text.specs.Faults.{fault_words};
 ghost use Rattle.tsb_live_text.specs.saved.Saved.{saved_text};
-ghost use Rattle.tsb_live_text.specs.Live.{AsksLive, Live as LiveState, Obeys, Reads, echo_of, fault_by, flow_in, stop_in};
+ghost use Rattle.tsb_live_text.specs.Live.{AsksLive, Live as LiveState, Obeys, Reads, echo_of, fault_by, quits};
 ghost use Rattle.tsb_live_text.specs.LiveEnded.{LiveEnded, ended_with};
 ghost use Rattle.tsb_live_text.specs.Standing.{Does, StandsLive, TellsOnce, TellsPlan};
 
 use crate::changes::changes;
 use crate::say_saved;
-use crate::stop::{Stop, front_of, stop_at};
 use arrayvec::ArrayVec;
 use std::alloc::Global;
 use std::io::{Read, Write};
@@ -25,7 +24,8 @@ use tsb_display_text::LineMaker;
 use tsb_objects::{Checked, Refusal};
 use tsb_status_text::{edits_line, plan_line, status_line};
 use tsb_text::{
-    Course, LineFault, Mode, OnFault, Rows, SessionError, fault_words, obey, when_line,
+    Course, LineFault, Mode, OnFault, Rows, SessionError, Stop, fault_of, fault_words, flow_after,
+    front_of, obey, stop_at, when_line,
 };
 use tsb_types::Row;
 
@@ -37,14 +37,12 @@ const ECHO: usize = 203;
 
 /// A live run between two lines.
 #[derive(Drop)]
-struct LiveRun {
+struct LiveRun<'a> {
     alloc: Global,
-    /// The bench, with what is kept of its inputs.
-    course: Course,
+    /// The bench, with what is kept of its inputs. Its ticks take the row last given; all inputs are off before the first.
+    course: Course<'a>,
     /// What makes its display lines.
     lines: LineMaker,
-    /// The row last given. All inputs are off before the first.
-    row: Row,
     /// Whether answers that are no display lines stand after their command.
     echoes: bool,
     /// What the run does after a line with which something is wrong.
@@ -53,7 +51,7 @@ struct LiveRun {
     stop: Option<Stop>,
 }
 
-impl Answers for LiveRun {
+impl Answers for LiveRun<'_> {
     ghost use Rattle.tsb_live_text.specs.Live.{Live, Says};
     ghost use Rattle.tsb_live_text.specs.Standing.{StandsLive};
 
@@ -73,11 +71,11 @@ impl Answers for LiveRun {
         let reading = live_reading_of(line);
         let fault = self.read(&reading, line, pending, writer)?;
         self.stop = stop_at(self.on_fault, number, line, fault);
-        Ok(flow_after(&reading, &self.stop))
+        Ok(flow_after(quits(&reading), &self.stop))
     }
 }
 
-impl LiveRun {
+impl LiveRun<'_> {
     /// Answers what a line asks, and tells what is wrong with it, if something is.
     fn read<W: Write>(
         &mut self,
@@ -98,7 +96,7 @@ impl LiveRun {
                 tell_fault(&echo, &LineFault::BadCommand, pending, writer)
             }
             LiveReading::Tick(row) => {
-                self.row = row;
+                self.course.hold(row);
                 self.obey(Command::Step(1), line, pending, writer)
             }
             LiveReading::Ask(command) => self.ask(command, line, pending, writer),
@@ -132,11 +130,9 @@ impl LiveRun {
         ensures blame { writer.old.failed ≡ false → AfterCalls result writer.new.failed }
     {
         let echo = self.echo(line);
-        let mut rows = Rows::Held(self.row);
         let refusal = obey(
             &mut self.course,
             &mut self.lines,
-            &mut rows,
             command,
             &echo,
             pending,
@@ -204,7 +200,6 @@ impl LiveRun {
         let refusal = changes(
             &mut self.course,
             &mut self.lines,
-            self.row,
             ticks,
             &echo,
             pending,
@@ -290,14 +285,13 @@ fn fault_by(refusal: Option<Refusal>) -> Option<LineFault>
     Some(LineFault::Refused(refusal?))
 }
 
-/// Whether a run goes on after what a line asked, where this ended it.
-fn flow_after(reading: &LiveReading, stop: &Option<Stop>) -> Flow
-    ensures { result ≡ flow_in reading.now (stop_in stop.now) }
+/// Whether a line that reads so is `quit`.
+fn quits(reading: &LiveReading) -> bool
+    ensures { result ≡ quits reading.now }
 {
-    match (stop, reading) {
-        (Some(_), _) => Flow::Over,
-        (None, LiveReading::Ask(LiveCommand::Session(Command::Quit))) => Flow::Over,
-        _ => Flow::On,
+    match reading {
+        LiveReading::Ask(LiveCommand::Session(Command::Quit)) => true,
+        _ => false,
     }
 }
 
@@ -328,9 +322,8 @@ pub fn live<R: Read, W: Write>(
     };
     let mut run = LiveRun {
         alloc,
-        course: Course::new(alloc, bench, Mode::Keeping),
+        course: Course::new(alloc, bench, Rows::Held(Row::all_off()), Mode::Keeping),
         lines: LineMaker::new(),
-        row: Row::all_off(),
         echoes: false,
         on_fault,
         stop: None,
@@ -348,8 +341,6 @@ fn ended_with(
 {
     match ended {
         Ok(()) => Ok(stop),
-        Err(DialogError::Read) => Err(SessionError::Read),
-        Err(DialogError::Write) => Err(SessionError::Write),
-        Err(DialogError::TooLarge) => Err(SessionError::TooLarge),
+        Err(fault) => Err(fault_of(fault)),
     }
 }

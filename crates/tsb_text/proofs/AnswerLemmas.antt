@@ -1,17 +1,14 @@
 -- What is said of an answer, where a bench has come from power-up by some inputs.
-use Rattle.std.proofs.Common.{◌≡◌, ℕ, ◌+◌, List, [], ◌∷◌, ◌++◌, None, Some, refl, sym, ap, ◌∙◌, append_assoc, Ok, Err, subst, suc, inl, inr, OnOk, OnErr}
+use Rattle.std.proofs.Common.{◌≡◌, ℕ, List, [], ◌∷◌, ◌++◌, None, Some, refl, sym, ap, ◌∙◌, append_assoc, Ok, Err, subst, suc, inl, inr, OnOk, OnErr}
 use Rattle.std.proofs.lemmas.List.{append-nil}
 use Rattle.std.specs.declared.option.Option.{Option}
 use Rattle.std.specs.declared.result.Result.{Result}
 use Rattle.tsb_objects.specs.tsb_types.declared.refusal.Refusal.{Refusal}
-use Rattle.tsb_objects.specs.tsb_types.declared.row.Row.{Row}
 use Rattle.tsb_bench.specs.tsb_machine.declared.commands.Command.TheVariants.{Apply}
 use Rattle.tsb_bench.specs.tsb_machine.declared.commands.Answer.{Answer}
 use Rattle.tsb_bench.specs.tsb_machine.declared.commands.Answer.TheVariants as answers
 use Rattle.tsb_bench.specs.tsb_machine.declared.commands.Answer.TheVariants.{Refused}
 use Rattle.tsb_bench.specs.tsb_step.declared.inputs.Input.{Input}
-use Rattle.tsb_bench.specs.tsb_step.declared.inputs.Input.TheVariants.{Tick}
-use Rattle.tsb_bench.specs.tsb_step.State.{State}
 use Rattle.tsb_bench.specs.tsb_step.Play.{Cmd, IsRight, remaining_after}
 use Rattle.tsb_bench.specs.tsb_step.Runs.{replay}
 use Rattle.tsb_bench.specs.Held.{Held, state_of, whole}
@@ -19,7 +16,6 @@ use Rattle.tsb_dialog.specs.Said.{IsCutShort, Said, SaidUntilFault, Wrote, with_
 use Rattle.tsb_dialog.proofs.SaidLemmas.{said-nothing, said-more, until-line, until-more}
 use Rattle.tsb_lines.specs.declared.writes.WriteError.{WriteError}
 use Rattle.tsb_log_text.specs.declared.log.LogRow.{LogRow}
-use Rattle.tsb_log_text.specs.Logs.{row_at}
 use Rattle.tsb_text.specs.declared.course.Mode.{Mode}
 use Rattle.tsb_text.specs.declared.task.Task.TheVariants.{Show, Quit}
 use Rattle.tsb_text.specs.Answers.{Setup, next_tick, told, refused_line, display_line}
@@ -117,10 +113,6 @@ pub record Stepping (given : Setup) (log : List LogRow) (besides : Besides) (is 
   pub stands : Stands given log course now
   pub wrote : Wrote p q u v (TicksOn given besides is n now k)
 
--- the rows of a log stay the same
-pub row-still : (log rows : List LogRow) (row : Row) (t : ℕ) → row ≡ row_at rows t → rows ≡ log → row ≡ row_at log t
-row-still log rows row t is same = is ∙ ap (λ (v : List LogRow). row_at v t) same
-
 pub steps-start : (given : Setup) (log : List LogRow) (besides : Besides) (is : List Input) (n k : ℕ) (course : OnCourse) (p : Option (List ℕ)) (u : List ℕ) → k ≡ n → Stands given log course is
     → Stepping given log besides is n course k p p u u
 steps-start given log besides is n k course p u all stands = record {
@@ -128,12 +120,6 @@ steps-start given log besides is n k course p u all stands = record {
   stands = stands;
   wrote = record { text = []; said = said-nothing p u; so = λ text refusal last s. subst (λ (m : ℕ). TakesTicks given besides is m text refusal last) all s };
 }
-
--- the tick that the bench takes is the next one, with the log's row
-tick-next : (given : Setup) (log : List LogRow) (now : List Input) (course : OnCourse) (row : Row) (t : ℕ) → Stands given log course now → row ≡ row_at log t → t ≡ course.bench.tick + 1 → Tick row ≡ next_tick given now
-tick-next given log now course row t stands is at =
-    let state : course.bench.tick ≡ (replay given.plan now).now = ap (λ (s : State). s.now) (follows-state given.plan (whole course.bench) now stands.follows) in
-    ap Tick (is ∙ ap (row_at log) (at ∙ ap (λ (n : ℕ). n + 1) state) ∙ ap (λ (l : List LogRow). row_at l ((replay given.plan now).now + 1)) (sym stands.same))
 
 -- what a tick says that was taken
 abbrev tick_text : OnCourse → List ℕ
@@ -160,35 +146,33 @@ record Taken (given : Setup) (log : List LogRow) (besides : Besides) (is : List 
   stands : Stands given log new (next_tick given now ∷ now)
   on : TicksOn given besides is n (next_tick given now ∷ now) k (said ++ tick_text new)
 
-taken : (given : Setup) (log : List LogRow) (besides : Besides) (is : List Input) (n : ℕ) (now : List Input) (old new : OnCourse) (k left : ℕ) (row : Row) (t : ℕ) (said : List ℕ)
-    → Stands given log old now → left ≡ suc k → row ≡ row_at log t → t ≡ old.bench.tick + 1 → tells_in new.mode ≡ besides.tells → Took (Ok tt) given log new now (Tick row)
+taken : (given : Setup) (log : List LogRow) (besides : Besides) (is : List Input) (n : ℕ) (now : List Input) (old new : OnCourse) (k left : ℕ) (said : List ℕ)
+    → Stands given log old now → left ≡ suc k → tells_in new.mode ≡ besides.tells → Took (Ok tt) given log new now (next_tick given now)
     → TicksOn given besides is n now left said → Taken given log besides is n now new k said
-taken given log besides is n now old new k left row t said stands one is-row at tells took on =
-    let same : Tick row ≡ next_tick given now = tick-next given log now old row t stands is-row at in
-    let all : Took (Ok tt) given log new now (next_tick given now) = subst (λ (i : Input). Took (Ok tt) given log new now i) same took in
+taken given log besides is n now old new k left said stands one tells took on =
     let line : tick_text new ≡ news besides.tells given now (next_tick given now) ++ with_feed (display_line (replay given.plan (next_tick given now ∷ now))) =
-    tick-line given log now new (next_tick given now) all
+    tick-line given log now new (next_tick given now) took
     ∙ ap (λ (b : _). news b given now (next_tick given now) ++ with_feed (display_line (replay given.plan (next_tick given now ∷ now)))) tells in
-    record { stands = all.1; on = step-on given besides is n now k left said (tick_text new) one on all.0 line }
+    record { stands = took.1; on = step-on given besides is n now k left said (tick_text new) one on took.0 line }
 
-pub steps-more : (given : Setup) (log : List LogRow) (besides : Besides) (is : List Input) (n : ℕ) (old new : OnCourse) (left k : ℕ) (row : Row) (t : ℕ) (a b c : Option (List ℕ)) (p q r : List ℕ)
-    → Stepping given log besides is n old left a b p q → left ≡ suc k → row ≡ row_at log t → t ≡ old.bench.tick + 1 → tells_in new.mode ≡ besides.tells
-    → ((given : Setup) (log : List LogRow) (inputs : List Input) → Stands given log old inputs → Took (Ok tt) given log new inputs (Tick row))
+pub steps-more : (given : Setup) (log : List LogRow) (besides : Besides) (is : List Input) (n : ℕ) (old new : OnCourse) (left k : ℕ) (a b c : Option (List ℕ)) (p q r : List ℕ)
+    → Stepping given log besides is n old left a b p q → left ≡ suc k → tells_in new.mode ≡ besides.tells
+    → ((given : Setup) (log : List LogRow) (inputs : List Input) → Stands given log old inputs → Took (Ok tt) given log new inputs (next_tick given inputs))
     → Said b c q r (tick_text new) → Stepping given log besides is n new k a c p r
-steps-more given log besides is n old new left k row t a b c p q r s one is-row at tells took said =
-    let x : Taken given log besides is n s.now new k s.wrote.text = taken given log besides is n s.now old new k left row t s.wrote.text s.stands one is-row at tells (took given log s.now s.stands) s.wrote.so in
+steps-more given log besides is n old new left k a b c p q r s one tells took said =
+    let x : Taken given log besides is n s.now new k s.wrote.text = taken given log besides is n s.now old new k left s.wrote.text s.stands one tells (took given log s.now s.stands) s.wrote.so in
     record {
       now = next_tick given s.now ∷ s.now;
       stands = x.stands;
       wrote = record { text = s.wrote.text ++ tick_text new; said = said-more a b c p q r s.wrote.text (tick_text new) s.wrote.said said; so = x.on };
     }
 
-pub steps-fault : (given : Setup) (log : List LogRow) (besides : Besides) (is : List Input) (n : ℕ) (old new : OnCourse) (left k : ℕ) (row : Row) (t : ℕ) (a b c : Option (List ℕ)) (p q r : List ℕ) (e : WriteError)
-    → Stepping given log besides is n old left a b p q → left ≡ suc k → row ≡ row_at log t → t ≡ old.bench.tick + 1 → tells_in new.mode ≡ besides.tells
-    → ((given : Setup) (log : List LogRow) (inputs : List Input) → Stands given log old inputs → Took (Ok tt) given log new inputs (Tick row))
+pub steps-fault : (given : Setup) (log : List LogRow) (besides : Besides) (is : List Input) (n : ℕ) (old new : OnCourse) (left k : ℕ) (a b c : Option (List ℕ)) (p q r : List ℕ) (e : WriteError)
+    → Stepping given log besides is n old left a b p q → left ≡ suc k → tells_in new.mode ≡ besides.tells
+    → ((given : Setup) (log : List LogRow) (inputs : List Input) → Stands given log old inputs → Took (Ok tt) given log new inputs (next_tick given inputs))
     → IsCutShort b c q r (tick_text new) → Done (Err e) given log new (TakesTicks given besides is n) a c p r
-steps-fault given log besides is n old new left k row t a b c p q r e s one is-row at tells took cut =
-    let x : Taken given log besides is n s.now new k s.wrote.text = taken given log besides is n s.now old new k left row t s.wrote.text s.stands one is-row at tells (took given log s.now s.stands) s.wrote.so in
+steps-fault given log besides is n old new left k a b c p q r e s one tells took cut =
+    let x : Taken given log besides is n s.now new k s.wrote.text = taken given log besides is n s.now old new k left s.wrote.text s.stands one tells (took given log s.now s.stands) s.wrote.so in
     let rest : (text : List ℕ) × (refusal : Option Refusal) × (last : List Input) × TakesTicks given besides (next_tick given s.now ∷ s.now) k text refusal last = some-ticks given besides k (next_tick given s.now ∷ s.now) in
     record {
       text = s.wrote.text ++ cut.text;
@@ -209,25 +193,23 @@ record Ends (given : Setup) (log : List LogRow) (besides : Besides) (is : List I
   stands : Stands given log new now
   all : TakesTicks given besides is n (said ++ line) (Some e) now
 
-stopped : (given : Setup) (log : List LogRow) (besides : Besides) (is : List Input) (n : ℕ) (now : List Input) (old new : OnCourse) (k left : ℕ) (row : Row) (t : ℕ) (said : List ℕ) (e : Refusal)
-    → Stands given log old now → left ≡ suc k → row ≡ row_at log t → t ≡ old.bench.tick + 1 → Took (Err e) given log new now (Tick row) → TicksOn given besides is n now left said
+stopped : (given : Setup) (log : List LogRow) (besides : Besides) (is : List Input) (n : ℕ) (now : List Input) (old new : OnCourse) (k left : ℕ) (said : List ℕ) (e : Refusal)
+    → Stands given log old now → left ≡ suc k → Took (Err e) given log new now (next_tick given now) → TicksOn given besides is n now left said
     → Ends given log besides is n now new said (besides.echo ++ with_feed (refused_line e)) e
-stopped given log besides is n now old new k left row t said e stands one is-row at took on =
-    let same : Tick row ≡ next_tick given now = tick-next given log now old row t stands is-row at in
-    let all : Took (Err e) given log new now (next_tick given now) = subst (λ (i : Input). Took (Err e) given log new now i) same took in
+stopped given log besides is n now old new k left said e stands one took on =
     record {
-      stands = all.1;
+      stands = took.1;
       all = on (besides.echo ++ with_feed (refused_line e)) (Some e) now (subst (λ (m : ℕ). TakesTicks given besides now m (besides.echo ++ with_feed (refused_line e)) (Some e) now) (sym one)
-          (inr (record { why = e; right = all.0; line = refl; refused = refl; left = refl })));
+          (inr (record { why = e; right = took.0; line = refl; refused = refl; left = refl })));
     }
 
-pub steps-refused : (given : Setup) (log : List LogRow) (besides : Besides) (is : List Input) (n : ℕ) (old new : OnCourse) (left k : ℕ) (row : Row) (t : ℕ) (a b c : Option (List ℕ)) (p q r : List ℕ) (e : Refusal)
-    → Stepping given log besides is n old left a b p q → left ≡ suc k → row ≡ row_at log t → t ≡ old.bench.tick + 1
-    → ((given : Setup) (log : List LogRow) (inputs : List Input) → Stands given log old inputs → Took (Err e) given log new inputs (Tick row))
+pub steps-refused : (given : Setup) (log : List LogRow) (besides : Besides) (is : List Input) (n : ℕ) (old new : OnCourse) (left k : ℕ) (a b c : Option (List ℕ)) (p q r : List ℕ) (e : Refusal)
+    → Stepping given log besides is n old left a b p q → left ≡ suc k
+    → ((given : Setup) (log : List LogRow) (inputs : List Input) → Stands given log old inputs → Took (Err e) given log new inputs (next_tick given inputs))
     → Said b c q r (besides.echo ++ with_feed (refused_line e)) → Done (Ok (Some e)) given log new (TakesTicks given besides is n) a c p r
-steps-refused given log besides is n old new left k row t a b c p q r e s one is-row at took said =
+steps-refused given log besides is n old new left k a b c p q r e s one took said =
     let x : Ends given log besides is n s.now new s.wrote.text (besides.echo ++ with_feed (refused_line e)) e =
-    stopped given log besides is n s.now old new k left row t s.wrote.text e s.stands one is-row at (took given log s.now s.stands) s.wrote.so in (
+    stopped given log besides is n s.now old new k left s.wrote.text e s.stands one (took given log s.now s.stands) s.wrote.so in (
       s.now,
       x.stands,
       record {
@@ -237,13 +219,13 @@ steps-refused given log besides is n old new left k row t a b c p q r e s one is
       },
     )
 
-pub steps-refused-fault : (given : Setup) (log : List LogRow) (besides : Besides) (is : List Input) (n : ℕ) (old new : OnCourse) (left k : ℕ) (row : Row) (t : ℕ) (a b c : Option (List ℕ)) (p q r : List ℕ) (e : Refusal) (f : WriteError)
-    → Stepping given log besides is n old left a b p q → left ≡ suc k → row ≡ row_at log t → t ≡ old.bench.tick + 1
-    → ((given : Setup) (log : List LogRow) (inputs : List Input) → Stands given log old inputs → Took (Err e) given log new inputs (Tick row))
+pub steps-refused-fault : (given : Setup) (log : List LogRow) (besides : Besides) (is : List Input) (n : ℕ) (old new : OnCourse) (left k : ℕ) (a b c : Option (List ℕ)) (p q r : List ℕ) (e : Refusal) (f : WriteError)
+    → Stepping given log besides is n old left a b p q → left ≡ suc k
+    → ((given : Setup) (log : List LogRow) (inputs : List Input) → Stands given log old inputs → Took (Err e) given log new inputs (next_tick given inputs))
     → IsCutShort b c q r (besides.echo ++ with_feed (refused_line e)) → Done (Err f) given log new (TakesTicks given besides is n) a c p r
-steps-refused-fault given log besides is n old new left k row t a b c p q r e f s one is-row at took cut =
+steps-refused-fault given log besides is n old new left k a b c p q r e f s one took cut =
     let x : Ends given log besides is n s.now new s.wrote.text (besides.echo ++ with_feed (refused_line e)) e =
-    stopped given log besides is n s.now old new k left row t s.wrote.text e s.stands one is-row at (took given log s.now s.stands) s.wrote.so in
+    stopped given log besides is n s.now old new k left s.wrote.text e s.stands one (took given log s.now s.stands) s.wrote.so in
     record {
       text = s.wrote.text ++ cut.text;
       said = said-more a b c p q r s.wrote.text cut.text s.wrote.said cut.said;
@@ -256,14 +238,14 @@ steps-refused-fault given log besides is n old new left k row t a b c p q r e f 
       );
     }
 
-pub steps-stop : (r : Result (Option Refusal) WriteError) (given : Setup) (log : List LogRow) (besides : Besides) (is : List Input) (n : ℕ) (old new : OnCourse) (left k : ℕ) (row : Row) (t : ℕ) (a b c : Option (List ℕ)) (p q r' : List ℕ) (e : Refusal)
-    → Stepping given log besides is n old left a b p q → left ≡ suc k → row ≡ row_at log t → t ≡ old.bench.tick + 1
-    → ((given : Setup) (log : List LogRow) (inputs : List Input) → Stands given log old inputs → Took (Err e) given log new inputs (Tick row))
+pub steps-stop : (r : Result (Option Refusal) WriteError) (given : Setup) (log : List LogRow) (besides : Besides) (is : List Input) (n : ℕ) (old new : OnCourse) (left k : ℕ) (a b c : Option (List ℕ)) (p q r' : List ℕ) (e : Refusal)
+    → Stepping given log besides is n old left a b p q → left ≡ suc k
+    → ((given : Setup) (log : List LogRow) (inputs : List Input) → Stands given log old inputs → Took (Err e) given log new inputs (next_tick given inputs))
     → OnOk r (r ≡ Ok (Some e)) → SaidUntilFault r b c q r' (besides.echo ++ with_feed (refused_line e)) → Done r given log new (TakesTicks given besides is n) a c p r'
-steps-stop (Ok refusal) given log besides is n old new left k row t a b c p q r' e s one is-row at took why said =
-    subst (λ (x : Result (Option Refusal) WriteError). Done x given log new (TakesTicks given besides is n) a c p r') (sym why) (steps-refused given log besides is n old new left k row t a b c p q r' e s one is-row at took said)
-steps-stop (Err f) given log besides is n old new left k row t a b c p q r' e s one is-row at took why said =
-    steps-refused-fault given log besides is n old new left k row t a b c p q r' e f s one is-row at took said
+steps-stop (Ok refusal) given log besides is n old new left k a b c p q r' e s one took why said =
+    subst (λ (x : Result (Option Refusal) WriteError). Done x given log new (TakesTicks given besides is n) a c p r') (sym why) (steps-refused given log besides is n old new left k a b c p q r' e s one took said)
+steps-stop (Err f) given log besides is n old new left k a b c p q r' e s one took why said =
+    steps-refused-fault given log besides is n old new left k a b c p q r' e f s one took said
 
 pub steps-end : (given : Setup) (log : List LogRow) (besides : Besides) (is : List Input) (n : ℕ) (course : OnCourse) (k : ℕ) (a b : Option (List ℕ)) (p q : List ℕ) → Stepping given log besides is n course k a b p q → k ≡ 0
     → Done (Ok None) given log course (TakesTicks given besides is n) a b p q

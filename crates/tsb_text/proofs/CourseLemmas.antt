@@ -1,5 +1,5 @@
--- A bench, what is kept of its inputs and what they tell go on and back together.
-use Rattle.std.proofs.Common.{◌≡◌, ℕ, ◌-◌, ◌≤◌, List, [], ◌∷◌, Bool, true, false, None, Ok, Err, refl, sym, ap, subst, arith, ◌∙◌, OnOk, OnErr, IfErr}
+-- A bench, what is kept of its inputs and their events go on and back together.
+use Rattle.std.proofs.Common.{◌≡◌, ℕ, ◌+◌, ◌-◌, ◌≤◌, List, [], ◌∷◌, Bool, true, false, None, Ok, Err, refl, sym, ap, subst, arith, ◌∙◌, OnOk, OnErr, IfErr, inr}
 use Rattle.std.specs.declared.result.Result.{Result}
 use Rattle.tsb_objects.specs.tsb_plan.Plan.{Plan}
 use Rattle.tsb_objects.specs.tsb_types.declared.event.Event.{Event}
@@ -25,13 +25,23 @@ use Rattle.tsb_bench.specs.tsb_step.Runs.{replay}
 use Rattle.tsb_bench.specs.tsb_step.Step.{kind_of, step, verdict}
 use Rattle.tsb_bench.specs.tsb_step.Watches.{watched}
 use Rattle.tsb_bench.specs.Held.{Held, state_of, whole}
-use Rattle.tsb_text.specs.kept.Kept.{Keeping, gone_back, keeping, kept_of, last_row, nothing_kept, row_kept, with_input}
-use Rattle.tsb_text.proofs.kept.KeptLemmas.{HasOther, gone-back, kept-row, other-undone, reached, tick-undone}
+use Rattle.tsb_bench.specs.tsb_step.declared.log_form.LogForm.{LogForm}
+use Rattle.tsb_bench.specs.tsb_step.declared.log_form.Noted.{Noted}
+use Rattle.tsb_text.specs.kept.Kept.{DropsOther, IsNoTick, Keeping, gone_back as kept_back, kept_of, last_row, nothing_kept, row_kept, with_input}
+use Rattle.tsb_text.specs.recording.Along.{Wants, noted_after, telling, with_input as with_told}
+use Rattle.tsb_text.specs.recording.Recording.{IsWanting, noted_at}
+use Rattle.tsb_text.specs.recording.Told.{DropsMark, Telling, gone_back as told_back, nothing_told}
+use Rattle.tsb_text.specs.Rows.{row_in_force}
+use Rattle.tsb_text.proofs.recording.AlongLemmas as told
+use Rattle.tsb_text.proofs.recording.OfLogLemmas.{of-log-after, row-there}
+use Rattle.tsb_text.proofs.kept.KeptLemmas.{gone-back, kept-row, other-dropped, tick-undone}
+use Rattle.tsb_text.proofs.BackLemmas.{reached}
 use Rattle.tsb_log_text.specs.declared.log.LogRow.{LogRow}
 use Rattle.tsb_text.specs.declared.course.Mode.{Mode}
-use Rattle.tsb_text.specs.declared.course.Mode.TheVariants.{Plain, Keeping as KeepsInputs, Telling}
-use Rattle.tsb_text.specs.Answers.{Setup}
-use Rattle.tsb_text.specs.Obeyed.{Answered, Forgets, ForgetsNewest, IsKept, Keeps, OnCourse, Stands, Took, tells_in}
+use Rattle.tsb_text.specs.declared.course.Mode.TheVariants.{Plain, Keeping as KeepsInputs, Telling as TellsEvents, Recording}
+use Rattle.tsb_log_text.specs.Logs.{row_at}
+use Rattle.tsb_text.specs.Answers.{Setup, next_tick}
+use Rattle.tsb_text.specs.Obeyed.{Answered, AreOfLog, Forgets, ForgetsNewest, HasRow, IsKept, IsNext, IsTold, Keeps, OnCourse, Stands, Took, tells_in}
 use Rattle.tsb_text.specs.Obeys.{events_text, if_told}
 
 pub follows-state : (plan : Plan) (w : Whole) (is : List Input) → Follows plan w is → w.state ≡ replay plan is
@@ -60,50 +70,64 @@ still-quiet m keeps tells = let never : false ≡ true = sym (ap tells_in keeps)
 nothing-kept : (m : Mode) (kept : Keeping) (plan : Plan) (is : List Input) → m ≡ Plain → IsKept m kept plan is
 nothing-kept m kept plan is plain = subst (λ (x : Mode). IsKept x kept plan is) (sym plain) tt
 
-pub plain-took : (r : Result (Unit {0}) Refusal) (given : Setup) (log : List LogRow) (is : List Input) (old new : OnCourse) (i : Input) → Stands given log old is → new.mode ≡ Plain
+nothing-told : (m : Mode) (told : Telling) (given : Setup) (is : List Input) → m ≡ Plain → IsTold m told given is
+nothing-told m told given is plain = subst (λ (x : Mode). IsTold x told given is) (sym plain) tt
+
+pub plain-took : (r : Result (Unit {0}) Refusal) (given : Setup) (log : List LogRow) (is : List Input) (old new : OnCourse) (i : Input) → Stands given log old is → new.mode ≡ Plain → new.rows ≡ old.rows
     → BenchTook r given.plan new.bench is i → Took r given log new is i
-plain-took (Ok u) given log is old new i s plain took =
-    (took.0, record { same = s.same; follows = took.1; keeps = nothing-kept new.mode new.kept given.plan (i ∷ is) plain }, λ tells. absurd (no-news new.mode plain tells))
-plain-took (Err e) given log is old new i s plain took = (took.0, record { same = s.same; follows = took.1; keeps = nothing-kept new.mode new.kept given.plan is plain })
+plain-took (Ok u) given log is old new i s plain rows took =
+    (took.0, record { same = s.same; rows = rows ∙ s.rows; follows = took.1; keeps = nothing-kept new.mode new.kept given.plan (i ∷ is) plain; tells = nothing-told new.mode new.told.told given (i ∷ is) plain }, λ tells. absurd (no-news new.mode plain tells))
+plain-took (Err e) given log is old new i s plain rows took = (took.0, record { same = s.same; rows = rows ∙ s.rows; follows = took.1; keeps = nothing-kept new.mode new.kept given.plan is plain; tells = nothing-told new.mode new.told.told given is plain })
 
 pub keeps-inputs : (m : Mode) → m ≡ KeepsInputs → Keeps m
 keeps-inputs m is = subst Keeps (sym is) tt
 
-pub keeps-telling : (m : Mode) → m ≡ Telling → Keeps m
+pub keeps-telling : (m : Mode) → m ≡ TellsEvents → Keeps m
 keeps-telling m is = subst Keeps (sym is) tt
 
 pub is-kept : (m : Mode) (kept : Keeping) (plan : Plan) (is : List Input) → Keeps m → IsKept m kept plan is → kept ≡ kept_of plan is
 is-kept Plain kept plan is none k = absurd none
 is-kept KeepsInputs kept plan is none k = k
-is-kept Telling kept plan is none k = k
+is-kept TellsEvents kept plan is none k = k
+is-kept (Recording form) kept plan is none k = absurd none
 
 as-kept : (m : Mode) (kept : Keeping) (plan : Plan) (is : List Input) → kept ≡ kept_of plan is → IsKept m kept plan is
 as-kept Plain kept plan is k = tt
 as-kept KeepsInputs kept plan is k = k
-as-kept Telling kept plan is k = k
+as-kept TellsEvents kept plan is k = k
+as-kept (Recording form) kept plan is k = tt
+
+-- where inputs are kept no events are recorded
+pub not-recorded : (m : Mode) (told : Telling) (given : Setup) (is : List Input) → Keeps m → IsTold m told given is
+not-recorded Plain told given is k = absurd k
+not-recorded KeepsInputs told given is k = tt
+not-recorded TellsEvents told given is k = tt
+not-recorded (Recording form) told given is k = absurd k
 
 -- what a tick number is, in a state
 tick-there : (plan : Plan) (is : List Input) (bench : Held) → Follows plan (whole bench) is → bench.tick ≡ (replay plan is).now
 tick-there plan is bench f = ap (λ (s : State). s.now) (follows-state plan (whole bench) is f)
 
 -- an input was taken and kept; it has told its events, where they are told
-pub kept-took : (given : Setup) (log : List LogRow) (is : List Input) (old new : OnCourse) (tick : ℕ) (i : Input) → Stands given log old is → Keeps old.mode → new.mode ≡ old.mode → tick ≡ old.bench.tick
+pub kept-took : (given : Setup) (log : List LogRow) (is : List Input) (old new : OnCourse) (tick : ℕ) (i : Input) → Stands given log old is → Keeps old.mode → new.mode ≡ old.mode → new.rows ≡ old.rows → tick ≡ old.bench.tick
     → BenchTook (Ok tt) given.plan new.bench is i → new.kept ≡ with_input i tick old.kept
     → (tells_in new.mode ≡ true → new.news ≡ events_of (usual_after (last_row is)) (replay given.plan is) i) → Took (Ok tt) given log new is i
-kept-took given log is old new tick i s keeps mode at took kept told =
+kept-took given log is old new tick i s keeps mode rows at took kept told =
     let was : old.kept ≡ kept_of given.plan is = is-kept old.mode old.kept given.plan is keeps s.keeps in
     let there : tick ≡ (replay given.plan is).now = at ∙ tick-there given.plan is old.bench s.follows in
-    (took.0, record { same = s.same; follows = took.1; keeps = as-kept new.mode new.kept given.plan (i ∷ is) (kept ∙ (λ j. with_input i (there j) (was j))) }, told)
+    (took.0, record { same = s.same; rows = rows ∙ s.rows; follows = took.1; keeps = as-kept new.mode new.kept given.plan (i ∷ is) (kept ∙ (λ j. with_input i (there j) (was j))); tells = not-recorded new.mode new.told.told given (i ∷ is) (subst Keeps (sym mode) keeps) }, told)
 
 -- it was refused, and nothing has changed
-pub kept-refused : (e : Refusal) (given : Setup) (log : List LogRow) (is : List Input) (old new : OnCourse) (i : Input) → Stands given log old is → new.mode ≡ old.mode → new.kept ≡ old.kept
+pub kept-refused : (e : Refusal) (given : Setup) (log : List LogRow) (is : List Input) (old new : OnCourse) (i : Input) → Stands given log old is → new.mode ≡ old.mode → new.rows ≡ old.rows → new.kept ≡ old.kept → new.told.told ≡ old.told.told
     → BenchTook (Err e) given.plan new.bench is i → Took (Err e) given log new is i
-kept-refused e given log is old new i s mode kept took = (
+kept-refused e given log is old new i s mode rows kept told took = (
   took.0,
   record {
     same = s.same;
+    rows = rows ∙ s.rows;
     follows = took.1;
     keeps = subst (λ (m : Mode). IsKept m new.kept given.plan is) (sym mode) (subst (λ (k : Keeping). IsKept old.mode k given.plan is) (sym kept) s.keeps);
+    tells = subst (λ (m : Mode). IsTold m new.told.told given is) (sym mode) (subst (λ (x : Telling). IsTold old.mode x given is) (sym told) s.tells);
   },
 )
 
@@ -116,21 +140,98 @@ kept-news given log is old i last news s keeps row tells =
     let state : state_of old.bench ≡ replay given.plan is = follows-state given.plan (whole old.bench) is s.follows in
     tells ∙ (λ j. events_of (usual_after (there j)) (state j) i)
 
+-- an input that was undone, since there was no memory for it, was refused
+undone-took : (plan : Plan) (is : List Input) (old mid new : Held) (i : Input) → Follows plan (whole old) is → verdict (state_of old) i ≡ None → mid.records ≡ record_of i (state_of old) (state_of mid) ∷ old.records
+    → earlier (whole mid) 1 ≡ whole old → ((newest : Change) (others : List Change) → mid.records ≡ newest ∷ others → whole new ≡ earlier (whole mid) 1) → BenchTook (Err Memory) plan new is i
+undone-took plan is old mid new i f allowed records back undone =
+    let state : state_of old ≡ replay plan is = follows-state plan (whole old) is f in
+    let same : whole new ≡ whole old = undone (record_of i (state_of old) (state_of mid)) old.records records ∙ back in
+    (sym (ap (λ (x : State). verdict x i) state) ∙ allowed, subst (λ (w : Whole). Follows plan w is) (sym same) f)
+
 -- what became of an input that the bench took, once it was to be kept
-pub kept-so : (r : Result (Unit {0}) Refusal) (given : Setup) (log : List LogRow) (is : List Input) (old new : OnCourse) (mid : Held) (tick : ℕ) (i : Input) → Stands given log old is → Keeps old.mode → new.mode ≡ old.mode
+pub kept-so : (r : Result (Unit {0}) Refusal) (given : Setup) (log : List LogRow) (is : List Input) (old new : OnCourse) (mid : Held) (tick : ℕ) (i : Input) → Stands given log old is → Keeps old.mode → new.mode ≡ old.mode → new.rows ≡ old.rows → new.told.told ≡ old.told.told
     → tick ≡ old.bench.tick → verdict (state_of old.bench) i ≡ None → state_of mid ≡ step (state_of old.bench) i → mid.records ≡ record_of i (state_of old.bench) (state_of mid) ∷ old.bench.records
     → earlier (whole mid) 1 ≡ whole old.bench → (tells_in new.mode ≡ true → new.news ≡ events_of (usual_after (last_row is)) (replay given.plan is) i)
     → OnOk r (new.bench ≡ mid) → OnOk r (new.kept ≡ with_input i tick old.kept)
     → OnErr r ((newest : Change) (others : List Change) → mid.records ≡ newest ∷ others → whole new.bench ≡ earlier (whole mid) 1) → OnErr r (new.kept ≡ old.kept) → IfErr r (λ e. e ≡ Memory)
     → Took r given log new is i
-kept-so (Ok u) given log is old new mid tick i s keeps mode at allowed steps records back told bench kept undone still memory =
-    kept-took given log is old new tick i s keeps mode at
+kept-so (Ok u) given log is old new mid tick i s keeps mode rows same at allowed steps records back told bench kept undone still memory =
+    kept-took given log is old new tick i s keeps mode rows at
     (subst (λ (b : Held). BenchTook (Ok tt) given.plan b is i) (sym bench) (bench-took (Ok tt) given.plan is old.bench mid i s.follows allowed steps records back tt tt)) kept told
-kept-so (Err e) given log is old new mid tick i s keeps mode at allowed steps records back told bench kept undone still memory =
-    let state : state_of old.bench ≡ replay given.plan is = follows-state given.plan (whole old.bench) is s.follows in
-    let same : whole new.bench ≡ whole old.bench = undone (record_of i (state_of old.bench) (state_of mid)) old.bench.records records ∙ back in
+kept-so (Err e) given log is old new mid tick i s keeps mode rows same at allowed steps records back told bench kept undone still memory =
     subst (λ (x : Refusal). Took (Err x) given log new is i) (sym memory)
-    (kept-refused Memory given log is old new i s mode still (sym (ap (λ (x : State). verdict x i) state) ∙ allowed, subst (λ (w : Whole). Follows given.plan w is) (sym same) s.follows))
+    (kept-refused Memory given log is old new i s mode rows still same (undone-took given.plan is old.bench mid new.bench i s.follows allowed records back undone))
+
+-- ## Events that are recorded
+
+pub is-told : (m : Mode) (form : LogForm) (x : Telling) (given : Setup) (is : List Input) → m ≡ Recording form → IsTold m x given is → (x ≡ telling form given.plan is) × AreOfLog given is
+is-told m form x given is same t = subst (λ (y : Mode). IsTold y x given is) same t
+
+none-kept : (m : Mode) (form : LogForm) (kept : Keeping) (plan : Plan) (is : List Input) → m ≡ Recording form → IsKept m kept plan is
+none-kept m form kept plan is same = subst (λ (y : Mode). IsKept y kept plan is) (sym same) tt
+
+none-said : (m : Mode) (form : LogForm) → m ≡ Recording form → tells_in m ≡ true → ⊥
+none-said m form same tells = let never : false ≡ true = sym (ap tells_in same) ∙ tells in cc
+
+-- an input was taken, and its events recorded
+pub recorded-took : (form : LogForm) (given : Setup) (log : List LogRow) (is : List Input) (old new : OnCourse) (row : Row) (tick : ℕ) (news : List Event) (i : Input) → Stands given log old is → IsNext old.mode given is i
+    → old.mode ≡ Recording form → new.mode ≡ old.mode → new.rows ≡ old.rows → tick ≡ old.bench.tick → row ≡ row_in_force old.rows tick → BenchTook (Ok tt) given.plan new.bench is i
+    → news ≡ events_of (record { form = form; row = row }) (state_of old.bench) i → new.told.told ≡ with_told i tick news old.told.told → Took (Ok tt) given log new is i
+recorded-took form given log is old new row tick news i s next recording mode rows at there took tells records =
+    let was : (old.told.told ≡ telling form given.plan is) × AreOfLog given is = is-told old.mode form old.told.told given is recording s.tells in
+    let state : state_of old.bench ≡ replay given.plan is = follows-state given.plan (whole old.bench) is s.follows in
+    let now : tick ≡ (replay given.plan is).now = at ∙ tick-there given.plan is old.bench s.follows in
+    let log_rows : old.rows ≡ given.log = s.rows ∙ sym s.same in
+    let last : row ≡ last_row is = there ∙ (λ j. row_in_force (log_rows j) (now j)) ∙ sym (row-there given is was.1) in
+    let noted : (let n : Noted = record { form = form; row = row } in n) ≡ noted_after form is = λ j. record { form = form; row = last j } in
+    let told_is : news ≡ events_of (noted_after form is) (replay given.plan is) i = tells ∙ (λ j. events_of (noted j) (state j) i) in
+    let all : new.told.told ≡ telling form given.plan (i ∷ is) = records ∙ (λ j. with_told i (now j) (told_is j) (was.0 j)) in
+    let there_next : HasRow given is i = subst (λ (m : Mode). IsNext m given is i) recording next in (
+      took.0,
+      record {
+        same = s.same;
+        rows = rows ∙ s.rows;
+        follows = took.1;
+        keeps = none-kept new.mode form new.kept given.plan (i ∷ is) (mode ∙ recording);
+        tells = subst (λ (m : Mode). IsTold m new.told.told given (i ∷ is)) (sym (mode ∙ recording)) (all, (there_next, was.1));
+      },
+      λ says. absurd (none-said new.mode form (mode ∙ recording) says),
+    )
+
+-- what became of an input that the bench took, once its events were to be recorded
+pub recorded-so : (r : Result (Unit {0}) Refusal) (form : LogForm) (given : Setup) (log : List LogRow) (is : List Input) (old new : OnCourse) (mid : Held) (row : Row) (tick : ℕ) (news : List Event) (i : Input) → Stands given log old is → IsNext old.mode given is i
+    → old.mode ≡ Recording form → new.mode ≡ old.mode → new.rows ≡ old.rows → new.kept ≡ old.kept → tick ≡ old.bench.tick → row ≡ row_in_force old.rows tick → verdict (state_of old.bench) i ≡ None → state_of mid ≡ step (state_of old.bench) i
+    → mid.records ≡ record_of i (state_of old.bench) (state_of mid) ∷ old.bench.records → earlier (whole mid) 1 ≡ whole old.bench → news ≡ events_of (record { form = form; row = row }) (state_of old.bench) i
+    → OnOk r (new.bench ≡ mid) → OnOk r (new.told.told ≡ with_told i tick news old.told.told)
+    → OnErr r ((newest : Change) (others : List Change) → mid.records ≡ newest ∷ others → whole new.bench ≡ earlier (whole mid) 1) → OnErr r (new.told.told ≡ old.told.told) → IfErr r (λ e. e ≡ Memory)
+    → Took r given log new is i
+recorded-so (Ok u) form given log is old new mid row tick news i s next recording mode rows kept at there allowed steps records back tells bench told undone still memory =
+    recorded-took form given log is old new row tick news i s next recording mode rows at there
+    (subst (λ (b : Held). BenchTook (Ok tt) given.plan b is i) (sym bench) (bench-took (Ok tt) given.plan is old.bench mid i s.follows allowed steps records back tt tt)) tells told
+recorded-so (Err e) form given log is old new mid row tick news i s next recording mode rows kept at there allowed steps records back tells bench told undone still memory =
+    subst (λ (x : Refusal). Took (Err x) given log new is i) (sym memory)
+    (kept-refused Memory given log is old new i s mode rows kept still (undone-took given.plan is old.bench mid new.bench i s.follows allowed records back undone))
+
+-- there was no room for the events of an input
+pub wants-so : (r : Result (Unit {0}) Refusal) (form : LogForm) (course : OnCourse) (row : Row) (tick : ℕ) (news : List Event) (i : Input) → tick ≡ course.bench.tick → row ≡ row_in_force course.rows tick
+    → news ≡ events_of (record { form = form; row = row }) (state_of course.bench) i → OnErr r (Wants i news course.told) → r ≡ Err Memory → IsWanting form course i
+wants-so (Ok u) form course row tick news i at there tells wants is = absurd (cc)
+wants-so (Err e) form course row tick news i at there tells wants is = inr (subst (λ (es : List Event). Wants i es course.told) (tells ∙ (λ j. events_of (noted j) (state_of course.bench) i)) wants)
+  where
+    last : row ≡ row_in_force course.rows course.bench.tick
+    last = there ∙ ap (row_in_force course.rows) at
+
+    noted : (let n : Noted = record { form = form; row = row } in n) ≡ noted_at form course.rows course.bench.tick
+    noted = λ j. record { form = form; row = last j }
+
+-- ## Ticks
+
+-- the tick that the bench takes is the next one, with the row of the log
+pub tick-next : (given : Setup) (log : List LogRow) (now : List Input) (course : OnCourse) (row : Row) → Stands given log course now → row ≡ row_at course.rows (course.bench.tick + 1) → inputs.Tick row ≡ next_tick given now
+tick-next given log now course row stands is =
+    let there : course.bench.tick ≡ (replay given.plan now).now = tick-there given.plan now course.bench stands.follows in
+    let rows : course.rows ≡ given.log = stands.rows ∙ sym stands.same in
+    ap inputs.Tick (is ∙ (λ j. row_at (rows j) (there j + 1)))
 
 -- ## Answers
 
@@ -150,39 +251,54 @@ answered-took given log course is i t = record {
 pub answered-refused : (given : Setup) (log : List LogRow) (course : OnCourse) (is : List Input) (i : Input) (e : Refusal) → Took (Err e) given log course is i → Answered given log course is (Apply i) (Refused e)
 answered-refused given log course is i e t = record { right = t.0; stands = t.1; tells = λ taken. absurd (cc) }
 
--- the newest input is kept none more
-forgot-newest : (plan : Plan) (i : Input) (is : List Input) (old new : Keeping) → old ≡ kept_of plan (i ∷ is) → ForgetsNewest (kind_of i) (replay plan is).now old new → new ≡ kept_of plan is
-forgot-newest plan (inputs.Tick row) is old new was forgets = forgets ∙ ap (gone_back (replay plan is).now) was ∙ tick-undone plan row is
-forgot-newest plan i is old new was forgets =
-    let has : HasOther plan i is = other-undone plan i is tt in
-    forgets has.others has.o (ap (λ (k : Keeping). k.others) was ∙ has.last) ∙ ap (λ (k : Keeping). keeping k.rows has.others) was ∙ has.before
+-- what is kept of inputs, which goes back with them
+module _ {X : Type 0} (plan : Plan) (of : List Input → X) (back : ℕ → X → X) (Drops : X → X → Type 0)
+    (tick-back : (row : Row) (is : List Input) → back (replay plan is).now (of (inputs.Tick row ∷ is)) ≡ of is)
+    (other-back : (i : Input) (is : List Input) (new : X) → IsNoTick i → Drops (of (i ∷ is)) new → new ≡ of is)
+    (back-there : (t : ℕ) (is : List Input) → t ≤ (replay plan is).now → of (back_to plan t is) ≡ back t (of is)) where
+  -- the newest input is kept none more
+  forgot-newest : (i : Input) (is : List Input) (old new : X) → old ≡ of (i ∷ is) → ForgetsNewest back Drops (kind_of i) (replay plan is).now old new → new ≡ of is
+  forgot-newest (inputs.Tick row) is old new was forgets = forgets ∙ ap (back (replay plan is).now) was ∙ tick-back row is
+  forgot-newest i is old new was forgets = other-back i is new tt (subst (λ (x : X). Drops x new) was forgets)
 
-back-now : (plan : Plan) (is : List Input) (t tick : ℕ) (old new : Keeping) → t ≤ (replay plan is).now → tick ≡ (replay plan (back_to plan t is)).now → old ≡ kept_of plan is → new ≡ gone_back tick old
-    → new ≡ kept_of plan (back_to plan t is)
-back-now plan is t tick old new le at was gone =
-    let there : tick ≡ t = at ∙ reached plan t is le in
-    gone ∙ (λ j. gone_back (there j) (was j)) ∙ sym (gone-back plan t is le)
+  back-now : (is : List Input) (t tick : ℕ) (old new : X) → t ≤ (replay plan is).now → tick ≡ (replay plan (back_to plan t is)).now → old ≡ of is → new ≡ back tick old → new ≡ of (back_to plan t is)
+  back-now is t tick old new le at was gone =
+      let there : tick ≡ t = at ∙ reached plan t is le in
+      gone ∙ (λ j. back (there j) (was j)) ∙ sym (back-there t is le)
 
--- what is kept is kept of the inputs that remain
-forgot : (plan : Plan) (is : List Input) (cmd : Cmd) (a : Answer) (tick : ℕ) (old new : Keeping) → ((i : Input) → cmd ≡ Apply i → ⊥) → IsRight plan is cmd a → tick ≡ (replay plan (remaining_after plan is cmd a)).now
-    → old ≡ kept_of plan is → Forgets a tick old new → new ≡ kept_of plan (remaining_after plan is cmd a)
-forgot plan is (Apply i) a tick old new none right at was forgets = absurd (none i refl)
-forgot plan [] Undo (Undone k) tick old new none right at was forgets = absurd right
-forgot plan (i ∷ is) Undo (Undone k) tick old new none right at was forgets =
-    forgot-newest plan i is old new was (subst (λ (x : Kind). ForgetsNewest x (replay plan is).now old new) right (subst (λ (n : ℕ). ForgetsNewest k n old new) at forgets))
-forgot plan is Undo Nothing tick old new none right at was forgets = forgets ∙ was
-forgot plan is (Back n) Moved tick old new none right at was forgets = back-now plan is ((replay plan is).now - n) tick old new (omega arith) at was forgets
-forgot plan is (Back n) Nothing tick old new none right at was forgets = forgets ∙ was
-forgot plan is (Seek t) Moved tick old new none right at was forgets = back-now plan is t tick old new right at was forgets
-forgot plan is (Seek t) Nothing tick old new none right at was forgets = forgets ∙ was
-forgot plan is (When w) (Changed t) tick old new none right at was forgets = forgets ∙ was
-forgot plan is cmd a tick old new none right at was forgets = absurd right
+  -- what is kept is kept of the inputs that remain
+  forgot : (is : List Input) (cmd : Cmd) (a : Answer) (tick : ℕ) (old new : X) → ((i : Input) → cmd ≡ Apply i → ⊥) → IsRight plan is cmd a → tick ≡ (replay plan (remaining_after plan is cmd a)).now
+      → old ≡ of is → Forgets back Drops a tick old new → new ≡ of (remaining_after plan is cmd a)
+  forgot is (Apply i) a tick old new none right at was forgets = absurd (none i refl)
+  forgot [] Undo (Undone k) tick old new none right at was forgets = absurd right
+  forgot (i ∷ is) Undo (Undone k) tick old new none right at was forgets =
+      forgot-newest i is old new was (subst (λ (x : Kind). ForgetsNewest back Drops x (replay plan is).now old new) right (subst (λ (n : ℕ). ForgetsNewest back Drops k n old new) at forgets))
+  forgot is Undo Nothing tick old new none right at was forgets = forgets ∙ was
+  forgot is (Back n) Moved tick old new none right at was forgets = back-now is ((replay plan is).now - n) tick old new (omega arith) at was forgets
+  forgot is (Back n) Nothing tick old new none right at was forgets = forgets ∙ was
+  forgot is (Seek t) Moved tick old new none right at was forgets = back-now is t tick old new right at was forgets
+  forgot is (Seek t) Nothing tick old new none right at was forgets = forgets ∙ was
+  forgot is (When w) (Changed t) tick old new none right at was forgets = forgets ∙ was
+  forgot is cmd a tick old new none right at was forgets = absurd right
 
-still-kept : (m : Mode) (plan : Plan) (is : List Input) (cmd : Cmd) (a : Answer) (tick : ℕ) (old new : Keeping) → ((i : Input) → cmd ≡ Apply i → ⊥) → IsRight plan is cmd a → tick ≡ (replay plan (remaining_after plan is cmd a)).now
-    → IsKept m old plan is → Forgets a tick old new → IsKept m new plan (remaining_after plan is cmd a)
-still-kept Plain plan is cmd a tick old new none right at was forgets = tt
-still-kept KeepsInputs plan is cmd a tick old new none right at was forgets = forgot plan is cmd a tick old new none right at was forgets
-still-kept Telling plan is cmd a tick old new none right at was forgets = forgot plan is cmd a tick old new none right at was forgets
+module _ (given : Setup) (is : List Input) (cmd : Cmd) (a : Answer) (tick : ℕ) (none : (i : Input) → cmd ≡ Apply i → ⊥) (right : IsRight given.plan is cmd a)
+    (at : tick ≡ (replay given.plan (remaining_after given.plan is cmd a)).now) where
+  still-kept : (m : Mode) (old new : Keeping) → IsKept m old given.plan is → Forgets kept_back DropsOther a tick old new → IsKept m new given.plan (remaining_after given.plan is cmd a)
+  still-kept Plain old new was forgets = tt
+  still-kept (Recording form) old new was forgets = tt
+  still-kept KeepsInputs old new was forgets =
+      forgot given.plan (kept_of given.plan) kept_back DropsOther (tick-undone given.plan) (other-dropped given.plan) (gone-back given.plan) is cmd a tick old new none right at was forgets
+  still-kept TellsEvents old new was forgets =
+      forgot given.plan (kept_of given.plan) kept_back DropsOther (tick-undone given.plan) (other-dropped given.plan) (gone-back given.plan) is cmd a tick old new none right at was forgets
+
+  still-told : (m : Mode) (old new : Telling) → IsTold m old given is → Forgets told_back DropsMark a tick old new → IsTold m new given (remaining_after given.plan is cmd a)
+  still-told Plain old new was forgets = tt
+  still-told KeepsInputs old new was forgets = tt
+  still-told TellsEvents old new was forgets = tt
+  still-told (Recording form) old new was forgets = (
+    forgot given.plan (telling form given.plan) told_back DropsMark (told.tick-undone form given.plan) (told.mark-dropped form given.plan) (told.gone-back form given.plan) is cmd a tick old new none right at was.0 forgets,
+    of-log-after given is cmd a none was.1,
+  )
 
 not-taken : (plan : Plan) (is : List Input) (cmd : Cmd) (a : Answer) → ((i : Input) → cmd ≡ Apply i → ⊥) → IsRight plan is cmd a → a ≡ answers.Took → ⊥
 not-taken plan is (Apply i) a none right taken = none i refl
@@ -190,34 +306,46 @@ not-taken plan is cmd answers.Took none right taken = right
 not-taken plan is cmd a none right taken = cc
 
 -- the answer to a command that is none input
-pub answered-other : (given : Setup) (log : List LogRow) (is : List Input) (old new : OnCourse) (cmd : Cmd) (a : Answer) → Stands given log old is → ((i : Input) → cmd ≡ Apply i → ⊥) → new.mode ≡ old.mode
-    → ((plan : Plan) → play.Answers controller (start plan) watched (whole old.bench) cmd a (whole new.bench)) → Forgets a new.bench.tick old.kept new.kept → Answered given log new is cmd a
-answered-other given log is old new cmd a s none mode answers forgets =
+pub answered-other : (given : Setup) (log : List LogRow) (is : List Input) (old new : OnCourse) (cmd : Cmd) (a : Answer) → Stands given log old is → ((i : Input) → cmd ≡ Apply i → ⊥) → new.mode ≡ old.mode → new.rows ≡ old.rows
+    → ((plan : Plan) → play.Answers controller (start plan) watched (whole old.bench) cmd a (whole new.bench)) → Forgets kept_back DropsOther a new.bench.tick old.kept new.kept → Forgets told_back DropsMark a new.bench.tick old.told.told new.told.told → Answered given log new is cmd a
+answered-other given log is old new cmd a s none mode rows answers forgets untold =
     let both : IsRight given.plan is cmd a × Follows given.plan (whole new.bench) (remaining_after given.plan is cmd a) = answers given.plan is s.follows in
     let at : new.bench.tick ≡ (replay given.plan (remaining_after given.plan is cmd a)).now = tick-there given.plan (remaining_after given.plan is cmd a) new.bench both.1 in
     record {
       right = both.0;
       stands = record {
         same = s.same;
+        rows = rows ∙ s.rows;
         follows = both.1;
         keeps = subst (λ (m : Mode). IsKept m new.kept given.plan (remaining_after given.plan is cmd a)) (sym mode)
-            (still-kept old.mode given.plan is cmd a new.bench.tick old.kept new.kept none both.0 at s.keeps forgets);
+            (still-kept given is cmd a new.bench.tick none both.0 at old.mode old.kept new.kept s.keeps forgets);
+        tells = subst (λ (m : Mode). IsTold m new.told.told given (remaining_after given.plan is cmd a)) (sym mode)
+            (still-told given is cmd a new.bench.tick none both.0 at old.mode old.told.told new.told.told s.tells untold);
       };
       tells = λ taken. absurd (not-taken given.plan is cmd a none both.0 taken);
     }
 
 -- so where the bench was asked first, and then less was kept
-pub answered-there : (given : Setup) (log : List LogRow) (is : List Input) (old new : OnCourse) (mid : Held) (cmd : Cmd) (a : Answer) → Stands given log old is → ((i : Input) → cmd ≡ Apply i → ⊥) → new.mode ≡ old.mode → new.bench ≡ mid
-    → ((plan : Plan) → play.Answers controller (start plan) watched (whole old.bench) cmd a (whole mid)) → Forgets a mid.tick old.kept new.kept → Answered given log new is cmd a
-answered-there given log is old new mid cmd a s none mode bench answers forgets =
-    answered-other given log is old new cmd a s none mode
+pub answered-there : (given : Setup) (log : List LogRow) (is : List Input) (old new : OnCourse) (mid : Held) (cmd : Cmd) (a : Answer) → Stands given log old is → ((i : Input) → cmd ≡ Apply i → ⊥) → new.mode ≡ old.mode → new.rows ≡ old.rows → new.bench ≡ mid
+    → ((plan : Plan) → play.Answers controller (start plan) watched (whole old.bench) cmd a (whole mid)) → Forgets kept_back DropsOther a mid.tick old.kept new.kept → Forgets told_back DropsMark a mid.tick old.told.told new.told.told → Answered given log new is cmd a
+answered-there given log is old new mid cmd a s none mode rows bench answers forgets untold =
+    answered-other given log is old new cmd a s none mode rows
     (λ plan. subst (λ (b : Held). play.Answers controller (start plan) watched (whole old.bench) cmd a (whole b)) (sym bench) (answers plan))
-    (subst (λ (b : Held). Forgets a b.tick old.kept new.kept) (sym bench) forgets)
+    (subst (λ (b : Held). Forgets kept_back DropsOther a b.tick old.kept new.kept) (sym bench) forgets)
+    (subst (λ (b : Held). Forgets told_back DropsMark a b.tick old.told.told new.told.told) (sym bench) untold)
 
 -- ## At power-up
 
-pub course-begins : (given : Setup) (log : List LogRow) (course : OnCourse) → given.log ≡ log → Follows given.plan (whole course.bench) [] → course.kept ≡ nothing_kept → Stands given log course []
-course-begins given log course same follows kept = record { same = same; follows = follows; keeps = as-kept course.mode course.kept given.plan [] kept }
+pub course-begins : (given : Setup) (log : List LogRow) (course : OnCourse) → given.log ≡ log → course.rows ≡ log → Follows given.plan (whole course.bench) [] → course.kept ≡ nothing_kept → course.told.told ≡ nothing_told
+    → Stands given log course []
+course-begins given log course same rows follows kept told =
+    record { same = same; rows = rows; follows = follows; keeps = as-kept course.mode course.kept given.plan [] kept; tells = told-none course.mode course.told.told given told }
+  where
+    told-none : (m : Mode) (x : Telling) (given : Setup) → x ≡ nothing_told → IsTold m x given []
+    told-none Plain x given none = tt
+    told-none KeepsInputs x given none = tt
+    told-none TellsEvents x given none = tt
+    told-none (Recording form) x given none = (none, tt)
 
 pub quiet-news : {A : Type 0} (m : Mode) → m ≡ KeepsInputs → tells_in m ≡ true → A
 quiet-news m keeps tells = absurd (still-quiet m keeps tells)

@@ -1,3 +1,5 @@
+pub mod LaterLemmas
+pub mod BackLemmas
 pub mod WatchLemmas
 pub mod TextLemmas
 pub mod ObeyLemmas

@@ -3,19 +3,25 @@ use Rattle.std.proofs.Common.{◌≡◌, ℕ, zero, suc, List, [], ◌∷◌, �
 use Rattle.tsb_objects.specs.tsb_types.declared.refusal.Refusal.{Refusal}
 use Rattle.tsb_bench.specs.tsb_machine.declared.commands.Command.TheVariants as asks
 use Rattle.tsb_bench.specs.tsb_machine.declared.commands.Answer.{Answer}
-use Rattle.tsb_bench.specs.tsb_machine.declared.commands.Answer.TheVariants.{Took, Moved}
+use Rattle.tsb_bench.specs.tsb_machine.declared.commands.Answer.TheVariants.{Changed, Moved, Took}
 use Rattle.tsb_bench.specs.tsb_step.declared.inputs.Input.{Input}
-use Rattle.tsb_bench.specs.tsb_step.Play.{Cmd, IsRight}
+use Rattle.tsb_bench.specs.tsb_step.Play.{Cmd, IsRight, remaining_after, run}
+use Rattle.tsb_bench.specs.tsb_step.Watches.{TellsLastChange}
+use Rattle.tsb_objects.specs.tsb_types.declared.watch.Watch.{Watch}
 use Rattle.tsb_command_text.specs.declared.command.Command.{Command}
 use Rattle.tsb_command_text.specs.declared.command.Command.TheVariants.{Step, Show, Quit}
 use Rattle.tsb_bench.specs.tsb_step.Runs.{replay}
 use Rattle.tsb_dialog.specs.Said.{with_feed}
 use Rattle.tsb_text.specs.Answers.{Answers, Asked, Setup, Steps, next_tick, told}
-use Rattle.tsb_text.specs.Obeys.{AsksOnce, Besides, Obeys, TakesTicks, before_line, news_of, nothing_besides}
+use Rattle.tsb_text.specs.Obeys.{AsksOnce, Besides, Obeys, TakesTicks, before_line, news_of, nothing_besides, refusal_in}
 use Rattle.tsb_text.specs.Tasks.{task_of}
-use Rattle.tsb_text.proofs.TextLemmas.{right-input}
+use Rattle.tsb_text.specs.declared.task.Task.{Task}
+use Rattle.tsb_text.specs.declared.task.Task.TheVariants as tasks
+use Rattle.tsb_text.specs.declared.task.Task.TheVariants.{Ask, Ticks}
+use Rattle.tsb_text.proofs.TextLemmas.{right-input, some-right}
+use Rattle.tsb_text.proofs.WatchLemmas.{some-change}
 
--- ## There is an answer to so many ticks
+-- ## There is some answer
 
 pub some-ticks : (given : Setup) (besides : Besides) (n : ℕ) (is : List Input) → (text : List ℕ) × (refusal : Option Refusal) × (left : List Input) × TakesTicks given besides is n text refusal left
 some-ticks given besides zero is = ([], None, is, (refl, refl, refl))
@@ -25,6 +31,32 @@ some-ticks given besides (suc n) is = elim (right-input given is (next_tick give
       (_, rest.1, rest.2, inl (rest.0, record { right = took; line = refl }, rest.3))
   | inr refused ↦ (_, _, is, inr (record { why = refused.0; right = refused.1; line = refl; refused = refl; left = refl }))
 ]
+
+-- a right answer says what is left, and why it was refused
+pub asks-once : (given : Setup) (is : List Input) (cmd : Cmd) (a : Answer) → IsRight given.plan is cmd a
+    → (text : List ℕ) × AsksOnce given nothing_besides is cmd text (refusal_in a) (remaining_after given.plan is cmd a)
+asks-once given is cmd a right = (_, record { answer = a; right = right; left = refl; line = refl; refused = refl })
+
+some-asked : (given : Setup) (is : List Input) (cmd : Cmd) → (refusal : Option Refusal) × (left : List Input) × (text : List ℕ) × AsksOnce given nothing_besides is cmd text refusal left
+some-asked given is cmd =
+    let a : (a : Answer) × IsRight given.plan is cmd a = some-right given is cmd in
+    let asked : (text : List ℕ) × AsksOnce given nothing_besides is cmd text (refusal_in a.0) (remaining_after given.plan is cmd a.0) = asks-once given is cmd a.0 a.1 in
+    (_, _, asked.0, asked.1)
+
+-- a question leaves all as it was
+pub when-left : (given : Setup) (is : List Input) (watch : Watch) → (text : List ℕ) × Obeys given nothing_besides is (Ask (asks.When watch)) text None is
+when-left given is watch =
+    let change : (t : Option ℕ) × TellsLastChange watch (run given.plan is) t = some-change watch (run given.plan is) in
+    asks-once given is (asks.When watch) (Changed change.0) change.1
+
+-- whatever is asked of a session leaves something
+pub some-obeyed : (given : Setup) (is : List Input) (task : Task) → (refusal : Option Refusal) × (left : List Input) × (text : List ℕ) × Obeys given nothing_besides is task text refusal left
+some-obeyed given is (Ticks n) =
+    let s : (text : List ℕ) × (refusal : Option Refusal) × (left : List Input) × TakesTicks given nothing_besides is n text refusal left = some-ticks given nothing_besides n is in
+    (s.1, s.2, s.0, s.3)
+some-obeyed given is tasks.Show = (None, is, _, (refl, refl, refl))
+some-obeyed given is tasks.Quit = (None, is, _, (refl, refl, refl))
+some-obeyed given is (Ask cmd) = some-asked given is cmd
 
 -- ## A session says nothing besides
 

@@ -12,7 +12,6 @@ use Rattle.tsb_dialog.specs.declared.answers.Flow.TheVariants.{On, Over}
 use Rattle.tsb_command_text.specs.Readings.{reading}
 use Rattle.tsb_dialog.specs.Said.{Said, Wrote, with_feed}
 use Rattle.tsb_lines.specs.declared.writes.WriteError.{WriteError}
-use Rattle.tsb_log_text.specs.declared.log.LogRow.{LogRow}
 use Rattle.tsb_objects.specs.tsb_types.declared.refusal.Refusal.{Refusal}
 use Rattle.tsb_text.specs.declared.course.Mode.{Mode}
 use Rattle.tsb_text.specs.declared.course.Mode.TheVariants.{Plain}
@@ -88,13 +87,13 @@ bad-fault stand n line r a b p q reads bad said = record {
 plain-besides : (course : OnCourse) → course.mode ≡ Plain → besides_of course [] ≡ nothing_besides
 plain-besides course plain = ap (λ (m : Mode). let b : Besides = record { tells = tells_in m; echo = [] } in b) plain
 
-pub done-said : (stand : Stand) (n : ℕ) (line : List ℕ) (r : Reading) (c : Command) (flow : Flow) (log kept : List LogRow) (old new : OnCourse) (refusal : Option Refusal) (a b : Option (List ℕ)) (p q : List ℕ)
-    → r ≡ reading line → r ≡ Do c → flow ≡ flow_after c → kept ≡ log → old.mode ≡ Plain → new.mode ≡ old.mode
-    → Done (Ok refusal) stand.given log new (Obeys stand.given (besides_of old []) stand.inputs (task_of c)) a b p q
-    → (left : Stand) × StandsPlain left.given kept new left.inputs × Wrote a b p q (λ text. says stand n line text flow left)
-done-said stand n line r c flow log kept old new refusal a b p q reads asks after rows plain mode done = (
+pub done-said : (stand : Stand) (n : ℕ) (line : List ℕ) (r : Reading) (c : Command) (flow : Flow) (old new : OnCourse) (refusal : Option Refusal) (a b : Option (List ℕ)) (p q : List ℕ)
+    → r ≡ reading line → r ≡ Do c → flow ≡ flow_after c → old.mode ≡ Plain → new.mode ≡ old.mode
+    → Done (Ok refusal) stand.given stand.given.log new (Obeys stand.given (besides_of old []) stand.inputs (task_of c)) a b p q
+    → (left : Stand) × StandsPlain left.given left.given.log new left.inputs × Wrote a b p q (λ text. says stand n line text flow left)
+done-said stand n line r c flow old new refusal a b p q reads asks after plain mode done = (
   record { given = stand.given; inputs = done.0 },
-  (record { same = done.1.same ∙ sym rows; follows = done.1.follows; keeps = done.1.keeps }, mode ∙ plain),
+  (done.1, mode ∙ plain),
   record {
     text = done.2.text;
     said = done.2.said;
@@ -107,9 +106,9 @@ done-said stand n line r c flow log kept old new refusal a b p q reads asks afte
   },
 )
 
-pub done-fault : (stand : Stand) (n : ℕ) (line : List ℕ) (r : Reading) (c : Command) (e : WriteError) (log : List LogRow) (old new : OnCourse) (a b : Option (List ℕ)) (p q : List ℕ)
-    → r ≡ reading line → r ≡ Do c → old.mode ≡ Plain → Done (Err e) stand.given log new (Obeys stand.given (besides_of old []) stand.inputs (task_of c)) a b p q → Wrote a b p q (Begins stand n line)
-done-fault stand n line r c e log old new a b p q reads asks plain done = record {
+pub done-fault : (stand : Stand) (n : ℕ) (line : List ℕ) (r : Reading) (c : Command) (e : WriteError) (old new : OnCourse) (a b : Option (List ℕ)) (p q : List ℕ)
+    → r ≡ reading line → r ≡ Do c → old.mode ≡ Plain → Done (Err e) stand.given stand.given.log new (Obeys stand.given (besides_of old []) stand.inputs (task_of c)) a b p q → Wrote a b p q (Begins stand n line)
+done-fault stand n line r c e old new a b p q reads asks plain done = record {
   text = done.text;
   said = done.said;
   so = (

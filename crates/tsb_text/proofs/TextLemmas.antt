@@ -3,7 +3,7 @@ use Rattle.std.proofs.Common.{◌≡◌, ℕ, ◌+◌, ◌<◌, ◌≤◌, List,
 use Rattle.std.proofs.lemmas.Bool.Decides.{eqb_tells}
 use Rattle.std.specs.declared.option.Option.{Option}
 use Rattle.tsb_objects.specs.tsb_types.declared.refusal.Refusal.{Refusal}
-use Rattle.tsb_objects.specs.tsb_types.declared.watch.Watch.{Watch}
+use Rattle.tsb_objects.specs.tsb_plan.Plan.{Plan}
 use Rattle.tsb_bench.specs.tsb_machine.declared.commands.Command.TheVariants as asks
 use Rattle.tsb_bench.specs.tsb_machine.declared.commands.Answer.{Answer}
 use Rattle.tsb_bench.specs.tsb_machine.declared.commands.Answer.TheVariants.{Took, Refused, Undone, Moved, Nothing, Changed}
@@ -13,7 +13,7 @@ use Rattle.tsb_bench.specs.tsb_step.Runs.{replay}
 use Rattle.tsb_bench.specs.tsb_step.Step.{kind_of, verdict}
 use Rattle.tsb_bench.specs.tsb_step.Watches.{TellsLastChange}
 use Rattle.tsb_command_text.specs.declared.command.Command.{Command}
-use Rattle.tsb_command_text.specs.declared.command.Command.TheVariants.{Step, Back, Seek, Undo, Show, When, Quit}
+use Rattle.tsb_command_text.specs.declared.command.Command.TheVariants.{Step, Show, Quit}
 use Rattle.tsb_command_text.specs.declared.command.Reading.{Reading}
 use Rattle.tsb_command_text.specs.declared.command.Reading.TheVariants.{Skip, Bad, Do}
 use Rattle.tsb_command_text.specs.Readings.{reading}
@@ -43,47 +43,44 @@ some-steps given (suc n) is = elim (right-input given is (next_tick given is)) [
   | inr refused ↦ (_, is, inr (record { refusal = refused.0; right = refused.1; line = refl; left = refl }))
 ]
 
-asked : (given : Setup) (is : List Input) (cmd : Cmd) (a : Answer) → IsRight given.plan is cmd a → (text : List ℕ) × (left : List Input) × Asked given is cmd text left
-asked given is cmd a right = (_, _, record { answer = a; right = right; left = refl; line = refl })
+right-back : (plan : Plan) (is : List Input) (n : ℕ) → (a : Answer) × IsRight plan is (asks.Back n) a
+right-back plan is n = at (nat_lt (replay plan is).now n) refl
+  where
+    at : (b : Bool) → nat_lt (replay plan is).now n ≡ b → (a : Answer) × IsRight plan is (asks.Back n) a
+    at true e = (Nothing, search (rules, e))
+    at false e = (Moved, search (rules, e))
 
-some-input : (given : Setup) (is : List Input) (i : Input) → (text : List ℕ) × (left : List Input) × Asked given is (asks.Apply i) text left
-some-input given is i = elim (right-input given is i) [
-  | inl took ↦ asked given is (asks.Apply i) Took took
-  | inr refused ↦ asked given is (asks.Apply i) (Refused refused.0) refused.1
+right-seek : (plan : Plan) (is : List Input) (t : ℕ) → (a : Answer) × IsRight plan is (asks.Seek t) a
+right-seek plan is t = at (nat_lt (replay plan is).now t) refl
+  where
+    at : (b : Bool) → nat_lt (replay plan is).now t ≡ b → (a : Answer) × IsRight plan is (asks.Seek t) a
+    at true e = (Nothing, search (rules, e))
+    at false e = (Moved, search (rules, e))
+
+-- some answer is right, whatever the bench is asked
+pub some-right : (given : Setup) (is : List Input) (cmd : Cmd) → (a : Answer) × IsRight given.plan is cmd a
+some-right given is (asks.Apply i) = elim (right-input given is i) [
+  | inl took ↦ (Took, took)
+  | inr refused ↦ (Refused refused.0, refused.1)
 ]
-
-some-when : (given : Setup) (is : List Input) (watch : Watch) → (text : List ℕ) × (left : List Input) × Asked given is (asks.When watch) text left
-some-when given is watch =
+some-right given [] asks.Undo = (Nothing, refl)
+some-right given (i ∷ is) asks.Undo = (Undone (kind_of i), refl)
+some-right given is (asks.Back n) = right-back given.plan is n
+some-right given is (asks.Seek t) = right-seek given.plan is t
+some-right given is (asks.When watch) =
     let change : (t : Option ℕ) × TellsLastChange watch (run given.plan is) t = some-change watch (run given.plan is) in
-    asked given is (asks.When watch) (Changed change.0) change.1
+    (Changed change.0, change.1)
 
-some-back : (given : Setup) (is : List Input) (n : ℕ) → (text : List ℕ) × (left : List Input) × Asked given is (asks.Back n) text left
-some-back given is n = at (nat_lt (replay given.plan is).now n) refl
-  where
-    at : (b : Bool) → nat_lt (replay given.plan is).now n ≡ b → (text : List ℕ) × (left : List Input) × Asked given is (asks.Back n) text left
-    at true e = asked given is (asks.Back n) Nothing (search (rules, e))
-    at false e = asked given is (asks.Back n) Moved (search (rules, e))
-
-some-seek : (given : Setup) (is : List Input) (t : ℕ) → (text : List ℕ) × (left : List Input) × Asked given is (asks.Seek t) text left
-some-seek given is t = at (nat_lt (replay given.plan is).now t) refl
-  where
-    at : (b : Bool) → nat_lt (replay given.plan is).now t ≡ b → (text : List ℕ) × (left : List Input) × Asked given is (asks.Seek t) text left
-    at true e = asked given is (asks.Seek t) Nothing (search (rules, e))
-    at false e = asked given is (asks.Seek t) Moved (search (rules, e))
-
-some-undo : (given : Setup) (is : List Input) → (text : List ℕ) × (left : List Input) × Asked given is asks.Undo text left
-some-undo given [] = asked given [] asks.Undo Nothing refl
-some-undo given (i ∷ is) = asked given (i ∷ is) asks.Undo (Undone (kind_of i)) refl
+asked : (given : Setup) (is : List Input) (cmd : Cmd) → (text : List ℕ) × (left : List Input) × Asked given is cmd text left
+asked given is cmd =
+    let a : (a : Answer) × IsRight given.plan is cmd a = some-right given is cmd in
+    (_, _, record { answer = a.0; right = a.1; left = refl; line = refl })
 
 pub some-answer : (given : Setup) (is : List Input) (c : Command) → (text : List ℕ) × (left : List Input) × Answers given is c text left
 some-answer given is (Step n) = some-steps given n is
-some-answer given is (Back n) = some-back given is n
-some-answer given is (Seek t) = some-seek given is t
-some-answer given is Undo = some-undo given is
 some-answer given is Show = (_, _, (refl, refl))
 some-answer given is Quit = (_, _, (refl, refl))
-some-answer given is (When w) = some-when given is w
-some-answer given is c = some-input given is _
+some-answer given is c = asked given is _
 
 pub some-more : (c : Command) (Rest : List ℕ → Type 0) → (t : List ℕ) × Rest t → (t : List ℕ) × GoesOn c Rest t
 some-more Quit Rest k = ([], refl)

@@ -1,4 +1,3 @@
-pub mod LaterLemmas
 pub mod KeptLemmas
 pub mod ChangeLemmas
 pub mod LawLemmas

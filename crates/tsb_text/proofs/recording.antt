@@ -1,8 +1,7 @@
-pub mod ToldLemmas
 pub mod TickLemmas
 pub mod AlongLemmas
+pub mod OfLogLemmas
 pub mod RecorderLemmas
-pub mod ChangeLemmas
 pub mod BegunLemmas
 pub mod LineLemmas
 pub mod ComeLemmas

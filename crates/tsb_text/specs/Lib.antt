@@ -1,3 +1,5 @@
+-- lists of things that have a tick, and back to a tick
+pub mod Later
 -- the inputs of a run that remain, kept so that they can be given again
 pub mod kept
 -- the rows that ticks take
@@ -6,6 +8,8 @@ pub mod Rows
 pub mod Answers
 -- what is told of a line that is no command, or that is refused
 pub mod Faults
+-- the line that ends a strict run or record
+pub mod Stops
 -- what a command asks
 pub mod Tasks
 -- what a command comes to where more may be said

@@ -1,5 +1,5 @@
 -- What has become of a bench and of a writer once a command was carried out.
-use Rattle.std.specs.Prelude.{◌≡◌, List, [], ◌∷◌, ◌++◌, ℕ, Bool, true, false, Option, Result, Ok, Err}
+use Rattle.std.specs.Prelude.{◌≡◌, ◌+◌, List, [], ◌∷◌, ◌++◌, ℕ, Bool, true, false, Option, Result, Ok, Err}
 use Rattle.tsb_bench.specs.Held.{Held, whole}
 use Rattle.tsb_bench.specs.tsb_machine.declared.commands.Answer.{Answer}
 use Rattle.tsb_bench.specs.tsb_machine.declared.commands.Answer.TheVariants as answers
@@ -11,39 +11,50 @@ use Rattle.tsb_bench.specs.tsb_step.Runs.{replay}
 use Rattle.tsb_dialog.specs.Said.{Wrote}
 use Rattle.tsb_bench.specs.tsb_history.declared.kinds.Kind.{Kind}
 use Rattle.tsb_bench.specs.tsb_history.declared.kinds.Kind.TheVariants as kinds
-use Rattle.tsb_text.specs.declared.kept.Other.{Other}
-use Rattle.tsb_text.specs.kept.Kept.{Keeping, gone_back, kept_of, last_row}
+use Rattle.tsb_text.specs.kept.Kept.{Keeping, kept_of, last_row}
+use Rattle.tsb_text.specs.recording.Along.{telling}
+use Rattle.tsb_text.specs.recording.Told.{Stored, Telling}
+use Rattle.tsb_log_text.specs.Logs.{row_at}
+use Rattle.tsb_bench.specs.tsb_step.declared.inputs.Input.TheVariants.{Tick}
 use Rattle.tsb_lines.specs.declared.writes.WriteError.{WriteError}
 use Rattle.tsb_log_text.specs.declared.log.LogRow.{LogRow}
 use Rattle.tsb_objects.specs.tsb_plan.Plan.{Plan}
 use Rattle.tsb_objects.specs.tsb_types.declared.event.Event.{Event}
 use Rattle.tsb_objects.specs.tsb_types.declared.refusal.Refusal.{Refusal}
 use Rattle.tsb_text.specs.declared.course.Mode.{Mode}
-use Rattle.tsb_text.specs.declared.course.Mode.TheVariants.{Plain, Keeping as KeepsInputs, Telling}
+use Rattle.tsb_text.specs.declared.course.Mode.TheVariants.{Plain, Keeping as KeepsInputs, Telling as TellsEvents, Recording}
+use Rattle.tsb_objects.specs.tsb_types.declared.row.Row.{Row}
+use Rattle.tsb_text.specs.declared.rows.Rows.TheVariants.{Held as HeldRow}
+use Rattle.tsb_text.specs.Rows.{rows_in}
 use Rattle.tsb_text.specs.Answers.{Setup}
 use Rattle.tsb_text.specs.Obeys.{Besides, if_told, news_of}
 
--- a bench, what is kept of its inputs, what is done with them besides, and the events that the newest told
+-- a bench, the rows that its ticks take, what is kept or recorded of its inputs, what is done with them besides, and the
+-- events of the newest
 pub record OnCourse : Type 0 where
   pub bench : Held
+  pub rows : List LogRow
   pub kept : Keeping
+  pub told : Stored
   pub mode : Mode
   pub news : List Event
 
 -- whether inputs tell their events
 abbrev pub tells_in : Mode → Bool
-tells_in Telling = true
+tells_in TellsEvents = true
 tells_in m = false
 
 -- inputs are kept
 abbrev pub Keeps : Mode → Type 0
 Keeps Plain = ⊥
+Keeps (Recording form) = ⊥
 Keeps m = Unit {0}
 
 -- inputs tell their events from now on, or not, where they are kept
 abbrev pub mode_with : Bool → Mode → Mode
 mode_with on Plain = Plain
-mode_with true m = Telling
+mode_with on (Recording form) = Recording form
+mode_with true m = TellsEvents
 mode_with false m = KeepsInputs
 
 -- what is said besides
@@ -57,13 +68,45 @@ news_in course = if_told (tells_in course.mode) course.news
 -- the inputs that remain are kept, where they are
 abbrev pub IsKept : Mode → Keeping → Plan → List Input → Type 0
 IsKept Plain kept plan inputs = Unit {0}
+IsKept (Recording form) kept plan inputs = Unit {0}
 IsKept m kept plan inputs = kept ≡ kept_of plan inputs
+
+-- an input that is no tick, or the next tick with the row of the log
+abbrev pub HasRow : Setup → List Input → Input → Type 0
+HasRow given is (Tick row) = row ≡ row_at given.log ((replay given.plan is).now + 1)
+HasRow given is i = Unit {0}
+
+-- each tick has the row of the log
+abbrev pub AreOfLog : Setup → List Input → Type 0
+AreOfLog given [] = Unit {0}
+AreOfLog given (i ∷ is) = HasRow given is i × AreOfLog given is
+
+-- where events are recorded, these are those of the inputs that remain, whose ticks have the rows of the log
+abbrev pub IsTold : Mode → Telling → Setup → List Input → Type 0
+IsTold (Recording form) told given is = (told ≡ telling form given.plan is) × AreOfLog given is
+IsTold m told given is = Unit {0}
+
+-- a tick is to have the row of the log, where events are recorded
+abbrev pub IsNext : Mode → Setup → List Input → Input → Type 0
+IsNext (Recording form) given is i = HasRow given is i
+IsNext m given is i = Unit {0}
+
+-- so of what the bench is asked
+abbrev pub AsksNext : Mode → Setup → List Input → Cmd → Type 0
+AsksNext m given is (Apply i) = IsNext m given is i
+AsksNext m given is cmd = Unit {0}
+
+-- each tick takes this row from now on
+abbrev pub holding : Row → OnCourse → OnCourse
+holding row course = record course { rows = rows_in (HeldRow row) }
 
 -- a bench has come from power-up by these inputs, under what was given
 pub record Stands (given : Setup) (log : List LogRow) (course : OnCourse) (inputs : List Input) : Type 0 where
   pub same : given.log ≡ log
+  pub rows : course.rows ≡ log
   pub follows : Follows given.plan (whole course.bench) inputs
   pub keeps : IsKept course.mode course.kept given.plan inputs
+  pub tells : IsTold course.mode course.told.told given inputs
 
 -- so of a bench whose inputs are not kept, as in a session
 abbrev pub StandsPlain : Setup → List LogRow → OnCourse → List Input → Type 0
@@ -81,16 +124,17 @@ pub record Answered (given : Setup) (log : List LogRow) (course : OnCourse) (is 
   pub stands : Stands given log course (remaining_after given.plan is cmd answer)
   pub tells : answer ≡ answers.Took → news_in course ≡ news_of (tells_in course.mode) given is cmd
 
--- the newest input is kept no more, which was of this kind; without it this tick is in force
-abbrev pub ForgetsNewest : Kind → ℕ → Keeping → Keeping → Type 0
-ForgetsNewest kinds.Tick tick old new = new ≡ gone_back tick old
-ForgetsNewest k tick old new = (others : List Other) (other : Other) → old.others ≡ others ++ other ∷ [] → new ≡ record { rows = old.rows; others = others }
+-- the newest input is taken back, which was of this kind; without it this tick is in force. A tick is taken back by going
+-- back to that tick, and any other input is dropped.
+abbrev pub ForgetsNewest : {X : Type 0} → (ℕ → X → X) → (X → X → Type 0) → Kind → ℕ → X → X → Type 0
+ForgetsNewest back Drops kinds.Tick tick old new = new ≡ back tick old
+ForgetsNewest back Drops k tick old new = Drops old new
 
 -- no more is kept than remains after this answer, where this tick is then in force
-abbrev pub Forgets : Answer → ℕ → Keeping → Keeping → Type 0
-Forgets answers.Moved tick old new = new ≡ gone_back tick old
-Forgets (answers.Undone k) tick old new = ForgetsNewest k tick old new
-Forgets a tick old new = new ≡ old
+abbrev pub Forgets : {X : Type 0} → (ℕ → X → X) → (X → X → Type 0) → Answer → ℕ → X → X → Type 0
+Forgets back Drops answers.Moved tick old new = new ≡ back tick old
+Forgets back Drops (answers.Undone k) tick old new = ForgetsNewest back Drops k tick old new
+Forgets back Drops a tick old new = new ≡ old
 
 -- all of an answer was said, and the bench goes on from the inputs that it leaves; or a fault came within it
 abbrev pub Done : Result (Option Refusal) WriteError → Setup → List LogRow → OnCourse → (List ℕ → Option Refusal → List Input → Type 0)

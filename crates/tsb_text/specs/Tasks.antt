@@ -1,8 +1,10 @@
 -- What a command asks: ticks, the display, the end, or what the bench is asked once.
 use Rattle.tsb_bench.specs.tsb_machine.declared.commands.Command.TheVariants as asks
+use Rattle.tsb_bench.specs.tsb_step.Play.{Cmd}
 use Rattle.tsb_bench.specs.tsb_step.declared.inputs.Input.TheVariants as inputs
 use Rattle.tsb_command_text.specs.declared.command.Command.{Command}
 use Rattle.tsb_command_text.specs.declared.command.Command.TheVariants.{Step, Back, Seek, Undo, Show, Quit, When, Begin, Set, Verify, Commit, Abort, Pattern, Preempt, Fault, Reset}
+use Rattle.tsb_text.specs.kept.Kept.{IsNoTick}
 use Rattle.tsb_text.specs.declared.task.Task.{Task}
 use Rattle.tsb_text.specs.declared.task.Task.TheVariants as tasks
 
@@ -26,3 +28,13 @@ task_of (Pattern number) = tasks.Ask (asks.Apply (inputs.Pattern number))
 task_of (Preempt number on) = tasks.Ask (asks.Apply (inputs.Switch number on))
 task_of (Fault lamp) = tasks.Ask (asks.Apply (inputs.Fault lamp))
 task_of Reset = tasks.Ask (asks.Apply inputs.Reset)
+
+-- the bench is asked to take no tick
+abbrev pub AppliesNoTick : Cmd → Type 0
+AppliesNoTick (asks.Apply i) = IsNoTick i
+AppliesNoTick cmd = Unit {0}
+
+-- ticks are asked as ticks alone
+abbrev pub AsksNoTick : Task → Type 0
+AsksNoTick (tasks.Ask cmd) = AppliesNoTick cmd
+AsksNoTick task = Unit {0}

@@ -1,5 +1,3 @@
--- rows and marks of ticks, without those that come later than a tick
-pub mod Later
 -- what is kept of the inputs that remain
 pub mod Kept
 -- the tick at which an input of rows changed last

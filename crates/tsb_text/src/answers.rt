@@ -1,20 +1,18 @@
 //! Answers to commands.
 
-ghost use Rattle.std.specs.Prelude.{◌≡◌, ◌+◌, ◌++◌, List, Ok, OnOk, Some, false};
+ghost use Rattle.std.specs.Prelude.{◌≡◌, ◌++◌, List, Ok, OnOk, Some, false};
 ghost use Rattle.tsb_bench.specs.tsb_step.declared.inputs.Input.{Input as InputValue};
 ghost use Rattle.tsb_bench.specs.Held.{state_of};
 ghost use Rattle.tsb_log_text.specs.declared.log.LogRow.{LogRow};
 ghost use Rattle.tsb_text.specs.Answers.{Setup, display_line, refused_line, told};
-ghost use Rattle.tsb_text.specs.Obeyed.{Done, Stands, besides_of, news_in};
+ghost use Rattle.tsb_text.specs.Obeyed.{AsksNext, Done, Stands, besides_of, news_in};
 ghost use Rattle.tsb_text.specs.Obeys.{AsksOnce, Obeys, TakesTicks, before_line, refusal_in};
-ghost use Rattle.tsb_text.specs.Rows.{rows_in};
 ghost use Rattle.tsb_text.specs.Tasks.{task_of};
 ghost use Rattle.tsb_dialog.specs.Blame.{AfterCalls};
 ghost use Rattle.tsb_dialog.specs.Said.{SaidUntilFault, with_feed};
 
 use crate::course::Course;
 use crate::lines::{line_bytes, refused_line, taken_line, undone_line, when_line};
-use crate::rows::Rows;
 use crate::task::{Task, task_of};
 use std::io::Write;
 use tsb_bench::{Answer, Bench, Cmd, Input};
@@ -23,26 +21,25 @@ use tsb_dialog::{Pending, Watched, WriteError};
 use tsb_display_text::LineMaker;
 use tsb_objects::Refusal;
 
-/// Carries out a command, says its answer, and tells why it was refused, if it was. Ticks take their rows from `rows`,
-/// and `lines` makes their display lines; `echo` is said before an answer that is no display line. At an error the
+/// Carries out a command, says its answer, and tells why it was refused, if it was. Its `lines`
+/// makes display lines; `echo` is said before an answer that is no display line. At an error the
 /// command may have been carried out, and a first part of its answer was said.
 pub fn obey<W: Write>(
     course: &mut Course,
     lines: &mut LineMaker,
-    rows: &mut Rows,
     command: Command,
     echo: &[u8],
     pending: &mut Pending,
     writer: &mut Watched<W>,
 ) -> Result<Option<Refusal>, WriteError>
-    ensures done { (given : Setup) (inputs : List InputValue) → Stands given (rows_in rows.old) course.old inputs
-        → Done result given (rows_in rows.old) course.new (Obeys given (besides_of course.old echo.now) inputs (task_of command)) (W.contents writer.old.device) (W.contents writer.new.device) pending.old pending.new }
-    ensures rows { rows_in rows.new ≡ rows_in rows.old }
+    ensures done { (given : Setup) (log : List LogRow) (inputs : List InputValue) → Stands given log course.old inputs
+        → Done result given log course.new (Obeys given (besides_of course.old echo.now) inputs (task_of command)) (W.contents writer.old.device) (W.contents writer.new.device) pending.old pending.new }
+    ensures rows { course.new.rows ≡ course.old.rows }
     ensures mode { course.new.mode ≡ course.old.mode }
     ensures blame { writer.old.failed ≡ false → AfterCalls result writer.new.failed }
 {
     match task_of(command) {
-        Task::Ticks(ticks) => step(course, lines, rows, ticks, echo, pending, writer),
+        Task::Ticks(ticks) => step(course, lines, ticks, echo, pending, writer),
         Task::Show => {
             let line = course.line_bytes(lines);
             pending.say(writer, &line)?;
@@ -57,33 +54,24 @@ pub fn obey<W: Write>(
 fn step<W: Write>(
     course: &mut Course,
     lines: &mut LineMaker,
-    rows: &mut Rows,
     ticks: u32,
     echo: &[u8],
     pending: &mut Pending,
     writer: &mut Watched<W>,
 ) -> Result<Option<Refusal>, WriteError>
-    ensures done { (given : Setup) (inputs : List InputValue) → Stands given (rows_in rows.old) course.old inputs
-        → Done result given (rows_in rows.old) course.new (TakesTicks given (besides_of course.old echo.now) inputs ticks) (W.contents writer.old.device) (W.contents writer.new.device) pending.old pending.new }
-    ensures rows { rows_in rows.new ≡ rows_in rows.old }
+    ensures done { (given : Setup) (log : List LogRow) (inputs : List InputValue) → Stands given log course.old inputs
+        → Done result given log course.new (TakesTicks given (besides_of course.old echo.now) inputs ticks) (W.contents writer.old.device) (W.contents writer.new.device) pending.old pending.new }
+    ensures rows { course.new.rows ≡ course.old.rows }
     ensures mode { course.new.mode ≡ course.old.mode }
     ensures blame { writer.old.failed ≡ false → AfterCalls result writer.new.failed }
 {
     for _i in 0..ticks {
-        let row = rows.row(next_tick(course.bench()));
-        match course.take(Input::Tick(row)) {
+        match course.tick() {
             Ok(()) => say_tick(course, lines, pending, writer)?,
             Err(refusal) => return say_refusal(&refusal, echo, pending, writer),
         }
     }
     Ok(None)
-}
-
-/// The number of the next tick.
-fn next_tick(bench: &Bench) -> u32
-    ensures { result ≡ bench.now.tick + 1 }
-{
-    bench.now() + 1
 }
 
 /// Says what a tick has told, and the display line after it.
@@ -127,9 +115,10 @@ fn ask<W: Write>(
     pending: &mut Pending,
     writer: &mut Watched<W>,
 ) -> Result<Option<Refusal>, WriteError>
-    ensures done { (given : Setup) (log : List LogRow) (inputs : List InputValue) → Stands given log course.old inputs
+    ensures done { (given : Setup) (log : List LogRow) (inputs : List InputValue) → Stands given log course.old inputs → AsksNext course.old.mode given inputs command
         → Done result given log course.new (AsksOnce given (besides_of course.old echo.now) inputs command) (W.contents writer.old.device) (W.contents writer.new.device) pending.old pending.new }
     ensures mode { course.new.mode ≡ course.old.mode }
+    ensures rows { course.new.rows ≡ course.old.rows }
     ensures blame { writer.old.failed ≡ false → AfterCalls result writer.new.failed }
 {
     let answer = course.answer(command);
@@ -182,7 +171,7 @@ fn say_answer<W: Write>(
 }
 
 /// Why the bench refused an input, if it did.
-fn refusal_in(answer: &Answer) -> Option<Refusal>
+pub(crate) fn refusal_in(answer: &Answer) -> Option<Refusal>
     ensures { result ≡ refusal_in answer.now }
 {
     match *answer {

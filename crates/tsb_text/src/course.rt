@@ -1,5 +1,5 @@
 //! A bench, with what is kept and told of the inputs that it takes.
-ghost use Rattle.std.specs.Prelude.{◌≡◌, ◌≤◌, ◌∷◌, IfErr, List, OnErr, OnOk, false};
+ghost use Rattle.std.specs.Prelude.{◌≡◌, ◌≤◌, ◌+◌, ◌∷◌, Err, IfErr, List, OnErr, OnOk, false};
 ghost use Rattle.tsb_bench.specs.Held.{state_of, whole};
 ghost use Rattle.tsb_bench.specs.tsb_history.History.{Change};
 ghost use Rattle.tsb_bench.specs.tsb_step.Past.{earlier};
@@ -9,15 +9,22 @@ ghost use Rattle.tsb_objects.specs.tsb_types.declared.refusal.Refusal.TheVariant
 ghost use Rattle.tsb_bench.specs.tsb_step.declared.inputs.Input.{Input as InputValue};
 ghost use Rattle.tsb_dialog.specs.Blame.{AfterCalls};
 ghost use Rattle.tsb_dialog.specs.Said.{SaidUntilFault};
-ghost use Rattle.tsb_text.specs.kept.Kept.{nothing_kept};
+ghost use Rattle.tsb_text.specs.kept.Kept.{DropsOther, gone_back as kept_back, nothing_kept};
+ghost use Rattle.tsb_text.specs.recording.Along.{Wants, with_input as with_told};
+ghost use Rattle.tsb_text.specs.recording.Recording.{IsWanting};
+ghost use Rattle.tsb_text.specs.recording.Told.{DropsMark, gone_back as told_back, nothing_told};
 ghost use Rattle.tsb_log_text.specs.declared.log.LogRow.{LogRow};
 ghost use Rattle.tsb_text.specs.declared.course.Mode.TheVariants as modes;
-ghost use Rattle.tsb_text.specs.Answers.{Setup, display_line};
-ghost use Rattle.tsb_text.specs.Obeyed.{Answered, Forgets, ForgetsNewest, Stands, Took, mode_with, news_in};
+ghost use Rattle.tsb_text.specs.Answers.{Setup, display_line, next_tick};
+ghost use Rattle.tsb_text.specs.Rows.{rows_in};
+ghost use Rattle.tsb_log_text.specs.Logs.{row_at};
+ghost use Rattle.tsb_text.specs.Obeyed.{Answered, AsksNext, Forgets, ForgetsNewest, IsNext, Stands, Took, holding, mode_with, news_in};
 
 use crate::Kept;
 use crate::events::say_events;
 use crate::lines::shown_line;
+use crate::recording::Told;
+use crate::rows::Rows;
 use std::alloc::Global;
 use std::io::Write;
 use std::marker::Model;
@@ -25,7 +32,9 @@ use tsb_bench::{Answer, Bench, Cmd, Input, Kind, Noted, answer};
 use tsb_dialog::{Pending, Watched, WriteError};
 use tsb_display_text::{LineBytes, LineMaker};
 use tsb_events::Events;
-use tsb_objects::Refusal;
+use tsb_objects::{Refusal, Row};
+use tsb_step::log_form::LogForm;
+use tsb_types::Event;
 
 /// What is done with the inputs that a bench takes, besides.
 #[derive(Clone, Copy)]
@@ -36,35 +45,45 @@ pub enum Mode {
     Keeping,
     /// They are kept, and each tells its events.
     Telling,
+    /// The events of those that remain are kept, as a log of this form has them.
+    Recording(LogForm),
 }
 
-/// A bench, with what is kept of the inputs that remain, and the events that the newest told.
+/// A bench, with the rows that its ticks take, what is kept or recorded of the inputs that remain, and the events that the
+/// newest.
 #[derive(Drop)]
-pub struct Course {
+pub struct Course<'a> {
     bench: Bench,
+    rows: Rows<'a>,
     kept: Kept,
+    told: Told,
     mode: Mode,
     news: Events,
 }
 
-impl Model for Course {
+impl<'a> Model for Course<'a> {
     ghost use Rattle.tsb_text.specs.Obeyed.{OnCourse};
+    ghost use Rattle.tsb_text.specs.Rows.{rows_in};
 
     ghost Value = { OnCourse };
 
-    ghost view = { λ a. record { bench = a.bench; kept = a.kept; mode = a.mode; news = a.news.items } };
+    ghost view = { λ a. record { bench = a.bench; rows = rows_in a.rows; kept = a.kept; told = a.told; mode = a.mode; news = a.news.items } };
 }
 
-impl Course {
-    /// A bench that no input has reached.
-    pub fn new(alloc: Global, bench: Bench, mode: Mode) -> Course
+impl<'a> Course<'a> {
+    /// A bench that no input has reached, whose ticks take these rows.
+    pub fn new(alloc: Global, bench: Bench, rows: Rows<'a>, mode: Mode) -> Course<'a>
         ensures bench { result.bench ≡ bench }
+        ensures rows { result.rows ≡ rows_in rows.entry }
         ensures kept { result.kept ≡ nothing_kept }
+        ensures told { result.told.told ≡ nothing_told }
         ensures mode { result.mode ≡ mode }
     {
         Course {
             bench,
+            rows,
             kept: Kept::new(alloc),
+            told: Told::new(alloc),
             mode,
             news: Events::new(),
         }
@@ -93,29 +112,76 @@ impl Course {
         &self.kept
     }
 
+    /// The events that are recorded of the inputs that remain, the oldest first.
+    pub fn into_events(self) -> Vec<Event>
+        ensures { result.items ≡ self.entry.told.told.events }
+    {
+        let Course {
+            bench,
+            kept,
+            told,
+            ..
+        } = self;
+        drop(bench);
+        drop(kept);
+        told.into_events()
+    }
+
+    /// Has each tick take this row from now on.
+    pub fn hold(&mut self, row: Row)
+        ensures { self.new ≡ holding row self.old }
+    {
+        self.rows = Rows::Held(row);
+    }
+
     /// Has inputs tell their events from now on, or not. Where none are kept, nothing changes.
     pub fn tell(&mut self, on: bool)
         ensures mode { self.new.mode ≡ mode_with on self.old.mode }
         ensures bench { self.new.bench ≡ self.old.bench }
+        ensures rows { self.new.rows ≡ self.old.rows }
         ensures kept { self.new.kept ≡ self.old.kept }
     {
         self.mode = match self.mode {
             Mode::Plain => Mode::Plain,
+            Mode::Recording(form) => Mode::Recording(form),
             Mode::Keeping | Mode::Telling => { if on { Mode::Telling } else { Mode::Keeping } }
         };
+    }
+
+    /// The row of the next tick.
+    #[inline(always)]
+    fn next_row(&mut self) -> Row
+        ensures row { result ≡ row_at self.old.rows (self.old.bench.tick + 1) }
+        ensures same { self.new ≡ self.old }
+    {
+        let tick = self.bench.now() + 1;
+        self.rows.row(tick)
+    }
+
+    /// Takes the next tick, with its row.
+    #[inline(always)]
+    pub fn tick(&mut self) -> Result<(), Refusal>
+        ensures took { (given : Setup) (log : List LogRow) (inputs : List InputValue) → Stands given log self.old inputs → Took result given log self.new inputs (next_tick given inputs) }
+        ensures mode { self.new.mode ≡ self.old.mode }
+        ensures rows { self.new.rows ≡ self.old.rows }
+    {
+        let row = self.next_row();
+        self.take(Input::Tick(row))
     }
 
     /// Takes an input, keeps it, and has it tell its events. Where there is no memory to keep it, it is refused, and
     /// nothing has changed.
     #[inline(always)]
     pub fn take(&mut self, input: Input) -> Result<(), Refusal>
-        ensures took { (given : Setup) (log : List LogRow) (inputs : List InputValue) → Stands given log self.old inputs → Took result given log self.new inputs input }
+        ensures took { (given : Setup) (log : List LogRow) (inputs : List InputValue) → Stands given log self.old inputs → IsNext self.old.mode given inputs input → Took result given log self.new inputs input }
         ensures mode { self.new.mode ≡ self.old.mode }
+        ensures rows { self.new.rows ≡ self.old.rows }
     {
         match self.mode {
             Mode::Plain => self.bench.apply(input),
             Mode::Keeping => self.take_keeping(input),
             Mode::Telling => self.take_telling(input),
+            Mode::Recording(form) => self.take_recording(input, form),
         }
     }
 
@@ -124,8 +190,9 @@ impl Course {
     #[inline(never)]
     fn take_keeping(&mut self, input: Input) -> Result<(), Refusal>
         requires keeping { self.old.mode ≡ modes.Keeping }
-        ensures took { (given : Setup) (log : List LogRow) (inputs : List InputValue) → Stands given log self.old inputs → Took result given log self.new inputs input }
+        ensures took { (given : Setup) (log : List LogRow) (inputs : List InputValue) → Stands given log self.old inputs → IsNext self.old.mode given inputs input → Took result given log self.new inputs input }
         ensures mode { self.new.mode ≡ self.old.mode }
+        ensures rows { self.new.rows ≡ self.old.rows }
     {
         let tick = self.bench.now();
         self.bench.apply(input)?;
@@ -136,14 +203,55 @@ impl Course {
     #[inline(never)]
     fn take_telling(&mut self, input: Input) -> Result<(), Refusal>
         requires telling { self.old.mode ≡ modes.Telling }
-        ensures took { (given : Setup) (log : List LogRow) (inputs : List InputValue) → Stands given log self.old inputs → Took result given log self.new inputs input }
+        ensures took { (given : Setup) (log : List LogRow) (inputs : List InputValue) → Stands given log self.old inputs → IsNext self.old.mode given inputs input → Took result given log self.new inputs input }
         ensures mode { self.new.mode ≡ self.old.mode }
+        ensures rows { self.new.rows ≡ self.old.rows }
     {
         let tick = self.bench.now();
         let last = self.kept.last_row();
         let noted = Noted::usual_after(last);
         self.bench.apply_telling(input, &noted, &mut self.news)?;
         self.keep(&input, tick)
+    }
+
+    /// Takes an input, and records its events, as a log of this form has them. Where there is no memory for them it is
+    /// refused, and nothing has changed. It is refused with E1 only where there was no room.
+    #[inline(never)]
+    fn take_recording(&mut self, input: Input, form: LogForm) -> Result<(), Refusal>
+        requires recording { self.old.mode ≡ modes.Recording form }
+        ensures took { (given : Setup) (log : List LogRow) (inputs : List InputValue) → Stands given log self.old inputs → IsNext self.old.mode given inputs input → Took result given log self.new inputs input }
+        ensures wanting { result ≡ Err Memory → IsWanting form self.old input }
+        ensures mode { self.new.mode ≡ self.old.mode }
+        ensures rows { self.new.rows ≡ self.old.rows }
+    {
+        let tick = self.bench.now();
+        let row = self.rows.in_force(tick);
+        let noted = Noted { form, row };
+        match self.bench.apply_telling(input, &noted, &mut self.news) {
+            Ok(()) => self.note(&input, tick),
+            Err(refusal) => Err(refusal),
+        }
+    }
+
+    /// Records the events of the input that the bench has just taken, with this tick in force before it. Where there is no
+    /// memory for them it is undone.
+    fn note(&mut self, input: &Input, tick: u32) -> Result<(), Refusal>
+        ensures bench { OnOk result (self.new.bench ≡ self.old.bench) }
+        ensures told { OnOk result (self.new.told.told ≡ with_told input.now tick self.old.news self.old.told.told) }
+        ensures undone { OnErr result ((newest : Change) (others : List Change) → self.old.bench.records ≡ newest ∷ others
+            → whole self.new.bench ≡ earlier (whole self.old.bench) 1) }
+        ensures still { OnErr result (self.new.told.told ≡ self.old.told.told) }
+        ensures memory { IfErr result (λ e. e ≡ Memory) }
+        ensures wanting { OnErr result (Wants input.now self.old.news self.old.told) }
+        ensures kept { self.new.kept ≡ self.old.kept }
+        ensures mode { self.new.mode ≡ self.old.mode }
+        ensures rows { self.new.rows ≡ self.old.rows }
+    {
+        if self.told.add(input, tick, &self.news).is_err() {
+            let _ = self.bench.undo();
+            return Err(Refusal::Memory);
+        }
+        Ok(())
     }
 
     /// Keeps the input that the bench has just taken, with this tick in force before it. Where there is no memory to keep
@@ -156,7 +264,9 @@ impl Course {
             → whole self.new.bench ≡ earlier (whole self.old.bench) 1) }
         ensures still { OnErr result (self.new.kept ≡ self.old.kept) }
         ensures memory { IfErr result (λ e. e ≡ Memory) }
+        ensures told { self.new.told ≡ self.old.told }
         ensures mode { self.new.mode ≡ self.old.mode }
+        ensures rows { self.new.rows ≡ self.old.rows }
         ensures news { self.new.news ≡ self.old.news }
     {
         if self.kept.add(input, tick).is_err() {
@@ -168,8 +278,9 @@ impl Course {
 
     /// Asks the bench, and keeps the inputs that remain then.
     pub fn answer(&mut self, command: Cmd) -> Answer
-        ensures right { (given : Setup) (log : List LogRow) (inputs : List InputValue) → Stands given log self.old inputs → Answered given log self.new inputs command result }
+        ensures right { (given : Setup) (log : List LogRow) (inputs : List InputValue) → Stands given log self.old inputs → AsksNext self.old.mode given inputs command → Answered given log self.new inputs command result }
         ensures mode { self.new.mode ≡ self.old.mode }
+        ensures rows { self.new.rows ≡ self.old.rows }
     {
         match command {
             Cmd::Apply(input) => match self.take(input) {
@@ -184,15 +295,24 @@ impl Course {
         }
     }
 
-    /// Keeps no more of the inputs than remain after this answer of the bench.
+    /// Keeps and records no more of the inputs than remain after this answer of the bench.
     fn forget(&mut self, answer: &Answer)
-        ensures forgets { Forgets answer.now self.old.bench.tick self.old.kept self.new.kept }
+        ensures kept { Forgets kept_back DropsOther answer.now self.old.bench.tick self.old.kept self.new.kept }
+        ensures told { Forgets told_back DropsMark answer.now self.old.bench.tick self.old.told.told self.new.told.told }
         ensures bench { self.new.bench ≡ self.old.bench }
         ensures mode { self.new.mode ≡ self.old.mode }
+        ensures rows { self.new.rows ≡ self.old.rows }
     {
+        let tick = self.bench.now();
         match *answer {
-            Answer::Moved => self.kept.go_back(self.bench.now()),
-            Answer::Undone(kind) => forget_newest(&mut self.kept, self.bench.now(), kind),
+            Answer::Moved => {
+                self.kept.go_back(tick);
+                self.told.go_back(tick);
+            }
+            Answer::Undone(kind) => {
+                forget_newest(&mut self.kept, tick, kind);
+                untell(&mut self.told, tick, kind);
+            }
             _ => {}
         }
     }
@@ -216,10 +336,20 @@ impl Course {
 
 /// Keeps the newest input no more, which was of this kind. Without it, this tick is in force.
 fn forget_newest(kept: &mut Kept, tick: u32, kind: Kind)
-    ensures { ForgetsNewest kind tick kept.old kept.new }
+    ensures { ForgetsNewest kept_back DropsOther kind tick kept.old kept.new }
 {
     match kind {
         Kind::Tick => kept.go_back(tick),
         _ => kept.undo_other(),
+    }
+}
+
+/// Takes back the events of the newest input, which was of this kind. Without it, this tick is in force.
+fn untell(told: &mut Told, tick: u32, kind: Kind)
+    ensures { ForgetsNewest told_back DropsMark kind tick told.old.told told.new.told }
+{
+    match kind {
+        Kind::Tick => told.go_back(tick),
+        _ => told.undo_input(),
     }
 }

@@ -2,8 +2,10 @@
 
 ghost use Rattle.std.specs.Prelude.{◌≡◌, ◌≤◌, length};
 ghost use Rattle.tsb_text.specs.EndLines.{session_fault};
+ghost use Rattle.tsb_text.specs.Replies.{fault_of};
 
 use thiserror::Error;
+use tsb_dialog::DialogError;
 
 /// What ends a session before its commands do. What was written until then is a prefix of the session's text. Each is
 /// printed as its line.
@@ -33,5 +35,16 @@ impl SessionError {
             SessionError::Write => "write fault",
             SessionError::TooLarge => "commands: too large",
         }
+    }
+}
+
+/// The fault of a session, a record or a live run whose dialog ended with this one.
+pub fn fault_of(fault: DialogError) -> SessionError
+    ensures { result ≡ fault_of fault }
+{
+    match fault {
+        DialogError::Read => SessionError::Read,
+        DialogError::Write => SessionError::Write,
+        DialogError::TooLarge => SessionError::TooLarge,
     }
 }

@@ -1,14 +1,13 @@
 //! The inputs that remain, which can be taken back.
-ghost use Rattle.std.specs.Prelude.{◌≡◌, ◌≤◌, ◌∷◌, ◌++◌, [], List, OnErr, OnOk};
+ghost use Rattle.std.specs.Prelude.{◌≡◌, ◌≤◌, OnErr, OnOk};
 ghost use Rattle.tsb_step.specs.Step.{last_tick};
-ghost use Rattle.tsb_text.specs.kept.Kept.{gone_back, is_same_row, nothing_kept, other_tick, row_kept, row_tick, with_input, with_other, with_row};
-ghost use Rattle.tsb_text.specs.kept.Later.{without_later};
-ghost use Rattle.tsb_text.specs.declared.kept.Other.{Other};
+ghost use Rattle.tsb_text.specs.kept.Kept.{DropsOther, gone_back, is_same_row, nothing_kept, row_kept, with_input, with_other, with_row};
 
 mod changed;
 pub mod laws;
 
 use crate::kept::changed::row_before;
+use crate::later::{Timed, drop_later};
 use std::alloc::{AllocError, Global};
 use std::marker::Model;
 use tsb_log_text::LogRow;
@@ -22,6 +21,16 @@ pub struct Other {
     pub tick: u32,
     /// The input.
     pub input: Input,
+}
+
+impl Timed for Other {
+    ghost use Rattle.tsb_text.specs.kept.Kept.{other_tick};
+
+    ghost at = { other_tick };
+
+    fn tick(&self) -> u32 {
+        self.tick
+    }
 }
 
 /// The inputs of a run that remain, the oldest first: the rows of its ticks, as a log has them, and the inputs that are
@@ -109,8 +118,7 @@ impl Kept {
 
     /// Takes the newest input away that is no tick.
     pub fn undo_other(&mut self)
-        ensures { (others : List Other) (last : Other) → self.old.others ≡ others ++ last ∷ []
-            → self.new ≡ record { rows = self.old.rows; others = others } }
+        ensures { DropsOther self.old self.new }
     {
         let _ = self.others.pop();
     }
@@ -119,8 +127,8 @@ impl Kept {
     pub fn go_back(&mut self, tick: u32)
         ensures { self.new ≡ gone_back tick self.old }
     {
-        drop_later_rows(&mut self.rows, tick);
-        drop_later_others(&mut self.others, tick);
+        drop_later(&mut self.rows, tick);
+        drop_later(&mut self.others, tick);
     }
 }
 
@@ -129,28 +137,4 @@ fn is_same_row(row: &Row, other: &Row) -> bool
     ensures { result ≡ is_same_row row.now other.now }
 {
     *row == *other
-}
-
-/// Drops the rows at the end that come later than a tick.
-fn drop_later_rows(rows: &mut Vec<LogRow>, tick: u32)
-    ensures { rows.new.items ≡ without_later row_tick tick rows.old.items }
-{
-    while let Some(last) = rows.last() {
-        if last.tick <= tick {
-            return;
-        }
-        let _ = rows.pop();
-    }
-}
-
-/// Drops the inputs at the end that came later than a tick.
-fn drop_later_others(others: &mut Vec<Other>, tick: u32)
-    ensures { others.new.items ≡ without_later other_tick tick others.old.items }
-{
-    while let Some(last) = others.last() {
-        if last.tick <= tick {
-            return;
-        }
-        let _ = others.pop();
-    }
 }

@@ -6,24 +6,27 @@ ghost use Rattle.tsb_dialog.specs.Said.{Said, Wrote};
 ghost use Rattle.tsb_text.specs.Blame.{Blames};
 ghost use Rattle.tsb_text.specs.recording.Ended.{Ended};
 ghost use Rattle.tsb_text.specs.recording.Faults.{fault_text};
-ghost use Rattle.tsb_text.specs.recording.Leaves.{flow_after, quits};
-ghost use Rattle.tsb_text.specs.recording.Recording.{IsOutcome, session_fault};
+ghost use Rattle.tsb_text.specs.recording.Leaves.{quits};
+ghost use Rattle.tsb_text.specs.Stops.{stop_in};
+ghost use Rattle.tsb_text.specs.recording.Recording.{IsOutcome};
 
 mod faults;
 pub mod laws;
 mod recorder;
 mod told;
 
-pub use crate::recording::faults::FaultyLine;
-use crate::recording::faults::{fault_line, stop_at};
-use crate::recording::recorder::Recorder;
+use crate::recording::faults::fault_line;
+use crate::recording::recorder::carry_out;
 pub use crate::recording::told::{Mark, Told};
-use crate::{COMMANDS, LineFault, OnFault, SessionError};
+use crate::{
+    COMMANDS, Course, LineFault, Mode, OnFault, Rows, SessionError, Stop, fault_of, flow_after,
+    stop_at,
+};
 use std::alloc::Global;
 use std::io::{Read, Write};
 use tsb_bench::Bench;
 use tsb_command_text::{Command, Reading, reading_of};
-use tsb_dialog::{Answers, DialogError, Flow, Pending, Watched, WriteError, converse};
+use tsb_dialog::{Answers, Flow, Pending, Watched, WriteError, converse};
 use tsb_log_text::Log;
 use tsb_objects::Checked;
 use tsb_step::log_form::LogForm;
@@ -44,29 +47,28 @@ pub enum Outcome {
     /// They came to their end: the events of the inputs that remain, the oldest first.
     Events(Vec<Event>),
     /// This line ended a strict record. It is the first that is no command, or that was refused.
-    Stopped(FaultyLine),
+    Stopped(Stop),
 }
 
-/// What carries out the commands of a record: the bench with what was told, and the log that its ticks take their rows
-/// from.
+/// What carries out the commands of a record.
 #[derive(Drop)]
 struct Recording<'a> {
-    recorder: Recorder,
-    log: &'a Log,
+    course: Course<'a>,
     on_fault: OnFault,
     /// The line that ended the record, once it has come.
-    stop: Option<FaultyLine>,
+    stop: Option<Stop>,
 }
 
 impl Answers for Recording<'_> {
     ghost use Rattle.std.specs.Prelude.{◌≡◌};
-    ghost use Rattle.tsb_bench.specs.Held.{whole};
-    ghost use Rattle.tsb_text.specs.recording.Lines.{Course, says};
-    ghost use Rattle.tsb_text.specs.recording.Recording.{Stands};
+    ghost use Rattle.tsb_text.specs.Obeyed.{Stands};
+    ghost use Rattle.tsb_text.specs.Stops.{stop_in};
+    ghost use Rattle.tsb_text.specs.declared.course.Mode.TheVariants as modes;
+    ghost use Rattle.tsb_text.specs.recording.Lines.{Course as RecordCourse, says};
 
-    ghost State = { Course };
+    ghost State = { RecordCourse };
 
-    ghost stands = { λ r s. Stands s.given r.log.now (whole r.recorder.bench) r.recorder.told.told s.end.inputs × (r.on_fault ≡ s.on_fault) × (r.recorder.told.told.form ≡ s.form) × (r.stop ≡ s.end.stop) };
+    ghost stands = { λ r s. Stands s.given s.given.log r.course s.end.inputs × (r.on_fault ≡ s.on_fault) × (r.course.mode ≡ modes.Recording s.form) × (stop_in r.stop ≡ s.end.stop) };
 
     ghost says = { says };
 
@@ -79,10 +81,10 @@ impl Answers for Recording<'_> {
     ) -> Result<Flow, WriteError> {
         let reading = reading_of(line);
         let is_quit = quits(&reading);
-        let fault = self.recorder.carry_out(self.log, reading);
-        self.stop = stop_at(self.on_fault, number, fault);
+        let fault = carry_out(&mut self.course, reading);
+        self.stop = stop_at(self.on_fault, number, line, fault);
         tell(number, line, &fault, pending, writer)?;
-        Ok(flow_after(is_quit, self.stop))
+        Ok(flow_after(is_quit, &self.stop))
     }
 }
 
@@ -93,16 +95,6 @@ fn quits(reading: &Reading) -> bool
     match reading {
         Reading::Do(Command::Quit) => true,
         _ => false,
-    }
-}
-
-/// Whether a record goes on after a line, which is `quit` or not, and ended it or did not.
-fn flow_after(is_quit: bool, stop: Option<FaultyLine>) -> Flow
-    ensures { result ≡ flow_after is_quit stop }
-{
-    match (is_quit, stop) {
-        (false, None) => Flow::On,
-        _ => Flow::Over,
     }
 }
 
@@ -124,27 +116,16 @@ fn tell<W: Write>(
     }
 }
 
-/// The fault of a record whose dialog ended with this one.
-fn session_fault(fault: DialogError) -> SessionError
-    ensures { result ≡ session_fault fault }
-{
-    match fault {
-        DialogError::Read => SessionError::Read,
-        DialogError::Write => SessionError::Write,
-        DialogError::TooLarge => SessionError::TooLarge,
-    }
-}
-
 /// What a record gives that this line has ended, or none.
-fn outcome_of(recorder: Recorder, stop: Option<FaultyLine>) -> Outcome
-    ensures { IsOutcome result stop recorder.told.told.events }
+fn outcome_of(course: Course, stop: Option<Stop>) -> Outcome
+    ensures { IsOutcome result (stop_in stop) course.entry.told.told.events }
 {
     match stop {
         Some(line) => {
-            drop(recorder);
+            drop(course);
             Outcome::Stopped(line)
         }
-        None => Outcome::Events(recorder.into_events()),
+        None => Outcome::Events(course.into_events()),
     }
 }
 
@@ -180,17 +161,17 @@ pub fn record<R: Read, E: Write>(
     let Ok(bench) = Bench::power_up(alloc, plan) else {
         return Err(SessionError::Memory);
     };
+    let rows = Rows::OfLog { log, place: 0 };
     let mut recording = Recording {
-        recorder: Recorder::new(alloc, bench, options.form),
-        log,
+        course: Course::new(alloc, bench, rows, Mode::Recording(options.form)),
         on_fault: options.on_fault,
         stop: None,
     };
     match converse(&mut recording, COMMANDS, reader, errors) {
-        Ok(()) => Ok(outcome_of(recording.recorder, recording.stop)),
+        Ok(()) => Ok(outcome_of(recording.course, recording.stop)),
         Err(fault) => {
             drop(recording);
-            Err(session_fault(fault))
+            Err(fault_of(fault))
         }
     }
 }

@@ -2,7 +2,7 @@
 
 ghost use Rattle.std.specs.Prelude.{◌≡◌, ◌≤◌};
 ghost use Rattle.tsb_log_text.specs.Logs.{row_at};
-ghost use Rattle.tsb_text.specs.Rows.{rows_in};
+ghost use Rattle.tsb_text.specs.Rows.{row_in_force, rows_in};
 
 use tsb_log_text::Log;
 use tsb_objects::Row;
@@ -26,6 +26,17 @@ impl Rows<'_> {
         match self {
             Rows::OfLog { log, place } => log.row(tick, place),
             Rows::Held(row) => *row,
+        }
+    }
+    /// The row that is in force at a tick number. Before the first tick all inputs are off.
+    pub fn in_force(&mut self, tick: u32) -> Row
+        ensures row { result ≡ row_in_force (rows_in self.old) tick }
+        ensures same { rows_in self.new ≡ rows_in self.old }
+    {
+        if tick == 0 {
+            Row::all_off()
+        } else {
+            self.row(tick)
         }
     }
 }

@@ -8,7 +8,7 @@ ghost use Rattle.tsb_text.specs.Replies.{as_session, flow_after};
 
 use crate::answers::obey;
 use crate::course::{Course, Mode};
-use crate::error::SessionError;
+use crate::error::{SessionError, fault_of};
 use crate::rows::Rows;
 use std::alloc::Global;
 use std::io::{Read, Write};
@@ -28,19 +28,17 @@ const _: () = prove!(KEPT == LINE + 2);
 /// A bench that does what lines ask.
 #[derive(Drop)]
 struct Machine<'a> {
-    course: Course,
+    course: Course<'a>,
     lines: LineMaker,
-    rows: Rows<'a>,
 }
 
 impl Answers for Machine<'_> {
     ghost use Rattle.tsb_text.specs.Obeyed.{StandsPlain};
     ghost use Rattle.tsb_text.specs.Replies.{Stand, says};
-    ghost use Rattle.tsb_text.specs.Rows.{rows_in};
 
     ghost State = { Stand };
 
-    ghost stands = { λ machine stand. StandsPlain stand.given (rows_in machine.rows) machine.course stand.inputs };
+    ghost stands = { λ machine stand. StandsPlain stand.given stand.given.log machine.course stand.inputs };
 
     ghost says = { says };
 
@@ -62,7 +60,6 @@ impl Answers for Machine<'_> {
                 obey(
                     &mut self.course,
                     &mut self.lines,
-                    &mut self.rows,
                     command,
                     b"",
                     pending,
@@ -90,9 +87,7 @@ fn as_session(ended: Result<(), DialogError>) -> Result<(), SessionError>
 {
     match ended {
         Ok(()) => Ok(()),
-        Err(DialogError::Read) => Err(SessionError::Read),
-        Err(DialogError::Write) => Err(SessionError::Write),
-        Err(DialogError::TooLarge) => Err(SessionError::TooLarge),
+        Err(fault) => Err(fault_of(fault)),
     }
 }
 
@@ -120,12 +115,10 @@ pub fn session<R: Read, W: Write>(
     let Ok(bench) = Bench::power_up(alloc, plan) else {
         return Err(SessionError::Memory);
     };
-    let course = Course::new(alloc, bench, Mode::Plain);
     let rows = Rows::OfLog { log, place: 0 };
     let mut machine = Machine {
-        course,
+        course: Course::new(alloc, bench, rows, Mode::Plain),
         lines: LineMaker::new(),
-        rows,
     };
     as_session(converse(&mut machine, COMMANDS, reader, writer))
 }

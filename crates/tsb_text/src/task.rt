@@ -1,6 +1,6 @@
 //! What a command asks.
 ghost use Rattle.std.specs.Prelude.{◌≡◌};
-ghost use Rattle.tsb_text.specs.Tasks.{task_of};
+ghost use Rattle.tsb_text.specs.Tasks.{AsksNoTick, task_of};
 
 use tsb_bench::{Cmd, Input};
 use tsb_command_text::Command;
@@ -20,7 +20,8 @@ pub enum Task {
 
 /// What a command asks.
 pub fn task_of(command: Command) -> Task
-    ensures { result ≡ task_of command }
+    ensures task { result ≡ task_of command }
+    ensures no_tick { AsksNoTick result }
 {
     match command {
         Command::Step(ticks) => Task::Ticks(ticks),

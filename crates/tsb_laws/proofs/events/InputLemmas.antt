@@ -24,7 +24,8 @@ use Rattle.tsb_events.proofs.OrderLemmas.{alarm-span, call-span, clearing-span, 
 use Rattle.tsb_log_text.specs.declared.log.LogRow.{LogRow}
 use Rattle.tsb_field_display.specs.Inputs.{events_behind, events_of_row, events_of_rows}
 use Rattle.tsb_field_display.specs.SessionLaws.{is_of_input}
-use Rattle.tsb_text.specs.recording.Along.{last_row, noted_after, told_along}
+use Rattle.tsb_text.specs.kept.Kept.{last_row}
+use Rattle.tsb_text.specs.recording.Along.{noted_after, told_along}
 use Rattle.tsb_laws.specs.Told.{AreSwitchesOff, InputsMakeTheLog, if_changed, is_same_row, log_of}
 use Rattle.tsb_laws.proofs.events.KeptLemmas.{Kept, both, first-alone, second-alone, all-told, none-of, not-among}
 use Rattle.tsb_text.proofs.kept.KeptLemmas.{same-row}

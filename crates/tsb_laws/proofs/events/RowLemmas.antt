@@ -17,7 +17,8 @@ use Rattle.tsb_step.specs.State.{State, start}
 use Rattle.tsb_step.specs.Step.{step}
 use Rattle.tsb_field_display.specs.ReadBack.{lit_after, says_at}
 use Rattle.tsb_field_display.proofs.LawLemmas.{after, begun-or-ended, effect, is_lit_of, leads-told, lit-append}
-use Rattle.tsb_text.specs.recording.Along.{last_row, noted_after, told_along}
+use Rattle.tsb_text.specs.kept.Kept.{last_row}
+use Rattle.tsb_text.specs.recording.Along.{noted_after, told_along}
 use Rattle.tsb_laws.specs.Told.{RunsTellTheInputs, says_pedestrian, says_preempt, says_vehicle}
 use Rattle.tsb_laws.proofs.events.InputLemmas.{by_input, others-kept, ticks-kept}
 use Rattle.tsb_laws.proofs.events.SayLemmas.{at-head, differs, silent}

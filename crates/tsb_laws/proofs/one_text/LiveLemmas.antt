@@ -9,7 +9,8 @@ use Rattle.tsb_command_text.specs.declared.live_command.LiveCommand.TheVariants 
 use Rattle.tsb_command_text.specs.declared.live_command.LiveReading.{LiveReading}
 use Rattle.tsb_command_text.specs.declared.live_command.LiveReading.TheVariants.{Skip, Bad, Tick, Ask}
 use Rattle.tsb_live_text.specs.Changes.{Changes, line_after, owed, shows_same, tick_text}
-use Rattle.tsb_live_text.specs.Live.{AsksLive, Leaves, Live, Reads, Says, Tells, besides, fault_by, flow_in, present, setup, stopped_at, with_inputs, with_row, with_stop}
+use Rattle.tsb_text.specs.Stops.{flow_after, stopped_at}
+use Rattle.tsb_live_text.specs.Live.{AsksLive, Leaves, Live, Reads, Says, Tells, besides, fault_by, present, quits, setup, with_inputs, with_row, with_stop}
 use Rattle.tsb_step.specs.Play.{Cmd, IsRight, remaining_after}
 use Rattle.tsb_step.specs.Runs.{replay}
 use Rattle.tsb_step.specs.declared.inputs.Input.{Input}
@@ -175,7 +176,7 @@ pub lines-one : (s t u : Live) (number : ℕ) (line text other : List ℕ) (flow
 lines-one s t u number line text other flow after a b = elim (reads-one s a.left b.left line (live_reading line) text other a.fault b.fault a.reads b.reads) [
   | inl e ↦ inl (
     e.0,
-    a.goes ∙ ap (λ (f : Option LineFault). flow_in (live_reading line) (stopped_at s.on_fault number line f)) e.1 ∙ sym b.goes,
+    a.goes ∙ ap (λ (f : Option LineFault). flow_after (quits (live_reading line)) (stopped_at s.on_fault number line f)) e.1 ∙ sym b.goes,
     a.stops ∙ ap (λ (f : Option LineFault). with_stop (stopped_at s.on_fault number line f) a.left) e.1 ∙ ap (λ (l : Live). with_stop (stopped_at s.on_fault number line b.fault) l) e.2 ∙ sym b.stops,
   )
   | inr m ↦ inr m

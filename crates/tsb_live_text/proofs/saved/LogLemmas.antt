@@ -11,7 +11,7 @@ use Rattle.tsb_log_text.specs.LogText.{AreRows, IsRow}
 use Rattle.tsb_log_text.specs.declared.log.LogRow.{LogRow}
 use Rattle.tsb_log_text.proofs.TextLemmas.{text-read}
 use Rattle.tsb_text.specs.kept.Kept.{is_same_row, kept_of, row_kept}
-use Rattle.tsb_text.proofs.kept.KeptLemmas.{no-less}
+use Rattle.tsb_text.proofs.BackLemmas.{no-less}
 use Rattle.tsb_text.proofs.kept.LawLemmas.{kept-rise}
 use Rattle.tsb_live_text.specs.saved.Laws.{AreFit, AreTheirJson, LogsAreRead}
 use Rattle.tsb_live_text.specs.saved.Saved.{saved_json, saved_text}

@@ -23,7 +23,7 @@ use Rattle.tsb_log_text.specs.LogText.{IsFit}
 use Rattle.tsb_log_text.specs.Rows.{field, has_space, inputs_of, inputs_with, list_in_digits, onto_digits}
 use Rattle.tsb_text.specs.declared.kept.Other.{Other}
 use Rattle.tsb_text.specs.kept.Kept.{kept_of}
-use Rattle.tsb_text.proofs.kept.KeptLemmas.{no-less}
+use Rattle.tsb_text.proofs.BackLemmas.{no-less}
 use Rattle.tsb_live_text.specs.saved.Laws.{AreSpelled, IsFault, IsLamp, IsSpelled, IsUpTo, KeptAreSpelled, ReadsAreSpelled, RowsReadAreFit, command_of}
 
 -- what holds of it, if there is any

@@ -14,7 +14,7 @@ use Rattle.tsb_log_text.specs.declared.log.LogRow.{LogRow}
 use Rattle.tsb_text.specs.declared.kept.Other.{Other}
 use Rattle.tsb_text.specs.kept.Kept.{IsNoTick, kept_of}
 use Rattle.tsb_text.specs.kept.Laws.{given_from, with_ticks}
-use Rattle.tsb_text.proofs.kept.KeptLemmas.{same-now}
+use Rattle.tsb_text.proofs.BackLemmas.{same-now}
 use Rattle.tsb_text.proofs.kept.LawLemmas.{gives-again}
 use Rattle.tsb_live_text.specs.saved.Laws.{command_of, commands_at, steps}
 use Rattle.tsb_live_text.specs.saved.Taken.{RunsEndAlike, TakeAll, TakesTicks, saved_commands, tick_after}

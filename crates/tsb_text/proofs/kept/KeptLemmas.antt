@@ -1,57 +1,21 @@
 -- What is kept of inputs is taken back with them.
-use Rattle.std.proofs.Common.{suc, ◌≡◌, ◌∙◌, ℕ, ◌+◌, ◌<◌, ◌≤◌, ◌==◌, ◌&&◌, Bool, true, false, List, [], ◌∷◌, ◌++◌, if◌then◌else◌, is_some, refl, sym, ap, arith, append-nil}
-use Rattle.std.proofs.lemmas.Bool.{and_parts, eqb-false, eqb-true}
+use Rattle.std.proofs.Common.{◌≡◌, ◌∙◌, ℕ, ◌+◌, ◌<◌, ◌≤◌, ◌&&◌, Bool, true, false, List, [], ◌∷◌, ◌++◌, if◌then◌else◌, refl, sym, ap, arith, append-nil}
+use Rattle.std.proofs.lemmas.Bool.{and_parts, eqb-true}
 use Rattle.tsb_types.specs.Sets.{all_off}
 use Rattle.tsb_types.specs.declared.number_set.NumberSet.{NumberSet}
 use Rattle.tsb_types.specs.declared.row.Row.{Row}
 use Rattle.tsb_log_text.specs.declared.log.LogRow.{LogRow}
 use Rattle.tsb_step.specs.tsb_plan.Plan.{Plan}
 use Rattle.tsb_step.specs.declared.inputs.Input.{Input}
-use Rattle.tsb_step.specs.declared.inputs.Input.TheVariants.{Tick, Fault, Reset}
+use Rattle.tsb_step.specs.declared.inputs.Input.TheVariants.{Tick}
 use Rattle.tsb_step.specs.Play.{back_to}
 use Rattle.tsb_step.specs.Runs.{replay}
-use Rattle.tsb_step.specs.Signs.{watched}
-use Rattle.tsb_step.specs.State.{State, restarted}
-use Rattle.tsb_step.specs.Step.{step}
 use Rattle.tsb_step.proofs.ClearLemmas.{one_later}
-use Rattle.tsb_step.proofs.WayLemmas.{ticks_are_counted}
 use Rattle.tsb_text.specs.declared.kept.Other.{Other}
-use Rattle.tsb_text.specs.kept.Kept.{IsNoTick, Keeping, gone_back, is_same_row, is_same_set, keeping, kept_of, last_row, new_rows, other_tick, row_behind, row_kept, row_tick, with_row}
-use Rattle.tsb_text.specs.kept.Later.{without_later}
-use Rattle.tsb_text.proofs.kept.LaterLemmas.{AreBy, AreLater, by-none, by-more, later-none, later-more, by-append, by-front, by-stays, later-gone}
-
--- ## Tick numbers
-
--- an input that is no tick leaves the tick number
-pub same-now : (s : State) (i : Input) → IsNoTick i → (step s i).now ≡ s.now
-unfolding step watched
-same-now s (Tick row) none = absurd none
-same-now s (Fault lamp) none = go (is_some s.trip)
-  where
-    go : (b : Bool) → (if b then record s { lamp = lamp } else watched s (record s { lamp = lamp })).now ≡ s.now
-    go true = refl
-    go false = refl
-same-now s Reset none = go (is_some s.trip)
-  where
-    go : (b : Bool) → (if b then restarted s else s).now ≡ s.now
-    go true = refl
-    go false = refl
-same-now s i none = refl
-
-pub no-less : (plan : Plan) (i : Input) (is : List Input) → (replay plan is).now ≤ (replay plan (i ∷ is)).now
-no-less plan i is = (ticks_are_counted plan).on (replay plan is) i
-
-pub reached : (plan : Plan) (t : ℕ) (is : List Input) → t ≤ (replay plan is).now → (replay plan (back_to plan t is)).now ≡ t
-reached plan t [] le = let zero_is : (replay plan []).now ≡ 0 = (ticks_are_counted plan).begins in omega (arith, le, zero_is)
-reached plan t (i ∷ is) le = go ((replay plan (i ∷ is)).now == t) refl (λ h. reached plan t is h)
-  where
-    go : (b : Bool) → ((replay plan (i ∷ is)).now == t) ≡ b → (t ≤ (replay plan is).now → (replay plan (back_to plan t is)).now ≡ t) →
-        (replay plan (if b then i ∷ is else back_to plan t is)).now ≡ t
-    go true e later = eqb-true (replay plan (i ∷ is)).now t e
-    go false e later =
-        let other : (replay plan (i ∷ is)).now ≡ t → ⊥ = eqb-false (replay plan (i ∷ is)).now t e in
-        let one : (replay plan (i ∷ is)).now ≤ suc (replay plan is).now = (ticks_are_counted plan).by_one (replay plan is) i in
-        later (omega (arith, le, one, other))
+use Rattle.tsb_text.specs.kept.Kept.{DropsOther, IsNoTick, Keeping, gone_back, is_same_row, is_same_set, keeping, kept_of, last_row, new_rows, other_tick, row_behind, row_kept, with_row}
+use Rattle.tsb_text.specs.Later.{row_tick, without_later}
+use Rattle.tsb_text.proofs.BackLemmas.{back-at, no-less, same-now, undone-tick}
+use Rattle.tsb_text.proofs.LaterLemmas.{AreBy, AreLater, by-none, by-more, later-none, later-more, by-append, by-stays, later-gone}
 
 -- ## The last row
 
@@ -125,28 +89,10 @@ kept-by plan (i ∷ is) t le =
 
 -- ## Taken back
 
--- a tick is taken back by going back to the tick before it
-pub tick-undone : (plan : Plan) (row : Row) (is : List Input) → gone_back (replay plan is).now (kept_of plan (Tick row ∷ is)) ≡ kept_of plan is
-tick-undone plan row is =
-    let before : IsBy (replay plan is).now (kept_of plan is) = kept-by plan is (replay plan is).now (omega arith) in
-    let rows : without_later row_tick (replay plan is).now (kept_of plan (Tick row ∷ is)).rows ≡ (kept_of plan is).rows =
-    by-front row_tick (replay plan is).now (kept_of plan is).rows (new_rows ((replay plan is).now + 1) row (kept_of plan is)) before.rows
-    (new-later (replay plan is).now ((replay plan is).now + 1) row (kept_of plan is) (omega arith)) in
-    let others : without_later other_tick (replay plan is).now (kept_of plan (Tick row ∷ is)).others ≡ (kept_of plan is).others = by-stays other_tick (replay plan is).now (kept_of plan is).others before.others in
-    λ j. keeping (rows j) (others j)
-
--- any other input as the last of them
-pub record HasOther (plan : Plan) (i : Input) (is : List Input) : Type 0 where
-  pub others : List Other
-  pub o : Other
-  pub last : (kept_of plan (i ∷ is)).others ≡ others ++ o ∷ []
-  pub before : keeping (kept_of plan (i ∷ is)).rows others ≡ kept_of plan is
-
-pub other-undone : (plan : Plan) (i : Input) (is : List Input) → IsNoTick i → HasOther plan i is
-other-undone plan (Tick row) is none = absurd none
-other-undone plan i is none = record { others = (kept_of plan is).others; o = other plan i is; last = refl; before = refl }
-
--- ## Back to a tick
+kept-stays : (plan : Plan) (is : List Input) (t : ℕ) → (replay plan is).now ≤ t → gone_back t (kept_of plan is) ≡ kept_of plan is
+kept-stays plan is t le =
+    let all : IsBy t (kept_of plan is) = kept-by plan is t le in
+    λ j. keeping (by-stays row_tick t (kept_of plan is).rows all.rows j) (by-stays other_tick t (kept_of plan is).others all.others j)
 
 -- the newest input is later than a tick before it
 newest-later : (plan : Plan) (t : ℕ) (i : Input) (is : List Input) → t ≤ (replay plan is).now → t < (replay plan (i ∷ is)).now → gone_back t (kept_of plan (i ∷ is)) ≡ gone_back t (kept_of plan is)
@@ -161,20 +107,25 @@ newest-later plan t i is le lt =
     later-gone other_tick t (kept_of plan is).others (other plan i is ∷ []) (later-more (other plan i is) [] here later-none) in
     λ j. keeping (without_later row_tick t (kept_of plan is).rows) (others j)
 
+-- a tick is taken back by going back to the tick before it
+pub tick-undone : (plan : Plan) (row : Row) (is : List Input) → gone_back (replay plan is).now (kept_of plan (Tick row ∷ is)) ≡ kept_of plan is
+tick-undone plan row is = undone-tick plan (kept_of plan) gone_back (kept-stays plan) (newest-later plan) row is
+
 pub gone-back : (plan : Plan) (t : ℕ) (is : List Input) → t ≤ (replay plan is).now → kept_of plan (back_to plan t is) ≡ gone_back t (kept_of plan is)
-gone-back plan t [] le = refl
-gone-back plan t (i ∷ is) le = go ((replay plan (i ∷ is)).now == t) refl (λ h. gone-back plan t is h)
-  where
-    go : (b : Bool) → ((replay plan (i ∷ is)).now == t) ≡ b → (t ≤ (replay plan is).now → kept_of plan (back_to plan t is) ≡ gone_back t (kept_of plan is)) →
-        kept_of plan (if b then i ∷ is else back_to plan t is) ≡ gone_back t (kept_of plan (i ∷ is))
-    go true e later =
-        let here : (replay plan (i ∷ is)).now ≡ t = eqb-true (replay plan (i ∷ is)).now t e in
-        let all : IsBy t (kept_of plan (i ∷ is)) = kept-by plan (i ∷ is) t (omega (arith, here)) in
-        let rows : without_later row_tick t (kept_of plan (i ∷ is)).rows ≡ (kept_of plan (i ∷ is)).rows = by-stays row_tick t (kept_of plan (i ∷ is)).rows all.rows in
-        let others : without_later other_tick t (kept_of plan (i ∷ is)).others ≡ (kept_of plan (i ∷ is)).others = by-stays other_tick t (kept_of plan (i ∷ is)).others all.others in
-        sym (λ j. keeping (rows j) (others j))
-    go false e later =
-        let other : (replay plan (i ∷ is)).now ≡ t → ⊥ = eqb-false (replay plan (i ∷ is)).now t e in
-        let one : (replay plan (i ∷ is)).now ≤ suc (replay plan is).now = (ticks_are_counted plan).by_one (replay plan is) i in
-        let on : t ≤ (replay plan is).now = omega (arith, le, one, other) in
-        later on ∙ sym (newest-later plan t i is on (omega (arith, le, other)))
+gone-back plan t is le = back-at plan (kept_of plan) gone_back (kept-stays plan) (newest-later plan) t is le
+
+-- any other input as the last of them
+pub record HasOther (plan : Plan) (i : Input) (is : List Input) : Type 0 where
+  pub others : List Other
+  pub o : Other
+  pub last : (kept_of plan (i ∷ is)).others ≡ others ++ o ∷ []
+  pub before : keeping (kept_of plan (i ∷ is)).rows others ≡ kept_of plan is
+
+pub other-undone : (plan : Plan) (i : Input) (is : List Input) → IsNoTick i → HasOther plan i is
+other-undone plan (Tick row) is none = absurd none
+other-undone plan i is none = record { others = (kept_of plan is).others; o = other plan i is; last = refl; before = refl }
+
+pub other-dropped : (plan : Plan) (i : Input) (is : List Input) (new : Keeping) → IsNoTick i → DropsOther (kept_of plan (i ∷ is)) new → new ≡ kept_of plan is
+other-dropped plan i is new none drops =
+    let has : HasOther plan i is = other-undone plan i is none in
+    drops has.others has.o has.last ∙ has.before

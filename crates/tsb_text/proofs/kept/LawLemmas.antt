@@ -11,10 +11,12 @@ use Rattle.tsb_step.specs.declared.inputs.Input.TheVariants.{Tick}
 use Rattle.tsb_step.specs.Runs.{replay}
 use Rattle.tsb_step.proofs.ClearLemmas.{one_later}
 use Rattle.tsb_text.specs.declared.kept.Other.{Other}
-use Rattle.tsb_text.specs.kept.Kept.{is_same_row, kept_of, last_row, new_rows, other_tick, row_behind, row_kept, row_tick}
+use Rattle.tsb_text.specs.kept.Kept.{is_same_row, kept_of, last_row, new_rows, other_tick, row_behind, row_kept}
 use Rattle.tsb_text.specs.kept.Laws.{Differ, GivesAgain, RowsAreFew, RowsAreGiven, given_again, given_from, with_ticks}
-use Rattle.tsb_text.proofs.kept.KeptLemmas.{IsBy, kept-by, kept-row, new-later, no-less, same-now}
-use Rattle.tsb_text.proofs.kept.LaterLemmas.{AreBy, AreLater, by-none, by-more, later-none, later-more}
+use Rattle.tsb_text.proofs.kept.KeptLemmas.{IsBy, kept-by, kept-row, new-later}
+use Rattle.tsb_text.proofs.BackLemmas.{no-less, same-now}
+use Rattle.tsb_text.specs.Later.{row_tick}
+use Rattle.tsb_text.proofs.LaterLemmas.{AreBy, AreLater, by-none, by-more, later-none, later-more}
 
 -- ## Rows in force
 

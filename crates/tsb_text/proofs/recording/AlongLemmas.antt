@@ -1,37 +1,23 @@
 -- What inputs have told is taken back with them.
-use Rattle.std.proofs.Common.{suc, ◌≡◌, ◌∙◌, ℕ, ◌+◌, ◌<◌, ◌≤◌, ◌==◌, Bool, true, false, List, [], ◌∷◌, ◌++◌, if◌then◌else◌, is_some, length, take, refl, sym, ap, subst, arith}
-use Rattle.std.proofs.lemmas.Bool.{eqb-false, eqb-true}
+use Rattle.std.proofs.Common.{◌≡◌, ◌∙◌, ℕ, ◌<◌, ◌≤◌, List, [], ◌∷◌, ◌++◌, length, take, refl, sym, ap, subst, arith}
 use Rattle.std.proofs.Math.Seq.{take-append_seam}
 use Rattle.tsb_types.specs.declared.event.Event.{Event}
 use Rattle.tsb_types.specs.declared.row.Row.{Row}
 use Rattle.tsb_step.specs.tsb_plan.Plan.{Plan}
 use Rattle.tsb_step.specs.declared.inputs.Input.{Input}
-use Rattle.tsb_step.specs.declared.inputs.Input.TheVariants.{Tick, Fault, Reset}
+use Rattle.tsb_step.specs.declared.inputs.Input.TheVariants.{Tick}
 use Rattle.tsb_step.specs.declared.log_form.LogForm.{LogForm}
 use Rattle.tsb_step.specs.Events.{events_of}
 use Rattle.tsb_step.specs.Play.{back_to}
 use Rattle.tsb_step.specs.Runs.{replay}
-use Rattle.tsb_step.specs.Signs.{watched}
-use Rattle.tsb_step.specs.State.{State, restarted}
-use Rattle.tsb_step.specs.Step.{step}
-use Rattle.tsb_step.proofs.ClearLemmas.{one_later}
-use Rattle.tsb_step.proofs.WayLemmas.{ticks_are_counted}
 use Rattle.tsb_text.specs.declared.recording.told.Mark.{Mark}
-use Rattle.tsb_text.specs.recording.Along.{noted_after, telling, told_along, with_input}
-use Rattle.tsb_text.specs.recording.Told.{Telling, event_tick, gone_back, mark_tick, without_later}
+use Rattle.tsb_text.specs.recording.Along.{noted_after, telling, told_along}
+use Rattle.tsb_text.specs.Later.{event_tick, without_later}
+use Rattle.tsb_text.specs.recording.Told.{DropsMark, Telling, gone_back, mark_tick}
 use Rattle.tsb_text.proofs.recording.TickLemmas.{AreAt, at-none, at-more, at-of}
-use Rattle.tsb_text.proofs.recording.ToldLemmas.{AreBy, AreLater, by-none, by-more, later-none, later-more, by-append, by-front, by-stays, later-gone}
-use Rattle.tsb_text.proofs.kept.KeptLemmas.{same-now}
-
--- ## Tick numbers
-
--- an input that is no tick
-abbrev pub IsNoTick : Input → Type 0
-IsNoTick (Tick row) = ⊥
-IsNoTick i = Unit {0}
-
-no-less : (plan : Plan) (i : Input) (is : List Input) → (replay plan is).now ≤ (replay plan (i ∷ is)).now
-no-less plan i is = (ticks_are_counted plan).on (replay plan is) i
+use Rattle.tsb_text.specs.kept.Kept.{IsNoTick}
+use Rattle.tsb_text.proofs.BackLemmas.{back-at, no-less, same-now, undone-tick}
+use Rattle.tsb_text.proofs.LaterLemmas.{AreBy, AreLater, by-none, by-more, later-none, later-more, by-append, by-stays, later-gone}
 
 -- ## What was told up to now
 
@@ -70,37 +56,39 @@ told-by form plan (i ∷ is) t le =
       marks = by-append mark_tick t (telling form plan is).marks (mark form plan is ∷ []) before.marks (by-more (mark form plan is) [] here by-none);
     }
 
--- the form stays
-pub same-form : (i : Input) (tick : ℕ) (news : List Event) (told : Telling) → (with_input i tick news told).form ≡ told.form
-same-form (Tick row) tick news told = refl
-same-form i tick news told = refl
-
-pub telling-form : (form : LogForm) (plan : Plan) (is : List Input) → (telling form plan is).form ≡ form
-telling-form form plan [] = refl
-telling-form form plan (i ∷ is) = same-form i _ _ (telling form plan is) ∙ telling-form form plan is
-
--- so the events in a log of this form are those in one of its own
-pub own : (form : LogForm) (plan : Plan) (is : List Input) (told : Telling) → told ≡ telling form plan is → told ≡ telling told.form plan is
-own form plan is told same =
-    same ∙ ap (λ (f : LogForm). telling f plan is) (sym (ap (λ (t : Telling). t.form) same ∙ telling-form form plan is))
-
 -- ## Taken back
 
-made : LogForm → List Event → List Mark → Telling
-made form events marks = record { form = form; events = events; marks = marks }
+made : List Event → List Mark → Telling
+made events marks = record { events = events; marks = marks }
+
+told-stays : (form : LogForm) (plan : Plan) (is : List Input) (t : ℕ) → (replay plan is).now ≤ t → gone_back t (telling form plan is) ≡ telling form plan is
+unfolding made
+told-stays form plan is t le =
+    let all : IsBy t (telling form plan is) = told-by form plan is t le in
+    λ j. made (by-stays event_tick t (telling form plan is).events all.events j) (by-stays mark_tick t (telling form plan is).marks all.marks j)
+
+-- what was told by the newest input is later than a tick before it
+newest-later : (form : LogForm) (plan : Plan) (t : ℕ) (i : Input) (is : List Input) → t ≤ (replay plan is).now → t < (replay plan (i ∷ is)).now → gone_back t (telling form plan (i ∷ is)) ≡ gone_back t (telling form plan is)
+unfolding made
+newest-later form plan t (Tick row) is le lt =
+    let events : without_later event_tick t (telling form plan (Tick row ∷ is)).events ≡ without_later event_tick t (telling form plan is).events =
+    later-gone event_tick t (telling form plan is).events (news form plan (Tick row) is) (at-later (replay plan (Tick row ∷ is)).now t (news form plan (Tick row) is) lt (at-of (noted_after form is) (replay plan is) (Tick row))) in
+    λ j. made (events j) (without_later mark_tick t (telling form plan is).marks)
+newest-later form plan t i is le lt =
+    let same : (replay plan (i ∷ is)).now ≡ (replay plan is).now = same-now (replay plan is) i tt in
+    let here : t < (replay plan is).now = omega (arith, lt, same) in
+    let events : without_later event_tick t (telling form plan (i ∷ is)).events ≡ without_later event_tick t (telling form plan is).events =
+    later-gone event_tick t (telling form plan is).events (news form plan i is) (at-later (replay plan (i ∷ is)).now t (news form plan i is) lt (at-of (noted_after form is) (replay plan is) i)) in
+    let marks : without_later mark_tick t (telling form plan (i ∷ is)).marks ≡ without_later mark_tick t (telling form plan is).marks =
+    later-gone mark_tick t (telling form plan is).marks (mark form plan is ∷ []) (later-more (mark form plan is) [] here later-none) in
+    λ j. made (events j) (marks j)
 
 -- a tick is taken back by going back to the tick before it
 pub tick-undone : (form : LogForm) (plan : Plan) (row : Row) (is : List Input) → gone_back (replay plan is).now (telling form plan (Tick row ∷ is)) ≡ telling form plan is
-unfolding made
-tick-undone form plan row is =
-    let before : IsBy (replay plan is).now (telling form plan is) = told-by form plan is (replay plan is).now (omega arith) in
-    let next : (replay plan (Tick row ∷ is)).now ≡ (replay plan is).now + 1 = one_later (replay plan is) row in
-    let later : (replay plan is).now < (replay plan (Tick row ∷ is)).now = omega (arith, next) in
-    let events : without_later event_tick (replay plan is).now (telling form plan (Tick row ∷ is)).events ≡ (telling form plan is).events =
-    by-front event_tick (replay plan is).now (telling form plan is).events (news form plan (Tick row) is) before.events
-    (at-later (replay plan (Tick row ∷ is)).now (replay plan is).now (news form plan (Tick row) is) later (at-of (noted_after form is) (replay plan is) (Tick row))) in
-    let marks : without_later mark_tick (replay plan is).now (telling form plan is).marks ≡ (telling form plan is).marks = by-stays mark_tick (replay plan is).now (telling form plan is).marks before.marks in
-    λ j. made (telling form plan is).form (events j) (marks j)
+tick-undone form plan row is = undone-tick plan (telling form plan) gone_back (told-stays form plan) (newest-later form plan) row is
+
+pub gone-back : (form : LogForm) (plan : Plan) (t : ℕ) (is : List Input) → t ≤ (replay plan is).now → telling form plan (back_to plan t is) ≡ gone_back t (telling form plan is)
+gone-back form plan t is le = back-at plan (telling form plan) gone_back (told-stays form plan) (newest-later form plan) t is le
 
 -- any other input by its mark
 pub record HasMark (form : LogForm) (plan : Plan) (i : Input) (is : List Input) : Type 0 where
@@ -113,58 +101,16 @@ input-undone form plan (Tick row) is none = absurd none
 input-undone form plan i is none =
     record { mark = mark form plan is; last = refl; before = take-append_seam (telling form plan is).events (news form plan i is) }
 
--- ## Back to a tick
-
-pub reached : (plan : Plan) (t : ℕ) (is : List Input) → t ≤ (replay plan is).now → (replay plan (back_to plan t is)).now ≡ t
-reached plan t [] le = let zero_is : (replay plan []).now ≡ 0 = (ticks_are_counted plan).begins in omega (arith, le, zero_is)
-reached plan t (i ∷ is) le = go ((replay plan (i ∷ is)).now == t) refl (λ h. reached plan t is h)
-  where
-    go : (b : Bool) → ((replay plan (i ∷ is)).now == t) ≡ b → (t ≤ (replay plan is).now → (replay plan (back_to plan t is)).now ≡ t) →
-        (replay plan (if b then i ∷ is else back_to plan t is)).now ≡ t
-    go true e later = eqb-true (replay plan (i ∷ is)).now t e
-    go false e later =
-        let other : (replay plan (i ∷ is)).now ≡ t → ⊥ = eqb-false (replay plan (i ∷ is)).now t e in
-        let one : (replay plan (i ∷ is)).now ≤ suc (replay plan is).now = (ticks_are_counted plan).by_one (replay plan is) i in
-        later (omega (arith, le, one, other))
-
--- what was told by the newest input is later than a tick before it
-newest-later : (form : LogForm) (plan : Plan) (t : ℕ) (i : Input) (is : List Input) → t ≤ (replay plan is).now → t < (replay plan (i ∷ is)).now → gone_back t (telling form plan (i ∷ is)) ≡ gone_back t (telling form plan is)
-unfolding made
-newest-later form plan t (Tick row) is le lt =
-    let events : without_later event_tick t (telling form plan (Tick row ∷ is)).events ≡ without_later event_tick t (telling form plan is).events =
-    later-gone event_tick t (telling form plan is).events (news form plan (Tick row) is) (at-later (replay plan (Tick row ∷ is)).now t (news form plan (Tick row) is) lt (at-of (noted_after form is) (replay plan is) (Tick row))) in
-    λ j. made (telling form plan is).form (events j) (without_later mark_tick t (telling form plan is).marks)
-newest-later form plan t i is le lt =
-    let same : (replay plan (i ∷ is)).now ≡ (replay plan is).now = same-now (replay plan is) i tt in
-    let here : t < (replay plan is).now = omega (arith, lt, same) in
-    let events : without_later event_tick t (telling form plan (i ∷ is)).events ≡ without_later event_tick t (telling form plan is).events =
-    later-gone event_tick t (telling form plan is).events (news form plan i is) (at-later (replay plan (i ∷ is)).now t (news form plan i is) lt (at-of (noted_after form is) (replay plan is) i)) in
-    let marks : without_later mark_tick t (telling form plan (i ∷ is)).marks ≡ without_later mark_tick t (telling form plan is).marks =
-    later-gone mark_tick t (telling form plan is).marks (mark form plan is ∷ []) (later-more (mark form plan is) [] here later-none) in
-    λ j. made (telling form plan is).form (events j) (marks j)
-
-pub gone-back : (form : LogForm) (plan : Plan) (t : ℕ) (is : List Input) → t ≤ (replay plan is).now → telling form plan (back_to plan t is) ≡ gone_back t (telling form plan is)
-unfolding made
-gone-back form plan t [] le = refl
-gone-back form plan t (i ∷ is) le = go ((replay plan (i ∷ is)).now == t) refl (λ h. gone-back form plan t is h)
-  where
-    go : (b : Bool) → ((replay plan (i ∷ is)).now == t) ≡ b → (t ≤ (replay plan is).now → telling form plan (back_to plan t is) ≡ gone_back t (telling form plan is)) →
-        telling form plan (if b then i ∷ is else back_to plan t is) ≡ gone_back t (telling form plan (i ∷ is))
-    go true e later =
-        let here : (replay plan (i ∷ is)).now ≡ t = eqb-true (replay plan (i ∷ is)).now t e in
-        let all : IsBy t (telling form plan (i ∷ is)) = told-by form plan (i ∷ is) t (omega (arith, here)) in
-        let events : without_later event_tick t (telling form plan (i ∷ is)).events ≡ (telling form plan (i ∷ is)).events = by-stays event_tick t (telling form plan (i ∷ is)).events all.events in
-        let marks : without_later mark_tick t (telling form plan (i ∷ is)).marks ≡ (telling form plan (i ∷ is)).marks = by-stays mark_tick t (telling form plan (i ∷ is)).marks all.marks in
-        sym (λ j. made (telling form plan (i ∷ is)).form (events j) (marks j))
-    go false e later =
-        let other : (replay plan (i ∷ is)).now ≡ t → ⊥ = eqb-false (replay plan (i ∷ is)).now t e in
-        let one : (replay plan (i ∷ is)).now ≤ suc (replay plan is).now = (ticks_are_counted plan).by_one (replay plan is) i in
-        let on : t ≤ (replay plan is).now = omega (arith, le, one, other) in
-        later on ∙ sym (newest-later form plan t i is on (omega (arith, le, other)))
-
 -- ## The events
 
 pub told-same : (form : LogForm) (plan : Plan) (is : List Input) → (telling form plan is).events ≡ told_along form plan is
 told-same form plan [] = refl
 told-same form plan (Tick row ∷ is) = ap (λ (es : List Event). es ++ events_of (noted_after form is) (replay plan is) (Tick row)) (told-same form plan is)
 told-same form plan (i ∷ is) = ap (λ (es : List Event). es ++ events_of (noted_after form is) (replay plan is) i) (told-same form plan is)
+
+-- an input that is no tick is dropped with its events
+pub mark-dropped : (form : LogForm) (plan : Plan) (i : Input) (is : List Input) (new : Telling) → IsNoTick i → DropsMark (telling form plan (i ∷ is)) new → new ≡ telling form plan is
+unfolding made
+mark-dropped form plan i is new none drops =
+    let has : HasMark form plan i is = input-undone form plan i is none in
+    drops (telling form plan is).marks has.mark has.last ∙ (λ j. made (has.before j) (telling form plan is).marks)

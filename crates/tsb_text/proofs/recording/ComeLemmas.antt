@@ -1,5 +1,5 @@
 -- What lines come to, from what was told of each.
-use Rattle.std.proofs.Common.{codes, zero, suc, ◌≡◌, ◌∙◌, ℕ, ◌+◌, ◌<◌, ◌≤◌, nat_lt, Bool, true, false, Some, None, List, [], ◌∷◌, ◌++◌, length, map, take, take_all, append_assoc, refl, sym, ap, subst, arith, rules, inl, inr}
+use Rattle.std.proofs.Common.{codes, zero, suc, ◌≡◌, ◌∙◌, ℕ, ◌+◌, ◌<◌, ◌≤◌, Bool, true, false, Some, None, List, [], ◌∷◌, ◌++◌, length, map, take, take_all, append_assoc, refl, sym, ap, subst, arith, inl, inr}
 use Rattle.std.proofs.lemmas.Bool.{cases_lt}
 use Rattle.std.proofs.lemmas.List.{append-nil, length-take-le, take-take}
 use Rattle.std.specs.declared.option.Option.{Option}
@@ -15,14 +15,16 @@ use Rattle.tsb_dialog.specs.declared.answers.Flow.{Flow}
 use Rattle.tsb_dialog.specs.declared.answers.Flow.TheVariants.{On, Over}
 use Rattle.tsb_dialog.specs.Heard.{HaveNoFeed, Heard, IsAnswered, IsOver, Runs, asked, fed}
 use Rattle.tsb_text.specs.Answers.{Setup}
-use Rattle.tsb_text.specs.declared.recording.faults.FaultyLine.{FaultyLine}
+use Rattle.tsb_text.specs.Stops.{Stopped}
 use Rattle.tsb_text.specs.declared.faults.LineFault.{LineFault}
 use Rattle.tsb_text.specs.declared.faults.OnFault.{OnFault}
 use Rattle.tsb_text.specs.recording.Ended.{Carries, TellsWhole}
 use Rattle.std.specs.Fmt.{decimal}
-use Rattle.tsb_text.specs.Faults.{fault_words, shown, shown_byte}
+use Rattle.tsb_text.specs.Faults.{fault_words, shown_byte}
+use Rattle.tsb_text.specs.declared.faults.OnFault.TheVariants as faults
 use Rattle.tsb_text.specs.recording.Faults.{fault_text}
-use Rattle.tsb_text.specs.recording.Leaves.{Come, Does, End, Ends, Follows, flow_after, quits, stop_at}
+use Rattle.tsb_text.specs.recording.Leaves.{Come, Does, End, Ends, Follows, quits}
+use Rattle.tsb_text.specs.Stops.{flow_after, stopped_at}
 use Rattle.tsb_text.specs.recording.Lines.{Course, TellsLine, says}
 use Rattle.tsb_text.proofs.TextLemmas.{reading-long}
 
@@ -45,32 +47,36 @@ return-far (suc n) [] lt = absurd (omega (arith, lt))
 return-far (suc n) (b ∷ []) lt = absurd (omega (arith, lt))
 return-far (suc n) (b ∷ c ∷ bs) lt = ap (λ (v : List ℕ). b ∷ v) (return-far n (c ∷ bs) (omega (arith, lt)))
 
-last-shown : (line : List ℕ) → shown (kept 202 line) ≡ shown line
-last-shown line = ap (map shown_byte) (take-take 200 202 line (omega arith))
+last-front : (line : List ℕ) → take 200 (kept 202 line) ≡ take 200 line
+last-front line = take-take 200 202 line (omega arith)
 
-line-shown : (line : List ℕ) → shown (without_return (kept 202 line)) ≡ shown (without_return line)
-line-shown line = elim (cases_lt (length line) 202) [
-  | inl less ↦ ap (λ (v : List ℕ). shown (without_return v)) (take_all 202 line (omega (arith, less)))
+line-front : (line : List ℕ) → take 200 (without_return (kept 202 line)) ≡ take 200 (without_return line)
+line-front line = elim (cases_lt (length line) 202) [
+  | inl less ↦ ap (λ (v : List ℕ). take 200 (without_return v)) (take_all 202 line (omega (arith, less)))
   | inr long ↦
       let full : length (take 202 line) ≡ 202 = length-take-le 202 line long in
       let first : take 200 (without_return (take 202 line)) ≡ take 200 (take 202 line) = return-far 200 (take 202 line) (omega (arith, full)) in
       let second : take 200 (without_return line) ≡ take 200 line = return-far 200 line (omega (arith, long)) in
-      ap (map shown_byte) (first ∙ take-take 200 202 line (omega arith) ∙ sym second)
+      first ∙ take-take 200 202 line (omega arith) ∙ sym second
 ]
 
-text-same : (n : ℕ) (line other : List ℕ) (fault : Option LineFault) → shown line ≡ shown other → fault_text n line fault ≡ fault_text n other fault
+text-same : (n : ℕ) (line other : List ℕ) (fault : Option LineFault) → take 200 line ≡ take 200 other → fault_text n line fault ≡ fault_text n other fault
 text-same n line other None same = refl
-text-same n line other (Some fault) same = ap (λ (v : List ℕ). codes "command " ++ (decimal n ++ (codes ": " ++ (v ++ (codes ": " ++ (fault_words fault ++ 10 ∷ [])))))) same
+text-same n line other (Some fault) same = ap (λ (v : List ℕ). codes "command " ++ (decimal n ++ (codes ": " ++ (map shown_byte v ++ (codes ": " ++ (fault_words fault ++ 10 ∷ [])))))) same
+
+stopped-same : (w : OnFault) (n : ℕ) (line other : List ℕ) (fault : Option LineFault) → take 200 line ≡ take 200 other → stopped_at w n line fault ≡ stopped_at w n other fault
+stopped-same faults.Stop n line other (Some fault) same = λ j. Some (record { number = n; line = same j; fault = fault })
+stopped-same w n line other fault same = refl
 
 -- so what is told of what is kept is told of the line
-tells-same : (w : OnFault) (given : Setup) (is : List Input) (n : ℕ) (line other text : List ℕ) (flow : Flow) (new : End) → reading line ≡ reading other → shown line ≡ shown other
+tells-same : (w : OnFault) (given : Setup) (is : List Input) (n : ℕ) (line other text : List ℕ) (flow : Flow) (new : End) → reading line ≡ reading other → take 200 line ≡ take 200 other
     → TellsLine w given is n line text flow new → TellsLine w given is n other text flow new
-tells-same w given is n line other text flow new reads shows t = (
+tells-same w given is n line other text flow new reads front t = (
   t.0,
   subst (λ (r : Reading). Does given is r t.0 new.inputs) reads t.1,
-  t.2 ∙ text-same n line other t.0 shows,
-  t.3,
-  t.4 ∙ ap (λ (r : Reading). flow_after (quits r) (stop_at w n t.0)) reads,
+  t.2 ∙ text-same n line other t.0 front,
+  t.3 ∙ stopped-same w n line other t.0 front,
+  t.4 ∙ (λ j. flow_after (quits (reads j)) (stopped-same w n line other t.0 front j)),
 )
 
 -- ## A line
@@ -84,12 +90,12 @@ on-comes w given n is line answer new end lines text t rest = (
   text,
   t.1,
   ap (λ (v : List ℕ). v ++ text) t.2,
-  subst (λ (f : Flow). Follows f (Come w given end (suc n) new.inputs lines text) (Ends end new.inputs (stop_at w n t.0) text)) t.4 rest,
+  subst (λ (f : Flow). Follows f (Come w given end (suc n) new.inputs lines text) (Ends end new.inputs (stopped_at w n line t.0) text)) t.4 rest,
 )
 
 -- where a record ends
-there : (new : End) (stop : Option FaultyLine) → new.stop ≡ stop → new ≡ record { inputs = new.inputs; stop = stop }
-there new stop same = ap (λ (s : Option FaultyLine). record { inputs = new.inputs; stop = s }) same
+there : (new : End) (stop : Option Stopped) → new.stop ≡ stop → new ≡ record { inputs = new.inputs; stop = stop }
+there new stop same = ap (λ (s : Option Stopped). record { inputs = new.inputs; stop = s }) same
 
 -- a line that ends it
 over-comes : (w : OnFault) (given : Setup) (n : ℕ) (is : List Input) (line answer : List ℕ) (new : End) (lines : List (List ℕ))
@@ -100,11 +106,11 @@ over-comes w given n is line answer new lines t = (
   [],
   t.1,
   t.2 ∙ sym (append-nil _),
-  subst (λ (f : Flow). Follows f (Come w given new (suc n) new.inputs lines []) (Ends new new.inputs (stop_at w n t.0) [])) t.4 (refl, there new (stop_at w n t.0) t.3),
+  subst (λ (f : Flow). Follows f (Come w given new (suc n) new.inputs lines []) (Ends new new.inputs (stopped_at w n line t.0) [])) t.4 (refl, there new (stopped_at w n line t.0) t.3),
 )
 
 -- at the end of what is read a record ends in any case
-last-follows : (is_quit : Bool) (stop : Option FaultyLine) (new : End) → new.stop ≡ stop → Follows (flow_after is_quit stop) (Ends new new.inputs None []) (Ends new new.inputs stop [])
+last-follows : (is_quit : Bool) (stop : Option Stopped) (new : End) → new.stop ≡ stop → Follows (flow_after is_quit stop) (Ends new new.inputs None []) (Ends new new.inputs stop [])
 last-follows false None new same = (refl, there new None same)
 last-follows false (Some line) new same = (refl, there new (Some line) same)
 last-follows true None new same = (refl, there new None same)
@@ -114,7 +120,7 @@ last-follows true (Some line) new same = (refl, there new (Some line) same)
 last-comes : (w : OnFault) (given : Setup) (n : ℕ) (is : List Input) (line answer : List ℕ) (flow : Flow) (new : End)
     → TellsLine w given is n line answer flow new → Come w given new n is (line ∷ []) answer
 last-comes w given n is line answer flow new t =
-    (t.0, new.inputs, [], t.1, t.2 ∙ sym (append-nil _), last-follows (quits (reading line)) (stop_at w n t.0) new t.3)
+    (t.0, new.inputs, [], t.1, t.2 ∙ sym (append-nil _), last-follows (quits (reading line)) (stopped_at w n line t.0) new t.3)
 
 -- ## All lines
 
@@ -145,7 +151,7 @@ continues-line w form given line lines before answer then now f k told = record 
   shape = told.3 ∙ k.shape;
   on = λ end tail more come.
       let tells : TellsLine w given then.end.inputs (suc (length lines)) (without_return line) answer On now.end =
-      tells-same w given then.end.inputs (suc (length lines)) (asked 202 line) (without_return line) answer On now.end (line-read line) (line-shown line)
+      tells-same w given then.end.inputs (suc (length lines)) (asked 202 line) (without_return line) answer On now.end (line-read line) (line-front line)
       (told-given w given (suc (length lines)) (asked 202 line) answer On then now k.same k.way told) in
       let here : Come w given end (suc (length lines)) then.end.inputs (lines_of (line ++ 10 ∷ tail)) (answer ++ more) =
       subst (λ (ls : List (List ℕ)). Come w given end (suc (length lines)) then.end.inputs ls (answer ++ more)) (sym (lines-joined line tail f))
@@ -196,7 +202,7 @@ answered-come w form given bytes text last a =
     let h : Heard 202 says (begun w form given) bytes a.before a.number a.now a.held = a.heard in
     let k : Continues w form given h.lines a.before a.now = heard-on w form given bytes a.before a.number a.now a.held h in
     let tells : TellsLine w given a.now.end.inputs a.number h.rest a.answer a.flow last.end =
-    tells-same w given a.now.end.inputs a.number a.held h.rest a.answer a.flow last.end (ap reading h.kept ∙ last-read h.rest) (ap shown h.kept ∙ last-shown h.rest)
+    tells-same w given a.now.end.inputs a.number a.held h.rest a.answer a.flow last.end (ap reading h.kept ∙ last-read h.rest) (ap (take 200) h.kept ∙ last-front h.rest)
     (told-given w given a.number a.held a.answer a.flow a.now last k.same k.way a.told) in
     let here : Come w given last.end a.number a.now.end.inputs (lines_of (h.rest ++ [])) a.answer =
     subst (λ (ls : List (List ℕ)). Come w given last.end a.number a.now.end.inputs ls a.answer) (sym (ap lines_of (append-nil h.rest) ∙ lines-alone h.rest h.unfinished))
@@ -213,7 +219,7 @@ over-come w form given bytes text last o =
     let k : Continues w form given h.lines o.before o.now = heard-on w form given o.front o.before o.number o.now o.held h in
     let tells : TellsLine w given o.now.end.inputs o.number (without_return h.rest) o.answer Over last.end =
     tells-same w given o.now.end.inputs o.number (without_return o.held) (without_return h.rest) o.answer Over last.end (ap (λ (v : List ℕ). reading (without_return v)) h.kept ∙ line-read h.rest)
-    (ap (λ (v : List ℕ). shown (without_return v)) h.kept ∙ line-shown h.rest)
+    (ap (λ (v : List ℕ). take 200 (without_return v)) h.kept ∙ line-front h.rest)
     (told-given w given o.number (without_return o.held) o.answer Over o.now last k.same k.way o.told) in (
       o.told.1 ∙ k.same,
       o.told.3 ∙ k.shape,

@@ -8,18 +8,22 @@ use Rattle.tsb_bench.specs.tsb_machine.declared.commands.Command.TheVariants as 
 use Rattle.tsb_step.specs.tsb_plan.Plan.{Plan}
 use Rattle.tsb_step.specs.declared.inputs.Input.{Input}
 use Rattle.tsb_step.specs.Play.{AreRight, AreRightFrom, Cmd, IsRight, remaining, remaining_after, remaining_from}
-use Rattle.tsb_command_text.specs.declared.command.Command.{Command}
-use Rattle.tsb_command_text.specs.declared.command.Command.TheVariants.{Step, Show, Quit, When}
 use Rattle.tsb_command_text.specs.declared.command.Reading.{Reading}
 use Rattle.tsb_command_text.specs.declared.command.Reading.TheVariants.{Skip, Bad, Do}
 use Rattle.tsb_command_text.specs.Readings.{reading}
 use Rattle.tsb_dialog.specs.declared.answers.Flow.{Flow}
 use Rattle.tsb_dialog.specs.declared.answers.Flow.TheVariants.{On, Over}
 use Rattle.tsb_text.specs.Answers.{Setup, next_tick}
-use Rattle.tsb_text.specs.declared.recording.faults.FaultyLine.{FaultyLine}
+use Rattle.tsb_text.specs.Obeys.{Obeys, TakesTicks, nothing_besides}
+use Rattle.tsb_text.specs.Tasks.{task_of}
+use Rattle.tsb_text.specs.declared.task.Task.{Task}
+use Rattle.tsb_text.specs.declared.task.Task.TheVariants as tasks
+use Rattle.tsb_text.specs.declared.task.Task.TheVariants.{Ask, Ticks}
+use Rattle.tsb_text.specs.Stops.{Stopped}
 use Rattle.tsb_text.specs.declared.faults.LineFault.{LineFault}
 use Rattle.tsb_text.specs.declared.faults.OnFault.{OnFault}
-use Rattle.tsb_text.specs.recording.Leaves.{Asked, Come, Does, End, Ends, Follows, Leaves, Steps, flow_after, quits, stop_at}
+use Rattle.tsb_text.specs.recording.Leaves.{Come, Does, End, Ends, Follows, quits}
+use Rattle.tsb_text.specs.Stops.{flow_after, stopped_at}
 
 -- commands with right answers lead from some inputs to others
 pub record Leads (plan : Plan) (is new : List Input) : Type 0 where
@@ -48,28 +52,24 @@ both plan is new last (c ∷ cs) (a ∷ ans) right left rest =
 pub then : (plan : Plan) (is new last : List Input) → Leads plan is new → Leads plan new last → Leads plan is last
 then plan is new last first rest = both plan is new last first.cs first.ans first.right first.left rest
 
-by-steps : (given : Setup) (n : ℕ) (is : List Input) (refusal : Option Refusal) (new : List Input) → Steps given is n refusal new → Leads given.plan is new
-by-steps given zero is refusal new s = stay given.plan is new s.1
-by-steps given (suc n) is refusal new (inl s) =
-    onto given.plan is new (asks.Apply (next_tick given is)) Took s.0 (by-steps given n (next_tick given is ∷ is) refusal new s.1)
-by-steps given (suc n) is refusal new (inr s) = one given.plan is new (asks.Apply (next_tick given is)) (Refused s.0) s.1 s.3
+by-ticks : (given : Setup) (n : ℕ) (is : List Input) (text : List ℕ) (refusal : Option Refusal) (new : List Input) → TakesTicks given nothing_besides is n text refusal new → Leads given.plan is new
+by-ticks given zero is text refusal new t = stay given.plan is new t.2
+by-ticks given (suc n) is text refusal new (inl t) =
+    onto given.plan is new (asks.Apply (next_tick given is)) Took t.1.right (by-ticks given n (next_tick given is ∷ is) t.0 refusal new t.2)
+by-ticks given (suc n) is text refusal new (inr t) = one given.plan is new (asks.Apply (next_tick given is)) (Refused t.why) t.right t.left
 
-by-asked : (given : Setup) (is : List Input) (c : Cmd) (refusal : Option Refusal) (new : List Input) → Asked given is c refusal new → Leads given.plan is new
-by-asked given is c refusal new a = one given.plan is new c a.answer a.right a.left
-
-by-command : (given : Setup) (is : List Input) (c : Command) (refusal : Option Refusal) (new : List Input) → Leaves given is c refusal new → Leads given.plan is new
-by-command given is (Step n) refusal new l = by-steps given n is refusal new l
-by-command given is Show refusal new l = stay given.plan is new l.1
-by-command given is Quit refusal new l = stay given.plan is new l.1
-by-command given is (When watch) refusal new l = stay given.plan is new l.1
-by-command given is c refusal new l = by-asked given is _ refusal new l
+by-task : (given : Setup) (is : List Input) (task : Task) (text : List ℕ) (refusal : Option Refusal) (new : List Input) → Obeys given nothing_besides is task text refusal new → Leads given.plan is new
+by-task given is (Ticks n) text refusal new o = by-ticks given n is text refusal new o
+by-task given is tasks.Show text refusal new o = stay given.plan is new o.2
+by-task given is tasks.Quit text refusal new o = stay given.plan is new o.2
+by-task given is (Ask cmd) text refusal new o = one given.plan is new cmd o.answer o.right o.left
 
 by-does : (given : Setup) (is : List Input) (r : Reading) (fault : Option LineFault) (new : List Input) → Does given is r fault new → Leads given.plan is new
 by-does given is Skip fault new d = stay given.plan is new d.1
 by-does given is Bad fault new d = stay given.plan is new d.1
-by-does given is (Do c) fault new d = by-command given is c d.0 new d.1
+by-does given is (Do c) fault new d = by-task given is (task_of c) d.1.0 d.0 new d.1.1
 
-by-rest : (given : Setup) (f : Flow) (new : List Input) (end : End) (stop : Option FaultyLine) (Rest : Type 0) (told : List ℕ) → (Rest → Leads given.plan new end.inputs) → Follows f Rest (Ends end new stop told)
+by-rest : (given : Setup) (f : Flow) (new : List Input) (end : End) (stop : Option Stopped) (Rest : Type 0) (told : List ℕ) → (Rest → Leads given.plan new end.inputs) → Follows f Rest (Ends end new stop told)
     → Leads given.plan new end.inputs
 by-rest given On new end stop Rest told rest g = rest g
 by-rest given Over new end stop Rest told rest g = stay given.plan new end.inputs (ap (λ (e : End). e.inputs) g.1)
@@ -78,7 +78,7 @@ by-lines : (on_fault : OnFault) (given : Setup) (end : End) (lines : List (List 
 by-lines on_fault given end [] n is told h = stay given.plan is end.inputs (ap (λ (e : End). e.inputs) h.1)
 by-lines on_fault given end (line ∷ lines) n is told h =
     then given.plan is h.1 end.inputs (by-does given is (reading line) h.0 h.1 h.3)
-    (by-rest given (flow_after (quits (reading line)) (stop_at on_fault n h.0)) h.1 end (stop_at on_fault n h.0) (Come on_fault given end (suc n) h.1 lines h.2) h.2
+    (by-rest given (flow_after (quits (reading line)) (stopped_at on_fault n line h.0)) h.1 end (stopped_at on_fault n line h.0) (Come on_fault given end (suc n) h.1 lines h.2) h.2
     (λ rest. by-lines on_fault given end lines (suc n) h.1 h.2 rest) h.5)
 
 pub lines_leave_what_remains : (on_fault : OnFault) (given : Setup) (end : End) (lines : List (List ℕ)) (told : List ℕ) → Come on_fault given end 1 [] lines told

@@ -5,11 +5,6 @@ use Rattle.std.specs.declared.option.Option.{Option}
 use Rattle.tsb_types.specs.declared.event.Event.{Event}
 use Rattle.tsb_step.specs.declared.inputs.Input.{Input}
 use Rattle.tsb_step.specs.declared.log_form.LogForm.{LogForm}
-use Rattle.tsb_step.specs.tsb_plan.Plan.{Plan}
-use Rattle.tsb_step.specs.Past.{controller}
-use Rattle.tsb_step.specs.State.{start}
-use Rattle.tsb_bench.specs.Held.{Held, whole}
-use Rattle.tsb_bench.proofs.tsb_machine.PlayLemmas.{follows-start}
 use Rattle.tsb_lines.proofs.StreamLemmas.{appends-nothing, consumes-nothing}
 use Rattle.tsb_log_text.specs.declared.log.LogRow.{LogRow}
 use Rattle.tsb_dialog.specs.declared.error.DialogError.{DialogError}
@@ -18,10 +13,14 @@ use Rattle.tsb_dialog.specs.Blame as dialog_blame
 use Rattle.tsb_dialog.specs.Ended as dialogs
 use Rattle.tsb_dialog.specs.Heard.{Heard, IsOver, IsSaid}
 use Rattle.tsb_text.specs.Answers.{Setup}
+use Rattle.tsb_text.specs.declared.course.Mode.TheVariants.{Recording}
+use Rattle.tsb_text.specs.Obeyed.{OnCourse, Stands}
+use Rattle.tsb_text.proofs.CourseLemmas.{is-told}
 use Rattle.tsb_text.specs.Blame.{Blames}
+use Rattle.tsb_text.specs.Replies.{fault_of}
 use Rattle.tsb_text.specs.declared.error.SessionError.TheVariants.{Memory}
 use Rattle.tsb_lines.specs.Lines.{lines_of}
-use Rattle.tsb_text.specs.declared.recording.faults.FaultyLine.{FaultyLine}
+use Rattle.tsb_text.specs.Stops.{Stopped as StoppedLine, stop_in}
 use Rattle.tsb_text.specs.declared.faults.OnFault.{OnFault}
 use Rattle.tsb_text.specs.declared.recording.Outcome.{Outcome}
 use Rattle.tsb_text.specs.declared.recording.Outcome.TheVariants.{Events, Stopped}
@@ -29,9 +28,9 @@ use Rattle.tsb_text.specs.recording.Along.{told_along}
 use Rattle.tsb_text.specs.recording.Ended.{Begins, Ended, EndedSo, IsBegun, ReadsOn, Remain, TellsWhole}
 use Rattle.tsb_text.specs.recording.Leaves.{Come, End}
 use Rattle.tsb_text.specs.recording.Lines.{Course, says}
-use Rattle.tsb_text.specs.recording.Recording.{IsOutcome, Stands, session_fault}
-use Rattle.tsb_text.specs.recording.Told.{Telling, nothing_told}
-use Rattle.tsb_text.proofs.recording.AlongLemmas.{own, told-same}
+use Rattle.tsb_text.specs.recording.Recording.{IsOutcome}
+use Rattle.tsb_text.specs.recording.Told.{Telling}
+use Rattle.tsb_text.proofs.recording.AlongLemmas.{told-same}
 use Rattle.tsb_text.proofs.recording.BegunLemmas.{begun-front, begun-more, carries-begun}
 use Rattle.tsb_text.proofs.recording.ComeLemmas.{answered-come, begun, heard-tells, over-come}
 
@@ -72,14 +71,14 @@ said-begun w form given read text s = subst (λ (v : List ℕ). IsBegun w given 
 -- ## The record
 
 -- where it came to this end, and what it gives is of that end
-remains : (w : OnFault) (given : Setup) (left : Option (List ℕ)) (read told : List ℕ) (end : End) (stop : Option FaultyLine) → end.stop ≡ stop → Remain w given left read end told
+remains : (w : OnFault) (given : Setup) (left : Option (List ℕ)) (read told : List ℕ) (end : End) (stop : Option StoppedLine) → end.stop ≡ stop → Remain w given left read end told
     → Remain w given left read (record { inputs = end.inputs; stop = stop }) told
-remains w given left read told end stop same r = subst (λ (s : Option FaultyLine). Remain w given left read (record { inputs = end.inputs; stop = s }) told) same r
+remains w given left read told end stop same r = subst (λ (s : Option StoppedLine). Remain w given left read (record { inputs = end.inputs; stop = s }) told) same r
 
 came-so : (w : OnFault) (form : LogForm) (given : Setup) (left : Option (List ℕ)) (read told : List ℕ) (outcome : Outcome) (end : End) → IsOutcome outcome end.stop (told_along form given.plan end.inputs)
     → Remain w given left read end told → EndedSo (Ok outcome) w form given left read told
 came-so w form given left read told (Events all) end is r = (end.inputs, remains w given left read told end None is.0 r, is.1)
-came-so w form given left read told (Stopped line) end is r = (end.inputs, remains w given left read told end (Some line) is r)
+came-so w form given left read told (Stopped line) end is r = (end.inputs, remains w given left read told end (stop_in (Some line)) is r)
 
 -- what a dialog left is what a record gives
 pub recorded : {A : Type 0} (stands : A → Course → Type 0) (w : OnFault) (form : LogForm) (given : Setup) (new : A) (i l o n : Option (List ℕ)) (outcome : Outcome) → dialogs.Ended 202 16777216 stands says (begun w form given) (Ok tt) new i l o n
@@ -102,7 +101,7 @@ recorded stands w form given new i l o n outcome d tells =
 
 -- all whole lines of what may be read were told of
 pub not-recorded : {A : Type 0} (stands : A → Course → Type 0) (w : OnFault) (form : LogForm) (given : Setup) (e : DialogError) (new : A) (i l o n : Option (List ℕ)) → dialogs.Ended 202 16777216 stands says (begun w form given) (Err e) new i l o n
-    → Ended (Err (session_fault e)) w form given i l o n
+    → Ended (Err (fault_of e)) w form given i l o n
 not-recorded stands w form given dialog.Write new i l o n d = record {
   read = d.read;
   taken = d.taken;
@@ -166,23 +165,18 @@ none-recorded w form given i o = record {
   };
 }
 
--- at power-up no input has come, and none has told anything
-pub stands-start : (plan : Plan) (log : List LogRow) (form : LogForm) (bench made : Held) (told : Telling) → whole bench ≡ record { state = start plan; records = [] } → made ≡ bench → told ≡ nothing_told form
-    → Stands (record { plan = plan; log = log }) log (whole made) told []
-stands-start plan log form bench made told began made_is told_is =
-    record { same = refl; follows = follows-start controller (start plan) (whole made) (ap whole made_is ∙ began); of_log = tt; tells = own form plan [] told told_is }
-
 -- what was told are the events of the inputs that remain
-pub stands-told : (given : Setup) (log : List LogRow) (bench : Held) (told : Telling) (is : List Input) (events : List Event) → events ≡ told.events → Stands given log (whole bench) told is → events ≡ told_along told.form given.plan is
-stands-told given log bench told is events same s = same ∙ ap (λ (t : Telling). t.events) s.tells ∙ told-same told.form given.plan is
+pub stands-told : (given : Setup) (log : List LogRow) (course : OnCourse) (form : LogForm) (is : List Input) → course.mode ≡ Recording form → Stands given log course is → course.told.told.events ≡ told_along form given.plan is
+stands-told given log course form is recording s =
+    ap (λ (t : Telling). t.events) (is-told course.mode form course.told.told given is recording s.tells).0 ∙ told-same form given.plan is
 
 -- so what a record gives is of where it has come to
-pub outcome-told : (outcome : Outcome) (stop found : Option FaultyLine) (events told : List Event) → IsOutcome outcome stop events → stop ≡ found → events ≡ told → IsOutcome outcome found told
+pub outcome-told : (outcome : Outcome) (stop found : Option StoppedLine) (events told : List Event) → IsOutcome outcome stop events → stop ≡ found → events ≡ told → IsOutcome outcome found told
 outcome-told (Events all) stop found events told is same tells = (sym same ∙ is.0, is.1 ∙ tells)
 outcome-told (Stopped line) stop found events told is same tells = sym same ∙ is
 
 -- the device that a dialog blames for its fault is the one to blame for that of the record
-pub blames-fault : (fault : DialogError) (read_failed write_failed flushed : Bool) → dialog_blame.Blames (Err fault) read_failed write_failed flushed → Blames {T = Outcome} (Err (session_fault fault)) read_failed write_failed flushed
+pub blames-fault : (fault : DialogError) (read_failed write_failed flushed : Bool) → dialog_blame.Blames (Err fault) read_failed write_failed flushed → Blames {T = Outcome} (Err (fault_of fault)) read_failed write_failed flushed
 blames-fault dialog.Read read_failed write_failed flushed blames = blames
 blames-fault dialog.Write read_failed write_failed flushed blames = blames
 blames-fault dialog.TooLarge read_failed write_failed flushed blames = blames

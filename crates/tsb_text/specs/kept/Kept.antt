@@ -1,6 +1,6 @@
 -- The inputs of a run that remain, kept so that they can be given again: the rows of its ticks as a log has them, and the
 -- other inputs, each with the tick in force. Inputs are piled up, the newest first; what is kept stands the oldest first.
-use Rattle.std.specs.Prelude.{ℕ, ◌+◌, ◌==◌, ◌&&◌, Bool, List, [], ◌∷◌, ◌++◌, if◌then◌else◌}
+use Rattle.std.specs.Prelude.{◌≡◌, ℕ, ◌+◌, ◌==◌, ◌&&◌, Bool, List, [], ◌∷◌, ◌++◌, if◌then◌else◌}
 use Rattle.tsb_types.specs.Sets.{all_off}
 use Rattle.tsb_types.specs.declared.number_set.NumberSet.{NumberSet}
 use Rattle.tsb_types.specs.declared.row.Row.{Row}
@@ -10,7 +10,7 @@ use Rattle.tsb_step.specs.declared.inputs.Input.{Input}
 use Rattle.tsb_step.specs.declared.inputs.Input.TheVariants.{Tick}
 use Rattle.tsb_step.specs.Runs.{replay}
 use Rattle.tsb_text.specs.declared.kept.Other.{Other}
-use Rattle.tsb_text.specs.kept.Later.{without_later}
+use Rattle.tsb_text.specs.Later.{row_tick, without_later}
 
 -- ## Inputs
 
@@ -81,10 +81,6 @@ kept_of plan (i ∷ is) = with_input i (replay plan is).now (kept_of plan is)
 
 -- ## Back to a tick
 
--- the tick of a row
-abbrev pub row_tick : LogRow → ℕ
-row_tick r = r.tick
-
 -- the tick in force when another input came
 abbrev pub other_tick : Other → ℕ
 other_tick o = o.tick
@@ -92,3 +88,7 @@ other_tick o = o.tick
 -- what is kept up to a tick
 abbrev pub gone_back : ℕ → Keeping → Keeping
 gone_back t kept = keeping (without_later row_tick t kept.rows) (without_later other_tick t kept.others)
+
+-- the newest input that is no tick is taken back
+abbrev pub DropsOther : Keeping → Keeping → Type 0
+DropsOther old new = (others : List Other) (last : Other) → old.others ≡ others ++ last ∷ [] → new ≡ keeping old.rows others

@@ -1,8 +1,6 @@
 -- What the inputs of a run tell. Inputs are piled up, the newest first; what they tell stands the oldest first.
 use Rattle.std.specs.Prelude.{◌≡◌, ◌⊎◌, ◌<◌, ℕ, List, [], ◌∷◌, ◌++◌, length}
-use Rattle.tsb_types.specs.Sets.{all_off}
 use Rattle.tsb_types.specs.declared.event.Event.{Event}
-use Rattle.tsb_types.specs.declared.row.Row.{Row}
 use Rattle.tsb_step.specs.tsb_plan.Plan.{Plan}
 use Rattle.tsb_step.specs.declared.inputs.Input.{Input}
 use Rattle.tsb_step.specs.declared.inputs.Input.TheVariants.{Tick}
@@ -10,13 +8,8 @@ use Rattle.tsb_step.specs.declared.log_form.LogForm.{LogForm}
 use Rattle.tsb_step.specs.declared.log_form.Noted.{Noted}
 use Rattle.tsb_step.specs.Events.{events_of}
 use Rattle.tsb_step.specs.Runs.{replay}
-use Rattle.tsb_text.specs.recording.Told.{Kept, Telling, nothing_told, with_events, with_mark}
-
--- the row of the newest tick; all inputs are off before the first
-abbrev pub last_row : List Input → Row
-last_row [] = all_off
-last_row (Tick row ∷ is) = row
-last_row (i ∷ is) = last_row is
+use Rattle.tsb_text.specs.kept.Kept.{last_row}
+use Rattle.tsb_text.specs.recording.Told.{Stored, Telling, nothing_told, with_events, with_mark}
 
 -- what a log of this form has noted after these inputs
 abbrev pub noted_after : LogForm → List Input → Noted
@@ -35,12 +28,12 @@ with_input (Tick row) tick news told = with_events news told
 with_input i tick news told = with_mark tick news told
 
 -- there is no memory to keep that an input has told these events: no room for them, or for its mark
-abbrev pub Wants : Input → List Event → Kept → Type 0
+abbrev pub Wants : Input → List Event → Stored → Type 0
 Wants (Tick row) news kept = kept.event_room < length news
 Wants i news kept = (kept.event_room < length news) ⊎ (kept.mark_room ≡ 0)
 
 -- the events and the marks of all inputs from power-up
 abbrev pub telling : LogForm → Plan → List Input → Telling
-telling form plan [] = nothing_told form
+telling form plan [] = nothing_told
 telling form plan (i ∷ is) =
     with_input i (replay plan is).now (events_of (noted_after form is) (replay plan is) i) (telling form plan is)

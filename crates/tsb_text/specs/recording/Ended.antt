@@ -10,6 +10,7 @@ use Rattle.tsb_text.specs.declared.error.SessionError.TheVariants.{Memory, Read,
 use Rattle.tsb_text.specs.declared.faults.OnFault.{OnFault}
 use Rattle.tsb_text.specs.declared.recording.Outcome.{Outcome}
 use Rattle.tsb_text.specs.declared.recording.Outcome.TheVariants.{Events, Stopped}
+use Rattle.tsb_text.specs.Stops.{stop_in}
 use Rattle.tsb_text.specs.recording.Along.{told_along}
 use Rattle.tsb_text.specs.recording.Leaves.{Come, End}
 
@@ -66,7 +67,7 @@ abbrev pub EndedSo : Result Outcome SessionError → OnFault → LogForm → Set
 EndedSo (Ok (Events events)) on_fault form given left read told =
     (is : List Input) × Remain on_fault given left read (record { inputs = is; stop = None }) told × (events.items ≡ told_along form given.plan is)
 EndedSo (Ok (Stopped line)) on_fault form given left read told =
-    (is : List Input) × Remain on_fault given left read (record { inputs = is; stop = Some line }) told
+    (is : List Input) × Remain on_fault given left read (record { inputs = is; stop = stop_in (Some line) }) told
 EndedSo (Err Memory) on_fault form given left read told = (read ≡ []) × (told ≡ [])
 EndedSo (Err e) on_fault form given left read told = Begins on_fault given left read told
 

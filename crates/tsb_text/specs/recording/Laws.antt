@@ -1,6 +1,6 @@
 -- What holds of all events and of all records. Each law here is the contract of a function in src/recording/laws.rt, and proved
 -- there.
-use Rattle.std.specs.Prelude.{◌≡◌, ◌+◌, ℕ, false, List, [], ◌∷◌, ◌++◌, length, Option, Some, None}
+use Rattle.std.specs.Prelude.{◌≡◌, ◌+◌, ℕ, false, List, [], ◌∷◌, ◌++◌, length, take, Option, Some, None}
 use Rattle.std.specs.List.{All}
 use Rattle.tsb_bench.specs.tsb_machine.declared.commands.Answer.{Answer}
 use Rattle.tsb_step.specs.declared.inputs.Input.{Input}
@@ -13,7 +13,7 @@ use Rattle.tsb_command_text.specs.Readings.{reading}
 use Rattle.tsb_text.specs.Answers.{Setup}
 use Rattle.tsb_text.specs.declared.faults.OnFault.{OnFault}
 use Rattle.tsb_text.specs.declared.faults.OnFault.TheVariants.{GoOn, Stop}
-use Rattle.tsb_text.specs.declared.recording.faults.FaultyLine.{FaultyLine}
+use Rattle.tsb_text.specs.Stops.{Stopped}
 use Rattle.tsb_text.specs.recording.Faults.{fault_line}
 use Rattle.tsb_text.specs.recording.Leaves.{Come, Does, End, quits}
 
@@ -35,7 +35,7 @@ GoWell given is (line ∷ lines) now = (new : List Input) × Does given is (read
 
 -- of these lines, the first of which has number n, this one ended the record: it is the first with which something is
 -- wrong, what was told is its text alone, and these inputs remain
-pub record StoppedAt (given : Setup) (n : ℕ) (is : List Input) (lines : List (List ℕ)) (told : List ℕ) (left : List Input) (stop : FaultyLine) : Type 0 where
+pub record StoppedAt (given : Setup) (n : ℕ) (is : List Input) (lines : List (List ℕ)) (told : List ℕ) (left : List Input) (stop : Stopped) : Type 0 where
   pub before : List (List ℕ)
   pub line : List ℕ
   pub after : List (List ℕ)
@@ -43,11 +43,12 @@ pub record StoppedAt (given : Setup) (n : ℕ) (is : List Input) (lines : List (
   pub number : stop.number ≡ length before + n
   pub now : List Input
   pub well : GoWell given is before now
+  pub front : stop.line ≡ take 200 line
   pub faulty : Does given now (reading line) (Some stop.fault) left
   pub alone : told ≡ fault_line stop.number line stop.fault
 
 -- where a line ended a strict record it is the first with which something is wrong; and else nothing was told
-abbrev pub StoppedSo : Setup → ℕ → List Input → List (List ℕ) → List ℕ → List Input → Option FaultyLine → Type 0
+abbrev pub StoppedSo : Setup → ℕ → List Input → List (List ℕ) → List ℕ → List Input → Option Stopped → Type 0
 StoppedSo given n is lines told left None = told ≡ []
 StoppedSo given n is lines told left (Some stop) = StoppedAt given n is lines told left stop
 

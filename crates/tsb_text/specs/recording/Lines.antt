@@ -9,7 +9,8 @@ use Rattle.tsb_text.specs.Answers.{Setup}
 use Rattle.tsb_text.specs.declared.faults.OnFault.{OnFault}
 use Rattle.tsb_text.specs.declared.faults.LineFault.{LineFault}
 use Rattle.tsb_text.specs.recording.Faults.{fault_text}
-use Rattle.tsb_text.specs.recording.Leaves.{Does, End, flow_after, quits, stop_at}
+use Rattle.tsb_text.specs.recording.Leaves.{Does, End, quits}
+use Rattle.tsb_text.specs.Stops.{flow_after, stopped_at}
 
 -- what was given, whether the record is strict, its form, and what it has come to
 pub record Course : Type 0 where
@@ -22,7 +23,7 @@ pub record Course : Type 0 where
 abbrev pub TellsLine : OnFault → Setup → List Input → ℕ → List ℕ → List ℕ → Flow → End → Type 0
 TellsLine on_fault given is number line text flow end =
     (fault : Option LineFault) × Does given is (reading line) fault end.inputs × (text ≡ fault_text number line fault)
-    × (end.stop ≡ stop_at on_fault number fault) × (flow ≡ flow_after (quits (reading line)) (stop_at on_fault number fault))
+    × (end.stop ≡ stopped_at on_fault number line fault) × (flow ≡ flow_after (quits (reading line)) (stopped_at on_fault number line fault))
 
 -- this is told of a line with this number
 abbrev pub says : Saying Course

@@ -1,120 +1,37 @@
 -- How far a record has come: what its own calls tell one another.
-use Rattle.std.specs.Prelude.{◌≡◌, ◌⊎◌, ◌<◌, ◌+◌, ◌==◌, ℕ, List, [], ◌∷◌, Option, Some, None, Result, Ok, Err, if◌then◌else◌}
-use Rattle.tsb_types.specs.Sets.{all_off}
+use Rattle.std.specs.Prelude.{◌≡◌, ◌⊎◌, ◌<◌, ℕ, List, Option, Some, None}
 use Rattle.tsb_types.specs.declared.event.Event.{Event}
-use Rattle.tsb_types.specs.declared.refusal.Refusal.{Refusal}
-use Rattle.tsb_types.specs.declared.row.Row.{Row}
-use Rattle.tsb_bench.specs.tsb_machine.declared.commands.Answer.TheVariants as answers
-use Rattle.tsb_bench.specs.tsb_machine.declared.commands.Command.TheVariants as asks
-use Rattle.tsb_bench.specs.Held.{Held, state_of}
+use Rattle.tsb_bench.specs.Held.{state_of}
 use Rattle.tsb_bench.specs.Cabinet.{most_cells}
-use Rattle.tsb_dialog.specs.declared.error.DialogError.{DialogError}
-use Rattle.tsb_dialog.specs.declared.error.DialogError.TheVariants as dialog
 use Rattle.tsb_step.specs.tsb_history.History.{record_size}
 use Rattle.tsb_step.specs.declared.inputs.Input.{Input}
-use Rattle.tsb_step.specs.declared.inputs.Input.TheVariants as inputs
-use Rattle.tsb_step.specs.declared.inputs.Input.TheVariants.{Tick}
+use Rattle.tsb_step.specs.declared.log_form.LogForm.{LogForm}
 use Rattle.tsb_step.specs.declared.log_form.Noted.{Noted}
 use Rattle.tsb_step.specs.Events.{events_of}
-use Rattle.tsb_step.specs.Past.{Whole}
-use Rattle.tsb_step.specs.Play.{Cmd, Follows, IsRight}
-use Rattle.tsb_step.specs.Runs.{replay}
 use Rattle.tsb_step.specs.Step.{kind_of}
-use Rattle.tsb_command_text.specs.declared.command.Command.{Command}
-use Rattle.tsb_command_text.specs.declared.command.Command.TheVariants as commands
 use Rattle.tsb_log_text.specs.declared.log.LogRow.{LogRow}
-use Rattle.tsb_log_text.specs.Logs.{row_at}
 use Rattle.tsb_text.specs.Answers.{Setup}
-use Rattle.tsb_text.specs.declared.error.SessionError.{SessionError}
-use Rattle.tsb_text.specs.declared.error.SessionError.TheVariants.{Read, TooLarge, Write}
-use Rattle.tsb_text.specs.declared.recording.faults.FaultyLine.{FaultyLine}
+use Rattle.tsb_text.specs.Obeyed.{OnCourse, Stands}
+use Rattle.tsb_text.specs.Rows.{row_in_force}
+use Rattle.tsb_text.specs.Stops.{Stopped as StoppedLine, stop_in}
 use Rattle.tsb_text.specs.declared.recording.Outcome.{Outcome}
 use Rattle.tsb_text.specs.declared.recording.Outcome.TheVariants.{Events, Stopped}
-use Rattle.tsb_text.specs.recording.Along.{Wants, telling}
-use Rattle.tsb_text.specs.recording.Told.{Kept, Telling}
+use Rattle.tsb_text.specs.recording.Along.{Wants}
 
--- ## A bench, with what was told
-
--- the row that is in force at a tick number: all inputs are off before the first tick
-abbrev pub row_in_force : List LogRow → ℕ → Row
-row_in_force log tick = if tick == 0 then all_off else row_at log tick
-
--- each tick has the row of the log
-abbrev pub AreOfLog : Setup → List Input → Type 0
-AreOfLog given [] = Unit {0}
-AreOfLog given (Tick row ∷ is) = (row ≡ row_at given.log ((replay given.plan is).now + 1)) × AreOfLog given is
-AreOfLog given (i ∷ is) = AreOfLog given is
-
--- a bench has come from power-up by these inputs, under what was given, and this is what they have told
-pub record Stands (given : Setup) (log : List LogRow) (bench : Whole) (told : Telling) (is : List Input) : Type 0 where
-  pub same : given.log ≡ log
-  pub follows : Follows given.plan bench is
-  pub of_log : AreOfLog given is
-  pub tells : told ≡ telling told.form given.plan is
-
--- an input that is no tick
-abbrev pub IsNoTick : Input → Type 0
-IsNoTick (Tick row) = ⊥
-IsNoTick i = Unit {0}
-
--- an input was taken, or refused, which changed nothing
-abbrev pub Took : Result (Unit {0}) Refusal → Setup → List LogRow → Whole → Telling → List Input → Input → Type 0
-Took (Ok u) given log bench told is i = IsRight given.plan is (asks.Apply i) answers.Took × Stands given log bench told (i ∷ is)
-Took (Err e) given log bench told is i = IsRight given.plan is (asks.Apply i) (answers.Refused e) × Stands given log bench told is
-
--- what a log has noted before the tick after this one
-abbrev pub noted_at : Telling → List LogRow → ℕ → Noted
-noted_at told log tick = record { form = told.form; row = row_in_force log tick }
+-- what a log of this form has noted before the tick after this one
+abbrev pub noted_at : LogForm → List LogRow → ℕ → Noted
+noted_at form rows tick = record { form = form; row = row_in_force rows tick }
 
 -- there is no memory for an input: the bench has no room for its record, or there is none for what it tells
-abbrev pub IsWanting : List LogRow → Held → Kept → Input → Type 0
-IsWanting log bench kept i = (bench.room < record_size (most_cells (kind_of i)))
-    ⊎ Wants i (events_of (noted_at kept.told log bench.tick) (state_of bench) i) kept
-
--- a command that goes back
-abbrev pub GoesBack : Cmd → Type 0
-GoesBack asks.Undo = Unit {0}
-GoesBack (asks.Back n) = Unit {0}
-GoesBack (asks.Seek t) = Unit {0}
-GoesBack c = ⊥
-
--- a command that takes an input that is no tick, or goes back
-abbrev pub IsChange : Cmd → Type 0
-IsChange (asks.Apply i) = IsNoTick i
-IsChange asks.Undo = Unit {0}
-IsChange (asks.Back n) = Unit {0}
-IsChange (asks.Seek t) = Unit {0}
-IsChange (asks.When w) = ⊥
-
--- what a command asks of the bench, where it is one of these
-abbrev pub change_of : Command → Option Cmd
-change_of (commands.Back n) = Some (asks.Back n)
-change_of (commands.Seek t) = Some (asks.Seek t)
-change_of commands.Undo = Some asks.Undo
-change_of (commands.Begin station) = Some (asks.Apply (inputs.Begin station))
-change_of (commands.Set station id value) = Some (asks.Apply (inputs.Set station id value))
-change_of (commands.Verify station) = Some (asks.Apply (inputs.Verify station))
-change_of (commands.Commit station) = Some (asks.Apply (inputs.Commit station))
-change_of (commands.Abort station) = Some (asks.Apply (inputs.Abort station))
-change_of (commands.Pattern number) = Some (asks.Apply (inputs.Pattern number))
-change_of (commands.Preempt number on) = Some (asks.Apply (inputs.Switch number on))
-change_of (commands.Fault lamp) = Some (asks.Apply (inputs.Fault lamp))
-change_of commands.Reset = Some (asks.Apply inputs.Reset)
-change_of c = None
+abbrev pub IsWanting : LogForm → OnCourse → Input → Type 0
+IsWanting form course i = (course.bench.room < record_size (most_cells (kind_of i)))
+    ⊎ Wants i (events_of (noted_at form course.rows course.bench.tick) (state_of course.bench) i) course.told
 
 -- a command or a line was carried out, which leaves these inputs; and this is wrong with it, if anything
-abbrev pub Done : {F : Type 0} → F → Setup → List LogRow → Whole → Telling → (F → List Input → Type 0) → Type 0
-Done fault given log bench told Leaves = (left : List Input) × Stands given log bench told left × Leaves fault left
-
--- ## The end
+abbrev pub Left : {F : Type 0} → F → Setup → List LogRow → OnCourse → (F → List Input → Type 0) → Type 0
+Left fault given log course Leaves = (left : List Input) × Stands given log course left × Leaves fault left
 
 -- what a record gives that was ended by this line, or by none with these events told
-abbrev pub IsOutcome : Outcome → Option FaultyLine → List Event → Type 0
+abbrev pub IsOutcome : Outcome → Option StoppedLine → List Event → Type 0
 IsOutcome (Events all) stop events = (stop ≡ None) × (all.items ≡ events)
-IsOutcome (Stopped line) stop events = stop ≡ Some line
-
--- the fault of a record whose dialog ended with this one
-abbrev pub session_fault : DialogError → SessionError
-session_fault dialog.Read = Read
-session_fault dialog.Write = Write
-session_fault dialog.TooLarge = TooLarge
+IsOutcome (Stopped line) stop events = stop ≡ stop_in (Some line)

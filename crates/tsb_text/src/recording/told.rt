@@ -1,13 +1,12 @@
 //! The events of inputs, which can be taken back.
-ghost use Rattle.std.specs.Prelude.{◌≡◌, ◌⊎◌, ◌<◌, ◌∷◌, ◌++◌, [], List, OnErr, OnOk, length, take};
-ghost use Rattle.tsb_text.specs.recording.Told.{gone_back, nothing_told, with_events, with_mark, without_later, event_tick, mark_tick};
+ghost use Rattle.std.specs.Prelude.{◌≡◌, ◌⊎◌, ◌<◌, OnErr, OnOk, length};
+ghost use Rattle.tsb_text.specs.recording.Told.{DropsMark, gone_back, nothing_told, with_events, with_mark};
 ghost use Rattle.tsb_text.specs.recording.Along.{Wants, with_input};
-ghost use Rattle.tsb_text.specs.declared.recording.told.Mark.{Mark};
 
+use crate::later::{Timed, drop_later};
 use std::alloc::{AllocError, Global};
 use std::marker::Model;
 use tsb_step::Input;
-use tsb_step::log_form::LogForm;
 use tsb_types::Event;
 
 /// Where an input came that is no tick.
@@ -19,45 +18,46 @@ pub struct Mark {
     pub events: usize,
 }
 
-/// The events of the inputs that remain, the oldest first. A contract sees the form of the log, the events and the
-/// marks, one for each input that is no tick. It also sees for how many more of them there is memory.
+impl Timed for Mark {
+    ghost use Rattle.tsb_text.specs.recording.Told.{mark_tick};
+
+    ghost at = { mark_tick };
+
+    fn tick(&self) -> u32 {
+        self.tick
+    }
+}
+
+/// The events of the inputs that remain, the oldest first. A contract sees the events and the marks, one for each input
+/// that is no tick. It also sees for how many more of them there is memory.
 #[derive(Drop)]
 pub struct Told {
-    form: LogForm,
     events: Vec<Event>,
     marks: Vec<Mark>,
 }
 
 impl Model for Told {
     ghost use Rattle.std.specs.Prelude.{◌-◌, vec_capacity, vec_len};
-    ghost use Rattle.tsb_text.specs.recording.Told.{Kept};
+    ghost use Rattle.tsb_text.specs.recording.Told.{Stored};
 
-    ghost Value = { Kept };
+    ghost Value = { Stored };
 
     ghost view = { λ a. record {
-      told = record { form = a.form; events = a.events.items; marks = a.marks.items };
+      told = record { events = a.events.items; marks = a.marks.items };
       event_room = vec_capacity a.events - vec_len a.events;
       mark_room = vec_capacity a.marks - vec_len a.marks;
     } };
 }
 
 impl Told {
-    /// Nothing, in a log of this form. It takes no memory.
-    pub fn new(alloc: Global, form: LogForm) -> Told
-        ensures { result.told ≡ nothing_told form }
+    /// Nothing, which takes no memory.
+    pub fn new(alloc: Global) -> Told
+        ensures { result.told ≡ nothing_told }
     {
         Told {
-            form,
             events: Vec::new(alloc),
             marks: Vec::new(alloc),
         }
-    }
-
-    /// The form of the log.
-    pub fn form(&self) -> LogForm
-        ensures { result ≡ self.now.told.form }
-    {
-        self.form
     }
 
     /// All events, the oldest first.
@@ -75,7 +75,6 @@ impl Told {
         ensures ok { OnOk result (self.new.told ≡ with_input input.now tick news.now self.old.told) }
         ensures err { OnErr result (self.new.told ≡ self.old.told) }
         ensures wanting { OnErr result (Wants input.now news.now self.old) }
-        ensures form { self.new.told.form ≡ self.old.told.form }
     {
         match input {
             Input::Tick(_) => self.add_tick(news),
@@ -88,7 +87,6 @@ impl Told {
         ensures ok { OnOk result (self.new.told ≡ with_events news.now self.old.told) }
         ensures err { OnErr result (self.new.told ≡ self.old.told) }
         ensures wanting { OnErr result (self.old.event_room < length news.now) }
-        ensures form { self.new.told.form ≡ self.old.told.form }
     {
         self.events.extend_from_slice(news)
     }
@@ -99,7 +97,6 @@ impl Told {
         ensures ok { OnOk result (self.new.told ≡ with_mark tick news.now self.old.told) }
         ensures err { OnErr result (self.new.told ≡ self.old.told) }
         ensures wanting { OnErr result ((self.old.event_room < length news.now) ⊎ (self.old.mark_room ≡ 0)) }
-        ensures form { self.new.told.form ≡ self.old.told.form }
     {
         let events = self.events.len();
         self.marks.reserve(1)?;
@@ -110,9 +107,7 @@ impl Told {
 
     /// Takes back the events of the newest input, which is no tick.
     pub fn undo_input(&mut self)
-        ensures undone { (marks : List Mark) (mark : Mark) → self.old.told.marks ≡ marks ++ mark ∷ []
-            → self.new.told ≡ record { form = self.old.told.form; events = take mark.events self.old.told.events; marks = marks } }
-        ensures form { self.new.told.form ≡ self.old.told.form }
+        ensures { DropsMark self.old.told self.new.told }
     {
         if let Some(mark) = self.marks.pop() {
             self.events.truncate(mark.events);
@@ -123,31 +118,7 @@ impl Told {
     pub fn go_back(&mut self, tick: u32)
         ensures { self.new.told ≡ gone_back tick self.old.told }
     {
-        drop_later_events(&mut self.events, tick);
-        drop_later_marks(&mut self.marks, tick);
-    }
-}
-
-/// Drops the events at the end that come later than a tick.
-fn drop_later_events(events: &mut Vec<Event>, tick: u32)
-    ensures { events.new.items ≡ without_later event_tick tick events.old.items }
-{
-    while let Some(last) = events.last() {
-        if last.tick <= tick {
-            return;
-        }
-        let _ = events.pop();
-    }
-}
-
-/// Drops the marks at the end that come later than a tick.
-fn drop_later_marks(marks: &mut Vec<Mark>, tick: u32)
-    ensures { marks.new.items ≡ without_later mark_tick tick marks.old.items }
-{
-    while let Some(last) = marks.last() {
-        if last.tick <= tick {
-            return;
-        }
-        let _ = marks.pop();
+        drop_later(&mut self.events, tick);
+        drop_later(&mut self.marks, tick);
     }
 }

@@ -25,7 +25,8 @@ use Rattle.tsb_field_display.specs.Events as lines
 use Rattle.tsb_field_display.specs.ReadBack.{Lit, lit_after, read_back, says_at}
 use Rattle.tsb_field_display.specs.Inputs.{events_of_row}
 use Rattle.tsb_field_display.specs.SessionLaws.{is_of_input}
-use Rattle.tsb_text.specs.recording.Along.{last_row, told_along}
+use Rattle.tsb_text.specs.kept.Kept.{last_row}
+use Rattle.tsb_text.specs.recording.Along.{told_along}
 use Rattle.tsb_laws.specs.Told.{AreSwitchesOff, is_of_line, log_of, says_vehicle, shown_in, signals}
 use Rattle.tsb_laws.proofs.safety.Examples.CrossingRuns.{known, quick, walked}
 

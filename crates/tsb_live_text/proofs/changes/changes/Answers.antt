@@ -1,15 +1,15 @@
-use Rattle.std.proofs.Common.{◌+◌, ◌-◌, ◌∙◌, ap, arith, refl}
+use Rattle.std.proofs.Common.{◌+◌, ◌-◌, ◌∙◌, Err, Ok, ap, arith, refl}
 use Rattle.std.proofs.lemmas.Result.{err_from_is_err_and}
 use Rattle.tsb_bench.specs.Held.{Held, state_of}
 use Rattle.tsb_text.specs.Answers.{display_line}
 use Rattle.tsb_text.specs.Obeyed.{besides_of, tells_in}
-use Rattle.tsb_live_text.proofs.ChangeLemmas.{changes-end, changes-end-fault, changes-fault, changes-more, changes-started, changes-stop}
+use Rattle.tsb_live_text.proofs.ChangeLemmas.{changes-end, changes-end-fault, changes-fault, changes-more, changes-started, changes-stop, held-took}
 use Rattle.tsb_live_text.proofs.changes.changes.Goals as goal
 
 pub loop-i-init : goal.loop-i-init
 loop-i-init g c = record {
-  changing = λ given log is s.
-      changes-started given log (besides_of c.args.course.now c.args.echo.now) c.args.row is (display_line (state_of c.args.course.now.bench)) c.line_bytes-before.result c.args.ticks (c.args.ticks - 0) c.args.course.now _ _
+  changing = λ given log row is s held.
+      changes-started given log (besides_of c.args.course.now c.args.echo.now) row is (display_line (state_of c.args.course.now.bench)) c.line_bytes-before.result c.args.ticks (c.args.ticks - 0) c.args.course.now _ _
       (c.line_bytes-before.ensures ∙ ap (λ (b : Held). display_line (state_of b)) c.bench.ensures) (omega arith) s;
   mode = refl;
   well = λ w. w;
@@ -17,30 +17,30 @@ loop-i-init g c = record {
 
 pub loop-i-preserved : goal.loop-i-preserved
 loop-i-preserved g c = record {
-  changing = λ given log is s.
-      changes-more given log (besides_of c.args.course.now c.args.echo.now) c.args.row is (display_line (state_of c.args.course.now.bench)) c.args.ticks c.loop-i.course c.take.new.self c.loop-i.before c.loop-i.is_owed (c.args.ticks - c.loop-i._i) (c.args.ticks - (c.loop-i._i + 1))
-      c.line_bytes-now.result c.shows_same-is_owed.result _ _ _ _ _ _ (c.loop-i.invariant.changing given log is s) (omega arith) (ap tells_in (c.take.ensures.mode ∙ c.loop-i.invariant.mode))
-      (λ given log inputs stands. c.in_default.ensures.took given log inputs stands) (c.line_bytes-now.ensures ∙ ap (λ (b : Held). display_line (state_of b)) c.bench-in-loop-i.ensures) c.shows_same-is_owed.ensures c.in_ok-say_tick.ensures.said;
-  mode = c.take.ensures.mode ∙ c.loop-i.invariant.mode;
+  changing = λ given log row is s held.
+      changes-more given log (besides_of c.args.course.now c.args.echo.now) row is (display_line (state_of c.args.course.now.bench)) c.args.ticks c.loop-i.course c.tick.new.self c.loop-i.before c.loop-i.is_owed (c.args.ticks - c.loop-i._i) (c.args.ticks - (c.loop-i._i + 1))
+      c.line_bytes-now.result c.shows_same-is_owed.result _ _ _ _ _ _ (c.loop-i.invariant.changing given log row is s held) (omega arith) (ap tells_in (c.tick.ensures.mode ∙ c.loop-i.invariant.mode))
+      (λ inputs stands. held-took (Ok tt) given log c.loop-i.course c.tick.new.self inputs row stands held (c.in_default.ensures.took given log inputs stands)) (c.line_bytes-now.ensures ∙ ap (λ (b : Held). display_line (state_of b)) c.bench-in-loop-i.ensures) c.shows_same-is_owed.ensures c.in_ok-say_tick.ensures.said;
+  mode = c.tick.ensures.mode ∙ c.loop-i.invariant.mode;
   well = λ w. c.in_ok-say_tick.ensures.blame (c.loop-i.invariant.well w);
 }
 
 pub returns-in-Err-clause-done : goal.returns-in-Err-clause-done
-returns-in-Err-clause-done g c given log is s =
-    changes-stop c.say_stop.result given log (besides_of c.args.course.now c.args.echo.now) c.args.row is (display_line (state_of c.args.course.now.bench)) c.args.ticks c.loop-i.course c.take.new.self c.loop-i.before c.loop-i.is_owed (c.args.ticks - c.loop-i._i) (c.args.ticks - (c.loop-i._i + 1)) _ _ _ _ _ _ c.in-Err.refusal (c.loop-i.invariant.changing given log is s) (omega arith)
-    (λ given log inputs stands. c.in-Err.ensures.took given log inputs stands) c.say_stop.ensures.told c.say_stop.ensures.said
+returns-in-Err-clause-done g c given log row is s held =
+    changes-stop c.say_stop.result given log (besides_of c.args.course.now c.args.echo.now) row is (display_line (state_of c.args.course.now.bench)) c.args.ticks c.loop-i.course c.tick.new.self c.loop-i.before c.loop-i.is_owed (c.args.ticks - c.loop-i._i) (c.args.ticks - (c.loop-i._i + 1)) _ _ _ _ _ _ c.in-Err.refusal (c.loop-i.invariant.changing given log row is s held) (omega arith)
+    (λ inputs stands. held-took (Err c.in-Err.refusal) given log c.loop-i.course c.tick.new.self inputs row stands held (c.in-Err.ensures.took given log inputs stands)) c.say_stop.ensures.told c.say_stop.ensures.said
 
 pub returns-in_err-say_tick-clause-done : goal.returns-in_err-say_tick-clause-done
-returns-in_err-say_tick-clause-done g c given log is s = let p = err_from_is_err_and c.from_residual.result c.from_residual.ensures.1 in
-    rw p.1 (changes-fault given log (besides_of c.args.course.now c.args.echo.now) c.args.row is (display_line (state_of c.args.course.now.bench)) c.args.ticks c.loop-i.course c.take.new.self c.loop-i.before c.loop-i.is_owed (c.args.ticks - c.loop-i._i) (c.args.ticks - (c.loop-i._i + 1)) c.line_bytes-now.result c.shows_same-is_owed.result _ _ _ _ _ _ p.0 (c.loop-i.invariant.changing given log is s) (omega arith) (ap tells_in (c.take.ensures.mode ∙ c.loop-i.invariant.mode))
-    (λ given log inputs stands. c.in_default.ensures.took given log inputs stands) (c.line_bytes-now.ensures ∙ ap (λ (b : Held). display_line (state_of b)) c.bench-in-loop-i.ensures) c.shows_same-is_owed.ensures c.in_err-say_tick.ensures.said)
+returns-in_err-say_tick-clause-done g c given log row is s held = let p = err_from_is_err_and c.from_residual.result c.from_residual.ensures.1 in
+    rw p.1 (changes-fault given log (besides_of c.args.course.now c.args.echo.now) row is (display_line (state_of c.args.course.now.bench)) c.args.ticks c.loop-i.course c.tick.new.self c.loop-i.before c.loop-i.is_owed (c.args.ticks - c.loop-i._i) (c.args.ticks - (c.loop-i._i + 1)) c.line_bytes-now.result c.shows_same-is_owed.result _ _ _ _ _ _ p.0 (c.loop-i.invariant.changing given log row is s held) (omega arith) (ap tells_in (c.tick.ensures.mode ∙ c.loop-i.invariant.mode))
+    (λ inputs stands. held-took (Ok tt) given log c.loop-i.course c.tick.new.self inputs row stands held (c.in_default.ensures.took given log inputs stands)) (c.line_bytes-now.ensures ∙ ap (λ (b : Held). display_line (state_of b)) c.bench-in-loop-i.ensures) c.shows_same-is_owed.ensures c.in_err-say_tick.ensures.said)
 
 pub returns-in_err-say_owed-clause-done : goal.returns-in_err-say_owed-clause-done
-returns-in_err-say_owed-clause-done g c given log is s = let p = err_from_is_err_and c.from_residual-in_err-say_owed.result c.from_residual-in_err-say_owed.ensures.1 in
-    rw p.1 (changes-end-fault p.0 given log (besides_of c.args.course.now c.args.echo.now) c.args.row is (display_line (state_of c.args.course.now.bench)) c.args.ticks c.loop-i.course c.loop-i.before c.loop-i.is_owed (c.args.ticks - c.loop-i._i) _ _ _ _ _ _
-    (c.loop-i.invariant.changing given log is s) (omega arith) c.in_err-say_owed.ensures.said)
+returns-in_err-say_owed-clause-done g c given log row is s held = let p = err_from_is_err_and c.from_residual-in_err-say_owed.result c.from_residual-in_err-say_owed.ensures.1 in
+    rw p.1 (changes-end-fault p.0 given log (besides_of c.args.course.now c.args.echo.now) row is (display_line (state_of c.args.course.now.bench)) c.args.ticks c.loop-i.course c.loop-i.before c.loop-i.is_owed (c.args.ticks - c.loop-i._i) _ _ _ _ _ _
+    (c.loop-i.invariant.changing given log row is s held) (omega arith) c.in_err-say_owed.ensures.said)
 
 pub returns-clause-done : goal.returns-clause-done
-returns-clause-done g c given log is s =
-    changes-end given log (besides_of c.args.course.now c.args.echo.now) c.args.row is (display_line (state_of c.args.course.now.bench)) c.args.ticks c.loop-i.course c.loop-i.before c.loop-i.is_owed (c.args.ticks - c.loop-i._i) _ _ _ _ _ _
-    (c.loop-i.invariant.changing given log is s) (omega arith) c.in_ok-say_owed.ensures.said
+returns-clause-done g c given log row is s held =
+    changes-end given log (besides_of c.args.course.now c.args.echo.now) row is (display_line (state_of c.args.course.now.bench)) c.args.ticks c.loop-i.course c.loop-i.before c.loop-i.is_owed (c.args.ticks - c.loop-i._i) _ _ _ _ _ _
+    (c.loop-i.invariant.changing given log row is s held) (omega arith) c.in_ok-say_owed.ensures.said

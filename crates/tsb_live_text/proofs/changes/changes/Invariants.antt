@@ -2,6 +2,9 @@ use Rattle.std.proofs.Common.{◌≡◌, ◌-◌, List, false}
 use Rattle.tsb_bench.specs.Held.{state_of}
 use Rattle.tsb_log_text.specs.declared.log.LogRow.{LogRow}
 use Rattle.tsb_step.specs.declared.inputs.Input.{Input}
+use Rattle.tsb_types.specs.declared.row.Row.{Row}
+use Rattle.tsb_text.specs.declared.rows.Rows.TheVariants.{Held}
+use Rattle.tsb_text.specs.Rows.{rows_in}
 use Rattle.tsb_text.specs.Answers.{Setup, display_line}
 use Rattle.tsb_text.specs.Obeyed.{Stands, besides_of}
 use Rattle.tsb_live_text.proofs.ChangeLemmas.{Changing}
@@ -9,8 +12,8 @@ use Rattle.tsb_live_text.proofs.changes.changes.Given as goal
 
 abbrev pub invariant-loop-i : goal.invariant-loop-i
 invariant-loop-i g l = record {
-  changing : (given : Setup) (log : List LogRow) (is : List Input) → Stands given log l.fn.course is
-      → Changing given log (besides_of l.fn.course l.fn.echo) l.row is (display_line (state_of l.fn.course.bench)) l.ticks l.course l.before l.is_owed (l.ticks - l._i)
+  changing : (given : Setup) (log : List LogRow) (row : Row) (is : List Input) → Stands given log l.fn.course is → log ≡ rows_in (Held row)
+      → Changing given log (besides_of l.fn.course l.fn.echo) row is (display_line (state_of l.fn.course.bench)) l.ticks l.course l.before l.is_owed (l.ticks - l._i)
       (g.W.Write.contents l.fn.writer.device) (g.W.Write.contents l.writer.device) l.fn.pending l.pending;
   mode : l.course.mode ≡ l.fn.course.mode;
   well : l.fn.writer.failed ≡ false → l.writer.failed ≡ false;

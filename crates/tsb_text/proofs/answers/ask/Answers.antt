@@ -10,18 +10,18 @@ use Rattle.tsb_text.proofs.AnswerLemmas.{answer-said, ask-done, ask-fault}
 use Rattle.tsb_text.proofs.answers.ask.Goals as goal
 
 pub returns-in_err-say_before-clause-done : goal.returns-in_err-say_before-clause-done
-returns-in_err-say_before-clause-done g c given log is s = let p = err_from_is_err_and c.from_residual.result c.from_residual.ensures.1 in
-    rw p.1 (ask-fault p.0 given log is c.args.command c.answer-answer.result c.answer-answer.new.self c.args.course.now.mode c.args.echo.now _ _ _ _ c.answer-answer.ensures.mode (c.answer-answer.ensures.right given log is s)
+returns-in_err-say_before-clause-done g c given log is s next = let p = err_from_is_err_and c.from_residual.result c.from_residual.ensures.1 in
+    rw p.1 (ask-fault p.0 given log is c.args.command c.answer-answer.result c.answer-answer.new.self c.args.course.now.mode c.args.echo.now _ _ _ _ c.answer-answer.ensures.mode (c.answer-answer.ensures.right given log is s next)
     (still-cut _ _ _ _ (before_line c.args.echo.now c.answer-answer.result (news_in c.answer-answer.new.self)) (with_feed (told c.args.command c.answer-answer.result (state_of c.answer-answer.new.self.bench))) c.in_err-say_before.ensures.said))
 
 pub returns-in_err-say_answer-clause-done : goal.returns-in_err-say_answer-clause-done
-returns-in_err-say_answer-clause-done g c given log is s = let p = err_from_is_err_and c.from_residual-in_err-say_answer.result c.from_residual-in_err-say_answer.ensures.1 in
-    rw p.1 (ask-fault p.0 given log is c.args.command c.answer-answer.result c.answer-answer.new.self c.args.course.now.mode c.args.echo.now _ _ _ _ c.answer-answer.ensures.mode (c.answer-answer.ensures.right given log is s)
+returns-in_err-say_answer-clause-done g c given log is s next = let p = err_from_is_err_and c.from_residual-in_err-say_answer.result c.from_residual-in_err-say_answer.ensures.1 in
+    rw p.1 (ask-fault p.0 given log is c.args.command c.answer-answer.result c.answer-answer.new.self c.args.course.now.mode c.args.echo.now _ _ _ _ c.answer-answer.ensures.mode (c.answer-answer.ensures.right given log is s next)
     (until-more {T = Unit {0}} (Err p.0) _ _ _ _ _ _ (before_line c.args.echo.now c.answer-answer.result (news_in c.answer-answer.new.self)) (with_feed (told c.args.command c.answer-answer.result (state_of c.answer-answer.new.self.bench))) c.in_ok-say_before.ensures.said
     (answer-said (Err p.0) c.args.command c.answer-answer.result c.bench.result.now c.answer-answer.new.self.bench _ _ _ _ c.bench.ensures c.in_err-say_answer.ensures.said)))
 
 pub returns-clause-done : goal.returns-clause-done
-returns-clause-done g c given log is s =
-    (ask-done given log is c.args.command c.answer-answer.result c.answer-answer.new.self c.args.course.now.mode c.args.echo.now c.refusal_in.result _ _ _ _ c.answer-answer.ensures.mode (c.answer-answer.ensures.right given log is s) c.refusal_in.ensures
+returns-clause-done g c given log is s next =
+    (ask-done given log is c.args.command c.answer-answer.result c.answer-answer.new.self c.args.course.now.mode c.args.echo.now c.refusal_in.result _ _ _ _ c.answer-answer.ensures.mode (c.answer-answer.ensures.right given log is s next) c.refusal_in.ensures
     (said-more _ _ _ _ _ _ (before_line c.args.echo.now c.answer-answer.result (news_in c.answer-answer.new.self)) (with_feed (told c.args.command c.answer-answer.result (state_of c.answer-answer.new.self.bench))) c.in_ok-say_before.ensures.said
     (answer-said (Ok tt) c.args.command c.answer-answer.result c.bench.result.now c.answer-answer.new.self.bench _ _ _ _ c.bench.ensures c.in_ok-say_answer.ensures.said)))

@@ -1,9 +1,8 @@
 -- Mistakes that the law of events refuses, and what is kept of a worked run, computed.
-use Rattle.std.proofs.Common.{suc, ◌≡◌, ℕ, ◌+◌, List, [], ◌∷◌, ◌++◌, length, length-append, get_or, codes, refl, sym, ap, subst, arith, Some, None, inl}
+use Rattle.std.proofs.Common.{suc, ◌≡◌, ℕ, ◌+◌, List, [], ◌∷◌, ◌++◌, length, length-append, take, get_or, codes, refl, sym, ap, subst, arith, Some, None, inl}
 use Rattle.std.specs.Fmt.{digits}
 use Rattle.tsb_types.specs.Events.{event}
 use Rattle.tsb_step.specs.tsb_history.declared.kinds.Kind.TheVariants as kinds
-use Rattle.tsb_step.specs.Events.{usual}
 use Rattle.tsb_step.specs.Step.{verdict}
 use Rattle.tsb_bench.specs.tsb_machine.declared.commands.Answer.TheVariants.{Undone}
 use Rattle.tsb_command_text.specs.declared.command.Command.TheVariants.{Step, Undo}
@@ -21,7 +20,8 @@ use Rattle.tsb_text.specs.recording.Ended.{BeginsLast}
 use Rattle.tsb_text.specs.Faults.{shown}
 use Rattle.tsb_text.specs.recording.Faults.{fault_line, fault_text}
 use Rattle.tsb_text.specs.recording.Laws.{StoppedSo}
-use Rattle.tsb_text.specs.recording.Leaves.{Come, Does, End, Ends, Follows, flow_after, quits, stop_at}
+use Rattle.tsb_text.specs.recording.Leaves.{Come, Does, End, Ends, Follows, quits}
+use Rattle.tsb_text.specs.Stops.{flow_after, stopped_at}
 use Rattle.tsb_text.proofs.recording.StopLemmas.{no_line_stops_others}
 use Rattle.tsb_text.specs.declared.recording.told.Mark.{Mark}
 use Rattle.tsb_text.specs.recording.Told.{Telling, gone_back, nothing_told, with_events, with_mark}
@@ -31,16 +31,16 @@ abbrev mark : ℕ → ℕ → Mark
 mark tick events = record { tick = tick; events = events }
 
 abbrev none : Telling
-none = nothing_told usual
+none = nothing_told
 
 abbrev told : Telling
 told = with_events (event 2 8 2 ∷ []) (with_mark 1 (event 1 131 3 ∷ []) (with_events (event 1 0 2 ∷ event 1 1 2 ∷ []) none))
 
-kept : told ≡ record { form = usual; events = event 1 0 2 ∷ event 1 1 2 ∷ event 1 131 3 ∷ event 2 8 2 ∷ []; marks = mark 1 2 ∷ [] }
+kept : told ≡ record { events = event 1 0 2 ∷ event 1 1 2 ∷ event 1 131 3 ∷ event 2 8 2 ∷ []; marks = mark 1 2 ∷ [] }
 kept = refl
 
 -- back at tick 1 the pattern stays, as it came at that tick
-back : gone_back 1 told ≡ record { form = usual; events = event 1 0 2 ∷ event 1 1 2 ∷ event 1 131 3 ∷ []; marks = mark 1 2 ∷ [] }
+back : gone_back 1 told ≡ record { events = event 1 0 2 ∷ event 1 1 2 ∷ event 1 131 3 ∷ []; marks = mark 1 2 ∷ [] }
 back = refl
 
 -- at tick 0 nothing does
@@ -69,7 +69,7 @@ goes_back = refl
 abbrev ComesAs : OnFault → Setup → End → ℕ → List Input → List ℕ → List (List ℕ) → List ℕ → Reading → Type 0
 ComesAs on_fault given end n is line lines told r =
     (fault : Option LineFault) × (new : List Input) × (rest : List ℕ) × Does given is r fault new × (told ≡ fault_text n line fault ++ rest)
-    × Follows (flow_after (quits r) (stop_at on_fault n fault)) (Come on_fault given end (suc n) new lines rest) (Ends end new (stop_at on_fault n fault) rest)
+    × Follows (flow_after (quits r) (stopped_at on_fault n line fault)) (Come on_fault given end (suc n) new lines rest) (Ends end new (stopped_at on_fault n line fault) rest)
 
 comes : (on_fault : OnFault) (given : Setup) (end : End) (n : ℕ) (is : List Input) (line : List ℕ) (lines : List (List ℕ)) (told : List ℕ) (r : Reading) → reading line ≡ r → ComesAs on_fault given end n is line lines told r
     → Come on_fault given end n is (line ∷ lines) told
@@ -83,7 +83,7 @@ left is = record { inputs = is; stop = None }
 one_tick : (given : Setup) (tick : List ℕ) → reading tick ≡ Do (Step 1) → Come Stop given (left (next_tick given [] ∷ [])) 1 [] (tick ∷ []) []
 unfolding verdict
 one_tick given tick ticks =
-    comes Stop given (left (next_tick given [] ∷ [])) 1 [] tick [] [] (Do (Step 1)) ticks (None, next_tick given [] ∷ [], [], (None, inl (refl, (refl, refl)), refl), refl, (refl, refl))
+    comes Stop given (left (next_tick given [] ∷ [])) 1 [] tick [] [] (Do (Step 1)) ticks (None, next_tick given [] ∷ [], [], (None, (_, inl ([], record { right = refl; line = refl }, (refl, refl, refl))), refl), refl, (refl, refl))
 
 -- and undone
 taken_back : (given : Setup) (tick undo : List ℕ) → reading tick ≡ Do (Step 1) → reading undo ≡ Do Undo → Come Stop given (left []) 1 [] (tick ∷ undo ∷ []) []
@@ -93,10 +93,10 @@ taken_back given tick undo ticks undoes =
       None,
       next_tick given [] ∷ [],
       [],
-      (None, inl (refl, (refl, refl)), refl),
+      (None, (_, inl ([], record { right = refl; line = refl }, (refl, refl, refl))), refl),
       refl,
       comes Stop given (left []) 2 (next_tick given [] ∷ []) undo [] [] (Do Undo) undoes
-          (None, [], [], (None, record { answer = Undone kinds.Tick; right = refl; left = refl; refused = refl }, refl), refl, (refl, refl)),
+          (None, [], [], (None, (_, record { answer = Undone kinds.Tick; right = refl; left = refl; line = refl; refused = refl }), refl), refl, (refl, refl)),
     )
 
 -- ## What is told of a line
@@ -113,12 +113,12 @@ not_raw = refl
 -- ## Strict records
 
 -- this line ends a record
-abbrev stopped_by : ℕ → End
-stopped_by n = record { inputs = []; stop = Some (record { number = n; fault = BadCommand }) }
+abbrev stopped_by : ℕ → List ℕ → End
+stopped_by n line = record { inputs = []; stop = Some (record { number = n; line = take 200 line; fault = BadCommand }) }
 
 -- a line that is no command ends a strict record, and its text alone is told
-stopped : (given : Setup) (bad tick : List ℕ) → reading bad ≡ Bad → Come Stop given (stopped_by 1) 1 [] (bad ∷ tick ∷ []) (fault_line 1 bad BadCommand ++ [])
-stopped given bad tick reads = comes Stop given (stopped_by 1) 1 [] bad (tick ∷ []) (fault_line 1 bad BadCommand ++ []) Bad reads (Some BadCommand, [], [], (refl, refl), refl, (refl, refl))
+stopped : (given : Setup) (bad tick : List ℕ) → reading bad ≡ Bad → Come Stop given (stopped_by 1 bad) 1 [] (bad ∷ tick ∷ []) (fault_line 1 bad BadCommand ++ [])
+stopped given bad tick reads = comes Stop given (stopped_by 1 bad) 1 [] bad (tick ∷ []) (fault_line 1 bad BadCommand ++ []) Bad reads (Some BadCommand, [], [], (refl, refl), refl, (refl, refl))
 
 -- one that goes on takes the tick after it
 gone_on : (given : Setup) (bad tick : List ℕ) → reading bad ≡ Bad → reading tick ≡ Do (Step 1) → Come GoOn given (left (next_tick given [] ∷ [])) 1 [] (bad ∷ tick ∷ []) (fault_line 1 bad BadCommand ++ [])
@@ -130,17 +130,17 @@ gone_on given bad tick reads ticks =
       [],
       (refl, refl),
       refl,
-      comes GoOn given (left (next_tick given [] ∷ [])) 2 [] tick [] [] (Do (Step 1)) ticks (None, next_tick given [] ∷ [], [], (None, inl (refl, (refl, refl)), refl), refl, (refl, refl)),
+      comes GoOn given (left (next_tick given [] ∷ [])) 2 [] tick [] [] (Do (Step 1)) ticks (None, next_tick given [] ∷ [], [], (None, (_, inl ([], record { right = refl; line = refl }, (refl, refl, refl))), refl), refl, (refl, refl)),
     )
 
 -- were a strict record to end with the second such line, it would tell of two
-would_tell_two : (given : Setup) (bad : List ℕ) → StoppedSo given 1 [] (bad ∷ bad ∷ []) (fault_line 1 bad BadCommand ++ fault_line 2 bad BadCommand) [] (stopped_by 2).stop → ⊥
+would_tell_two : (given : Setup) (bad : List ℕ) → StoppedSo given 1 [] (bad ∷ bad ∷ []) (fault_line 1 bad BadCommand ++ fault_line 2 bad BadCommand) [] (stopped_by 2 bad).stop → ⊥
 unfolding digits
 would_tell_two given bad s = let no : 49 ≡ 50 = ap (λ (v : List ℕ). get_or v 8 0) s.alone in absurd (omega (arith, no))
 
 -- were one that goes on to end with it, the tick after it would be left out
-would_leave_out : (given : Setup) (bad tick told : List ℕ) → Come GoOn given (stopped_by 1) 1 [] (bad ∷ tick ∷ []) told → ⊥
-would_leave_out given bad tick told h = let none : (stopped_by 1).stop ≡ None = no_line_stops_others given (stopped_by 1) (bad ∷ tick ∷ []) told h in absurd (let no : ⊥ = cc in no)
+would_leave_out : (given : Setup) (bad tick told : List ℕ) → Come GoOn given (stopped_by 1 bad) 1 [] (bad ∷ tick ∷ []) told → ⊥
+would_leave_out given bad tick told h = let none : (stopped_by 1 bad).stop ≡ None = no_line_stops_others given (stopped_by 1 bad) (bad ∷ tick ∷ []) told h in absurd (let no : ⊥ = cc in no)
 
 -- ## What was told before a fault
 
@@ -148,9 +148,9 @@ would_leave_out given bad tick told h = let none : (stopped_by 1).stop ≡ None 
 begun : (given : Setup) → reading (codes "b") ≡ Bad → BeginsLast Stop given 1 [] (codes "b") (codes "command 1: b: ")
 unfolding digits
 begun given bad = (
-  stopped_by 1,
+  stopped_by 1 (codes "b"),
   codes "bad command" ++ 10 ∷ [],
-  comes Stop given (stopped_by 1) 1 [] (codes "b") [] (codes "command 1: b: bad command" ++ 10 ∷ []) Bad bad (Some BadCommand, [], [], (refl, refl), refl, (refl, refl)),
+  comes Stop given (stopped_by 1 (codes "b")) 1 [] (codes "b") [] (codes "command 1: b: bad command" ++ 10 ∷ []) Bad bad (Some BadCommand, [], [], (refl, refl), refl, (refl, refl)),
 )
 
 -- a line that is told twice begins nothing that is to be told

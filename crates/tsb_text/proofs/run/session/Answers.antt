@@ -17,10 +17,10 @@ pub returns-clause-ended : goal.returns-clause-ended
 returns-clause-ended g c = rw c.as_session.ensures
     (ended c.converse.result _ (record { plan = checked_plan c.args.plan; log = c.args.log.now }) _ _ _ _ _
     (c.converse.ensures.ended (from_power_up (record { plan = checked_plan c.args.plan; log = c.args.log.now })) (
-      course-begins (record { plan = checked_plan c.args.plan; log = c.args.log.now }) c.args.log.now c.new-course.result refl
-          (subst (λ (b : Held). Follows (checked_plan c.args.plan) (whole b) []) (sym c.new-course.ensures.bench) (follows-start controller (start (checked_plan c.args.plan)) (whole c.in-Ok.bench) c.in-Ok.ensures))
-          c.new-course.ensures.kept,
-      c.new-course.ensures.mode,
+      course-begins (record { plan = checked_plan c.args.plan; log = c.args.log.now }) c.args.log.now c.new.result refl c.new.ensures.rows
+          (subst (λ (b : Held). Follows (checked_plan c.args.plan) (whole b) []) (sym c.new.ensures.bench) (follows-start controller (start (checked_plan c.args.plan)) (whole c.in-Ok.bench) c.in-Ok.ensures))
+          c.new.ensures.kept c.new.ensures.told,
+      c.new.ensures.mode,
     )))
 
 pub returns-clause-blame : goal.returns-clause-blame

@@ -1,4 +1,4 @@
-use Rattle.std.proofs.Common.{◌≡◌, ◌∙◌, ap, refl, rules, subst, codes, None}
+use Rattle.std.proofs.Common.{◌∙◌, ap, refl, subst, codes, None}
 use Rattle.tsb_bench.specs.Held.{state_of}
 use Rattle.tsb_text.specs.kept.Changed.{last_change}
 use Rattle.tsb_log_text.specs.RowInputs.{value_of}
@@ -48,13 +48,13 @@ returns-in-When-clause-done g c s stands =
 pub returns-in-Events-clause-done : goal.returns-in-Events-clause-done
 returns-in-Events-clause-done g c s stands =
     does-as c.tell-in-Events-2.result s _ c.args.line.now c.args.command (asks.Events c.in-Events.on) _ _ _ _ c.in-Events.is
-    (does-tell c.tell-in-Events-2.result None _ s (with_events c.in-Events.on s) c.args.line.now c.deref-in-Events.result.now (codes "ok") (codes "ok") _ _ _ _ (events-stands c.args.self.now _ s c.in-Events.on stands c.tell-in-Events.ensures.mode c.tell-in-Events.ensures.bench c.tell-in-Events.ensures.kept refl refl refl refl)
+    (does-tell c.tell-in-Events-2.result None _ s (with_events c.in-Events.on s) c.args.line.now c.deref-in-Events.result.now (codes "ok") (codes "ok") _ _ _ _ (events-stands c.args.self.now _ s c.in-Events.on stands c.tell-in-Events.ensures.mode c.tell-in-Events.ensures.bench c.tell-in-Events.ensures.rows c.tell-in-Events.ensures.kept refl refl refl)
     (same-echo c.args.self.now s c.args.line.now c.deref-in-Events.result.now stands (c.deref-in-Events.ensures.0 ∙ c.echo-echo.ensures)) (refl) c.tell-in-Events-2.ensures.told)
 
 pub returns-in-Echo-clause-done : goal.returns-in-Echo-clause-done
 returns-in-Echo-clause-done g c s stands =
     does-as c.tell-in-Echo.result s _ c.args.line.now c.args.command (asks.Echo c.in-Echo.on) _ _ _ _ c.in-Echo.is
-    (does-tell c.tell-in-Echo.result None _ s (with_echo c.in-Echo.on s) c.args.line.now c.deref-in-Echo.result.now (codes "ok") (codes "ok") _ _ _ _ (echo-stands c.args.self.now _ s c.in-Echo.on stands refl refl refl refl refl)
+    (does-tell c.tell-in-Echo.result None _ s (with_echo c.in-Echo.on s) c.args.line.now c.deref-in-Echo.result.now (codes "ok") (codes "ok") _ _ _ _ (echo-stands c.args.self.now _ s c.in-Echo.on stands refl refl refl refl)
     (same-echo c.args.self.now s c.args.line.now c.deref-in-Echo.result.now stands (c.deref-in-Echo.ensures.0 ∙ c.echo-echo.ensures)) (refl) c.tell-in-Echo.ensures.told)
 
 pub returns-in-Save-clause-done : goal.returns-in-Save-clause-done

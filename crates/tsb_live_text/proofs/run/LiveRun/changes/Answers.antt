@@ -9,10 +9,10 @@ use Rattle.tsb_live_text.proofs.run.LiveRun.changes.Goals as goal
 pub returns-in_err-refusal-clause-done : goal.returns-in_err-refusal-clause-done
 returns-in_err-refusal-clause-done g c s stands = let p = err_from_is_err_and c.from_residual.result c.from_residual.ensures.1 in
     rw p.1 (does-break _ _ p.0 c.args.self.now s _ _ _ _ (changes-so c.args.self.now s c.args.line.now c.deref.result.now c.args.ticks stands (c.deref.ensures.0 ∙ c.echo-echo.ensures))
-    (c.in_err-refusal.ensures.done (setup s) (rows_in (Held s.row)) s.inputs stands.stands))
+    (c.in_err-refusal.ensures.done (setup s) (rows_in (Held s.row)) s.row s.inputs stands.stands refl))
 
 pub returns-clause-done : goal.returns-clause-done
 returns-clause-done g c s stands =
-    does-leave _ _ c.in_ok-refusal.refusal c.fault_by.result c.args.self.now _ s _ _ _ _ stands c.changes.ensures.mode refl refl refl refl
+    does-leave _ _ c.in_ok-refusal.refusal c.fault_by.result c.args.self.now _ s _ _ _ _ stands c.changes.ensures.mode refl refl refl
     (changes-so c.args.self.now s c.args.line.now c.deref.result.now c.args.ticks stands (c.deref.ensures.0 ∙ c.echo-echo.ensures)) c.fault_by.ensures
-    (c.in_ok-refusal.ensures.done (setup s) (rows_in (Held s.row)) s.inputs stands.stands)
+    (c.in_ok-refusal.ensures.done (setup s) (rows_in (Held s.row)) s.row s.inputs stands.stands refl)

@@ -20,7 +20,7 @@ returns-in-Bad-clause-done g c s stands =
 pub returns-in-Tick-clause-done : goal.returns-in-Tick-clause-done
 returns-in-Tick-clause-done g c s stands =
     does-read c.obey.result s _ c.args.line.now c.args.reading.now (reads.Tick c.in-Tick.row) _ _ _ _ c.in-Tick.is
-    (c.obey.ensures.done (with_row c.in-Tick.row s) (row-stands c.args.self.now _ s c.in-Tick.row stands refl refl refl refl refl))
+    (c.obey.ensures.done (with_row c.in-Tick.row s) (row-stands c.args.self.now _ s c.in-Tick.row stands c.hold.ensures refl refl refl))
 
 pub returns-in-Ask-clause-done : goal.returns-in-Ask-clause-done
 returns-in-Ask-clause-done g c s stands = does-read c.ask.result s _ c.args.line.now c.args.reading.now (reads.Ask c.in-Ask.command) _ _ _ _ c.in-Ask.is (c.ask.ensures.done s stands)

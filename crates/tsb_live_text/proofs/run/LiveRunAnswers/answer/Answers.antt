@@ -9,5 +9,5 @@ returns-in_err-fault-clause-answered g c s stands = let p = err_from_is_err_and 
 
 pub returns-clause-answered : goal.returns-clause-answered
 returns-clause-answered g c s stands =
-    answered-ok c.flow_after.result c.live_reading_of-reading.result c.in_ok-fault.fault s c.args.number c.args.line.now c.args.self.now c.read.new.self _ _ _ _ _ stands c.live_reading_of-reading.ensures c.read.ensures.strict (c.in_ok-fault.ensures.done s stands)
-    refl refl refl refl c.stop_at-self.ensures c.flow_after.ensures
+    answered-ok c.flow_after.result c.live_reading_of-reading.result c.quits.result c.in_ok-fault.fault s c.args.number c.args.line.now c.args.self.now c.read.new.self _ _ _ _ _ stands c.live_reading_of-reading.ensures c.read.ensures.strict (c.in_ok-fault.ensures.done s stands)
+    refl refl refl c.stop_at-self.ensures c.quits.ensures c.flow_after.ensures

@@ -1,11 +1,12 @@
-use Rattle.std.proofs.Common.{subst, sym}
+use Rattle.std.proofs.Common.{refl, subst, sym}
+use Rattle.tsb_text.specs.Rows.{rows_in}
 use Rattle.tsb_text.specs.Obeyed.{OnCourse, Stands}
 use Rattle.tsb_text.proofs.CourseLemmas.{bench-took, plain-took}
 use Rattle.tsb_text.proofs.course.Course.take.Goals as goal
 
 pub returns-in-Plain-clause-took : goal.returns-in-Plain-clause-took
-returns-in-Plain-clause-took c given log is s =
-    let old : OnCourse = record { bench = c.self.inside.bench; kept = c.self.inside.kept; mode = c.self.inside.mode; news = c.self.inside.news.items } in
+returns-in-Plain-clause-took c given log is s next =
+    let old : OnCourse = record { bench = c.self.inside.bench; rows = rows_in c.self.inside.rows; kept = c.self.inside.kept; told = c.self.inside.told; mode = c.self.inside.mode; news = c.self.inside.news.items } in
     let here : Stands given log old is = subst (λ (v : OnCourse). Stands given log v is) (sym c.self.view_is) s in
-    plain-took c.apply.result given log is old _ c.args.input here c.in-Plain.is
+    plain-took c.apply.result given log is old _ c.args.input here c.in-Plain.is refl
     (bench-took c.apply.result given.plan is c.self.inside.bench c.apply.new.self c.args.input here.follows c.apply.ensures.allowed c.apply.ensures.state c.apply.ensures.records c.apply.ensures.back c.apply.ensures.refused c.apply.ensures.err)

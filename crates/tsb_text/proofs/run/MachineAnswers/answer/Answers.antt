@@ -1,5 +1,4 @@
 use Rattle.std.proofs.lemmas.Result.{err_from_is_err_and}
-use Rattle.tsb_text.specs.Rows.{rows_in}
 use Rattle.tsb_text.proofs.ReplyLemmas.{bad-fault, done-fault, done-said}
 use Rattle.tsb_text.proofs.run.MachineAnswers.answer.Goals as goal
 
@@ -9,10 +8,10 @@ returns-in_err-say-in-Bad-clause-answered g c stand here = let p = err_from_is_e
 
 pub returns-in_err-obey-in-Do-clause-answered : goal.returns-in_err-obey-in-Do-clause-answered
 returns-in_err-obey-in-Do-clause-answered g c stand here = let p = err_from_is_err_and c.from_residual-in_err-obey-in-Do.result c.from_residual-in_err-obey-in-Do.ensures.1 in
-    rw p.1 (done-fault stand c.args._number c.args.line.now c.reading_of.result c.in-Do.command c.in_err-obey-in-Do.field-0.0 (rows_in c.args.self.now.rows) c.args.self.now.course c.obey.new.course _ _ _ _
-    c.reading_of.ensures c.in-Do.is here.1 (c.in_err-obey-in-Do.ensures.done stand.given stand.inputs here.0))
+    rw p.1 (done-fault stand c.args._number c.args.line.now c.reading_of.result c.in-Do.command c.in_err-obey-in-Do.field-0.0 c.args.self.now.course c.obey.new.course _ _ _ _
+    c.reading_of.ensures c.in-Do.is here.1 (c.in_err-obey-in-Do.ensures.done stand.given stand.given.log stand.inputs here.0))
 
 pub returns-in_ok-obey-in-Do-clause-answered : goal.returns-in_ok-obey-in-Do-clause-answered
 returns-in_ok-obey-in-Do-clause-answered g c stand here =
-    done-said stand c.args._number c.args.line.now c.reading_of.result c.in-Do.command c.flow_after-flow.result (rows_in c.args.self.now.rows) (rows_in c.obey.new.rows) c.args.self.now.course c.obey.new.course _ _ _ _ _
-    c.reading_of.ensures c.in-Do.is c.flow_after-flow.ensures c.obey.ensures.rows here.1 c.obey.ensures.mode (c.in_ok-obey-in-Do.ensures.done stand.given stand.inputs here.0)
+    done-said stand c.args._number c.args.line.now c.reading_of.result c.in-Do.command c.flow_after-flow.result c.args.self.now.course c.obey.new.course _ _ _ _ _
+    c.reading_of.ensures c.in-Do.is c.flow_after-flow.ensures here.1 c.obey.ensures.mode (c.in_ok-obey-in-Do.ensures.done stand.given stand.given.log stand.inputs here.0)

@@ -1,0 +1,22 @@
+use Rattle.std.proofs.Common.{◌+◌, ◌-◌, ◌∙◌, arith, refl}
+use Rattle.tsb_text.proofs.recording.RecorderLemmas.{Stepping, steps-end, steps-more, steps-refused, steps-start}
+use Rattle.tsb_text.proofs.recording.recorder.step.Goals as goal
+
+pub loop-i-init : goal.loop-i-init
+loop-i-init c = (λ given log is s. steps-start given log is c.args.ticks _ c.args.course.now (omega arith) s, refl)
+
+pub loop-i-preserved : goal.loop-i-preserved
+loop-i-preserved c = (
+  λ given log is s.
+      let before : Stepping given log is c.args.ticks c.loop-i.course (c.args.ticks - c.loop-i._i) = c.loop-i.invariant.0 given log is s in
+      steps-more given log is c.args.ticks c.loop-i.course c.tick.new.self (c.args.ticks - c.loop-i._i) (c.args.ticks - (c.loop-i._i + 1)) (omega arith) before (c.in-Ok.ensures.took given log before.now before.stands),
+  c.tick.ensures.mode ∙ c.loop-i.invariant.1,
+)
+
+pub returns-in-Err-clause-done : goal.returns-in-Err-clause-done
+returns-in-Err-clause-done c given log is s =
+    let before : Stepping given log is c.args.ticks c.loop-i.course (c.args.ticks - c.loop-i._i) = c.loop-i.invariant.0 given log is s in
+    steps-refused given log is c.args.ticks c.loop-i.course c.tick.new.self (c.args.ticks - c.loop-i._i) (c.args.ticks - (c.loop-i._i + 1)) c.in-Err.refusal (omega arith) before (c.in-Err.ensures.took given log before.now before.stands)
+
+pub returns-clause-done : goal.returns-clause-done
+returns-clause-done c given log is s = steps-end given log is c.args.ticks c.loop-i.course (c.args.ticks - c.loop-i._i) (omega arith) (c.loop-i.invariant.0 given log is s)
