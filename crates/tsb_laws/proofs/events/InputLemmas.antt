@@ -28,7 +28,6 @@ use Rattle.tsb_text.specs.kept.Kept.{last_row}
 use Rattle.tsb_text.specs.recording.Along.{noted_after, told_along}
 use Rattle.tsb_laws.specs.Told.{AreSwitchesOff, InputsMakeTheLog, if_changed, is_same_row, log_of}
 use Rattle.tsb_laws.proofs.events.KeptLemmas.{Kept, both, first-alone, second-alone, all-told, none-of, not-among}
-use Rattle.tsb_text.proofs.kept.KeptLemmas.{same-row}
 
 -- ## What is kept of the events of an input
 
@@ -135,6 +134,16 @@ other-told tick noted v w by_inputs off off_now =
     ∙ (λ i. (none.none-told tick 81 (has_number noted.row.vehicles) i ++ none.none-told tick 82 (has_number noted.row.vehicles) i)
     ++ (none.none-told tick 102 (has_number noted.row.preempts) i ++ none.none-told tick 104 (has_number noted.row.preempts) i))
 
+same-rows : (one other : Row) → is_same_row one other ≡ true → one ≡ other
+same-rows one other e =
+    let parts = and_parts (one.vehicles.word == other.vehicles.word) (one.pedestrians.word == other.pedestrians.word && one.preempts.word == other.preempts.word) e in
+    let rest = and_parts (one.pedestrians.word == other.pedestrians.word) (one.preempts.word == other.preempts.word) parts.1 in
+    λ i. record {
+      vehicles = record { word = eqb-true one.vehicles.word other.vehicles.word parts.0 i };
+      pedestrians = record { word = eqb-true one.pedestrians.word other.pedestrians.word rest.0 i };
+      preempts = record { word = eqb-true one.preempts.word other.preempts.word rest.1 i };
+    }
+
 -- the same inputs again tell nothing
 no-change : (tick : ℕ) (row : Row) → events_of_row row (record { tick = tick; row = row }) ≡ []
 unfolding events_of_row
@@ -161,13 +170,13 @@ row-append before (row ∷ rows) more = row-append row.row rows more
 -- a row that changes is told, and another tells nothing
 told-if-changed : (last : Row) (tick : ℕ) (row : Row) → events_behind last (if_changed last tick row) ≡ events_of_row last (record { tick = tick; row = row })
 told-if-changed last tick row = elim (cases_Bool (is_same_row last row)) [
-  | inl same ↦ rw same (sym (no-change tick row) ∙ ap (λ (r : Row). events_of_row r (record { tick = tick; row = row })) (sym (same-row last row same)))
+  | inl same ↦ rw same (sym (no-change tick row) ∙ ap (λ (r : Row). events_of_row r (record { tick = tick; row = row })) (sym (same-rows last row same)))
   | inr other ↦ rw other (append-nil (events_of_row last (record { tick = tick; row = row })))
 ]
 
 row-if-changed : (last : Row) (tick : ℕ) (row : Row) → row_after last (if_changed last tick row) ≡ row
 row-if-changed last tick row = elim (cases_Bool (is_same_row last row)) [
-  | inl same ↦ rw same (same-row last row same)
+  | inl same ↦ rw same (same-rows last row same)
   | inr other ↦ rw other refl
 ]
 

@@ -24,8 +24,7 @@ use Rattle.tsb_step.proofs.GoodLemmas.{good_run}
 use Rattle.tsb_step.proofs.OverlapRunLemmas.{overlaps_clear}
 use Rattle.tsb_step.proofs.YellowLemmas.{clears_in_yellow}
 use Rattle.tsb_laws.specs.LitHeads.{KeepsLitHeads, StaysOrClears}
-use Rattle.tsb_laws.proofs.heads.LitLemmas.{dark_is_ordered, keeps_lit_heads}
-use Rattle.tsb_step.proofs.SafeLemmas.{shows_service}
+use Rattle.tsb_laws.proofs.heads.LitLemmas.{dark_is_ordered, vehicle_serves, keeps_lit_heads}
 
 -- no head that is red gives right of way
 not_red : (a : Aspect) → gives_way a ≡ true → a ≡ Red → ⊥
@@ -66,7 +65,7 @@ phase_clears plan is ok taken dark (inputs.Tick row) p allowed after lit =
         let here : gives_way (vehicle_head (replay plan is).plan (shown (replay plan is)) p) ≡ true =
         rw (dark_is_ordered (replay plan is) (ap is_some dark)) at lit in
         ap (λ (x : Plan). is_enabled x p) (plan_stays (replay plan is) row)
-        ∙ (shows_service (is_enabled (replay plan is).plan p) (interval (replay plan is) p) here).0
+        ∙ (vehicle_serves (is_enabled (replay plan is).plan p) (interval (replay plan is) p) here).0
 
     seen : (gives_way ((display (step (replay plan is) (Tick row))).vehicle p) ≡ true) ⊎ ((display (step (replay plan is) (Tick row))).vehicle p ≡ Red)
     seen =

@@ -39,7 +39,6 @@ use Rattle.tsb_step.proofs.EndLemmas.{walks_in_green}
 use Rattle.tsb_step.proofs.YellowLemmas.{leaves_structure, enabled_lit, plan_of_reset}
 use Rattle.tsb_laws.specs.LitHeads.{KeepsLitHeads}
 use Rattle.tsb_laws.proofs.safety.StretchLemmas.{Goes, ticks, stays, goes}
-use Rattle.tsb_step.proofs.SafeLemmas.{shows_service}
 
 -- ## Heads of a controller that has not tripped
 
@@ -149,6 +148,13 @@ sight_after s i q good t taken dark serves = go (goes s i dark)
     }
 
 -- ## Vehicle heads
+
+pub vehicle_serves : (on : Bool) (i : Interval) → gives_way (if on then aspect_of i else Dark) ≡ true → (on ≡ true) × (in_service i ≡ true)
+vehicle_serves false i h = absurd (false≢true h)
+vehicle_serves true intervals.Red h = absurd (false≢true h)
+vehicle_serves true intervals.Green h = (refl, refl)
+vehicle_serves true intervals.Yellow h = (refl, refl)
+vehicle_serves true intervals.RedClear h = absurd (false≢true h)
 
 same_vehicle : (s t : State) (p : ℕ) → SameSight s t → vehicle_head t.plan (shown t) p ≡ vehicle_head s.plan (shown s) p
 same_vehicle s t p same = go (is_enabled t.plan p) (is_enabled s.plan p) (interval t p) (interval s p) (same.plan.enabled p) (same.interval p)
@@ -394,7 +400,7 @@ keeps_lit_heads s i good t taken trips = record {
   vehicle = λ p lit.
       (let dark : is_some s.trip ≡ false = dark_by_vehicle s p lit in
       let here : gives_way (vehicle_head s.plan (shown s) p) ≡ true = rw (dark_is_ordered s dark) at lit in
-      let serves = (shows_service (is_enabled s.plan p) (interval s p) here).1 in
+      let serves = (vehicle_serves (is_enabled s.plan p) (interval s p) here).1 in
       rw (dark_is_ordered s dark, dark_is_ordered (step s i) (ap is_some trips ∙ dark))
       (same_vehicle s (step s i) p (sight_after s i p good t taken (is-none s.trip dark) serves)));
   pedestrian = λ p lit.

@@ -24,7 +24,6 @@ use Rattle.tsb_laws.proofs.safety.SideSoughtLemmas.{none_first}
 use Rattle.tsb_laws.proofs.operation.TurnListLemmas.{after_later, first_before}
 use Rattle.tsb_laws.proofs.operation.TurnStepLemmas.{clear_left, back_left, clear_most, back_most}
 use Rattle.tsb_laws.proofs.operation.BarrierLemmas.{back_all}
-use Rattle.tsb_ring.proofs.WantLemmas.{up_to-among}
 
 -- ## What is seen of a state
 
@@ -152,9 +151,18 @@ module _ (longest : ℕ → ℕ) (Lasts : View → ℕ → ℕ → Type 0) where
 
 -- ## A phase in an order
 
+or_tail : (a b c : Bool) → (b ≡ true → c ≡ true) → (a || b) ≡ true → (a || c) ≡ true
+or_tail true b c f h = refl
+or_tail false b c f h = f h
+
 unless_cut : (q : ℕ) (xs : List ℕ) (C : Type 0) (b : Bool) → (among q xs ≡ true → C) → among q (if b then [] else xs) ≡ true → C
 unless_cut q xs C true f h = absurd (false≢true h)
 unless_cut q xs C false f h = f h
+
+in_front : (l q : ℕ) (ps : List ℕ) → among q (up_to l ps) ≡ true → among q ps ≡ true
+in_front l q [] h = h
+in_front l q (y ∷ ys) h =
+    or_tail (y == q) (among q (if y == l then [] else up_to l ys)) (among q ys) (unless_cut q (up_to l ys) (among q ys ≡ true) (y == l) (in_front l q ys)) h
 
 unless_cut_after : (x q : ℕ) (xs : List ℕ) (C : Type 0) (b : Bool) → (among q (after x xs) ≡ true → C) → among q (after x (if b then [] else xs)) ≡ true → C
 unless_cut_after x q xs C true f h = absurd (false≢true h)
@@ -165,7 +173,7 @@ after_up_to : (l x q : ℕ) (ps : List ℕ) → among q (after x (up_to l ps)) �
 after_up_to l x q [] h = h
 after_up_to l x q (y ∷ ys) h =
     elim (cases_Bool (y == x)) [
-      | inl e ↦ rw e (unless_cut q (up_to l ys) (among q ys ≡ true) (y == l) (up_to-among l q ys) (rw e at h))
+      | inl e ↦ rw e (unless_cut q (up_to l ys) (among q ys ≡ true) (y == l) (in_front l q ys) (rw e at h))
       | inr e ↦ rw e (unless_cut_after x q (up_to l ys) (among q (after x ys) ≡ true) (y == l) (after_up_to l x q ys) (rw e at h))
     ]
 

@@ -6,7 +6,6 @@ use Rattle.tsb_step.specs.tsb_plan.Plan.{Plan}
 use Rattle.tsb_step.specs.tsb_rules.SequenceRules.{lists_once}
 use Rattle.tsb_step.specs.tsb_ring.Wants.{is_on_side}
 use Rattle.tsb_laws.specs.ServedCalls.{turn, turns}
-use Rattle.tsb_ring.proofs.WantLemmas.{after-among}
 
 -- ## Lists without repeats
 
@@ -42,6 +41,14 @@ among_tail y x xs h = go (y == x)
     go true = refl
     go false = h
 
+pub after_among : (l x : ℕ) (xs : List ℕ) → among x (after l xs) ≡ true → among x xs ≡ true
+after_among l x [] h = h
+after_among l x (y ∷ ys) h =
+    elim (cases_Bool (y == l)) [
+      | inl e ↦ among_tail y x ys (rw e at h)
+      | inr e ↦ among_tail y x ys (after_among l x ys (rw e at h))
+    ]
+
 -- ## What is still to come once a phase has its turn
 
 after_within : (l x : ℕ) (xs : List ℕ) → x ≢ 0 → lists_once xs ≡ true → among x (after l xs) ≡ true → after x xs ≡ after x (after l xs)
@@ -49,7 +56,7 @@ after_within l x [] some o k = refl
 after_within l x (y ∷ ys) some o k =
     elim (cases_Bool (y == l)) [
       | inl e ↦ rw e (after_tail y x ys (not_head y x ys some o (rw e at k)))
-      | inr e ↦ rw e (after_tail y x ys (not_head y x ys some o (after-among l x ys (rw e at k)))
+      | inr e ↦ rw e (after_tail y x ys (not_head y x ys some o (after_among l x ys (rw e at k)))
           ∙ after_within l x ys some (tail_once y ys o) (rw e at k))
     ]
 
@@ -69,7 +76,7 @@ before_head c q y ys same there =
 before_tail : (c q y : ℕ) (ys : List ℕ) → (c ≡ q) ⊎ (among q (after c ys) ≡ true) → (c ≡ q) ⊎ (among q (after c (y ∷ ys)) ≡ true)
 before_tail c q y ys (inl k) = inl k
 before_tail c q y ys (inr k) =
-    elim (cases_Bool (y == c)) [ inl e ↦ inr (rw e (after-among c q ys k)) | inr e ↦ inr (rw e k) ]
+    elim (cases_Bool (y == c)) [ inl e ↦ inr (rw e (after_among c q ys k)) | inr e ↦ inr (rw e k) ]
 
 -- the first that passes a test comes no later than any that does
 pub first_before : (test : ℕ → Bool) (c q : ℕ) (ps : List ℕ) → first test ps ≡ Some c → among q ps ≡ true → test q ≡ true →

@@ -52,7 +52,6 @@ use Rattle.tsb_laws.proofs.safety.IntergreenLemmas.{good_then, turns_yellow, sta
 use Rattle.tsb_laws.proofs.safety.ChoiceLemmas.{pick_not_omitted, entry_not_omitted}
 use Rattle.tsb_laws.proofs.safety.EnabledLemmas.{callable_not_omitted}
 use Rattle.tsb_laws.proofs.safety.DueLemmas.{count_run, clipped_at}
-use Rattle.tsb_coord.proofs.LocalLemmas.{never_late}
 
 -- ## A coordinated green that ends
 
@@ -188,6 +187,13 @@ latched plan (i ∷ is) p h = latched plan is p h
 
 pub few_now : (plan : Plan) (is : List Input) → plan.phase_count ≤ 16 → (replay plan is).plan.phase_count ≤ 16
 few_now plan is few = let same = count_run plan is in omega (arith, same, few)
+
+-- a coordinated phase is forced off at its instant and in its permissive time, and neither late nor by floating
+-- force-off
+never_late : (m : ℕ) (at from : Option ℕ) → is_late m at from None ≡ false
+never_late m None from = refl
+never_late m (Some l) None = refl
+never_late m (Some l) (Some i) = refl
 
 never_forced_late : (plan : Plan) (o at : Option ℕ) (p : ℕ) → is_coordinated_now plan o p ≡ true → is_forced_late plan o at p ≡ false
 never_forced_late plan None at p h = refl
