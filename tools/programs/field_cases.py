@@ -20,9 +20,10 @@ USAGE = (
     b"          [--vehicle CHANNEL=DETECTOR].. [--pedestrian CHANNEL=DETECTOR].. [--preempt CHANNEL=INPUT]..\n"
     b"    or tsb_field record --from TIME --device ID [--go-on] [--recalls] [--outputs] PLAN LOG\n"
     b"    or tsb_field events --from TIME --device ID [--log LOG]\n"
-    b"    or tsb_field diagram [--log LOG] [--title TEXT] [--seconds-per-line N]\n"
+    b"    or tsb_field diagram [--log LOG] [--title TEXT] [--seconds-per-line N] [--from TIME [--events FILE]]\n"
     b"    or tsb_field review PLAN\n"
 )
+NO_TIME = b'--from: a time is YYYY-MM-DD HH:MM:SS, such as "2026-11-22 07:00:00"\n'
 MARK = b"\xef\xbb\xbf"
 
 AT = "2026-11-22 07:00:00"
@@ -721,17 +722,24 @@ def word_runs():
         [*LOG, "--vehicle", "1=17"], [*LOG, "--vehicle", "1=0"], [*LOG, "--vehicle", "=1"], [*LOG, "--vehicle", "1="],
         [*LOG, "--vehicle", "1=1=1"], [*LOG, "--vehicle", "4294967296=1"], [*LOG, "--vehicle", "x=1"],
         [*LOG, "--pedestrian", "1=9"], [*LOG, "--preempt", "1=5"], [*LOG, "--device", "7", "--device", "7"],
-        ["log", "--from", "07:00"], ["log", "--from", "2026-11-22"], ["log", "--from", "2026-11-22 07:00:00Z"],
-        ["log", "--from", "2026-02-29 07:00:00"], ["log", "--from", ""], ["events", *FROM], ["events", "--device", "7"],
+        ["log", "--", "--from=x"], ["log", "--from"], ["events", *FROM], ["events", "--device", "7"],
         [*EVENTS, "--device", "7"], [*EVENTS, "--title", "x"], [*EVENTS, "car.log"],
         ["events", *FROM, "--device", 'a"b'], ["events", *FROM, "--device", "a\nb"],
         ["events", *FROM, "--device", "a\r"], ["events", *FROM, "--device", "7" * 901], [*EVENTS, "--log"],
-        ["diagram", *FROM], ["diagram", "--device", "7"], ["diagram", "--seconds-per-line", "0"],
+        ["diagram", *FROM, *FROM], ["diagram", "--events", "car.log"],
+        ["diagram", "--device", "7"], ["diagram", "--seconds-per-line", "0"],
         ["diagram", "--seconds-per-line", "86401"], ["diagram", "--seconds-per-line", "x"], ["diagram", "car.log"],
         ["diagram", "--title", "a", "--title", "b"], [b"\xff"], [*LOG, "--device", b"\xff"],
         ["diagram", "--title", b"\xc3"],
     ]:
         yield Run(words, 2, b"", USAGE, CAR)
+    for words in [
+        ["log", "--from", "07:00"], ["log", "--from", "2026-11-22"], ["log", "--from", "2026-11-22 07:00:00Z"],
+        ["log", "--from", "2026-02-29 07:00:00"], ["log", "--from", ""], ["log", "--from=2026-11-22 07:00"],
+        ["record", "--device", "7", "--from=x", "quad.json", "car.log"], ["events", "--from=x", "--", "--from"],
+        ["diagram", *FROM, "--from", "07:00"], ["what", "--from", "x"], ["log", "--from", "--from"],
+    ]:
+        yield Run(words, 2, b"", NO_TIME, CAR)
     for words, right in [
         (["Log", *FROM], b"log"), (["lgo"], b"log"), (["dagram"], b"diagram"), (["--hlep"], b"--help"),
         (["reviews", "quad.json"], b"review"), ([*LOG, "--devise", "7"], b"--device"), ([*LOG, "--zones=Z"], b"--zone"),
@@ -970,6 +978,24 @@ def log_faults():
     yield ENDLESS, 1, b"log: too large\n"
 
 
+# Event logs in which `diagram` finds no end of a green: the name of a file, its text, and the line.
+NO_GREEN_END = b"events: no gap out, max out or force-off from --from on\n"
+GREEN_ENDS = [
+    ("early.csv", HEADER + b"7,2026-11-22 06:59:59.9,4,2\n", NO_GREEN_END),
+    ("other.csv", HEADER + b"7,2026-11-22 07:00:01.0,7,2\n", NO_GREEN_END),
+    ("cut.csv", HEADER + b"7,2026-11-22 07:00:01.0,4\n", b"events line 2: parameter: the line ends before it\n"),
+    ("torn.csv", b"#\n7,2026-11-22 07:00:01.0,4,x\n", b'events line 2: parameter: "x" is no whole number up to 4294967295\n'),
+]
+
+
+def green_end_faults():
+    """An event log that `diagram` refuses, or can't read: its file, the status, and the line."""
+    yield from ((path, 3, not_read(path)) for path in ["none.log", "folder", TORN])
+    for path, text, line in GREEN_ENDS:
+        yield path, 1, line
+    yield ENDLESS, 1, b"events: too large\n"
+
+
 def stream_runs():
     """Reads and writes that fail, and which of several faults is told."""
     for words in [LOG, EVENTS, ["diagram"]]:
@@ -986,12 +1012,16 @@ def stream_runs():
     yield Run([*LOG, "--device", "8"], 1, stderr=FULL, commands=CAR)
     yield Run([*LOG, "--device", "8", EMPTY], 0, stderr=FULL, commands=CAR)
     yield Run(LOG, 1, b"", b"events: too large\n", stdin=ENDLESS)
+    for path, status, line in green_end_faults():
+        yield Run(["diagram", *FROM, "--events", path], status, b"", line, ALL_LINES)
+        yield Run(["diagram", *FROM, "--events", path], status, b"", line, stdin=TORN, stdout=FULL)
+    yield Run(["diagram", *FROM, "--events", "folder", "--log", "none.log"], 3, b"", not_read("none.log"), ALL_LINES)
     for words in [EVENTS, ["diagram"]]:
         for path, status, line in log_faults():
             yield Run([*words, "--log", path], status, b"", line, ALL_LINES)
             yield Run([*words, "--log", path], status, b"", line, stdin=TORN, stdout=FULL)
             yield Run([*words, "--log", path, "more"], 2, b"", USAGE, stdin=TORN, stdout=FULL)
-    yield Run(["log", "--from", "x", "--device", "8"], 2, b"", USAGE, b"x\n")
+    yield Run(["log", "--from", "x", "--device", "8"], 2, b"", NO_TIME, b"x\n")
 
 
 def fill(folder):
@@ -999,6 +1029,8 @@ def fill(folder):
     shutil.copytree(EXAMPLES, folder, dirs_exist_ok=True)
     (folder / "folder").mkdir()
     (folder / "car.log").write_bytes(CAR_LOG)
+    for path, text, _ in GREEN_ENDS:
+        (folder / path).write_bytes(text)
     quad = json.loads((EXAMPLES / "quad.json").read_text())
     (folder / "twice.json").write_text(json.dumps({**quad, "vehicleDetectorDelay": DELAYS, "vehicleDetectorExtend": EXTENSIONS}))
     delayed = {**quad, "vehicleDetectorDelay": {"4": 10}, "vehicleDetectorExtend": {"2": 5}}

@@ -585,9 +585,9 @@ def marks(now, lit):
 def diagram(text, log_text, seconds):
     """The bands of a diagram, and line, band, class, first tick and ticks of each bar, with so many seconds a line."""
     lines, rows = remaining(text), list(rows_of(log_text))
-    shown = [marks(line, set()) for line in lines] + [marks(NOTHING_LIT, lit) for _, lit in rows]
-    bands = [name for name in marks(NOTHING_LIT, set()) if any(it[name] for it in shown)]
     last = lines[-1][0] if lines else 0
+    shown = [marks(line, set()) for line in lines] + [marks(NOTHING_LIT, lit) for tick, lit in rows if tick <= last]
+    bands = [name for name in marks(NOTHING_LIT, set()) if any(it[name] for it in shown)]
     at_lines, at_rows = [line[0] for line in lines], [tick for tick, _ in rows]
     all_shown, all_lit = [NOTHING_LIT, *lines], [set(), *(lit for _, lit in rows)]
     in_force = [None] + [marks(all_shown[bisect.bisect(at_lines, tick)], all_lit[bisect.bisect(at_rows, tick)])

@@ -431,6 +431,38 @@ def hour(program, bench):
     yield from difference("picture of the hour", answer(program, words, lines), (0, picture, b""))
 
 
+def four_minutes(program, bench):
+    """What is otherwise of the stored picture of four minutes with a preempt, a clock, and why greens ended."""
+    plan, hours = EXAMPLES / "main_and_oak.json", EXAMPLES / "hour_of_traffic.log"
+    commands = (EXAMPLES / "four_minutes.commands").read_bytes()
+    lines = subprocess.run([bench, "run", plan, hours], input=commands, capture_output=True).stdout
+    from_ = ["--from", "2026-11-22 07:40:00"]
+    status, events, errors = answer(program, ["record", *from_, "--device=1001", str(plan), str(hours)], commands)
+    yield from difference("events of four minutes", (status, errors), (0, b""))
+    with tempfile.NamedTemporaryFile(suffix=".csv") as told:
+        told.write(events)
+        told.flush()
+        words = ["diagram", *from_, "--events", told.name, "--log", str(hours), "--seconds-per-line=240",
+                 "--title", "Main and Oak, pattern 1, with a preempt"]
+        picture = (EXAMPLES / "four_minutes.svg").read_bytes()
+        yield from difference("picture of four minutes", answer(program, words, lines), (0, picture, b""))
+        yield from letters(events, picture)
+
+
+def letters(events, picture):
+    """Ends of greens in events that have no letter in a picture of a line of 240 s, or another, or another phase's."""
+    root = xml.etree.ElementTree.fromstring(picture)
+    names = [it.text for it in root.find(f"{SVG}svg[@y='64']").findall(SVG + "text") if it.get("class") == "l"]
+    begin, wanted = field_rules.moment(b"2026-11-22 07:40:00"), []
+    for row in events.splitlines()[1:]:
+        _, time, code, phase = row.decode().split(",")
+        if code in "456":
+            tick = (field_rules.moment(time.encode()) - begin) // field_rules.TENTH + 1
+            wanted.append((139 + (tick - 1) * 1000 // 2400, 76 + 16 * names.index(phase), "GMF"["456".index(code)]))
+    drawn = [(int(it.get("x")), int(it.get("y")), it.text) for it in root.find(SVG + "g")]
+    return [] if drawn == wanted else [f"letters {drawn}, not {wanted}"]
+
+
 def option_commands(option, value, seconds):
     """The commands that run patterns with a value of an option, or a pattern, for so many seconds."""
     run = ["pattern 1", f"step {10 * seconds}"]
@@ -488,7 +520,7 @@ def main(words):
         wrong += events_of_displays(program, folder)
         wrong += [*diagrams(program, folder), *closed_pipes(program), *one_stream(program)]
         wrong += [*long_session(program), *greatest(program)]
-    wrong += [*hour(program, bench), *option_pictures(program, bench)]
+    wrong += [*hour(program, bench), *four_minutes(program, bench), *option_pictures(program, bench)]
     of_sessions, count = sessions(program)
     wrong += of_sessions
     told = f"{len(runs)} worked runs, {count} sessions, {TRIPS} round trips, {EXPORTS + LATE} exports and {2 * TEXTS} texts " \

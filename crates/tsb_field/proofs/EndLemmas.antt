@@ -1,5 +1,5 @@
 -- How the program ends.
-use Rattle.std.proofs.Common.{◌≡◌, ◌==◌, ◌&&◌, not, ℕ, Bool, List, OnErr, OnOk, Ok, true, refl, subst, sym, inl, inr}
+use Rattle.std.proofs.Common.{◌≡◌, ◌==◌, ◌&&◌, not, ℕ, Bool, Global, List, [], ◌∷◌, arith, length, OnErr, OnOk, Ok, true, refl, subst, sym, inl, inr}
 use Rattle.std.specs.declared.result.Result.{Result}
 use Rattle.std.proofs.lemmas.Bool.{true≢false}
 use Rattle.std.specs.Prelude.{Err, None, Some, Vec}
@@ -7,7 +7,7 @@ use Rattle.std.specs.declared.option.Option.{Option}
 use Rattle.tsb_program.specs.Failures.{Fails}
 use Rattle.tsb_program.specs.declared.failure.Failure.{Failure}
 use Rattle.tsb_program.specs.tsb_lines.Seen.{Seen}
-use Rattle.tsb_program.specs.Read.{HasNoPlan, HasPlan, LogRead}
+use Rattle.tsb_program.specs.Read.{HasNoPlan, HasPlan, IsFront, LogRead}
 use Rattle.tsb_program.specs.Told.{FailsFile, TellsNoLog, TellsNoPlan, TellsWhy}
 use Rattle.tsb_program.specs.declared.files.FileError.TheVariants as causes
 use Rattle.tsb_program.specs.declared.read.PlanFault.{PlanFault}
@@ -31,6 +31,9 @@ use Rattle.tsb_field_display.specs.Texts.{IsLog, LogWritten}
 use Rattle.tsb_field_display.specs.declared.events_error.EventsError.{EventsError}
 use Rattle.tsb_field_display.specs.declared.events_error.EventsError.TheVariants as events
 use Rattle.tsb_field_diagram.specs.Page.{diagram_text}
+use Rattle.tsb_field_diagram.specs.declared.ends.EndsError.{EndsError}
+use Rattle.tsb_field_diagram.specs.declared.ends.GreenEnd.{GreenEnd}
+use Rattle.tsb_field.specs.GreenEnds.{EndsIn, EndsRead, HasEnds, NoEnds, TellsNoEnds}
 use Rattle.tsb_text.specs.tsb_types.declared.event.Event.{Event}
 use Rattle.tsb_field_streams.specs.declared.error.FilterError.{FilterError}
 use Rattle.tsb_field_streams.specs.declared.error.FilterError.TheVariants as filters
@@ -105,16 +108,16 @@ pub told-on : (status : ℕ) (from : Moment) (device : List ℕ) (rows : List Lo
 told-on status from device rows files path input left old new told tells names on = elim on [ inl drawn ↦ inr (inl (rows, names, drawn)) | inr late ↦ inr (inr late) ]
 
 -- the picture of a session that was read
-pub drawn-read : (title : List ℕ) (seconds : ℕ) (rows : List LogRow) (replay : Replay) (status : ℕ) (input left old new told tells : Seen) → ReplayRead (Ok replay) left.failed input.bytes left.bytes
-    → Draws (diagram_text title seconds (changes_in replay) (last_in replay) rows) status old new told tells → Drawn (IsDiagram title seconds) status rows input left old new told tells
-drawn-read title seconds rows replay status input left old new told tells read draws = elim draws [
+pub drawn-read : (title : List ℕ) (seconds : ℕ) (from : Option Moment) (ends : List GreenEnd) (rows : List LogRow) (replay : Replay) (status : ℕ) (input left old new told tells : Seen) → ReplayRead (Ok replay) left.failed input.bytes left.bytes
+    → Draws (diagram_text title seconds from (changes_in replay) (last_in replay) rows ends) status old new told tells → Drawn (IsDiagram title seconds from ends) status rows input left old new told tells
+drawn-read title seconds from ends rows replay status input left old new told tells read draws = elim draws [
   | inl written ↦ inl (
     read.bytes,
     read.taken,
     read.so.0,
     read.so.1,
-    diagram_text title seconds (changes_in replay) (last_in replay) rows,
-    (λ j. diagram_text title seconds (read.so.2.changes j) (read.so.2.last j) rows),
+    diagram_text title seconds from (changes_in replay) (last_in replay) rows ends,
+    (λ j. diagram_text title seconds from (read.so.2.changes j) (read.so.2.last j) rows ends),
     written,
   )
   | inr memory ↦ inr (read.bytes, read.taken, memory.0, inr (read.so.0, memory.1))
@@ -125,11 +128,30 @@ pub recorded-as : (status : ℕ) (from : Moment) (device : List ℕ) (other opti
 recorded-as status from device other options plan rows files input left old new told tells same recorded =
     subst (λ (w : RecordOptions). Recorded status from device w plan rows files input left old new told tells) same recorded
 
-pub pictured-as : (status : ℕ) (title other : List ℕ) (seconds more : ℕ) (known : List ℕ → Option (List ℕ)) (path : Option (List ℕ)) (input left old new told tells : Seen) → other ≡ title → more ≡ seconds
-    → Pictured status other more known path input left old new told tells → Pictured status title seconds known path input left old new told tells
-pictured-as status title other seconds more known path input left old new told tells same_title same_seconds drawn =
-    subst (λ (t : List ℕ). Pictured status t seconds known path input left old new told tells) same_title
-    (subst (λ (s : ℕ). Pictured status other s known path input left old new told tells) same_seconds drawn)
+pub pictured-as : (status : ℕ) (title other : List ℕ) (seconds more : ℕ) (from : Option Moment) (source : Option (List ℕ)) (known : List ℕ → Option (List ℕ)) (path : Option (List ℕ)) (input left old new told tells : Seen)
+    → other ≡ title → more ≡ seconds → Pictured status other more from source known path input left old new told tells
+    → Pictured status title seconds from source known path input left old new told tells
+pictured-as status title other seconds more from source known path input left old new told tells same_title same_seconds drawn =
+    subst (λ (t : List ℕ). Pictured status t seconds from source known path input left old new told tells) same_title
+    (subst (λ (s : ℕ). Pictured status other s from source known path input left old new told tells) same_seconds drawn)
+
+-- why the event log of a diagram gives no ends of greens
+pub no-ends : (fault : ReadError EndsError) (from : Moment) (path : List ℕ) (files : List ℕ → Option (List ℕ)) (status : ℕ) (told tells : Seen)
+    → EndsRead {A = Global} (Err fault) from (files path) → TellsNoEnds path fault status told tells → NoEnds from path files status told tells
+no-ends (faults.Failed why) from path files status told tells has line = inr (inr (why, line))
+no-ends (faults.Refused fault) from path files status told tells has line = inl (fault, has, line)
+
+-- the event log of a diagram has no end of a green
+pub has-none : (ends : List GreenEnd) (from : Moment) (known : Option (List ℕ)) → length ends ≡ 0 → HasEnds from known ends → HasEnds from known []
+has-none [] from known none has = has
+has-none (x ∷ xs) from known none has = absurd (omega (arith, none))
+
+-- what came of the text of a file
+pub ends-came : (result : Result (Vec GreenEnd Global) (ReadError EndsError)) (from : Moment) (known : Option (List ℕ)) (text : List ℕ)
+    → IsFront known 67108865 text → EndsIn result from text → EndsRead result from known
+ends-came (Ok ends) from known text front is = (text, front, is)
+ends-came (Err (faults.Refused fault)) from known text front is = (text, front, is)
+ends-came (Err (faults.Failed why)) from known text front is = tt
 
 -- why a session was not read is told
 pub not-drawn : (fault : ReplayError) (failure : Failure) (failed : Bool) (left : Option (List ℕ)) (bytes : List ℕ) (status : ℕ) (told tells : Seen) → failure ≡ failure_by fault

@@ -22,6 +22,7 @@ use Rattle.tsb_field_display.specs.declared.error.ReplayError.{ReplayError}
 use Rattle.tsb_field_display.specs.declared.error.ReplayError.TheVariants as replays
 use Rattle.tsb_field_display.specs.declared.shown.Shown.{Shown}
 use Rattle.tsb_field_diagram.specs.Page.{diagram_text}
+use Rattle.tsb_field_diagram.specs.declared.ends.GreenEnd.{GreenEnd}
 use Rattle.tsb_field_display.specs.declared.events_error.EventsError.{EventsError}
 use Rattle.tsb_field_display.specs.declared.events_error.EventsError.TheVariants as ends
 use Rattle.tsb_field_display.specs.Merge.{session_events}
@@ -40,12 +41,13 @@ use Rattle.tsb_text.specs.declared.error.SessionError.{SessionError}
 use Rattle.tsb_text.specs.tsb_plan.Plan.{Plan}
 use Rattle.tsb_text.specs.tsb_plan_text.declared.error.PlanError.{PlanError}
 use Rattle.tsb_words.specs.FieldProgram.{Spells}
-use Rattle.tsb_words.specs.Near.{field_near}
+use Rattle.tsb_words.specs.Near.{field_near, has_bad_from}
 use Rattle.tsb_words.specs.FieldWords.{Wish, diagram, events, log, recording, reviewing, seen}
 use Rattle.tsb_words.specs.declared.field_files.Asked.{Asked}
 use Rattle.tsb_words.specs.declared.field_files.RecordManner.{RecordManner}
 use Rattle.tsb_words.specs.declared.error.WordsError.{WordsError}
 use Rattle.tsb_field.specs.Lines.{TellsLate, TellsWords}
+use Rattle.tsb_field.specs.GreenEnds.{HasEnds, NoEnds}
 use Rattle.tsb_field.specs.LogEnds.{LoggedOn}
 use Rattle.tsb_field.specs.ReviewEnds.{Reviewed}
 
@@ -195,18 +197,41 @@ abbrev pub seconds_of : Option ℕ → ℕ
 seconds_of seconds = unwrap_or seconds 300
 
 -- the picture of a session
-abbrev pub IsDiagram : List ℕ → ℕ → List Shown → Option ℕ → List LogRow → List ℕ → Type 0
-IsDiagram title seconds changes last rows text = text ≡ diagram_text title seconds changes last rows
+abbrev pub IsDiagram : List ℕ → ℕ → Option Moment → List GreenEnd → List Shown → Option ℕ → List LogRow → List ℕ → Type 0
+IsDiagram title seconds from greens changes last rows text = text ≡ diagram_text title seconds from changes last rows greens
 
 -- this picture is written; or nothing is, as memory failed
 abbrev pub Draws : List ℕ → ℕ → (old new told tells : Seen) → Type 0
 Draws text status old new told tells = Written status text old new told tells ⊎ ((new ≡ old) × Fails Memory status told tells)
 
--- the picture of what was read is written; or nothing is, since there is no log
-abbrev pub Pictured : ℕ → List ℕ → ℕ → (List ℕ → Option (List ℕ)) → Option (List ℕ) → (input left old new told tells : Seen) → Type 0
-Pictured status title seconds files path input left old new told tells =
+-- the picture of what was read is written, with the ends of greens in the event log of this file; or nothing is, since it
+-- has none
+abbrev pub PicturedTold : Moment → List ℕ → ℕ → List ℕ → ℕ → List LogRow → (List ℕ → Option (List ℕ)) → (input left old new told tells : Seen) → Type 0
+PicturedTold from source status title seconds rows files input left old new told tells =
+    ((left ≡ input) × (new ≡ old) × NoEnds from source files status told tells)
+    ⊎ ((greens : List GreenEnd) × HasEnds from (files source) greens
+    × Drawn (IsDiagram title seconds (Some from) greens) status rows input left old new told tells)
+
+-- the same, where words name a moment to count from; or without ends
+abbrev pub PicturedBy : Option Moment → List ℕ → ℕ → List ℕ → ℕ → List LogRow → (List ℕ → Option (List ℕ)) → (input left old new told tells : Seen) → Type 0
+PicturedBy (Some from) source status title seconds rows files input left old new told tells =
+    PicturedTold from source status title seconds rows files input left old new told tells
+PicturedBy None source status title seconds rows files input left old new told tells =
+    Drawn (IsDiagram title seconds None []) status rows input left old new told tells
+
+-- the same, where words name events; or without ends
+abbrev pub PicturedBeside : Option Moment → Option (List ℕ) → ℕ → List ℕ → ℕ → List LogRow → (List ℕ → Option (List ℕ)) → (input left old new told tells : Seen) → Type 0
+PicturedBeside from (Some source) status title seconds rows files input left old new told tells =
+    PicturedBy from source status title seconds rows files input left old new told tells
+PicturedBeside from None status title seconds rows files input left old new told tells =
+    Drawn (IsDiagram title seconds from []) status rows input left old new told tells
+
+-- the picture of what was read is written; or nothing is, since there is no log, or no end of a green
+abbrev pub Pictured : ℕ → List ℕ → ℕ → Option Moment → Option (List ℕ) → (List ℕ → Option (List ℕ)) → Option (List ℕ) → (input left old new told tells : Seen) → Type 0
+Pictured status title seconds from source files path input left old new told tells =
     ((left ≡ input) × (new ≡ old) × Stops files path status told tells)
-    ⊎ ((rows : List LogRow) × NamesLog files path rows × Drawn (IsDiagram title seconds) status rows input left old new told tells)
+    ⊎ ((rows : List LogRow) × NamesLog files path rows
+    × PicturedBeside from source status title seconds rows files input left old new told tells)
 
 -- ## What is done
 
@@ -216,16 +241,17 @@ DidWish (log wish) status files input left old new told tells = LoggedOn wish.as
 DidWish (recording from device plan file manner) status files input left old new told tells =
     Recorded status from device (options_of manner) plan file files input left old new told tells
 DidWish (events from device path) status files input left old new told tells = Told status from device files path input left old new told tells
-DidWish (diagram path title seconds) status files input left old new told tells = Pictured status (title_of title) (seconds_of seconds) files path input left old new told tells
+DidWish (diagram path title seconds from told_by) status files input left old new told tells =
+    Pictured status (title_of title) (seconds_of seconds) from told_by files path input left old new told tells
 DidWish (reviewing plan) status files input left old new told tells = (left ≡ input) × Reviewed status plan (files plan) old new told tells
 
--- what was done for what the words ask, where this right word is near a bad one
-abbrev pub Did : Option (List ℕ) → Result Asked WordsError → ℕ → (List ℕ → Option (List ℕ)) → (input left old new told tells : Seen) → Type 0
-Did near (Ok asked) status files input left old new told tells = DidWish (seen asked) status files input left old new told tells
-Did near (Err fault) status files input left old new told tells = (left ≡ input) × (new ≡ old) × TellsWords near fault status told tells
+-- what was done for what the words ask, where this right word is near a bad one, or `--from` names no moment
+abbrev pub Did : Option (List ℕ) → Bool → Result Asked WordsError → ℕ → (List ℕ → Option (List ℕ)) → (input left old new told tells : Seen) → Type 0
+Did near bad_from (Ok asked) status files input left old new told tells = DidWish (seen asked) status files input left old new told tells
+Did near bad_from (Err fault) status files input left old new told tells = (left ≡ input) × (new ≡ old) × TellsWords near bad_from fault status told tells
 
 -- the page that words ask for, if any, is written, with nothing read; else what the words ask was done
 abbrev pub Answered : Option (List ℕ) → List (List ℕ) → ℕ → (List ℕ → Option (List ℕ)) → (input left old new told tells : Seen) → Type 0
 Answered (Some page) words status files input left old new told tells = (left ≡ input) × Written status page old new told tells
 Answered None words status files input left old new told tells =
-    (answer : Result Asked WordsError) × Spells words answer × Did (field_near words) answer status files input left old new told tells
+    (answer : Result Asked WordsError) × Spells words answer × Did (field_near words) (has_bad_from words) answer status files input left old new told tells

@@ -8,5 +8,7 @@ pub mod Twice
 pub mod LogEnds
 -- how `review` ends
 pub mod ReviewEnds
+-- the ends of greens in the event log of a diagram
+pub mod GreenEnds
 -- what the program has done and written for the words that it was given
 pub mod Ends

@@ -103,7 +103,7 @@ fn bytes_of(name: Option<&str>) -> Option<&[u8]>
 }
 
 /// Says what ended a filter, where no device has failed.
-fn tell_fault<E: Write>(alloc: Global, errors: &mut Watched<E>, fault: FilterError) -> u8
+pub(crate) fn tell_fault<E: Write>(alloc: Global, errors: &mut Watched<E>, fault: FilterError) -> u8
     ensures { TellsFault fault result (seen E.contents errors.old) (seen E.contents errors.new) }
 {
     match fault {

@@ -4,6 +4,7 @@
 #![tactic(auto)]
 
 mod end;
+mod ends_run;
 mod log_run;
 mod outputs_run;
 mod report;
@@ -26,7 +27,7 @@ const BUFFER: usize = 65_536;
 fn main(rt: HostRuntime) -> ExitCode {
     let status = match words_given(&rt) {
         Ok(words) => run_buffered(&rt, words.as_slice()),
-        Err(fault) => tell_words_fault(&mut Watched::new(rt.stderr()), None, fault),
+        Err(fault) => tell_words_fault(&mut Watched::new(rt.stderr()), None, false, fault),
     };
     ExitCode::from(status)
 }

@@ -3,36 +3,40 @@ ghost use Rattle.std.specs.Prelude.{◌≡◌, Result, false, map, option_map, t
 ghost use Rattle.tsb_words.specs.declared.field_files.Asked.{Asked};
 ghost use Rattle.tsb_words.specs.declared.error.WordsError.{WordsError};
 ghost use Rattle.tsb_words.specs.FieldProgram.{Spells};
-ghost use Rattle.tsb_words.specs.Near.{field_near};
+ghost use Rattle.tsb_words.specs.Near.{field_near, has_bad_from};
 ghost use Rattle.tsb_words.specs.Pages.{field_page};
 ghost use Rattle.tsb_text.specs.Answers.{Setup};
 ghost use Rattle.tsb_text.specs.tsb_objects.Checked.{checked_plan};
 ghost use Rattle.tsb_program.specs.tsb_lines.Seen.{seen};
 ghost use Rattle.tsb_field_diagram.specs.Page.{diagram_text};
 ghost use Rattle.tsb_field_display.specs.Remaining.{changes_in, last_in};
-ghost use Rattle.tsb_field.specs.Ends.{Answered, Did, Drawn, Draws, IsDiagram, LogNamed, Pictured, RanSo, Recorded, RecordedOn, WritesMade, failure_by, name_of, on_fault_of, options_of, Told, ToldOn, seconds_of, title_of};
+ghost use Rattle.tsb_field.specs.Ends.{Answered, Did, Drawn, Draws, IsDiagram, LogNamed, Pictured, PicturedBeside, PicturedBy, PicturedTold, RanSo, Recorded, RecordedOn, WritesMade, failure_by, name_of, on_fault_of, options_of, Told, ToldOn, seconds_of, title_of};
 
 use crate::end::{tell_late, tell_words_fault, write_all};
+use crate::ends_run::{ends_of, refuse_ends};
 use crate::outputs_run::run_log;
 use crate::review_run::review_plan;
 use std::alloc::Global;
 use std::convert::AsStr;
 use std::io::{Read, Write};
 use tsb_event_text::Moment;
-use tsb_field_diagram::diagram_text;
+use tsb_field_diagram::{GreenEnd, diagram_text};
 use tsb_field_display::{EventsError, Replay, ReplayError, events_text, log_text, read_replay};
 use tsb_log_text::{Log, LogError};
 use tsb_program::{
     Failure, Files, ReadError, Status, Watched, fail, log_of, plan_or_place, refuse_log,
-    refuse_plan, tell_input_end,
+    refuse_plan, tell, tell_input_end,
 };
 use tsb_text::{Checked, LogForm, OnFault, Outcome, RecordOptions, record};
 use tsb_words::field_files::{Asked, RecordManner, read_words};
-use tsb_words::near::field_near;
+use tsb_words::near::{field_near, has_bad_from};
 use tsb_words::pages::field_page;
 
 /// The title of a diagram where words give none.
 const TITLE: &[u8] = b"Phase diagram";
+
+/// The line of an event log by which no green ends.
+const NO_END: &[u8] = b"events: no gap out, max out or force-off from --from on\n";
 
 /// How many seconds a line of a diagram shows where words don't say.
 const SECONDS: u32 = 300;
@@ -76,7 +80,7 @@ fn run_asked<S: AsStr, F: Files, R: Read, W: Write, E: Write>(
     requires reads { input.old.failed ≡ false }
     requires writes { errors.old.failed ≡ false }
     requires flushed { errors.old.flushed ≡ true }
-    ensures { (answer : Result Asked WordsError) × Spells (map S.text words.now) answer × Did (field_near (map S.text words.now)) answer result (F.bytes files.now)
+    ensures { (answer : Result Asked WordsError) × Spells (map S.text words.now) answer × Did (field_near (map S.text words.now)) (has_bad_from (map S.text words.now)) answer result (F.bytes files.now)
         (seen R.remaining input.old) (seen R.remaining input.new) (seen W.contents output.old) (seen W.contents output.new) (seen E.contents errors.old) (seen E.contents errors.new) }
 {
     match read_words(alloc, words) {
@@ -103,14 +107,18 @@ fn run_asked<S: AsStr, F: Files, R: Read, W: Write, E: Write>(
                 log,
                 title,
                 seconds_per_line,
+                from,
+                events,
             },
         ) => {
             let title = title_of(title);
             let seconds = seconds_of(seconds_per_line);
-            write_diagram(alloc, log, title, seconds, files, input, output, errors)
+            write_diagram(
+                alloc, log, title, seconds, from, events, files, input, output, errors,
+            )
         }
         Ok(Asked::Review { plan }) => review_plan(alloc, plan, files, output, errors),
-        Err(fault) => tell_words_fault(errors, field_near(words), fault),
+        Err(fault) => tell_words_fault(errors, field_near(words), has_bad_from(words), fault),
     }
 }
 
@@ -312,61 +320,184 @@ fn write_diagram<F: Files, R: Read, W: Write, E: Write>(
     path: Option<&str>,
     title: &[u8],
     seconds: u32,
+    from: Option<Moment>,
+    events: Option<&str>,
     files: &F,
     input: &mut Watched<R>,
     output: &mut Watched<W>,
     errors: &mut Watched<E>,
 ) -> u8
     requires reads { input.old.failed ≡ false }
-    ensures { Pictured result title.now seconds (F.bytes files.now) (option_map (λ path. path.now) path.entry)
+    ensures { Pictured result title.now seconds from (option_map (λ path. path.now) events.entry) (F.bytes files.now) (option_map (λ path. path.now) path.entry)
         (seen R.remaining input.old) (seen R.remaining input.new) (seen W.contents output.old) (seen W.contents output.new) (seen E.contents errors.old) (seen E.contents errors.new) }
 {
     match log_named(alloc, files, path) {
-        Ok(rows) => write_diagram_of(alloc, title, seconds, &rows, input, output, errors),
+        Ok(rows) => write_diagram_beside(
+            alloc, title, seconds, from, events, &rows, files, input, output, errors,
+        ),
         Err(fault) => refuse_log(alloc, errors, name_of(path), fault),
     }
 }
 
-/// Makes a phase diagram from what a session answers, with these rows of a log.
-fn write_diagram_of<R: Read, W: Write, E: Write>(
+/// Makes a phase diagram from what a session answers, with these rows of a log, and with ends of greens where words name
+/// their events.
+fn write_diagram_beside<F: Files, R: Read, W: Write, E: Write>(
     alloc: Global,
     title: &[u8],
     seconds: u32,
+    from: Option<Moment>,
+    events: Option<&str>,
     rows: &Log,
+    files: &F,
     input: &mut Watched<R>,
     output: &mut Watched<W>,
     errors: &mut Watched<E>,
 ) -> u8
     requires reads { input.old.failed ≡ false }
-    ensures { Drawn (IsDiagram title.now seconds) result rows.now
+    ensures { PicturedBeside from (option_map (λ path. path.now) events.entry) result title.now seconds rows.now (F.bytes files.now)
+        (seen R.remaining input.old) (seen R.remaining input.new) (seen W.contents output.old) (seen W.contents output.new) (seen E.contents errors.old) (seen E.contents errors.new) }
+{
+    match events {
+        Some(path) => write_diagram_by(
+            alloc, title, seconds, from, path, rows, files, input, output, errors,
+        ),
+        None => write_diagram_of(
+            alloc,
+            title,
+            seconds,
+            from,
+            rows,
+            &[],
+            input,
+            output,
+            errors,
+        ),
+    }
+}
+
+/// Makes a phase diagram from what a session answers, with these rows of a log. It has the ends of greens in an event log
+/// where words name a moment to count from.
+fn write_diagram_by<F: Files, R: Read, W: Write, E: Write>(
+    alloc: Global,
+    title: &[u8],
+    seconds: u32,
+    from: Option<Moment>,
+    path: &str,
+    rows: &Log,
+    files: &F,
+    input: &mut Watched<R>,
+    output: &mut Watched<W>,
+    errors: &mut Watched<E>,
+) -> u8
+    requires reads { input.old.failed ≡ false }
+    ensures { PicturedBy from path.now result title.now seconds rows.now (F.bytes files.now)
+        (seen R.remaining input.old) (seen R.remaining input.new) (seen W.contents output.old) (seen W.contents output.new) (seen E.contents errors.old) (seen E.contents errors.new) }
+{
+    match from {
+        Some(moment) => write_diagram_told(
+            alloc, title, seconds, moment, path, rows, files, input, output, errors,
+        ),
+        None => write_diagram_of(
+            alloc,
+            title,
+            seconds,
+            None,
+            rows,
+            &[],
+            input,
+            output,
+            errors,
+        ),
+    }
+}
+
+/// Makes a phase diagram from what a session answers, with these rows of a log and the ends of greens in an event log.
+/// Where that has none, it says why, with nothing read.
+fn write_diagram_told<F: Files, R: Read, W: Write, E: Write>(
+    alloc: Global,
+    title: &[u8],
+    seconds: u32,
+    from: Moment,
+    path: &str,
+    rows: &Log,
+    files: &F,
+    input: &mut Watched<R>,
+    output: &mut Watched<W>,
+    errors: &mut Watched<E>,
+) -> u8
+    requires reads { input.old.failed ≡ false }
+    ensures { PicturedTold from path.now result title.now seconds rows.now (F.bytes files.now)
+        (seen R.remaining input.old) (seen R.remaining input.new) (seen W.contents output.old) (seen W.contents output.new) (seen E.contents errors.old) (seen E.contents errors.new) }
+{
+    match ends_of(alloc, files, from, path) {
+        Ok(ends) => {
+            if ends.is_empty() {
+                return tell(errors, Status::Refused, NO_END);
+            }
+            write_diagram_of(
+                alloc,
+                title,
+                seconds,
+                Some(from),
+                rows,
+                &ends,
+                input,
+                output,
+                errors,
+            )
+        }
+        Err(fault) => refuse_ends(alloc, errors, path, fault),
+    }
+}
+
+/// Makes a phase diagram from what a session answers, with these rows of a log and these ends of greens.
+fn write_diagram_of<R: Read, W: Write, E: Write>(
+    alloc: Global,
+    title: &[u8],
+    seconds: u32,
+    from: Option<Moment>,
+    rows: &Log,
+    ends: &[GreenEnd],
+    input: &mut Watched<R>,
+    output: &mut Watched<W>,
+    errors: &mut Watched<E>,
+) -> u8
+    requires reads { input.old.failed ≡ false }
+    ensures { Drawn (IsDiagram title.now seconds from ends.now) result rows.now
         (seen R.remaining input.old) (seen R.remaining input.new) (seen W.contents output.old) (seen W.contents output.new) (seen E.contents errors.old) (seen E.contents errors.new) }
 {
     match read_replay(alloc, input) {
-        Ok(replay) => draw(alloc, title, seconds, &replay, rows, output, errors),
+        Ok(replay) => draw(
+            alloc, title, seconds, from, &replay, rows, ends, output, errors,
+        ),
         Err(fault) => fail(errors, failure_by(fault)),
     }
 }
 
-/// Writes the phase diagram of a session and the rows of a log.
+/// Writes the phase diagram of a session, the rows of a log and ends of greens.
 fn draw<W: Write, E: Write>(
     alloc: Global,
     title: &[u8],
     seconds: u32,
+    from: Option<Moment>,
     replay: &Replay,
     rows: &Log,
+    ends: &[GreenEnd],
     output: &mut Watched<W>,
     errors: &mut Watched<E>,
 ) -> u8
-    ensures { Draws (diagram_text title.now seconds (changes_in replay.now) (last_in replay.now) rows.now) result
+    ensures { Draws (diagram_text title.now seconds from (changes_in replay.now) (last_in replay.now) rows.now ends.now) result
         (seen W.contents output.old) (seen W.contents output.new) (seen E.contents errors.old) (seen E.contents errors.new) }
 {
     match diagram_text(
         alloc,
         title,
         seconds,
+        from,
         replay.changes(),
         replay.last_tick(),
         rows.rows(),
+        ends,
     ) {
         Ok(text) => write_all(output, errors, &text),
         Err(_) => fail(errors, Failure::Memory),

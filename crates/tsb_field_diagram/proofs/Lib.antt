@@ -4,4 +4,6 @@ pub mod TitleLemmas
 pub mod LitLemmas
 pub mod LineLemmas
 pub mod LawLemmas
+pub mod EndsLemmas
+pub mod LetterLemmas
 pub mod Examples

@@ -1,5 +1,5 @@
 -- The lines of a diagram, part by part.
-use Rattle.std.proofs.Common.{◌≡◌, ℕ, ◌+◌, ◌*◌, ◌≤◌, suc, true, false, List, [], ◌∷◌, ◌++◌, refl, arith, leb, inl, inr}
+use Rattle.std.proofs.Common.{◌≡◌, ℕ, ◌+◌, ◌*◌, ◌≤◌, suc, true, false, List, [], ◌∷◌, ◌++◌, refl, arith, leb, inl, inr, Option}
 use Rattle.std.proofs.lemmas.Bool.{le-leb}
 use Rattle.std.proofs.lemmas.Bool.Decides.{leb_tells}
 use Rattle.tsb_field_display.specs.declared.shown.Shown.{Shown}
@@ -26,25 +26,26 @@ pub bands-none : (first end : ℕ) (changes : List Shown) (rows : List LogRow) (
 unfolding bands_text
 bands-none first end changes rows k = refl
 
-pub marks-more : (bands seconds begin step k n : ℕ) →
-    marks_text bands seconds begin step k (suc n) ≡ mark_text bands seconds begin (k * step) ++ marks_text bands seconds begin step (k + 1) n
+pub marks-more : (bands : ℕ) (clock : Option ℕ) (seconds begin step k n : ℕ) →
+    marks_text bands clock seconds begin step k (suc n) ≡ mark_text bands clock seconds begin (k * step) ++ marks_text bands clock seconds begin step (k + 1) n
 unfolding marks_text
-marks-more bands seconds begin step k n = refl
+marks-more bands clock seconds begin step k n = refl
 
-pub marks-none : (bands seconds begin step k : ℕ) → marks_text bands seconds begin step k 0 ≡ []
+pub marks-none : (bands : ℕ) (clock : Option ℕ) (seconds begin step k : ℕ) → marks_text bands clock seconds begin step k 0 ≡ []
 unfolding marks_text
-marks-none bands seconds begin step k = refl
+marks-none bands clock seconds begin step k = refl
 
-pub lines-more : (bands : List Band) (seconds last : ℕ) (changes : List Shown) (rows : List LogRow) (k n : ℕ) →
-    lines_text bands seconds last changes rows k (suc n)
-    ≡ line_text bands seconds last k (from_tick tick_of_change (first_tick seconds k) changes) (from_tick tick_of_row (first_tick seconds k) rows)
-    ++ lines_text bands seconds last changes rows (k + 1) n
+pub lines-more : (bands : List Band) (clock : Option ℕ) (seconds last : ℕ) (changes : List Shown) (rows : List LogRow) (k n : ℕ) →
+    lines_text bands clock seconds last changes rows k (suc n)
+    ≡ line_text bands clock seconds last k (from_tick tick_of_change (first_tick seconds k) changes) (from_tick tick_of_row (first_tick seconds k) rows)
+    ++ lines_text bands clock seconds last changes rows (k + 1) n
 unfolding lines_text
-lines-more bands seconds last changes rows k n = refl
+lines-more bands clock seconds last changes rows k n = refl
 
-pub lines-none : (bands : List Band) (seconds last : ℕ) (changes : List Shown) (rows : List LogRow) (k : ℕ) → lines_text bands seconds last changes rows k 0 ≡ []
+pub lines-none : (bands : List Band) (clock : Option ℕ) (seconds last : ℕ) (changes : List Shown) (rows : List LogRow) (k : ℕ) →
+    lines_text bands clock seconds last changes rows k 0 ≡ []
 unfolding lines_text
-lines-none bands seconds last changes rows k = refl
+lines-none bands clock seconds last changes rows k = refl
 
 -- what is in force from a tick on, of what is from an earlier one on
 pub from-from : {A : Type 0} (tick : A → ℕ) (first later : ℕ) (xs : List A) → first ≤ later → from_tick tick later (from_tick tick first xs) ≡ from_tick tick later xs

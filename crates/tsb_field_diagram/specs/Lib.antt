@@ -8,6 +8,10 @@ pub mod Bars
 pub mod Lit
 -- the lines of a diagram
 pub mod Lines
+-- the letters that say why greens ended
+pub mod Letters
+-- the ends of greens in an event log
+pub mod Ends
 -- a diagram as a whole
 pub mod Page
 -- what holds of bars, told without how they are found

@@ -1,5 +1,6 @@
 -- The lines of a diagram: so many seconds each, one below the other.
-use Rattle.std.specs.Prelude.{ℕ, zero, suc, ◌+◌, ◌-◌, ◌*◌, ◌/◌, ◌%◌, ◌==◌, min, nat_le, if◌then◌else◌, List, [], ◌∷◌, ◌++◌, codes, length}
+use Rattle.std.specs.Prelude.{ℕ, zero, suc, ◌+◌, ◌-◌, ◌*◌, ◌/◌, ◌%◌, ◌==◌, min, nat_le, if◌then◌else◌, List, [], ◌∷◌, ◌++◌, codes, length, Option}
+use Rattle.tsb_types.specs.Lists.{or_number}
 use Rattle.tsb_field_display.specs.declared.shown.Shown.{Shown}
 use Rattle.tsb_log_text.specs.declared.log.LogRow.{LogRow}
 use Rattle.tsb_field_diagram.specs.declared.band.Band.{Band}
@@ -86,13 +87,18 @@ step_of seconds =
     (if nat_le seconds 12000 then 600 else
     (if nat_le seconds 36000 then 1800 else 7200)))))))
 
--- what is told at a mark: the clock at a minute, and else the second of the minute
-abbrev pub mark_name : ℕ → List ℕ
-mark_name second = if second % 60 == 0 then clock_text second else number_text (second % 60)
+-- the tenth of a second, of those that the axis counts, at which line k begins: where tick 1 has a time of day, from
+-- midnight on
+abbrev pub begin_of : Option ℕ → ℕ → ℕ → ℕ
+begin_of clock seconds k = or_number clock 0 + k * (10 * seconds)
 
--- how far from the left a second stands, in a line of so many seconds from this one on
+-- what is told at a mark: the clock at a minute, and else the second of the minute
+abbrev pub mark_name : Option ℕ → ℕ → List ℕ
+mark_name clock second = if second % 60 == 0 then clock_text clock second else number_text (second % 60)
+
+-- how far from the left a second stands, in a line of so many seconds from this tenth on
 abbrev pub place_of : ℕ → ℕ → ℕ → ℕ
-place_of seconds begin second = 140 + (second - begin) * 1000 / seconds
+place_of seconds begin second = 140 + (10 * second - begin) * 1000 / (10 * seconds)
 
 -- the line of a mark that stands here, through so many bands
 abbrev pub grid_text : ℕ → ℕ → List ℕ
@@ -101,34 +107,35 @@ grid_text bands x =
     ++ (attribute_text (codes " y2=\"") (height_of bands + 4) ++ codes "/>"))
 
 -- what is told below it
-abbrev pub second_text : ℕ → ℕ → ℕ → List ℕ
-second_text bands x second =
+abbrev pub second_text : ℕ → Option ℕ → ℕ → ℕ → List ℕ
+second_text bands clock x second =
     attribute_text (codes "<text class=\"k\" x=\"") x ++ (attribute_text (codes " y=\"") (height_of bands + 16)
-    ++ (codes ">" ++ (mark_name second ++ codes "</text>\n")))
+    ++ (codes ">" ++ (mark_name clock second ++ codes "</text>\n")))
 
 -- the mark of a second
-abbrev pub mark_text : ℕ → ℕ → ℕ → ℕ → List ℕ
-mark_text bands seconds begin second =
-    grid_text bands (place_of seconds begin second) ++ second_text bands (place_of seconds begin second) second
+abbrev pub mark_text : ℕ → Option ℕ → ℕ → ℕ → ℕ → List ℕ
+mark_text bands clock seconds begin second =
+    grid_text bands (place_of seconds begin second) ++ second_text bands clock (place_of seconds begin second) second
 
 -- so many marks, a step from one to the next, from this one on
-unfoldable pub marks_text : ℕ → ℕ → ℕ → ℕ → ℕ → ℕ → List ℕ
-marks_text bands seconds begin step index zero = []
-marks_text bands seconds begin step index (suc count) =
-    mark_text bands seconds begin (index * step) ++ marks_text bands seconds begin step (index + 1) count
+unfoldable pub marks_text : ℕ → Option ℕ → ℕ → ℕ → ℕ → ℕ → ℕ → List ℕ
+marks_text bands clock seconds begin step index zero = []
+marks_text bands clock seconds begin step index (suc count) =
+    mark_text bands clock seconds begin (index * step) ++ marks_text bands clock seconds begin step (index + 1) count
 
--- how many marks there are before a second
+-- how many marks there are before a tenth of a second
 abbrev pub marks_before : ℕ → ℕ → ℕ
-marks_before second step = (second + (step - 1)) / step
+marks_before tenth step = (tenth + (10 * step - 1)) / (10 * step)
 
--- the marks from one second to before another
-abbrev pub marks_between : ℕ → ℕ → ℕ → ℕ → ℕ → List ℕ
-marks_between bands seconds begin end step =
-    marks_text bands seconds begin step (marks_before begin step) (marks_before end step - marks_before begin step)
+-- the marks from one tenth of a second to before another
+abbrev pub marks_between : ℕ → Option ℕ → ℕ → ℕ → ℕ → ℕ → List ℕ
+marks_between bands clock seconds begin end step =
+    marks_text bands clock seconds begin step (marks_before begin step) (marks_before end step - marks_before begin step)
 
 -- the axis of line k
-abbrev pub axis_text : ℕ → ℕ → ℕ → List ℕ
-axis_text bands seconds k = marks_between bands seconds (k * seconds) (k * seconds + seconds) (step_of seconds)
+abbrev pub axis_text : ℕ → Option ℕ → ℕ → ℕ → List ℕ
+axis_text bands clock seconds k =
+    marks_between bands clock seconds (begin_of clock seconds k) (begin_of clock seconds k + 10 * seconds) (step_of seconds)
 
 -- ## Lines
 
@@ -141,15 +148,15 @@ abbrev pub line_top : ℕ → ℕ → ℕ
 line_top bands k = 64 + k * line_height bands
 
 -- the clock of line k
-abbrev pub line_clock : ℕ → ℕ → List ℕ
-line_clock seconds k = clock_text (k * seconds)
+abbrev pub line_clock : Option ℕ → ℕ → ℕ → List ℕ
+line_clock clock seconds k = clock_text clock (begin_of clock seconds k / 10)
 
 -- the head of line k: where it stands, and its clock
-abbrev pub head_text : ℕ → ℕ → ℕ → List ℕ
-head_text bands seconds k =
+abbrev pub head_text : ℕ → Option ℕ → ℕ → ℕ → List ℕ
+head_text bands clock seconds k =
     attribute_text (codes "<svg width=\"1160\" height=\"") (line_height bands)
     ++ (attribute_text (codes " y=\"") (line_top bands k)
-    ++ (codes ">\n<text class=\"b\" x=\"4\" y=\"12\">" ++ (line_clock seconds k ++ codes "</text>\n")))
+    ++ (codes ">\n<text class=\"b\" x=\"4\" y=\"12\">" ++ (line_clock clock seconds k ++ codes "</text>\n")))
 
 -- the bars of line k, of what is in force from its first tick on
 abbrev pub plot_text : List Band → ℕ → ℕ → ℕ → List Shown → List LogRow → List ℕ
@@ -161,15 +168,15 @@ plot_text bands seconds last k changes rows =
     ++ codes "</svg>\n")
 
 -- line k, of what is in force from its first tick on
-unfoldable pub line_text : List Band → ℕ → ℕ → ℕ → List Shown → List LogRow → List ℕ
-line_text bands seconds last k changes rows =
-    head_text (length bands) seconds k ++ (labels_text 0 bands ++ (axis_text (length bands) seconds k
+unfoldable pub line_text : List Band → Option ℕ → ℕ → ℕ → ℕ → List Shown → List LogRow → List ℕ
+line_text bands clock seconds last k changes rows =
+    head_text (length bands) clock seconds k ++ (labels_text 0 bands ++ (axis_text (length bands) clock seconds k
     ++ (plot_text bands seconds last k changes rows ++ codes "</svg>\n")))
 
 -- so many lines, from line k on
-unfoldable pub lines_text : List Band → ℕ → ℕ → List Shown → List LogRow → ℕ → ℕ → List ℕ
-lines_text bands seconds last changes rows k zero = []
-lines_text bands seconds last changes rows k (suc count) =
-    line_text bands seconds last k (from_tick tick_of_change (first_tick seconds k) changes)
+unfoldable pub lines_text : List Band → Option ℕ → ℕ → ℕ → List Shown → List LogRow → ℕ → ℕ → List ℕ
+lines_text bands clock seconds last changes rows k zero = []
+lines_text bands clock seconds last changes rows k (suc count) =
+    line_text bands clock seconds last k (from_tick tick_of_change (first_tick seconds k) changes)
     (from_tick tick_of_row (first_tick seconds k) rows)
-    ++ lines_text bands seconds last changes rows (k + 1) count
+    ++ lines_text bands clock seconds last changes rows (k + 1) count

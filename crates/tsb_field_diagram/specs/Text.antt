@@ -1,5 +1,5 @@
 -- Numbers, clocks and titles as text.
-use Rattle.std.specs.Prelude.{ℕ, ◌+◌, ◌/◌, ◌%◌, ◌==◌, nat_lt, not, Bool, ◌&&◌, ◌||◌, if◌then◌else◌, List, [], ◌∷◌, ◌++◌, codes, decimal}
+use Rattle.std.specs.Prelude.{ℕ, ◌+◌, ◌/◌, ◌%◌, ◌==◌, nat_lt, not, Bool, ◌&&◌, ◌||◌, if◌then◌else◌, List, [], ◌∷◌, ◌++◌, codes, decimal, Option, Some, None}
 
 -- a number, in decimal digits
 abbrev pub number_text : ℕ → List ℕ
@@ -17,10 +17,15 @@ attribute_text name n = name ++ (number_text n ++ 34 ∷ [])
 abbrev pub two_digits : ℕ → List ℕ
 two_digits n = (48 + n / 10 % 10) ∷ (48 + n % 10) ∷ []
 
--- the clock of a second, h:mm:ss
-abbrev pub clock_text : ℕ → List ℕ
-clock_text second =
-    number_text (second / 3600) ++ (58 ∷ (two_digits (second / 60 % 60) ++ (58 ∷ two_digits (second % 60))))
+-- an hour: that of a day, in two digits, where it is a time of day
+abbrev pub hour_text : Option ℕ → ℕ → List ℕ
+hour_text None hour = number_text hour
+hour_text (Some start) hour = two_digits (hour % 24)
+
+-- the clock of a second: hh:mm:ss of a day where it is a time of day, and else h:mm:ss
+abbrev pub clock_text : Option ℕ → ℕ → List ℕ
+clock_text clock second =
+    hour_text clock (second / 3600) ++ (58 ∷ (two_digits (second / 60 % 60) ++ (58 ∷ two_digits (second % 60))))
 
 -- a byte that XML forbids: a control that is no tab and no end of a line
 abbrev pub is_forbidden : ℕ → Bool

@@ -1,37 +1,50 @@
 //! The axis of a line of a diagram.
 ghost use Rattle.std.specs.Prelude.{◌≡◌, ◌≤◌, ◌<◌, ◌++◌, ◌*◌, ◌^◌, OnOk};
-ghost use Rattle.tsb_field_diagram.specs.Lines.{axis_text, grid_text, mark_name, mark_text, marks_before, marks_between, place_of, second_text, step_of};
+ghost use Rattle.tsb_field_diagram.specs.Lines.{axis_text, begin_of, grid_text, mark_name, mark_text, marks_before, marks_between, place_of, second_text, step_of};
 
 use crate::band::BAND;
 use crate::write::{append, append_attribute, append_clock, append_number};
 use std::alloc::AllocError;
 
 /// How far from the left the bars begin.
-const LEFT: u128 = 140;
+pub(crate) const LEFT: u128 = 140;
 
 /// How wide the bars of a line are.
-const WIDTH: u128 = 1000;
+pub(crate) const WIDTH: u128 = 1000;
 
-/// Adds the axis of a line of this many seconds to a text.
+/// Adds the axis of a line of this many seconds to a text. `clock` is the time of day at which tick 1 begins, in tenths
+/// of a second, or `None` where time counts from tick 1.
 pub(crate) fn append_axis(
     text: &mut Vec<u8>,
     bands: usize,
+    clock: Option<u32>,
     seconds: u32,
     line: u32,
 ) -> Result<(), AllocError>
     requires some { 1 ≤ seconds }
     requires most { seconds ≤ 86400 }
-    ensures { OnOk result (text.new.items ≡ text.old.items ++ axis_text bands seconds line) }
+    ensures { OnOk result (text.new.items ≡ text.old.items ++ axis_text bands clock seconds line) }
 {
-    let begin = u64::from(line) * u64::from(seconds);
-    let end = begin + u64::from(seconds);
-    append_marks(text, bands, seconds, begin, end, step_of(seconds))
+    let begin = begin_of(clock, seconds, line);
+    let end = begin + 10 * u64::from(seconds);
+    append_marks(text, bands, clock, seconds, begin, end, step_of(seconds))
 }
 
-/// Adds to a text the marks from one second to before another.
+/// The tenth of a second, of those that the axis counts, at which a line begins.
+pub(crate) fn begin_of(clock: Option<u32>, seconds: u32, line: u32) -> u64
+    requires { seconds ≤ 86400 }
+    ensures same { result ≡ begin_of clock seconds line }
+    ensures fits { result < 2 ^ 62 }
+{
+    let start = u64::from(clock.unwrap_or(0));
+    start + u64::from(line) * (10 * u64::from(seconds))
+}
+
+/// Adds to a text the marks from one tenth of a second to before another.
 fn append_marks(
     text: &mut Vec<u8>,
     bands: usize,
+    clock: Option<u32>,
     seconds: u32,
     begin: u64,
     end: u64,
@@ -41,23 +54,24 @@ fn append_marks(
     requires step { 1 ≤ step }
     requires begin { begin < 2 ^ 63 }
     requires end { end < 2 ^ 63 }
-    ensures { OnOk result (text.new.items ≡ text.old.items ++ marks_between bands seconds begin end step) }
+    ensures { OnOk result (text.new.items ≡ text.old.items ++ marks_between bands clock seconds begin end step) }
 {
     let from = marks_before(begin, step);
     let until = marks_before(end, step);
     for index in from..until {
-        append_mark(text, bands, seconds, begin, second_of(index, step))?;
+        append_mark(text, bands, clock, seconds, begin, second_of(index, step))?;
     }
     Ok(())
 }
 
-/// How many marks there are before a second.
-fn marks_before(second: u64, step: u32) -> u64
+/// How many marks there are before a tenth of a second.
+fn marks_before(tenth: u64, step: u32) -> u64
     requires step { 1 ≤ step }
-    requires second { second < 2 ^ 63 }
-    ensures { result ≡ marks_before second step }
+    requires tenth { tenth < 2 ^ 63 }
+    ensures { result ≡ marks_before tenth step }
 {
-    (second + u64::from(step - 1)) / u64::from(step)
+    let span = 10 * u64::from(step);
+    (tenth + (span - 1)) / span
 }
 
 /// The second of a mark.
@@ -72,26 +86,27 @@ fn second_of(index: u64, step: u32) -> u128
 fn append_mark(
     text: &mut Vec<u8>,
     bands: usize,
+    clock: Option<u32>,
     seconds: u32,
     begin: u64,
     second: u128,
 ) -> Result<(), AllocError>
     requires some { 1 ≤ seconds }
     requires fits { second < 2 ^ 96 }
-    ensures { OnOk result (text.new.items ≡ text.old.items ++ mark_text bands seconds begin second) }
+    ensures { OnOk result (text.new.items ≡ text.old.items ++ mark_text bands clock seconds begin second) }
 {
     let x = place_of(seconds, begin, second);
     append_grid(text, bands, x)?;
-    append_second(text, bands, x, second)
+    append_second(text, bands, clock, x, second)
 }
 
-/// How far from the left a second is, in a line of this many seconds that begins at another.
+/// How far from the left a second is, in a line of this many seconds that begins at a tenth of a second.
 fn place_of(seconds: u32, begin: u64, second: u128) -> u128
     requires some { 1 ≤ seconds }
     requires fits { second < 2 ^ 96 }
     ensures { result ≡ place_of seconds begin second }
 {
-    LEFT + second.saturating_sub(u128::from(begin)) * WIDTH / u128::from(seconds)
+    LEFT + (10 * second).saturating_sub(u128::from(begin)) * WIDTH / (10 * u128::from(seconds))
 }
 
 /// Adds the line of a mark to a text.
@@ -105,22 +120,28 @@ fn append_grid(text: &mut Vec<u8>, bands: usize, x: u128) -> Result<(), AllocErr
 }
 
 /// Adds what is written below a mark to a text.
-fn append_second(text: &mut Vec<u8>, bands: usize, x: u128, second: u128) -> Result<(), AllocError>
-    ensures { OnOk result (text.new.items ≡ text.old.items ++ second_text bands x second) }
+fn append_second(
+    text: &mut Vec<u8>,
+    bands: usize,
+    clock: Option<u32>,
+    x: u128,
+    second: u128,
+) -> Result<(), AllocError>
+    ensures { OnOk result (text.new.items ≡ text.old.items ++ second_text bands clock x second) }
 {
     append_attribute(text, b"<text class=\"k\" x=\"", x)?;
     append_attribute(text, b" y=\"", BAND * bands as u128 + 16)?;
     append(text, b">")?;
-    append_mark_name(text, second)?;
+    append_mark_name(text, clock, second)?;
     append(text, b"</text>\n")
 }
 
 /// Adds the clock of a minute to a text, or else the second of its minute.
-fn append_mark_name(text: &mut Vec<u8>, second: u128) -> Result<(), AllocError>
-    ensures { OnOk result (text.new.items ≡ text.old.items ++ mark_name second) }
+fn append_mark_name(text: &mut Vec<u8>, clock: Option<u32>, second: u128) -> Result<(), AllocError>
+    ensures { OnOk result (text.new.items ≡ text.old.items ++ mark_name clock second) }
 {
     if second % 60 == 0 {
-        append_clock(text, second)
+        append_clock(text, clock, second)
     } else {
         append_number(text, second % 60)
     }

@@ -4,11 +4,14 @@
 mod axis;
 mod band;
 mod bars;
+pub mod ends;
 pub mod laws;
+mod letters;
 mod line;
 mod lit;
 mod page;
 mod title;
 mod write;
 
+pub use ends::{EndsError, GreenEnd, LIMIT, Why, read_ends};
 pub use page::diagram_text;

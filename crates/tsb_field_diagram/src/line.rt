@@ -2,7 +2,7 @@
 ghost use Rattle.std.specs.Prelude.{◌≡◌, ◌≤◌, ◌<◌, ◌++◌, ◌*◌, ◌^◌, OnOk};
 ghost use Rattle.tsb_field_diagram.specs.Lines.{band_text, bands_text, end_tick, first_tick, frame_text, head_text, height_of, label_text, labels_text, line_clock, line_count, line_height, line_text, line_top, lines_text, name_of, plot_text};
 
-use crate::axis::append_axis;
+use crate::axis::{append_axis, begin_of};
 use crate::band::{BAND, Band, Kind};
 use crate::bars::{append_bars, before_tick, from_tick};
 use crate::write::{append, append_attribute, append_clock, append_named, append_number};
@@ -17,6 +17,7 @@ pub(crate) const TOP: u128 = 64;
 pub(crate) fn append_lines(
     text: &mut Vec<u8>,
     bands: &[Band],
+    clock: Option<u32>,
     seconds: u32,
     last: u32,
     changes: &[Shown],
@@ -24,7 +25,7 @@ pub(crate) fn append_lines(
 ) -> Result<(), AllocError>
     requires some { 1 ≤ seconds }
     requires most { seconds ≤ 86400 }
-    ensures { OnOk result (text.new.items ≡ text.old.items ++ lines_text bands.now seconds last changes.now rows.now 0 (line_count seconds last)) }
+    ensures { OnOk result (text.new.items ≡ text.old.items ++ lines_text bands.now clock seconds last changes.now rows.now 0 (line_count seconds last)) }
 {
     let mut changes = changes;
     let mut rows = rows;
@@ -33,7 +34,7 @@ pub(crate) fn append_lines(
         let first = first_tick(seconds, line);
         changes = from_tick(changes, first);
         rows = from_tick(rows, first);
-        append_line(text, bands, seconds, last, line, changes, rows)?;
+        append_line(text, bands, clock, seconds, last, line, changes, rows)?;
     }
     Ok(())
 }
@@ -68,10 +69,16 @@ pub(crate) fn line_top(bands: usize, line: u32) -> u128
 }
 
 /// Adds the clock of a line to a text.
-fn append_line_clock(text: &mut Vec<u8>, seconds: u32, line: u32) -> Result<(), AllocError>
-    ensures { OnOk result (text.new.items ≡ text.old.items ++ line_clock seconds line) }
+fn append_line_clock(
+    text: &mut Vec<u8>,
+    clock: Option<u32>,
+    seconds: u32,
+    line: u32,
+) -> Result<(), AllocError>
+    requires { seconds ≤ 86400 }
+    ensures { OnOk result (text.new.items ≡ text.old.items ++ line_clock clock seconds line) }
 {
-    append_clock(text, u128::from(line) * u128::from(seconds))
+    append_clock(text, clock, u128::from(begin_of(clock, seconds, line) / 10))
 }
 
 /// The first tick of a line.
@@ -96,6 +103,7 @@ fn end_tick(seconds: u32, last: u32, line: u32) -> u64
 fn append_line(
     text: &mut Vec<u8>,
     bands: &[Band],
+    clock: Option<u32>,
     seconds: u32,
     last: u32,
     line: u32,
@@ -104,23 +112,30 @@ fn append_line(
 ) -> Result<(), AllocError>
     requires some { 1 ≤ seconds }
     requires most { seconds ≤ 86400 }
-    ensures { OnOk result (text.new.items ≡ text.old.items ++ line_text bands.now seconds last line changes.now rows.now) }
+    ensures { OnOk result (text.new.items ≡ text.old.items ++ line_text bands.now clock seconds last line changes.now rows.now) }
 {
-    append_head(text, bands.len(), seconds, line)?;
+    append_head(text, bands.len(), clock, seconds, line)?;
     append_labels(text, bands)?;
-    append_axis(text, bands.len(), seconds, line)?;
+    append_axis(text, bands.len(), clock, seconds, line)?;
     append_plot(text, bands, seconds, last, line, changes, rows)?;
     append(text, b"</svg>\n")
 }
 
 /// Adds the head of a line to a text: where the line is, and its clock.
-fn append_head(text: &mut Vec<u8>, bands: usize, seconds: u32, line: u32) -> Result<(), AllocError>
-    ensures { OnOk result (text.new.items ≡ text.old.items ++ head_text bands seconds line) }
+fn append_head(
+    text: &mut Vec<u8>,
+    bands: usize,
+    clock: Option<u32>,
+    seconds: u32,
+    line: u32,
+) -> Result<(), AllocError>
+    requires { seconds ≤ 86400 }
+    ensures { OnOk result (text.new.items ≡ text.old.items ++ head_text bands clock seconds line) }
 {
     append_attribute(text, b"<svg width=\"1160\" height=\"", line_height(bands))?;
     append_attribute(text, b" y=\"", line_top(bands, line))?;
     append(text, b">\n<text class=\"b\" x=\"4\" y=\"12\">")?;
-    append_line_clock(text, seconds, line)?;
+    append_line_clock(text, clock, seconds, line)?;
     append(text, b"</text>\n")
 }
 

@@ -2,32 +2,44 @@
 ghost use Rattle.std.specs.Prelude.{◌≡◌, ◌≤◌, ◌++◌, IfOk, OnOk};
 ghost use Rattle.tsb_types.specs.Lists.{or_number};
 ghost use Rattle.tsb_field_diagram.specs.Text.{named_text};
-ghost use Rattle.tsb_field_diagram.specs.Page.{classes_text, clearance_text, diagram_text, flash_text, legend_text, line_seconds, names_text, opening_text, page_head, page_height, picture_text, shapes_text, style_text, titles_text, yellow_text};
+ghost use Rattle.tsb_field_diagram.specs.Page.{classes_text, clearance_text, clock_of, diagram_text, flash_text, legend_text, line_seconds, names_text, opening_text, page_head, page_height, picture_text, shapes_text, style_text, titles_text, yellow_text};
 
 use crate::band::Band;
+use crate::bars::before_tick;
+use crate::ends::GreenEnd;
+use crate::letters::append_ends;
 use crate::line::{append_lines, line_count, line_top};
 use crate::lit::bands;
 use crate::title::append_title;
 use crate::write::{append, append_named};
 use std::alloc::{AllocError, Global};
+use tsb_event_text::Moment;
 use tsb_field_display::Shown;
 use tsb_log_text::LogRow;
 
 /// The most seconds of a line: a day.
 const DAY: u32 = 86_400;
 
+/// The nanoseconds of a tenth of a second.
+const TENTH: u128 = 100_000_000;
+
+/// The tenths of a second that a day has.
+const TENTHS: u128 = 864_000;
+
 /// The phase diagram of a session, as a picture in SVG.
 ///
 /// `changes` are the first display line and those that show something other than the line before, whose ticks rise;
 /// what one shows holds up to the next, and what the last one shows up to tick `last`. Where `last` is `None` or 0, the
 /// picture has no lines. `rows` are those of a log of inputs, whose ticks rise: an input that is on in a row is on
-/// until the next row. There may be none. A tick is a tenth of a second, and tick 1 begins at time 0.
+/// until the next row. There may be none. A tick is a tenth of a second, and tick 1 begins at time 0, or where `from` is
+/// given, at this moment: the axis then has the time of day.
 ///
 /// A line has `seconds_per_line` seconds, 1 to 86,400: 0 is taken as 1, and more as 86,400. Each line has from top to
-/// bottom, where they are ever lit or on, the preempts in service, flash, the head of each phase with its pedestrian
+/// bottom, where they are ever lit, or on up to tick `last`, the preempts in service, flash, the head of each phase with its pedestrian
 /// head below it, the overlaps, vehicle detectors, pedestrian detectors and preempt inputs; below them it has an axis
 /// of seconds, with the clock at minutes. A bar begins at its tick and is its ticks wide. Where a head is dark there is
-/// no bar.
+/// no bar. `ends` are ends of greens, each with a letter at the end of its green: G, M or F. A line below the legend says
+/// what they mean, where there are any.
 ///
 /// `title` is UTF-8 text: what has a meaning in XML is escaped, and a character that XML forbids becomes `?`, such as
 /// U+FFFE, U+FFFF and each control but the tab and ends of lines. The form of the picture is "profile". The error is
@@ -36,18 +48,33 @@ pub fn diagram_text(
     alloc: Global,
     title: &[u8],
     seconds_per_line: u32,
+    from: Option<Moment>,
     changes: &[Shown],
     last: Option<u32>,
     rows: &[LogRow],
+    ends: &[GreenEnd],
 ) -> Result<Vec<u8>, AllocError>
-    ensures { IfOk result (λ text. text.items ≡ diagram_text title.now seconds_per_line changes.now last rows.now) }
+    ensures { IfOk result (λ text. text.items ≡ diagram_text title.now seconds_per_line from changes.now last rows.now ends.now) }
 {
+    let clock = clock_of(from);
     let seconds = line_seconds(seconds_per_line);
     let last = last.unwrap_or(0);
-    let bands = bands(alloc, changes, rows)?;
+    let bands = bands(alloc, changes, before_tick(rows, u64::from(last) + 1))?;
     let mut text = Vec::new(alloc);
-    append_picture(&mut text, title, &bands, seconds, last, changes, rows)?;
+    append_picture(
+        &mut text, title, &bands, clock, seconds, last, changes, rows, ends,
+    )?;
     Ok(text)
+}
+
+/// The time of day at which tick 1 begins, in tenths of a second, where its moment is known.
+fn clock_of(from: Option<Moment>) -> Option<u32>
+    ensures { result ≡ clock_of from }
+{
+    match from {
+        None => None,
+        Some(moment) => Some((moment.nanos / TENTH % TENTHS) as u32),
+    }
 }
 
 /// The seconds of a line: 1 to a day.
@@ -64,18 +91,21 @@ fn append_picture(
     text: &mut Vec<u8>,
     title: &[u8],
     bands: &[Band],
+    clock: Option<u32>,
     seconds: u32,
     last: u32,
     changes: &[Shown],
     rows: &[LogRow],
+    ends: &[GreenEnd],
 ) -> Result<(), AllocError>
     requires some { 1 ≤ seconds }
     requires most { seconds ≤ 86400 }
-    ensures { OnOk result (text.new.items ≡ text.old.items ++ picture_text title.now bands.now seconds last changes.now rows.now) }
+    ensures { OnOk result (text.new.items ≡ text.old.items ++ picture_text title.now bands.now clock seconds last changes.now rows.now ends.now) }
 {
     let height = page_height(bands.len(), seconds, last);
     append_page_head(text, title, seconds, height)?;
-    append_lines(text, bands, seconds, last, changes, rows)?;
+    append_lines(text, bands, clock, seconds, last, changes, rows)?;
+    append_ends(text, bands, seconds, last, ends)?;
     append(text, b"</svg>\n")
 }
 

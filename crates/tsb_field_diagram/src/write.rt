@@ -1,6 +1,6 @@
 //! Parts that are added to a text.
 ghost use Rattle.std.specs.Prelude.{◌≡◌, ◌++◌, OnOk};
-ghost use Rattle.tsb_field_diagram.specs.Text.{attribute_text, clock_text, named_text, number_text, two_digits};
+ghost use Rattle.tsb_field_diagram.specs.Text.{attribute_text, clock_text, hour_text, named_text, number_text, two_digits};
 
 use itoa::Buffer;
 use std::alloc::AllocError;
@@ -50,11 +50,25 @@ fn append_two_digits(text: &mut Vec<u8>, number: u128) -> Result<(), AllocError>
     append(text, &[tens, ones])
 }
 
-/// Adds the clock of a second to a text, as `h:mm:ss`.
-pub(crate) fn append_clock(text: &mut Vec<u8>, second: u128) -> Result<(), AllocError>
-    ensures { OnOk result (text.new.items ≡ text.old.items ++ clock_text second) }
+/// Adds an hour to a text: that of a day, in two digits, where it is a time of day.
+fn append_hour(text: &mut Vec<u8>, clock: Option<u32>, hour: u128) -> Result<(), AllocError>
+    ensures { OnOk result (text.new.items ≡ text.old.items ++ hour_text clock hour) }
 {
-    append_number(text, second / 3600)?;
+    match clock {
+        None => append_number(text, hour),
+        Some(_) => append_two_digits(text, hour % 24),
+    }
+}
+
+/// Adds the clock of a second to a text: `hh:mm:ss` of a day where it is a time of day, and else `h:mm:ss`.
+pub(crate) fn append_clock(
+    text: &mut Vec<u8>,
+    clock: Option<u32>,
+    second: u128,
+) -> Result<(), AllocError>
+    ensures { OnOk result (text.new.items ≡ text.old.items ++ clock_text clock second) }
+{
+    append_hour(text, clock, second / 3600)?;
     append(text, b":")?;
     append_two_digits(text, second / 60 % 60)?;
     append(text, b":")?;

@@ -1,7 +1,8 @@
 //! The phase diagram of a session. Expected texts are those of a program that draws tick by tick.
 
 use std::alloc::{AllocError, Global};
-use tsb_field_diagram::diagram_text;
+use tsb_event_text::{Moment, read_moment};
+use tsb_field_diagram::{EndsError, GreenEnd, Why, diagram_text, read_ends};
 use tsb_field_display::{Replay, Shown, read_line};
 use tsb_log_text::LogRow;
 use tsb_types::{NumberSet, Row};
@@ -130,6 +131,48 @@ const DARK_LINE: &[u8] = b"<svg width=\"1160\" height=\"36\" y=\"64\">
 </svg>
 ";
 
+/// A line of ten seconds from 23:59:55.5 on: each second is placed by tenths, and a minute after midnight is one of its
+/// day.
+const MIDNIGHT: &[u8] = b"<svg width=\"1160\" height=\"36\" y=\"64\">
+<text class=\"b\" x=\"4\" y=\"12\">23:59:55</text>
+<line class=\"a\" x1=\"190\" x2=\"190\" y2=\"4\"/><text class=\"k\" x=\"190\" y=\"16\">56</text>
+<line class=\"a\" x1=\"290\" x2=\"290\" y2=\"4\"/><text class=\"k\" x=\"290\" y=\"16\">57</text>
+<line class=\"a\" x1=\"390\" x2=\"390\" y2=\"4\"/><text class=\"k\" x=\"390\" y=\"16\">58</text>
+<line class=\"a\" x1=\"490\" x2=\"490\" y2=\"4\"/><text class=\"k\" x=\"490\" y=\"16\">59</text>
+<line class=\"a\" x1=\"590\" x2=\"590\" y2=\"4\"/><text class=\"k\" x=\"590\" y=\"16\">00:00:00</text>
+<line class=\"a\" x1=\"690\" x2=\"690\" y2=\"4\"/><text class=\"k\" x=\"690\" y=\"16\">1</text>
+<line class=\"a\" x1=\"790\" x2=\"790\" y2=\"4\"/><text class=\"k\" x=\"790\" y=\"16\">2</text>
+<line class=\"a\" x1=\"890\" x2=\"890\" y2=\"4\"/><text class=\"k\" x=\"890\" y=\"16\">3</text>
+<line class=\"a\" x1=\"990\" x2=\"990\" y2=\"4\"/><text class=\"k\" x=\"990\" y=\"16\">4</text>
+<line class=\"a\" x1=\"1090\" x2=\"1090\" y2=\"4\"/><text class=\"k\" x=\"1090\" y=\"16\">5</text>
+<svg x=\"140\" width=\"1000\" preserveAspectRatio=\"none\" height=\"0\" viewBox=\"1 0 100 0\">
+</svg>
+</svg>
+</svg>
+";
+
+/// The letters of three lines of a second, each with four bands: one at the first tick of the second line, in the first
+/// band, and one at the last tick of the picture, in the third.
+const LETTERS: &[u8] =
+    b"<text x=\"140\" y=\"60\">The letter at the end of a green: G gap out, M max out, F force-off</text>
+<g text-anchor=\"end\" font-weight=\"bold\" stroke=\"#fff\" stroke-width=\"2\" paint-order=\"stroke\">
+<text x=\"239\" y=\"176\">M</text>
+<text x=\"639\" y=\"308\">F</text>
+</g>
+</svg>
+";
+
+/// An event log as `record` writes it, with lines that are passed over, and rows before seven o'clock and of other codes.
+const LOG: &[u8] = b"SignalID,Timestamp,EventCode,EventParam
+# a comment
+
+1001,2026-11-22 06:59:59.9,4,2
+1001,2026-11-22 07:00:00.0,1,2\r
+1001,2026-11-22 07:00:17.0,4,2\r
+1001,2026-11-22 07:00:17.0,7,2
+1001,2026-11-22 07:00:17.1,5,6
+1001,2026-11-22 07:00:20.0,6,4";
+
 /// The replay of the display lines among these lines.
 fn replay(alloc: Global, lines: &[&[u8]]) -> Result<Replay, AllocError> {
     let mut replay = Replay::new(alloc);
@@ -175,13 +218,22 @@ fn lines_of(
     last: u32,
     rows: &[LogRow],
 ) -> Result<Vec<u8>, AllocError> {
-    let text = diagram_text(alloc, b"Main", seconds, changes, Some(last), rows)?;
+    let text = diagram_text(
+        alloc,
+        b"Main",
+        seconds,
+        None,
+        changes,
+        Some(last),
+        rows,
+        &[],
+    )?;
     Vec::from_slice(alloc, behind_lines(text.as_slice(), 11))
 }
 
 /// Whether the diagram of no change, up to this tick if there is one, is its title and its legend.
 fn is_empty(alloc: Global, last: Option<u32>) -> bool {
-    match diagram_text(alloc, b"<\"a'b\">\x01\t&", 60, &[], last, &[]) {
+    match diagram_text(alloc, b"<\"a'b\">\x01\t&", 60, None, &[], last, &[], &[]) {
         Ok(text) => text.as_slice() == EMPTY,
         Err(_) => false,
     }
@@ -194,7 +246,7 @@ fn a_diagram_of_no_line_has_a_title_and_a_legend(rt: HostRuntime) {
 
 /// Whether this is the second line of a diagram with the title.
 fn has_title(alloc: Global, title: &[u8], line: &[u8]) -> bool {
-    match diagram_text(alloc, title, 60, &[], None, &[]) {
+    match diagram_text(alloc, title, 60, None, &[], None, &[], &[]) {
         Ok(text) => behind_lines(text.as_slice(), 1).starts_with(line),
         Err(_) => false,
     }
@@ -254,4 +306,134 @@ fn no_seconds_are_one_and_many_are_a_day(rt: HostRuntime) -> Result<(), AllocErr
         are_alike(rt.alloc(), &replay, 1, 0) && are_alike(rt.alloc(), &replay, 86_400, u32::MAX)
     );
     Ok(())
+}
+
+/// The moment that this text names.
+fn moment(text: &[u8]) -> Moment {
+    read_moment(text).unwrap_or(Moment { nanos: 0 })
+}
+
+/// Whether a diagram of ten seconds from this moment on, of nothing that is lit, has these lines.
+fn has_clock(alloc: Global, replay: &Replay, from: Moment, wanted: &[u8]) -> bool {
+    match diagram_text(
+        alloc,
+        b"Main",
+        10,
+        Some(from),
+        replay.changes(),
+        Some(20),
+        &[],
+        &[],
+    ) {
+        Ok(text) => behind_lines(text.as_slice(), 11) == wanted,
+        Err(_) => false,
+    }
+}
+
+#[test]
+fn the_axis_has_the_time_of_day(rt: HostRuntime) -> Result<(), AllocError> {
+    let replay = replay(rt.alloc(), &[DARK])?;
+    let from = moment(b"2026-11-22 23:59:55.5");
+    assert!(rt; has_clock(rt.alloc(), &replay, from, MIDNIGHT));
+    Ok(())
+}
+
+/// An end of a green.
+fn end(tick: u32, phase: u32, why: Why) -> GreenEnd {
+    GreenEnd { tick, phase, why }
+}
+
+/// Whether a diagram of these ends ends so.
+fn has_letters(alloc: Global, replay: &Replay, ends: &[GreenEnd], wanted: &[u8]) -> bool {
+    match diagram_text(
+        alloc,
+        b"Main",
+        1,
+        None,
+        replay.changes(),
+        Some(25),
+        &[],
+        ends,
+    ) {
+        Ok(text) => text.as_slice().ends_with(wanted),
+        Err(_) => false,
+    }
+}
+
+#[test]
+fn a_letter_stands_where_its_green_ends(rt: HostRuntime) -> Result<(), AllocError> {
+    let replay = replay(rt.alloc(), &[RED, GREEN])?;
+    let ends = [
+        end(1, 2, Why::Gap),
+        end(12, 2, Why::Maximum),
+        end(12, 9, Why::Gap),
+        end(26, 4, Why::ForceOff),
+        end(27, 4, Why::Gap),
+    ];
+    assert!(rt; has_letters(rt.alloc(), &replay, &ends, LETTERS));
+    assert!(rt; has_letters(rt.alloc(), &replay, &[], b"</svg>\n</svg>\n</svg>\n"));
+    Ok(())
+}
+
+/// Whether a diagram up to tick 25 has a band of an input that comes on at this tick.
+fn has_band(alloc: Global, replay: &Replay, tick: u32) -> bool {
+    let rows = [row(tick, 4, 0, 0)];
+    match diagram_text(
+        alloc,
+        b"Main",
+        60,
+        None,
+        replay.changes(),
+        Some(25),
+        &rows,
+        &[],
+    ) {
+        Ok(text) => text
+            .as_slice()
+            .windows(10)
+            .any(|part| part == b"detector 3".as_slice()),
+        Err(_) => false,
+    }
+}
+
+#[test]
+fn an_input_that_comes_on_later_has_no_band(rt: HostRuntime) -> Result<(), AllocError> {
+    let replay = replay(rt.alloc(), &[RED, GREEN])?;
+    assert!(rt; has_band(rt.alloc(), &replay, 25) && !has_band(rt.alloc(), &replay, 26));
+    Ok(())
+}
+
+/// Whether a text has these ends from seven o'clock on.
+fn tells(alloc: Global, text: &[u8], wanted: &[GreenEnd]) -> bool {
+    match read_ends(alloc, moment(b"2026-11-22 07:00:00"), text) {
+        Ok(ends) => ends.as_slice() == wanted,
+        Err(_) => false,
+    }
+}
+
+#[test]
+fn codes_say_why_greens_ended(rt: HostRuntime) {
+    let ends = [
+        end(171, 2, Why::Gap),
+        end(172, 6, Why::Maximum),
+        end(201, 4, Why::ForceOff),
+    ];
+    assert!(rt; tells(rt.alloc(), LOG, &ends) && tells(rt.alloc(), b"", &[]));
+}
+
+/// The number of the first line of a text that is no row, or 0.
+fn malformed(alloc: Global, text: &[u8]) -> u32 {
+    match read_ends(alloc, moment(b"2026-11-22 07:00:00"), text) {
+        Err(EndsError::Malformed(line, _)) => line,
+        _ => 0,
+    }
+}
+
+#[test]
+fn a_line_that_is_no_row_is_refused(rt: HostRuntime) {
+    let alloc = rt.alloc();
+    assert!(rt; malformed(alloc, b"#\n1,2026-11-22 07:00:17.0,4\n1,x,4,2\n") == 2);
+    assert!(rt; malformed(alloc, b"1,11/22/2026 07:00:17.0,4,2\n") == 1);
+    assert!(rt; malformed(alloc, b"1,2026-11-22 07:00:17.0,4,NULL\n") == 1);
+    assert!(rt; malformed(alloc, b"1,2026-11-22 07:00:17.0,1,NULL\n") == 0);
 }

@@ -235,10 +235,34 @@ fn ask_for_diagram(
                 log,
                 title,
                 seconds_per_line,
+                from,
+                events,
             },
-        ) => log == rows && title == name && seconds_per_line == width,
+        ) => {
+            let bare = from.is_none() && events.is_none();
+            log == rows && title == name && seconds_per_line == width && bare
+        }
         _ => false,
     }
+}
+
+/// Whether the words ask for a diagram from this moment on, with the ends of greens of this file.
+fn ask_for_ends(alloc: Global, words: &[&str], moment: &[u8], file: Option<&str>) -> bool {
+    match read_words(alloc, words) {
+        Ok(Asked::Diagram { from, events, .. }) => from == read_moment(moment) && events == file,
+        _ => false,
+    }
+}
+
+#[test]
+fn diagram_words_of_a_moment(rt: HostRuntime) {
+    let moment = b"2026-11-22 07:00:00".as_slice();
+    let from = ["tsb_field", "diagram", "--from", "2026-11-22 07:00:00"];
+    assert!(rt; ask_for_ends(rt.alloc(), &from, moment, None));
+    let events = ["tsb_field", "diagram", "--events=a.csv", FROM];
+    assert!(rt; ask_for_ends(rt.alloc(), &events, moment, Some("a.csv")));
+    let alone = ["tsb_field", "diagram", "--events=a.csv"];
+    assert!(rt; read_words(rt.alloc(), &alone).is_err());
 }
 
 #[test]

@@ -10,7 +10,7 @@ use Rattle.tsb_event_text.specs.declared.times.Moment.{Moment}
 use Rattle.tsb_event_text.specs.declared.zones.Zone.{Zone}
 use Rattle.tsb_words.specs.declared.field_files.Manner.{Manner}
 use Rattle.tsb_words.specs.declared.field_files.RecordManner.{RecordManner}
-use Rattle.tsb_words.specs.FieldProgram.{diagram_in, diagram_with, events_in, events_with, form_said, is_set, log_in, log_with, manner_in, manner_with, moment_in, record_in, record_manner_in, record_with, review_in, review_with, seconds_said, texts_in, window_in, window_said, wires_in, zone_said}
+use Rattle.tsb_words.specs.FieldProgram.{diagram_in, diagram_with, events_in, events_with, form_said, from_said, is_set, log_in, log_with, manner_in, manner_with, moment_in, record_in, record_manner_in, record_with, review_in, review_with, seconds_said, texts_in, window_in, window_said, wires_in, zone_said}
 use Rattle.tsb_field_log.specs.declared.inputs.Wire.{Wire}
 use Rattle.tsb_words.specs.FieldWords.{Wish, log}
 
@@ -49,14 +49,18 @@ getters_events f asked from device file from-is device-is file-is is =
     ∙ ap (λ (l : Option Text). events_with (moment_in (rows_of f)) (first_of (codes "device") (rows_of f)) l) (sym (first_is f (codes "log") file file-is))))
 
 -- and what `diagram` asks for
-pub getters_diagram : (f : Found) (asked : Option Wish) (file title seconds : Option Text)
+pub getters_diagram : (f : Found) (asked : Option Wish) (file title seconds from events : Option Text) (said : Option (Option ℕ)) (begun : Option (Option Moment))
     → file ≡ first_value f (codes "log") → title ≡ first_value f (codes "title") → seconds ≡ first_value f (codes "seconds-per-line")
-    → asked ≡ diagram_with file title (seconds_said seconds) → asked ≡ diagram_in (rows_of f)
-getters_diagram f asked file title seconds file-is title-is seconds-is is =
-    is
-    ∙ (ap (λ (l : Option Text). diagram_with l title (seconds_said seconds)) (sym (first_is f (codes "log") file file-is))
-    ∙ (ap (λ (t : Option Text). diagram_with (first_of (codes "log") (rows_of f)) t (seconds_said seconds)) (sym (first_is f (codes "title") title title-is))
-    ∙ ap (λ (s : Option Text). diagram_with (first_of (codes "log") (rows_of f)) (first_of (codes "title") (rows_of f)) (seconds_said s)) (sym (first_is f (codes "seconds-per-line") seconds seconds-is))))
+    → from ≡ first_value f (codes "from") → events ≡ first_value f (codes "events") → said ≡ seconds_said seconds → begun ≡ from_said from
+    → asked ≡ diagram_with file title said begun events → asked ≡ diagram_in (rows_of f)
+getters_diagram f asked file title seconds from events said begun file-is title-is seconds-is from-is events-is said-is begun-is is =
+    let file-there : file ≡ first_of (codes "log") (rows_of f) = sym (first_is f (codes "log") file file-is) in
+    let title-there : title ≡ first_of (codes "title") (rows_of f) = sym (first_is f (codes "title") title title-is) in
+    let said-there : said ≡ seconds_said (first_of (codes "seconds-per-line") (rows_of f)) =
+    said-is ∙ ap seconds_said (sym (first_is f (codes "seconds-per-line") seconds seconds-is)) in
+    let begun-there : begun ≡ from_said (first_of (codes "from") (rows_of f)) = begun-is ∙ ap from_said (sym (first_is f (codes "from") from from-is)) in
+    let events-there : events ≡ first_of (codes "events") (rows_of f) = sym (first_is f (codes "events") events events-is) in
+    is ∙ (λ j. diagram_with (file-there j) (title-there j) (said-there j) (begun-there j) (events-there j))
 
 -- and what `review` asks for
 pub getters_review : (f : Found) (asked : Option Wish) (plan : Option Text) → plan ≡ first_value f (codes "PLAN") → asked ≡ review_with plan

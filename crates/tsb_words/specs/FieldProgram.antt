@@ -1,5 +1,5 @@
 -- The command of `tsb_field` as `clap` reads it, and what is made of what `clap` answers.
-use Rattle.std.specs.Prelude.{Bool, false, if◌then◌else◌, Option, Some, None, option_and_then, option_map, unwrap_or, List, [], ◌∷◌, ◌++◌, ℕ, codes, bytes_eq, Result}
+use Rattle.std.specs.Prelude.{Bool, false, true, if◌then◌else◌, Option, Some, None, option_and_then, option_map, unwrap_or, List, [], ◌∷◌, ◌++◌, ℕ, codes, bytes_eq, Result}
 use Rattle.clap.specs.Simple.{App, Shape, new_shape}
 use Rattle.clap.specs.Walk.{Row, Rule, Text, all_of, first_of}
 use Rattle.tsb_event_text.specs.Events.{can_be_written}
@@ -60,7 +60,8 @@ events_shape = shape_with (codes "events")
 -- those of `diagram`
 abbrev pub diagram_shape : Shape
 diagram_shape = shape_with (codes "diagram")
-    (option_rule (codes "log") ∷ option_rule (codes "title") ∷ option_rule (codes "seconds-per-line") ∷ [])
+    (option_rule (codes "log") ∷ option_rule (codes "title") ∷ option_rule (codes "seconds-per-line") ∷ option_rule (codes "from")
+    ∷ option_rule (codes "events") ∷ [])
 
 -- those of `review`
 abbrev pub review_shape : Shape
@@ -80,6 +81,11 @@ texts_in id rows = unwrap_or (all_of id rows) []
 -- what `--from` says
 abbrev pub moment_in : List Row → Option Moment
 moment_in rows = option_and_then moment_of (first_of (codes "from") rows)
+
+-- the same, where it may be left out
+abbrev pub from_said : Option Text → Option (Option Moment)
+from_said None = Some None
+from_said (Some text) = option_map (λ (from : Moment). Some from) (moment_of text)
 
 -- the seconds of an option that may be left out
 abbrev pub seconds_said : Option Text → Option (Option ℕ)
@@ -175,14 +181,23 @@ events_with from device file = None
 abbrev pub events_in : List Row → Option Wish
 events_in rows = events_with (moment_in rows) (first_of (codes "device") rows) (first_of (codes "log") rows)
 
--- a diagram, where its seconds are spelled
-abbrev pub diagram_with : Option Text → Option Text → Option (Option ℕ) → Option Wish
-diagram_with file title None = None
-diagram_with file title (Some seconds) = Some (diagram file title seconds)
+-- events, where they are named, have a moment to count from
+abbrev pub is_timed : Option Moment → Option Text → Bool
+is_timed None (Some source) = false
+is_timed None None = true
+is_timed (Some from) source = true
+
+-- a diagram, where its seconds and its moment are spelled, and events have a moment to count from
+abbrev pub diagram_with : Option Text → Option Text → Option (Option ℕ) → Option (Option Moment) → Option Text → Option Wish
+diagram_with file title (Some seconds) (Some from) source =
+    if is_timed from source then Some (diagram file title seconds from source) else None
+diagram_with file title seconds from source = None
 
 -- what `diagram` asks for, with these options
 abbrev pub diagram_in : List Row → Option Wish
-diagram_in rows = diagram_with (first_of (codes "log") rows) (first_of (codes "title") rows) (seconds_in rows)
+diagram_in rows =
+    diagram_with (first_of (codes "log") rows) (first_of (codes "title") rows) (seconds_in rows) (from_said (first_of (codes "from") rows))
+    (first_of (codes "events") rows)
 
 -- a review, where a plan is named
 abbrev pub review_with : Option Text → Option Wish

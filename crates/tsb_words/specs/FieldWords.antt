@@ -27,8 +27,9 @@ pub data Wish : Type 0 where
   recording : Moment → List ℕ → List ℕ → List ℕ → RecordManner → Wish
   -- events from this moment on, of this device, with the log in this file
   events : Moment → List ℕ → Option (List ℕ) → Wish
-  -- a diagram with the log in this file, with this title and so many seconds a line
-  diagram : Option (List ℕ) → Option (List ℕ) → Option ℕ → Wish
+  -- a diagram with the log in this file, this title and so many seconds a line. It begins at this moment, and has the
+  -- ends of greens in the event log of this file.
+  diagram : Option (List ℕ) → Option (List ℕ) → Option ℕ → Option Moment → Option (List ℕ) → Wish
   -- a review of the plan in this file
   reviewing : List ℕ → Wish
 
@@ -65,5 +66,6 @@ abbrev pub seen : Asked → Wish
 seen (asks.Log asked) = log (seen_log asked)
 seen (asks.Record from device plan file manner) = recording from device.now plan.now file.now manner
 seen (asks.Events from device file) = events from device.now (option_map (λ name. name.now) file)
-seen (asks.Diagram file title seconds) = diagram (option_map (λ name. name.now) file) (option_map (λ name. name.now) title) seconds
+seen (asks.Diagram file title seconds from told) =
+    diagram (option_map (λ name. name.now) file) (option_map (λ name. name.now) title) seconds from (option_map (λ name. name.now) told)
 seen (asks.Review plan) = reviewing plan.now

@@ -2,7 +2,7 @@
 ghost use Rattle.std.specs.Prelude.{◌≡◌, map, option_map};
 ghost use Rattle.clap.specs.Words.{found_of, rows_of};
 ghost use Rattle.clap.specs.Simple.{subcommand_rows_of};
-ghost use Rattle.tsb_words.specs.FieldProgram.{Spells, asked_by, diagram_in, diagram_with, events_in, events_with, is_set, log_in, manner_in, manner_with, other_in, record_in, record_manner_in, record_with, review_in, review_with, seconds_said, wires_in};
+ghost use Rattle.tsb_words.specs.FieldProgram.{Spells, asked_by, diagram_in, diagram_with, events_in, events_with, is_set, is_timed, log_in, manner_in, manner_with, other_in, record_in, record_manner_in, record_with, review_in, review_with, wires_in};
 ghost use Rattle.tsb_words.specs.FieldWords.{seen};
 ghost use Rattle.tsb_words.specs.Wires.{AreSpelled};
 ghost use Rattle.tsb_words.specs.Words.{SpelledBy};
@@ -16,7 +16,7 @@ use crate::matches::matches_of;
 use clap::ArgMatches;
 use commands::PROGRAM;
 pub use options::{MOST_SECONDS, MOST_WINDOW, USUAL_WINDOW};
-use options::{form_said, moment, seconds_said, window_said, zone_said};
+use options::{form_said, from_said, moment, seconds_said, window_said, zone_said};
 use std::alloc::Global;
 use std::convert::AsStr;
 use tsb_event_text::{Moment, TimeForm, Zone, can_be_written};
@@ -99,6 +99,10 @@ pub enum Asked<'a> {
         title: Option<&'a str>,
         /// How many seconds a line of the diagram shows, 1 to 86,400.
         seconds_per_line: Option<u32>,
+        /// The moment at which tick 1 begins, where the axis has the time of day.
+        from: Option<Moment>,
+        /// The file of an event log that says why greens ended. Where there is one, `from` is given.
+        events: Option<&'a str>,
     },
     /// A review of a plan.
     Review {
@@ -113,7 +117,7 @@ pub enum Asked<'a> {
 /// `--allow-empty`, `--sort`, `--sort-within SECONDS` and any number of `--vehicle CHANNEL=DETECTOR`, `--pedestrian
 /// CHANNEL=DETECTOR` and `--preempt CHANNEL=INPUT`; `record` has `--from TIME`, `--device ID`, and the files of a plan and a
 /// log, and may have `--go-on`, `--recalls` and `--outputs`; `events` has `--from TIME` and `--device ID`, and may have `--log LOG`; `diagram` may have
-/// `--log LOG`, `--title TEXT` and `--seconds-per-line N`; `review` has the file of a plan. Options come in any order, and
+/// `--log LOG`, `--title TEXT`, `--seconds-per-line N`, and `--from TIME`, and with that `--events FILE`; `review` has the file of a plan. Options come in any order, and
 /// `--NAME=VALUE` is `--NAME VALUE`. A value that begins with a hyphen comes after `=`. All else is `Bad`, and so are a
 /// request for help and a device of `record` or `events` with a double quote, an end of a line or over 900 bytes. `Memory`
 /// may come in place of every answer.
@@ -318,25 +322,45 @@ fn diagram_asked<'a>(options: &ArgMatches<'a>) -> Option<Asked<'a>>
 {
     let log = options.get_str("log");
     let title = options.get_str("title");
-    let seconds = options.get_str("seconds-per-line");
-    diagram_with(log, title, seconds)
+    let seconds = seconds_said(options.get_str("seconds-per-line"));
+    let from = from_said(options.get_str("from"));
+    let events = options.get_str("events");
+    diagram_with(log, title, seconds, from, events)
 }
 
-/// A diagram, where its seconds are spelled.
+/// A diagram, where its seconds and its moment are spelled, and events have a moment to count from.
 fn diagram_with<'a>(
     log: Option<&'a str>,
     title: Option<&'a str>,
-    seconds: Option<&str>,
+    seconds: Option<Option<u32>>,
+    from: Option<Option<Moment>>,
+    events: Option<&'a str>,
 ) -> Option<Asked<'a>>
     ensures { option_map seen result
-        ≡ diagram_with (option_map (λ text. text.now) log.entry) (option_map (λ text. text.now) title.entry) (seconds_said (option_map (λ text. text.now) seconds.entry)) }
+        ≡ diagram_with (option_map (λ text. text.now) log.entry) (option_map (λ text. text.now) title.entry) seconds from (option_map (λ text. text.now) events.entry) }
 {
-    let seconds_per_line = seconds_said(seconds)?;
+    let seconds_per_line = seconds?;
+    let from = from?;
+    if !is_timed(from, events) {
+        return None;
+    }
     Some(Asked::Diagram {
         log,
         title,
         seconds_per_line,
+        from,
+        events,
     })
+}
+
+/// Whether events, where they are named, have a moment to count from.
+fn is_timed(from: Option<Moment>, events: Option<&str>) -> bool
+    ensures { result ≡ is_timed from (option_map (λ text. text.now) events.entry) }
+{
+    match (from, events) {
+        (None, Some(_)) => false,
+        _ => true,
+    }
 }
 
 /// What `review` asks for, with this file.

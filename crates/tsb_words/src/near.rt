@@ -1,9 +1,10 @@
 //! The right word that was perhaps meant by a wrong one.
 ghost use Rattle.std.specs.Prelude.{◌≡◌, ◌≤◌, length, map, option_map, take};
-ghost use Rattle.tsb_words.specs.Near.{field_near, front_of, hint, is_joined, is_slip, is_slip_apart, is_turned, live_near, near, near_in, words_of};
+ghost use Rattle.tsb_words.specs.Near.{field_near, first_word, from_in, front_of, has_bad_from, hint, is_joined, is_slip, is_slip_apart, is_turned, live_near, names_no_time, near, near_in, words_of};
 
 use crate::field_files::parts;
 use std::convert::AsStr;
+use tsb_event_text::read_moment;
 use tsb_lines::ShortLine;
 
 /// How many bytes of a right word are shown at most; all have fewer.
@@ -57,7 +58,14 @@ const RECORD: [&str; 6] = [
 const EVENTS: [&str; 4] = ["--log", "--from", "--device", "--help"];
 
 /// The options of `diagram`.
-const DIAGRAM: [&str; 4] = ["--log", "--title", "--seconds-per-line", "--help"];
+const DIAGRAM: [&str; 6] = [
+    "--log",
+    "--title",
+    "--seconds-per-line",
+    "--from",
+    "--events",
+    "--help",
+];
 
 /// The options of `review`.
 const REVIEW: [&str; 1] = ["--help"];
@@ -82,6 +90,58 @@ pub fn field_near<S: AsStr>(words: &[S]) -> Option<&'static str>
         Some(right) => Some(right),
         None => near_in(words_of(command.as_str()), options),
     }
+}
+
+/// Whether `--from` has a value among these words that names no moment, as one without its seconds: before `--`, where the
+/// first of all words is the program's name.
+pub fn has_bad_from<S: AsStr>(words: &[S]) -> bool
+    ensures { result ≡ has_bad_from (map S.text words.now) }
+{
+    let mut rest = words;
+    while let [word, behind @ ..] = rest {
+        if word.as_str() == "--" {
+            return false;
+        }
+        if names_no_time(word.as_str(), behind) {
+            return true;
+        }
+        rest = behind;
+    }
+    false
+}
+
+/// Whether a word, with those behind it, is `--from` with a value that names no moment.
+fn names_no_time<S: AsStr>(word: &str, behind: &[S]) -> bool
+    ensures { result ≡ names_no_time (from_in word.now (map S.text behind.now)) }
+{
+    match from_in(word, behind) {
+        Some(text) => read_moment(text).is_none(),
+        None => false,
+    }
+}
+
+/// The value of `--from`, where a word, with those behind it, is that.
+fn from_in<'a, S: AsStr>(word: &'a str, behind: &'a [S]) -> Option<&'a [u8]>
+    ensures { option_map (λ text. text.now) result ≡ from_in word.now (map S.text behind.now) }
+{
+    if word == "--from" {
+        return first_word(behind);
+    }
+    let (front, value) = parts(word.as_bytes())?;
+    if front == b"--from".as_slice() {
+        return Some(value);
+    }
+    None
+}
+
+/// The first of these words.
+fn first_word<S: AsStr>(words: &[S]) -> Option<&[u8]>
+    ensures { option_map (λ text. text.now) result ≡ first_word (map S.text words.now) }
+{
+    let [next, ..] = words else {
+        return None;
+    };
+    Some(next.as_str().as_bytes())
 }
 
 /// The line that asks whether this right word was meant.

@@ -66,10 +66,12 @@ const EVENTS: [Argument; 3] = [
 ];
 
 /// The options of `diagram`.
-const DIAGRAM: [Argument; 3] = [
+const DIAGRAM: [Argument; 5] = [
     Argument::Optional("log"),
     Argument::Optional("title"),
     Argument::Optional("seconds-per-line"),
+    Argument::Optional("from"),
+    Argument::Optional("events"),
 ];
 
 /// The file of `review`.

@@ -1,7 +1,7 @@
 //! What options say, by the matches of a subcommand.
 ghost use Rattle.std.specs.Prelude.{◌≡◌, option_map};
 ghost use Rattle.clap.specs.Words.{found_of, rows_of};
-ghost use Rattle.tsb_words.specs.FieldProgram.{form_said, moment_in, seconds_said, usual_window, window_said, zone_said};
+ghost use Rattle.tsb_words.specs.FieldProgram.{form_said, from_said, moment_in, seconds_said, usual_window, window_said, zone_said};
 ghost use Rattle.tsb_words.specs.FieldWords.{seconds_of, window_of};
 
 use clap::ArgMatches;
@@ -23,6 +23,19 @@ pub(crate) fn moment(matches: &ArgMatches<'_>) -> Option<Moment>
 {
     let text = matches.get_str("from")?;
     read_moment(text.as_bytes())
+}
+
+/// What `--from` says, where it came and may be left out: `None` where it names no moment.
+pub(crate) fn from_said(text: Option<&str>) -> Option<Option<Moment>>
+    ensures { result ≡ from_said (option_map (λ text. text.now) text.entry) }
+{
+    match text {
+        None => Some(None),
+        Some(text) => {
+            let from = read_moment(text.as_bytes())?;
+            Some(Some(from))
+        }
+    }
 }
 
 /// What `--time-form` says, where it came: `None` where it names no form.

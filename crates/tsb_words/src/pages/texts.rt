@@ -106,6 +106,9 @@ Reads what `tsb run` answers, and draws it as a phase diagram, as SVG.
 --log LOG             the file of the log that the session ran on: its inputs are drawn below the signals
 --title TEXT          the title over the picture
 --seconds-per-line N  how many seconds a line shows, 1 to 86400 s; 300 s where it is not given
+--from TIME           tick 1 begins then, YYYY-MM-DD HH:MM:SS: the axis has the time of day
+--events FILE         an event log by `record`, with --from: a letter at the end of each green says why it
+                      ended, G gap out, M max out, F force-off
 
 A tick is 0.1 s. Example, four minutes in one line:
 

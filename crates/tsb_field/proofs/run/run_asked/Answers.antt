@@ -28,9 +28,9 @@ returns-in-Ok-Review g c = (
 
 pub returns-in-Ok-Diagram : goal.returns-in-Ok-Diagram
 returns-in-Ok-Diagram g c = (
-  Ok (asks.Diagram c.in-Ok-Diagram.log c.in-Ok-Diagram.title c.in-Ok-Diagram.seconds_per_line),
+  Ok (asks.Diagram c.in-Ok-Diagram.log c.in-Ok-Diagram.title c.in-Ok-Diagram.seconds_per_line c.in-Ok-Diagram.from c.in-Ok-Diagram.events),
   c.in-Ok-Diagram.ensures ∙ ap (λ (asked : Asked). Some (seen asked)) c.in-Ok-Diagram.field-0-is,
-  pictured-as c.write_diagram.result _ c.title_of-title.result.now _ c.seconds_of-seconds.result _ _ (seen_of g.R.Read.remaining c.args.input.now) (seen_of g.R.Read.remaining c.write_diagram.new.input) (seen_of g.W.Write.contents c.args.output.now)
+  pictured-as c.write_diagram.result _ c.title_of-title.result.now _ c.seconds_of-seconds.result c.in-Ok-Diagram.from _ _ _ (seen_of g.R.Read.remaining c.args.input.now) (seen_of g.R.Read.remaining c.write_diagram.new.input) (seen_of g.W.Write.contents c.args.output.now)
       (seen_of g.W.Write.contents c.write_diagram.new.output) (seen_of g.E.Write.contents c.args.errors.now) (seen_of g.E.Write.contents c.write_diagram.new.errors)
       c.title_of-title.ensures c.seconds_of-seconds.ensures c.write_diagram.ensures,
 )

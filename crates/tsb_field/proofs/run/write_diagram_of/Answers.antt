@@ -5,7 +5,7 @@ use Rattle.tsb_field.proofs.run.write_diagram_of.Goals as goal
 
 pub returns-in-Ok : goal.returns-in-Ok
 returns-in-Ok g c =
-    drawn-read c.args.title.now c.args.seconds c.args.rows.now c.in-Ok.replay c.draw.result (seen g.R.Read.remaining c.args.input.now) (seen g.R.Read.remaining c.read_replay.new.reader)
+    drawn-read c.args.title.now c.args.seconds c.args.from c.args.ends.now c.args.rows.now c.in-Ok.replay c.draw.result (seen g.R.Read.remaining c.args.input.now) (seen g.R.Read.remaining c.read_replay.new.reader)
     (seen g.W.Write.contents c.args.output.now) (seen g.W.Write.contents c.draw.new.output) (seen g.E.Write.contents c.args.errors.now) (seen g.E.Write.contents c.draw.new.errors) c.in-Ok.ensures c.draw.ensures
 
 pub returns-in-Err : goal.returns-in-Err

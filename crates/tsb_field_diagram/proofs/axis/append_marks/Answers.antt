@@ -6,16 +6,16 @@ use Rattle.tsb_field_diagram.proofs.axis.append_marks.Goals as goal
 
 pub loop-index-preserved : goal.loop-index-preserved
 loop-index-preserved c =
-    let bands = c.args.bands in let seconds = c.args.seconds in let begin = c.args.begin in let step = c.args.step in
-    count-more (λ (k : ℕ). mark_text bands seconds begin (k * step)) (marks_text bands seconds begin step) (marks-more bands seconds begin step)
+    let bands = c.args.bands in let clock = c.args.clock in let seconds = c.args.seconds in let begin = c.args.begin in let step = c.args.step in
+    count-more (λ (k : ℕ). mark_text bands clock seconds begin (k * step)) (marks_text bands clock seconds begin step) (marks-more bands clock seconds begin step)
     c.loop-index.index c.marks_before-until.result c.loop-index-test.true c.loop-index.text.items _ _
-    (c.in_ok-append_mark.ensures ∙ ap (λ (n : ℕ). c.loop-index.text.items ++ mark_text bands seconds begin n) c.second_of.ensures.same)
+    (c.in_ok-append_mark.ensures ∙ ap (λ (n : ℕ). c.loop-index.text.items ++ mark_text bands clock seconds begin n) c.second_of.ensures.same)
     c.loop-index.invariant
 
 pub returns : goal.returns
 returns c =
-    let bands = c.args.bands in let seconds = c.args.seconds in let begin = c.args.begin in let step = c.args.step in
-    count-end (marks_text bands seconds begin step) (marks-none bands seconds begin step)
+    let bands = c.args.bands in let clock = c.args.clock in let seconds = c.args.seconds in let begin = c.args.begin in let step = c.args.step in
+    count-end (marks_text bands clock seconds begin step) (marks-none bands clock seconds begin step)
     c.loop-index.index c.marks_before-until.result c.loop-index-test.false c.loop-index.text.items _ c.loop-index.invariant
-    ∙ ap (λ (n : ℕ). c.args.text.now.items ++ marks_text bands seconds begin step n (c.marks_before-until.result - n)) c.marks_before-from.ensures
-    ∙ ap (λ (n : ℕ). c.args.text.now.items ++ marks_text bands seconds begin step (marks_before begin step) (n - marks_before begin step)) c.marks_before-until.ensures
+    ∙ ap (λ (n : ℕ). c.args.text.now.items ++ marks_text bands clock seconds begin step n (c.marks_before-until.result - n)) c.marks_before-from.ensures
+    ∙ ap (λ (n : ℕ). c.args.text.now.items ++ marks_text bands clock seconds begin step (marks_before begin step) (n - marks_before begin step)) c.marks_before-until.ensures

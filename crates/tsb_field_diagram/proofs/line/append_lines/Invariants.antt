@@ -10,6 +10,6 @@ invariant-loop-line l = record {
   changes : (t : ℕ) → first_tick l.seconds l.line ≤ t → from_tick tick_of_change t l.changes ≡ from_tick tick_of_change t l.initial.changes;
   rows : (t : ℕ) → first_tick l.seconds l.line ≤ t → from_tick tick_of_row t l.rows ≡ from_tick tick_of_row t l.initial.rows;
   text :
-      l.text.items ++ lines_text l.bands l.seconds l.last l.initial.changes l.initial.rows l.line (l.count - l.line)
-      ≡ l.initial.text.items ++ lines_text l.bands l.seconds l.last l.initial.changes l.initial.rows 0 l.count;
+      l.text.items ++ lines_text l.bands l.clock l.seconds l.last l.initial.changes l.initial.rows l.line (l.count - l.line)
+      ≡ l.initial.text.items ++ lines_text l.bands l.clock l.seconds l.last l.initial.changes l.initial.rows 0 l.count;
 }
