@@ -17,6 +17,8 @@ from tools import TOP
 from tools.pages import site_pages
 
 SECONDS = 600
+# What tools/site says first on a machine that does not have mkdocs yet.
+INSTALLING = "installing: mkdocs\n"
 # The attributes by which a browser asks for a file as it shows a page.
 ASKED = {"src", "srcset", "poster", "data", "background"}
 
@@ -75,7 +77,8 @@ class Site:
 def made(room: pathlib.Path) -> Site:
     """Makes the site, and reads it."""
     done = subprocess.run([TOP / "tools/site", room / "site"], capture_output=True, text=True, timeout=SECONDS)
-    check(done.returncode == 0 and not done.stderr, f"tools/site: {done.returncode} {done.stderr}")
+    said = done.stderr.removeprefix(INSTALLING)
+    check(done.returncode == 0 and not said, f"tools/site: {done.returncode} {said}")
     pages = {it.name: Read(it.read_text()) for it in sorted((room / "site").glob("*.html"))}
     return Site(room / "site", pages, site_pages.documents())
 
