@@ -1,6 +1,6 @@
--- the line that tells a log and commands
+-- the line of a log and commands
 pub mod Saved
--- what private functions promise each other
+-- the contracts of private calls
 pub mod Says
 -- what holds of that line
 pub mod Laws

@@ -1,4 +1,4 @@
-//! The line that tells the log and the commands of what is kept.
+//! The line with the log and the commands of what is kept.
 ghost use Rattle.std.specs.Prelude.{◌≡◌, false, true};
 ghost use Rattle.json.specs.Print.{escape};
 ghost use Rattle.tsb_dialog.specs.Blame.{AfterCalls};
@@ -21,9 +21,9 @@ use tsb_text::{Kept, Other};
 const ROW: usize = 38;
 
 /// Says one line of JSON, with its line feed: an object with the members `log` and `commands`. `log` is the text of a
-/// log with the rows that are kept, and `commands` has a line for each input that is no tick, with the ticks before it
-/// as `step N`, and then the ticks up to `now`. So `tsb run` over the plan of power-up, with this log and these
-/// commands, takes the inputs that are kept.
+/// log with the rows that are kept. `commands` has a line for each input that is no tick, and the ticks before it as
+/// `step N`; then come the ticks up to `now`. So `tsb run` takes the inputs that are kept, over the plan of power-up
+/// with this log and these commands.
 ///
 /// At an error a first part of the line was said. It takes no memory of its own.
 pub fn say_saved<W: Write>(
@@ -42,7 +42,7 @@ pub fn say_saved<W: Write>(
     pending.add(writer, b"\"}\n")
 }
 
-/// Says the text of a log with these rows, as it stands in a string of JSON.
+/// Says the text of a log with these rows, as a string of JSON has it.
 fn say_rows<W: Write>(
     rows: &[LogRow],
     pending: &mut Pending,
@@ -57,7 +57,7 @@ fn say_rows<W: Write>(
     Ok(())
 }
 
-/// Says the line of a row, as it stands in a string of JSON.
+/// Says the line of a row, as a string of JSON has it.
 fn say_row<W: Write>(
     row: LogRow,
     pending: &mut Pending,
@@ -71,7 +71,7 @@ fn say_row<W: Write>(
     say_line(line, pending, writer)
 }
 
-/// Says the lines of these inputs and of the ticks between them, as they stand in a string of JSON.
+/// Says the lines of these inputs and of the ticks between them, as a string of JSON has them.
 fn say_commands<W: Write>(
     others: &[Other],
     now: u32,
@@ -120,7 +120,7 @@ fn say_input<W: Write>(
     }
 }
 
-/// Says a line of plain bytes as it stands in a string of JSON: its line feed is told as `\n`.
+/// Says a line of plain bytes as a string of JSON has it: with `\n` for its line feed.
 fn say_line<W: Write>(
     line: &[u8],
     pending: &mut Pending,

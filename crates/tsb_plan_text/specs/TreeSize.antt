@@ -1,5 +1,5 @@
--- What the tree of a plan text takes of memory at most, counted over the bytes of the text. Those within a string count
--- as well, so the count may be too high, and is never too low.
+-- What the tree of a plan text takes of memory, by a count over the bytes of the text. Those within a string count as
+-- well, so the count may be too high. That it is not too low is measured, and not proved.
 use Rattle.std.specs.Prelude.{ℕ, ◌+◌, ◌||◌, ◌==◌, Bool, List, [], ◌∷◌, length, nat_le, if◌then◌else◌}
 
 -- a text of so many bytes is read whatever is in it

@@ -17,7 +17,7 @@ const ARRAY: u32 = 176;
 /// What a name takes beside its text, in bytes.
 const NAME: u32 = 128;
 
-/// What a value takes behind another one, in bytes.
+/// What a value takes after another one, in bytes.
 const VALUE: u32 = 32;
 
 /// Half of what the text of a string takes, in bytes.

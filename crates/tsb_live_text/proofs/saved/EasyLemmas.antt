@@ -1,4 +1,4 @@
--- Saved texts have plain bytes and line feeds alone, and the line that tells them has no line feed.
+-- Saved texts have plain bytes and line feeds alone, and their line has no line feed.
 use Rattle.std.proofs.Common.{◌≡◌, ◌∙◌, ℕ, ◌-◌, ◌==◌, ◌^◌, ◌<◌, Bool, true, false, not, List, [], ◌∷◌, ◌++◌, if◌then◌else◌, codes, decimal, refl, sym, subst, arith, inl, inr}
 use Rattle.std.specs.List.{list_all}
 use Rattle.std.proofs.lemmas.Bool.{and_from, and_parts, eqb-true, not-true, or_cases, or_right}
@@ -74,7 +74,7 @@ escape-feedless (b ∷ bs) p =
     let both = and_parts (is_easy b) (list_all is_easy bs) p in
     feedless-both (escape_byte b) (escape bs) (byte-feedless b both.0) (escape-feedless bs both.1)
 
--- bytes of which none is a line feed, computed
+-- bytes without a line feed, computed
 feedless : (bytes : List ℕ) → list_all (λ b. not (b == 10)) bytes ≡ true → HasNoFeed bytes
 feedless [] p = tt
 feedless (b ∷ bs) p =

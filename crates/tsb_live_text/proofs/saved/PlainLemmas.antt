@@ -1,4 +1,4 @@
--- Plain bytes stand for themselves in a string of JSON.
+-- Plain bytes need no escape in a string of JSON.
 use Rattle.std.proofs.Common.{◌≡◌, ◌∙◌, ℕ, ◌+◌, ◌/◌, ◌%◌, ◌<◌, ◌≤◌, ◌^◌, ◌&&◌, Bool, true, false, not, eqb, leb, zero, suc, List, [], ◌∷◌, ◌++◌, decimal, refl, sym, ap, arith, inl, inr, rules}
 use Rattle.std.proofs.lemmas.Bool.{and_from, and_parts, le-leb, leb-true, le-ltb, not-true, ne_eqb, true≢false}
 use Rattle.std.proofs.lemmas.Bool.Decides.{eqb_tells}

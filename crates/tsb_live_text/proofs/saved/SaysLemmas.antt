@@ -21,7 +21,7 @@ pub record Saying (whole rest : List ℕ) (a b : Option (List ℕ)) (p q : List 
 pub begun : (whole : List ℕ) (a : Option (List ℕ)) (p : List ℕ) → Saying whole whole a a p p
 begun whole a p = record { text = []; said = said-nothing a p; all = refl }
 
--- what is left, told in another way
+-- what is left, in another form
 pub left : (whole rest other : List ℕ) (a b : Option (List ℕ)) (p q : List ℕ) → rest ≡ other → Saying whole rest a b p q → Saying whole other a b p q
 left whole rest other a b p q same s = record { text = s.text; said = s.said; all = ap (λ (v : List ℕ). s.text ++ v) (sym same) ∙ s.all }
 

@@ -26,13 +26,13 @@ abbrev pub switch_word : Bool → List ℕ
 switch_word true = codes " on"
 switch_word false = codes " off"
 
--- the aspect behind a vehicle head
+-- the aspect of a vehicle head
 abbrev pub signal_word : SignalColor → List ℕ
 signal_word signals.Green = codes " G"
 signal_word signals.Yellow = codes " Y"
 signal_word signals.Red = codes " R"
 
--- the aspect behind a pedestrian head
+-- the aspect of a pedestrian head
 abbrev pub pedestrian_word : PedestrianColor → List ℕ
 pedestrian_word pedestrians.Walk = codes " W"
 pedestrian_word pedestrians.Clearance = codes " C"
@@ -91,6 +91,6 @@ saved_json kept now = object (
     (member (codes "commands") (string (commands_text kept now))
     no_members))
 
--- the line that tells them, without its end
+-- their line, without its end
 unfoldable pub saved_text : Keeping → ℕ → List ℕ
 saved_text kept now = print (json_tokens (saved_json kept now))

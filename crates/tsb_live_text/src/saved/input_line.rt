@@ -16,7 +16,7 @@ const LINE: usize = 80;
 /// The bytes of the line of a command, without a line feed.
 pub(crate) type Line = ArrayVec<u8, LINE>;
 
-/// The line of the command that is an input. A tick has none, and an empty line stands for it.
+/// The line of the command that is an input. For a tick, which has none, it is empty.
 pub(crate) fn input_line(input: &Input) -> Line
     ensures line { result.items ≡ input_line input.now }
     ensures plain { are_plain result.items ≡ true }
@@ -46,7 +46,7 @@ fn words(text: &[u8]) -> Line
     line
 }
 
-/// A word, with the space behind it, and a number.
+/// A word with its space, and a number.
 pub(crate) fn number_line(word: &[u8], number: u32) -> Line
     requires { length word.now ≤ 8 }
     ensures line { result.items ≡ word.now ++ decimal number }
@@ -59,7 +59,7 @@ pub(crate) fn number_line(word: &[u8], number: u32) -> Line
     line
 }
 
-/// A word, with the space behind it, and the number of a station.
+/// A word with its space, and the number of a station.
 fn station_line(word: &[u8], station: Station) -> Line
     requires { length word.now ≤ 8 }
     ensures line { result.items ≡ word.now ++ decimal station }
@@ -108,7 +108,7 @@ fn lamp_line(lamp: Lamp) -> Line
     }
 }
 
-/// The aspect behind a vehicle head.
+/// The aspect of a vehicle head.
 fn signal_word(color: SignalColor) -> &'static [u8]
     ensures word { result.now ≡ signal_word color }
     ensures short { length result.now ≤ 4 }
@@ -121,7 +121,7 @@ fn signal_word(color: SignalColor) -> &'static [u8]
     }
 }
 
-/// The aspect behind a pedestrian head.
+/// The aspect of a pedestrian head.
 fn pedestrian_word(color: PedestrianColor) -> &'static [u8]
     ensures word { result.now ≡ pedestrian_word color }
     ensures short { length result.now ≤ 4 }
@@ -134,7 +134,7 @@ fn pedestrian_word(color: PedestrianColor) -> &'static [u8]
     }
 }
 
-/// What stands before a number, the number, and the word behind it.
+/// What comes before a number, the number, and the word after it.
 fn numbered(before: &[u8], number: u32, behind: &[u8]) -> Line
     requires before { length before.now ≤ 8 }
     requires behind { length behind.now ≤ 4 }

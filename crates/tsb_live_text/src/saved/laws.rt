@@ -4,7 +4,7 @@ ghost use Rattle.tsb_live_text.specs.saved.Taken.{RunsEndAlike};
 
 /// The line of what is saved is JSON: an object with the text of the log and the lines of the commands, each as a string.
 ///
-/// Mistake: a line feed stands in a string as it is, `unescaped` (`is_no_json`).
+/// Mistake: a line feed is in a string without its escape, `unescaped` (`is_no_json`).
 /// Witness: `line_of_one` of Mistakes, one tick after a pattern.
 pub fn saved_lines_are_json()
     ensures { AreTheirJson }
@@ -34,14 +34,14 @@ pub fn saved_commands_are_read()
 /// has an escape, and the line that is said is one line.
 ///
 /// Needs: inputs of numbers that commands have.
-/// Mistake: a line feed stands in a string as it is, `unescaped` (`has_a_feed`).
+/// Mistake: a line feed is in a string without its escape, `unescaped` (`has_a_feed`).
 /// Witness: `line_of_one` of Mistakes.
 pub fn saved_texts_are_plain()
     ensures { AreEasy }
 {}
 
-/// A saved run ends alike. Of inputs that were taken, the saved commands leave exactly these, over the saved log and from
-/// power-up with the same plan: there is such a run, and no other in which nothing is refused.
+/// A saved run ends alike. The saved commands leave exactly the inputs that were taken, over the saved log and from
+/// power-up with the same plan. There is such a run, and no other in which nothing is refused.
 ///
 /// Needs: that each of the inputs was taken.
 /// Not said: that memory suffices for them again.

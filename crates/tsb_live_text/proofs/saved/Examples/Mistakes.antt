@@ -69,7 +69,7 @@ would_be_bad : reading set_by_a_dot ≡ Bad
 unfolding command_of_five
 would_be_bad = refl
 
--- ## A line feed stands in a string as it is
+-- ## A line feed is in a string without its escape
 
 abbrev unescaped : List ℕ → List ℕ
 unescaped text = 34 ∷ (text ++ 34 ∷ [])
