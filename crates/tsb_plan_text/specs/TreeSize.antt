@@ -10,10 +10,34 @@ short = 262144
 abbrev pub most_tree : ℕ
 most_tree = 67108864
 
--- what the tree takes for a byte of the text: an object for its brace, an array for its bracket, a name for its colon,
--- one more value for its comma, and a string for its two quotes
+-- what the tree takes for an object with its first names, which a brace begins
+abbrev pub object_bytes : ℕ
+object_bytes = 900
+
+-- for an array with its first values, which a bracket begins
+abbrev pub array_bytes : ℕ
+array_bytes = 176
+
+-- for a name beside its text, which a colon follows
+abbrev pub name_bytes : ℕ
+name_bytes = 128
+
+-- for a value after another one, which a comma parts
+abbrev pub value_bytes : ℕ
+value_bytes = 32
+
+-- and for half of a string, which has two quotes
+abbrev pub half_string_bytes : ℕ
+half_string_bytes = 16
+
+-- what it takes for a byte of the text: `{`, `[`, `:`, `,` or `"`
 abbrev pub weight : ℕ → ℕ
-weight b = if b == 123 then 900 else (if b == 91 then 176 else (if b == 58 then 128 else (if b == 44 then 32 else (if b == 34 then 16 else 0))))
+weight b =
+    if b == 123 then object_bytes else
+    (if b == 91 then array_bytes else
+    (if b == 58 then name_bytes else
+    (if b == 44 then value_bytes else
+    (if b == 34 then half_string_bytes else 0))))
 
 -- what it takes for all of them
 abbrev pub tree_bytes : List ℕ → ℕ
