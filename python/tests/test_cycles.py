@@ -49,7 +49,7 @@ def test_cycles_of_patterns() -> None:
 
 
 def test_places_in_the_cycle() -> None:
-    """Seconds since local zero: tick 100 is 6 s behind the zero of 40."""
+    """Seconds since local zero: tick 100 is 6 s after the zero of 40."""
     ticks = pd.Series([99, 100, 339, 340, 999, 1000, 1500])
     found = measures.in_cycle(PATTERNS, ticks)
     assert found.isna().to_list() == [True, *[False] * 5, True]
@@ -156,7 +156,7 @@ def test_greens_a_cycle() -> None:
 
 
 def test_alarms() -> None:
-    """An open loop comes within the alarm of detector 3; that of 5 stands still."""
+    """An open loop comes within the alarm of detector 3; that of 5 goes on."""
     events = table((10, 84, 3), (50, 86, 3), (70, 84, 5), (310, 83, 3), (400, 83, 4))
     assert rows(measures.alarms(events)) == [
         (3, 10, 310, 84, 30.0),

@@ -237,7 +237,7 @@ def test_log_of_an_export(examples: Path) -> None:
 
 def test_log_of_a_file(examples: Path, tmp_path: Path) -> None:
     """A file is read by the program itself, and a table of it gives the same log; rows
-    may stand in any order."""
+    may come in any order."""
     found = [Event(33, 82, 4), Event(41, 81, 4), Event(50, 90, 2)]
     export = frames.export_of_events(frames.of_events(found), START, "7")
     wanted = frames.log_of_export(export, START, "7")

@@ -88,7 +88,7 @@ def test_errors_are_told_to_other_processes() -> None:
 
 
 def test_ranges_are_told() -> None:
-    """Each object tells its range where a value is over it."""
+    """Each object names its range where a value is over it."""
     for name, it in OBJECTS.items():
         plan = Plan(max(it.since, 2))
         plan[name][it.count] = it.greatest

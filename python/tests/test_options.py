@@ -1,4 +1,4 @@
-"""Wrong words of commands are told with the right ones that they are near."""
+"""Wrong words of commands are answered with the right ones that they are near."""
 
 import subprocess
 import sys

@@ -1,4 +1,4 @@
-"""How programs are found, and how it is told that they are not there or have died."""
+"""How programs are found, and what is raised where they are not there or have died."""
 
 import os
 import signal
@@ -79,7 +79,7 @@ def test_what_the_panel_says_of_unproved_programs(
 
 
 def test_the_version() -> None:
-    """It is told, and it is that of the change log, once it has one."""
+    """It is printed, and it is that of the change log, once it has one."""
     words = [sys.executable, "-m", "tsb", "--version"]
     done = subprocess.run(words, capture_output=True, text=True, check=True)
     assert done.stdout == f"tsb {tsb.__version__}\n"
@@ -109,7 +109,7 @@ def test_nobody_reads_on(words: list[str]) -> None:
 
 
 def test_a_program_that_ends_badly() -> None:
-    """Its status and what it said are told."""
+    """The error has its status and what it said."""
     with pytest.raises(tsb.ProgramDied) as told:
         programs.run("tsb", ["walk"])
     assert told.value.status == 2 and "usage: tsb check PLAN" in told.value.stderr

@@ -340,7 +340,7 @@ def test_two_plans_on_a_log(
     examples: Path, tmp_path: Path, capfd: pytest.CaptureFixture[str]
 ) -> None:
     """The runs are those of the bench; in free operation no diagram is drawn. Names
-    may be odd: nothing is told of them."""
+    may be odd: no line speaks of them."""
     names = "_quad", "<b> 交差点 $x$"
     for name, plan in zip(names, ("quad", "railroad"), strict=True):
         shutil.copy(examples / f"{plan}.json", tmp_path / f"{name}.json")
@@ -401,7 +401,7 @@ def test_a_street_beside_the_bench(examples: Path, days: Path, tmp_path: Path) -
 def test_channels_of_a_street(
     examples: Path, days: Path, tmp_path: Path, capsys: pytest.CaptureFixture[str]
 ) -> None:
-    """Both runs have the inputs as they are led; what is left out is told."""
+    """Both runs have the inputs as they are led; the page says what is left out."""
     export = tmp_path / "street.csv"
     table = frames.read_export(days / "quad.csv").query("code != 45")
     of_two = table["code"].isin([81, 82]) & (table["parameter"] == 2)
@@ -578,7 +578,7 @@ def test_bad_words(
 
 
 def test_a_full_disk(room: Path, capsys: pytest.CaptureFixture[str]) -> None:
-    """It is told, and so is a folder that is not there."""
+    """It is reported, and a folder that is not there as well."""
     words = ["--events-a", "quad.csv", "--seconds", "60", "--out"]
     assert main([*words, "/dev/full"]) == 1
     assert capsys.readouterr().err == f"{PROGRAM}: /dev/full: No space left on device\n"
@@ -597,7 +597,7 @@ def test_the_command_is_listed() -> None:
 
 
 def test_the_same_words_give_the_same_bytes(days: Path, tmp_path: Path) -> None:
-    """Nothing tells when a page was made."""
+    """No page says when it was made."""
     words = ["--events-a", days / "quad.csv", "--seconds", 60]
     texts = []
     for name in ("one.html", "other.html"):

@@ -258,7 +258,7 @@ def test_the_command(
 def test_the_command_on_a_cluster_that_runs_already(
     dask: Any, plans: list[Path], days: list[Path], tmp_path: Path
 ) -> None:
-    """Its workers do the runs, and it is there afterwards."""
+    """Its workers do the runs, and it lives on afterwards."""
     words = [str(plans[0]), "--days", str(days[0]), "--out", str(tmp_path)]
     words += ["--begin", "07:00:00", "--seconds", "60", "--device", "7"]
     assert main([*words, "--scheduler", dask.scheduler.address]) == 0
@@ -322,7 +322,7 @@ def test_a_result_that_is_not_whole_is_made_again(
     path.rename(path.with_name(path.name[:-5] + "0.csv"))
     pd.testing.assert_frame_equal(swept(), table)
     assert list(tmp_path.iterdir()) == [path]
-    # of a folder in its place it is told
+    # a folder in its place is reported
     path.unlink()
     path.mkdir()
     with pytest.raises(SweepFailed, match=f"{tmp_path}: Is a directory"):
@@ -544,7 +544,7 @@ def test_words_that_cannot_be(
     ):
         with pytest.raises(Error, match=f"{out}: {said}"):
             main([*words, str(out)])
-    # names tell runs apart in the tables
+    # names part runs in the tables
     other = tmp_path / plans[0].name
     other.write_bytes(plans[1].read_bytes())
     with pytest.raises(Error, match="two plans of one name: .*quad.json: rename one"):

@@ -1,6 +1,6 @@
 """`python3 -m tsb` lists what there is; `python3 -m tsb WORD ..` does it.
 
-`python3 -m tsb --version` tells the version, and `--help` lists as well.
+`python3 -m tsb --version` prints the version, and `--help` lists as well.
 """
 
 import ast

@@ -34,11 +34,11 @@ class Error(Exception):
     """Whatever goes wrong with a plan, a log, a bench or its programs."""
 
     def __str__(self) -> str:
-        """What is told: names in it that come from files have no controls."""
+        """The message: names in it that come from files have no controls."""
         return shown(super().__str__(), "\n\t")
 
     def __reduce__(self) -> tuple[Any, ...]:
-        """As it is, also where another process is told of it."""
+        """Pickles with all fields, as exceptions go from one process to another."""
         return _told_again, (type(self), self.args, self.__dict__)
 
 
@@ -115,7 +115,7 @@ class PlanFault(Error):
 
     `line` is that of `tsb check`, as `plan: rule K8`. `rule` is the rule that the
     plan breaks, with its cure, and None where the text is no plan. `place` is where the
-    text stops being JSON, as the programs tell it in a second line, and else None.
+    text stops being JSON, as the programs print it in a second line, and else None.
     """
 
     def __init__(self, lines: str) -> None:

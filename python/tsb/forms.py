@@ -33,7 +33,7 @@ INPUTS = (82, 81, 90, 89, 102, 104)
 # A time as most exports have it, which numpy reads at once.
 _PLAIN = r"\d{4}-\d\d-\d\d[ T]\d\d:\d\d:\d\d(?:\.\d{1,9})?"
 # Three numbers of a day, three of a clock, a fraction of a second, and the half of the
-# day; a zone behind them does not count.
+# day; a zone after them does not count.
 _CLOCKED = (
     r"(\d{1,10})([-/.])(\d{1,10})\2(\d{1,10})[ T](\d{1,10}):(\d{1,10}):(\d{1,10})"
     r"(?:[.,](\d{0,9}))?(?: |(?i: (am|pm))|(?i: utc))?"
@@ -135,7 +135,7 @@ def _plain(name: object) -> str:
 
 
 def _named(names: Iterable[object]) -> dict[str, int]:
-    """Where each column of an export stands among names: the first of each."""
+    """The place of each column of an export among names: the first of each."""
     said = [_plain(it) for it in names]
     found = {}
     for what, known in COLUMNS.items():
@@ -236,7 +236,7 @@ def _clocked(times: "pd.Series[str]", first: str) -> "pd.Series[Any]":
 
 
 def _fraction(digits: "pd.Series[str]") -> "pd.Series[Any]":
-    """The parts of a second that digits behind a point are."""
+    """The parts of a second that digits after a point are."""
     nanos = digits.fillna("").str.ljust(9, "0").astype(np.int64)
     return pd.to_timedelta(nanos, "ns")
 

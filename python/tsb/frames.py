@@ -296,7 +296,7 @@ def log_of_export(
 ) -> Log:
     """The log of inputs that an export makes, by `tsb_field log`: its tick 1 begins
     at the start. `export` is a table, or a file of docs/use/FIELD.md's forms; its rows
-    may stand in any order. The mappings lead channels of the controller to inputs of
+    may come in any order. The mappings lead channels of the controller to inputs of
     the bench, as `vehicles={21: 2, 22: 2}`; others lead to their own numbers. What is
     left out is told as a warning, and so is a form of times that the first row said.
     Without an event of an input from the start on it is an error, unless it may be

@@ -1,7 +1,7 @@
-"""Results that are kept: files of tables, each of which says whether it is whole.
+"""Results that are kept: files of tables, and each says whether it is whole.
 
 The name of a file ends with the sum of its text, as `quad.day.KEY.SUM.csv`. So one that
-was cut, or lost its bytes with the power, is told from a whole one, and made again. A
+was cut, or lost its bytes with the power, is known from a whole one, and made again. A
 file is written under another name, through to the disk, and then renamed.
 """
 

@@ -1,4 +1,4 @@
-"""The words of a command, where a wrong one is told with the nearest right one."""
+"""The words of a command, where a wrong one is answered with the nearest right one."""
 
 import argparse
 import difflib
@@ -17,7 +17,7 @@ def nearest(word: str, known: Iterable[str]) -> str | None:
 
 
 class Words(argparse.ArgumentParser):
-    """The words of a command. `others` are commands that may stand in their place."""
+    """The words of a command. `others` are commands that may take their place."""
 
     def __init__(self, *words: Any, others: Sequence[str] = (), **more: Any) -> None:
         super().__init__(*words, **more)
@@ -25,12 +25,12 @@ class Words(argparse.ArgumentParser):
         self._given: list[str] = []
 
     def parse_known_args(self, args: Any = None, namespace: Any = None) -> Any:
-        """As argparse does, which tells a bad word by `error`."""
+        """As argparse does, which reports a bad word by `error`."""
         self._given = list(sys.argv[1:] if args is None else args)
         return super().parse_known_args(args, namespace)
 
     def error(self, message: str) -> NoReturn:
-        """Ends the program with status 2, behind the usage and what is wrong."""
+        """Ends the program with status 2, after the usage and what is wrong."""
         super().error(self.with_nearest(message))
 
     def with_nearest(self, message: str) -> str:

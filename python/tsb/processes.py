@@ -131,7 +131,7 @@ def _ended(alive: Connection, room: str) -> None:
     WRITING.acquire(timeout=PATIENCE)
     until = time.monotonic() + PATIENCE
     while os.path.exists(room) and time.monotonic() < until:
-        # (what is made in it meanwhile stays, and so does the room)
+        # (what is made in it meanwhile stays, with the folder itself)
         shutil.rmtree(room, ignore_errors=True)
     os._exit(1)
 

@@ -28,7 +28,7 @@ On = Iterable[int] | str
 
 
 def digits(on: On, count: int) -> str:
-    """The digits of so many inputs, of which these are on."""
+    """The digits of so many inputs, where these are on."""
     if isinstance(on, str):
         if not re.fullmatch("[01]*", on) or len(on) > count:
             raise OutOfRange(f"{on!r}: at most {count} digits 0 or 1")
@@ -73,7 +73,7 @@ class Log:
     @classmethod
     def of_text(cls, text: str | bytes) -> "Log":
         """The log of a text; `LogFault` has its first fault, with the line."""
-        # (bytes that are no text can only stand in comments)
+        # (bytes that are no text can only be in comments)
         told = text.decode("latin-1") if isinstance(text, bytes) else text
         if len(told) > LONGEST:
             raise LogFault("log: too large")

@@ -14,11 +14,11 @@ Numbers = frozenset[int]
 
 
 class _Told:
-    """What is told as an object of JSON, with a member for each field."""
+    """A part of a status: an object of JSON, with a member for each field."""
 
     @classmethod
     def of(cls, told: Mapping[str, Any]) -> Self:
-        """What an object of JSON tells."""
+        """Reads the part from an object of JSON."""
         values = {_snake(name): value for name, value in told.items()}
         names = [it.name for it in fields(cls)]
         return cls(**{it: _plain(values[it]) for it in names})

@@ -156,7 +156,7 @@ def _dask() -> Any:
 
 
 class Runs:
-    """The runs of a sweep, of which those in the folder are done."""
+    """The runs of a sweep; those in the folder are done."""
 
     def __init__(
         self, tasks: Sequence[Task], measures: Sequence[Measure], folder: Path

@@ -83,8 +83,8 @@ class Talk:
         self._is_asked = True
 
     def _wait(self, left: memoryview) -> tuple[bool, memoryview]:
-        """Waits until the program has told something or takes more of what is left to
-        write: whether it has told something, and what is left then."""
+        """Waits until the program has written something or takes more of what is left to
+        write: whether it has written something, and what is left then."""
         ends = select.poll()
         ends.register(self._from, select.POLLIN)
         if left:

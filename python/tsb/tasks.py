@@ -156,7 +156,7 @@ class Seed:
         return [self.seed, self.seconds, self.pattern]
 
     def tables(self, measures: Sequence[Measure]) -> Iterator[tuple[str, pd.DataFrame]]:
-        """The table of each measure, of which `trips` is that of the trips."""
+        """The table of each measure; `trips` is that of the trips."""
         from tsb.sumo import Intersection, Loop, read_trips, summary
         from tsb.sumo.command import log_of
 
@@ -298,7 +298,7 @@ def _sum(path: str, changed: int) -> str:
 
 
 def key_of(task: Task, measures: Sequence[Measure]) -> str:
-    """What tells a run from one with another plan, day or question: a sum of all of
+    """What parts a run from one with another plan, day or question: a sum of all of
     them. (A measure counts by its name.)"""
     missing = [it for it in task.reads if not Path(it).is_file()]
     if missing:

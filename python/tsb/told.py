@@ -19,7 +19,7 @@ BARRIER, PATTERN, CYCLE, OFFSET = 31, 131, 132, 133
 CYCLE_STATE, NOT_IN_STEP, LOCAL_ZERO = 150, (2, 3, 4), 5
 FREE = 254  # a pattern's number: free operation, and above it flash
 # An alarm of a detector goes; the bench's own comes, or one of those that a street's
-# controller tells apart: watchdog, open loop, shorted loop, excessive change.
+# controller reports apart: watchdog, open loop, shorted loop, excessive change.
 ALARM_GOES, ALARMS = 83, range(84, 89)
 
 Row = dict[str, Any]

@@ -75,7 +75,7 @@ def wide_index(what: Object, index: int, version: int) -> int:
 
 
 def number_of(what: Object, value: Value, version: int = 2) -> int:
-    """A value as a plan text has it; `OutOfRange` tells the range where it is none."""
+    """A value as a plan text has it; `OutOfRange` names the range where it is none."""
     if isinstance(value, int | Integral):
         found = int(value)
     elif isinstance(value, float | Real):

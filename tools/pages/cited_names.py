@@ -28,10 +28,10 @@ PATH = re.compile(r"\b(?:cases|crates|docs|examples|python|tools)/[\w./-]*[\w/]"
 QUOTED = re.compile(r"`([^`]+)`")
 NAME = re.compile(r"(?:[A-Za-z]\w*::)*[A-Za-z]\w*(?:-\w+)*$")
 
-# Names that are followed by the file in which they stand.
+# Names that are followed by the name of their file.
 PLACED = re.compile(r"((?:`[\w:-]+`(?: \(\w+\))?(?:, clause|, | and )?)+) in (?:`(crates/[\w./]+)`|`([\w.]+)` there)")
 
-# The standards' own names stand beside ours here.
+# The standards' own names are beside ours here.
 GLOSSARY = pathlib.Path("docs/work/GLOSSARY.md")
 
 # Words of the documents that are no names of the sources, and paths that only the build makes, or that are no paths.
@@ -80,7 +80,7 @@ def absent(path: pathlib.Path, known: set[str]) -> Iterator[str]:
 
 
 def misplaced(path: pathlib.Path) -> Iterator[str]:
-    """The names that do not stand in the file that a document names, which may be one beside the last."""
+    """The names that are not in the file that a document names, which may be one beside the last."""
     folder = pathlib.Path()
     text = " ".join(line.strip() for _, line in prose(path))
     for cited, whole, beside in PLACED.findall(text):

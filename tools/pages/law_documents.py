@@ -1,6 +1,6 @@
 """Writes docs/trust/LAWS.md from the comments above the laws; run it at the top. The page is not kept in git.
 
-`tools/pages/laws_by_subject.txt` says which laws stand under which heading. With `--check` nothing is written. Either
+`tools/pages/laws_by_subject.txt` says which laws come under which heading. With `--check` nothing is written. Either
 way the script fails where a law is not listed just once, or where a comment does not have the form of a law's. With
 `--lacking` it lists the laws whose comments name no mistake or no witness.
 """

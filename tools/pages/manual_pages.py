@@ -155,7 +155,7 @@ def main(words: list[str]) -> int:
 
 
 def version(top: pathlib.Path) -> str:
-    """The version, from the one place where it stands."""
+    """The version, from the one file that has it."""
     return (top / "VERSION").read_text().strip()
 
 

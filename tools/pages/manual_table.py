@@ -22,7 +22,7 @@ BEGIN, END = "<!-- objects: written by tools/pages/manual_table.py -->", "<!-- e
 COMMENT = re.compile(r"`(\w+)`: (.+?), (.+); 0 to ([\d,]+)\.")
 ROW = re.compile(r'\s+(\w+) +"(\w+)" +\d+ \[(\d+) (\d+)\] +\[(?:since (\d)|(\d+) (\d+))\] +(structural|free)')
 
-# What stands in some example: commands, words of `when`, kinds of input that `undo` names.
+# What some example has: commands, words of `when`, kinds of input that `undo` names.
 COMMANDS = """step back seek undo show when begin set verify commit abort pattern preempt fault reset quit""".split()
 WATCHES = """interval ped call output alarm stage trip""".split()
 KINDS = """tick pattern switch fault reset begin set verify commit abort""".split()
@@ -49,7 +49,7 @@ def comments(source):
 
 
 def unit_of(words):
-    """The unit of a value, without what tells its use."""
+    """The unit of a value, without what says its use."""
     clauses = words.replace(" (profile)", "").split(", ")
     return ", ".join(it for it in clauses if not it.startswith(("whether ", "in use ")))
 
@@ -113,7 +113,7 @@ def transcript(name):
 
 
 def shown_lines(block):
-    """The lines of a block of a session, in which a short answer may stand behind its command and two spaces."""
+    """The lines of a block of a session, in which a short answer may follow its command and two spaces."""
     return [part for line in block.splitlines() for part in re.split(" {2,}", line)]
 
 
@@ -157,7 +157,7 @@ def other_rows(text):
 
 
 def unshown(text):
-    """What is to stand in some example and does not."""
+    """What some example has to have, and none has."""
     typed = {tuple(line.split()[:2]) for path in EXAMPLES.glob("*.commands") for line in path.read_text().splitlines()}
     answered = {line for path in EXAMPLES.glob("*.expected") for line in path.read_text().splitlines()}
     refused = {line.split()[1] for line in answered if line.startswith("refused ")}

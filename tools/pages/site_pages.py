@@ -29,7 +29,7 @@ FENCE = "```"
 LANGUAGES = {"sh", "python"}
 # What stays as it is: code, and links.
 KEPT = re.compile(r"(`+[^`]+`+|!?\[[^\]]*\]\([^)]*\))")
-# A document, and behind it a chapter or a heading; a chapter alone, within the manual.
+# A document, and after it a chapter or a heading; a chapter alone, within the manual.
 CITED = re.compile(r'\b(?P<path>(?:docs/\w+/)?(?P<page>[A-Z_]+)\.md|examples/README\.md)'
                    r'(?:, (?:chapter (?P<chapter>\d+)|"(?P<heading>[^"]+)"))?')
 CHAPTER = re.compile(r"\b[Cc]hapter (\d+)\b")
@@ -185,7 +185,7 @@ def linked(name: str, text: str, marks: Marks) -> str:
 
     if not name.startswith(MANUAL):
         return CITED.sub(document, text)
-    # (a chapter behind the name of a document is a link already)
+    # (a chapter after the name of a document is a link already)
     parts = KEPT.split(CITED.sub(document, text))
     return "".join(it if it.startswith("[") else CHAPTER.sub(chapter, it) for it in parts)
 

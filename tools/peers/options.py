@@ -54,7 +54,7 @@ LOOPS = [
 
 @dataclass(frozen=True)
 class Case:
-    """Objects that the plan has besides, and the commands that come behind a tick."""
+    """Objects that the plan has besides, and the commands that come after a tick."""
 
     name: str
     objects: Objects = field(default_factory=dict)
@@ -95,7 +95,7 @@ def _heads(case: Case, setting: str, on: Callable[[int], str]) -> list[str]:
 
 def _wait(setting: str, late: int) -> float:
     """The seconds that the only call waits, which is on phase 8 and stays: it comes so
-    many ticks behind the instant of the main street."""
+    many ticks after the instant of the main street."""
     first = INSTANT + late
     heads = _heads(CASES[0], setting, lambda tick: f"{tick >= first:08b}")
     green = next(tick for tick, it in enumerate(heads, 1) if it[7] == "G")
@@ -163,7 +163,7 @@ def _hours(runs: Runs, level: str, kind: str, seeds: list[int]) -> Hours:
 
 
 def _compared(runs: Runs) -> Iterator[Compared]:
-    """All that is compared, with the seeds of which all kinds have a run."""
+    """All that is compared, with the seeds that have a run of each kind."""
     for level, sumo, kinds in LOOPS:
         names = [it for it in (sumo, *kinds.values()) if it]
         if seeds := runs.seeds(level, *names):

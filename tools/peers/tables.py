@@ -71,7 +71,7 @@ class Runs:
         return self._folder / f"{name_of(kind, level, seed)}.{end}"
 
     def seeds(self, level: str, *kinds: str) -> list[int]:
-        """The seeds of which there is a run of each of these kinds."""
+        """The seeds that have a run of each of these kinds."""
         return [
             seed
             for seed in self._seeds

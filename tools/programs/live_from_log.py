@@ -1,8 +1,8 @@
 """Live sessions that answer what `tsb run` answers in a session whose rows come from a log.
 
-The display lines that `tsb run` answers to a step tell the number of each tick, and the log has the row of that tick.
+The display lines that `tsb run` answers to a step have the number of each tick, and the log has the row of that tick.
 So a step becomes those rows, or some of them with a `step` behind where the row is held, and a tick number that is
-taken again has the same row again. All other lines stay. Bad commands and blank lines stand in between.
+taken again has the same row again. All other lines stay. Bad commands and blank lines come in between.
 """
 import bisect
 import random
@@ -64,7 +64,7 @@ class Live:
         self.held = ALL_OFF
 
     def ask(self, line: bytes, answers: list[bytes]) -> None:
-        """A line with its answers, and at times one behind it that does nothing."""
+        """A line with its answers, and at times one after it that does nothing."""
         self.lines.append(line)
         self.answers += answers
         chance = self.rng.random()

@@ -37,7 +37,7 @@ def first_difference(found: bytes, wanted: bytes) -> str:
 
 
 def difference(name: str, ended: Ended, wanted: bytes) -> list[str]:
-    """What a run that should end well, with nothing told, has written otherwise."""
+    """What a run that should end well, with an empty standard error, has written otherwise."""
     if (ended[0], ended[2]) != (0, b""):
         return [f"{name}: it ends with {ended[0]} and {ended[2][:200]!r}"]
     return [] if ended[1] == wanted else [f"{name}: {first_difference(ended[1], wanted)}"]
@@ -58,7 +58,7 @@ def a_log(rng: random.Random, ticks: int) -> bytes:
 
 
 def an_edit(rng: random.Random) -> list[str]:
-    """Commands of a transaction of a station, most of which are carried out."""
+    """Commands of a station's transaction, which are mostly carried out."""
     station = rng.choice([1, 1, 1, 2, 4])
     names = ["phaseMinimumGreen", "phaseMaximum1", "phasePassage", "phaseYellowChange", "phaseRing"]
     sets = [f"set {station} {name} {rng.choice([1, 2, 2, 4, 6, 8])} {rng.choice([2, 3, 5, 9, 12, 30, 256])}"

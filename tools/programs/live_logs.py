@@ -55,7 +55,7 @@ def compared(live: pathlib.Path, tsb: pathlib.Path, session: Session) -> tuple[i
 
 
 def compare(live: pathlib.Path, tsb: pathlib.Path) -> tuple[list[str], str]:
-    """What differs in all these sessions, and what is told where nothing does."""
+    """What differs in all these sessions, and the line to print where nothing does."""
     sessions = [*stored_sessions(), *sessions_on_plans()]
     with concurrent.futures.ThreadPoolExecutor() as pool:
         found = list(pool.map(lambda session: compared(live, tsb, session), sessions))

@@ -223,7 +223,7 @@ def killed_caller(live: pathlib.Path) -> list[str]:
 
 
 def second_line(path: str, first: bytes) -> bytes:
-    """What is told behind the first line: which file was not read, or where its text stops being JSON."""
+    """What is printed after the first line: which file was not read, or where its text stops being JSON."""
     if first == b"plan: not JSON\n":
         return json_places.second_line(pathlib.Path(path).read_bytes()) or b""
     cause = {"none.json": ": no such file", "examples": ": a folder"}.get(path, "")

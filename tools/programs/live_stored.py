@@ -29,7 +29,7 @@ def compared(program: pathlib.Path, case: stored_cases.Case) -> list[str]:
 
 
 def compare(program: pathlib.Path, paths: list[pathlib.Path]) -> tuple[list[str], str]:
-    """What differs in the sessions of files, and what is told where nothing does."""
+    """What differs in the sessions of files, and the line to print where nothing does."""
     cases = [case for path in paths for case in stored_cases.read(path)]
     with concurrent.futures.ProcessPoolExecutor() as pool:
         found = pool.map(compared, [program] * len(cases), cases, chunksize=4)
@@ -40,7 +40,7 @@ def compare(program: pathlib.Path, paths: list[pathlib.Path]) -> tuple[list[str]
 
 
 def main(words: list[str]) -> int:
-    """Compares, and tells what came out."""
+    """Compares, and prints what came out."""
     if not words:
         sys.exit(f"usage: {USAGE}")
     program = pathlib.Path(words[0]).resolve()

@@ -39,7 +39,7 @@ def changes_of(before: bytes, lines: list[bytes]) -> bytes:
 
 
 def told_changes(answers: bytes, first: int, counts: list[int]) -> bytes:
-    """The answers of `tsb run`, of which those to the steps behind the first few are told by their changes."""
+    """The answers of `tsb run`; after the first few steps, only the lines that change."""
     lines = answers.splitlines(True)
     found, place = lines[:first], first
     for count in counts:
@@ -73,7 +73,7 @@ COMMIT_BACK = ["commit 1", "begin 1", "set 1 unitRedRevert 1 0", "verify 1", "co
 
 
 def told_plans(live: pathlib.Path, plan: bytes) -> list[bytes]:
-    """The plan in effect as it is told at first, before a commit, behind it, behind its undo and behind two commits."""
+    """The plan in effect as `plan` prints it at first, before a commit, after it, after its undo and after two commits."""
     lines = [*ASKED, *COMMIT_BACK]
     _, answers, _ = ran_on(live, [], [plan], text_of(lines))
     return [answer for line, answer in zip(lines, answers.splitlines()) if line == "plan"]
@@ -113,7 +113,7 @@ def plans(live: pathlib.Path, tsb: pathlib.Path) -> list[str]:
 # --- edits ---
 
 def desk(owner: int | None, state: str, rule: str | None, *edits: tuple[str, int, int]) -> dict[str, Any]:
-    """What is told of the desk."""
+    """What `edits` prints of the desk."""
     told = [{"object": name, "index": index, "value": value} for name, index, value in edits]
     return {"owner": owner, "state": state, "rule": rule, "edits": told}
 
@@ -122,7 +122,7 @@ CLOSED = desk(None, "normal", None)
 SHORT = [("phaseMaximum1", 2, 31), ("phaseYellowChange", 4, 20)]
 LONG = [("phaseMaximum1", 2, 31), ("phaseYellowChange", 4, 30)]
 MANY = [("splitTime", index, index) for index in range(1, 65)]
-# Lines on the plan of two phases, the answer to each, and what the desk tells then.
+# Lines on the plan of two phases, the answer to each, and what `edits` prints then.
 WORKED: list[tuple[str, str, dict[str, Any]]] = [
     ("show", "0000000 -R-R------------ ---------------- ---- 0 ----", CLOSED),
     ("begin 3", "ok", desk(3, "transaction", None)),
@@ -150,7 +150,7 @@ WORKED: list[tuple[str, str, dict[str, Any]]] = [
 
 
 def edits(live: pathlib.Path) -> list[str]:
-    """`edits` behind each of these lines."""
+    """`edits` after each of these lines."""
     lines = "".join(f"{line}\nedits\n" for line, _, _ in WORKED)
     ended = ran([live, EXAMPLES / "two.json"], lines.encode())
     found = [json.loads(line) if line.startswith("{") else line for line in ended[1].decode().splitlines()]

@@ -3,7 +3,7 @@
     python3 -m tools.programs.made_traffic SEED SECONDS > LOG
 
 No street was counted for it. Each lane has cars at random, at the rate below, with a least time between two of them;
-each stands on its detector for about a second, whatever the signals show. Now and then a button is pushed, or a preempt
+each is on its detector for about a second, whatever the signals show. Now and then a button is pushed, or a preempt
 asked for. The same seed gives the same log, and with more seconds the same traffic to begin with.
 """
 import random

@@ -133,7 +133,7 @@ def text_of(commands):
 # --- memory ---
 
 def before_answers(program, wrong, good=GOOD, bad=BAD, usage=USAGE):
-    """Where memory is refused before the first answer, the program says so and ends with 3, or tells of bad words. One
+    """Where memory is refused before the first answer, the program says so and ends with 3, or reports bad words. One
     request, behind those for the words given, is for what it can do without: refused, it changes nothing."""
     for words in good + bad:
         whole, unneeded = program.run(words)[:3], 0
@@ -178,7 +178,7 @@ def within_a_session(program, wrong, commands, first, found, words=RUN):
 
 
 def memory(program, wrong):
-    """Refuses each request for memory, and tells how many inputs of each kind it was refused to."""
+    """Refuses each request for memory, and counts the inputs of each kind to which it was refused."""
     found = collections.Counter()
     before_answers(program, wrong)
     first = program.calls(RUN) + 1
@@ -196,7 +196,7 @@ def memory(program, wrong):
 
 def reads(program, wrong, words=RUN, lines=INPUTS + WAY_BACK, told_file=READ, told_input=READ):
     """Fails each read. One of a file that is interrupted is tried again; one of commands is not. A file for which the
-    machine has no memory is told as such."""
+    machine has no memory is reported as such."""
     text = text_of(lines)
     of_file = {errno.EIO: (3, b"", told_file), errno.ENOMEM: (3, b"", MEMORY), errno.EINTR: program.run(words, text)[:3]}
     of_files = program.calls(words, kind="read", piece=PIECE) - 1

@@ -22,7 +22,7 @@ LOG = "examples/one_row.log"
 EVENTS = field_rules.HEADER + b"".join(
     b"%d,2026-11-22 07:00:%02d.5,%d,%d\n" % (7 + (k == 9), k, 82 - k % 2, 1 + (k == 12) * 30) for k in range(40))
 
-# The same with the month first, which is told.
+# The same with the month first, which is reported.
 MONTH_FIRST = EVENTS.replace(b"2026-11-22", b"11/22/2026")
 
 # The same with each second row before the one above it, which is a second late then.
@@ -116,7 +116,7 @@ def reads(program, wrong):
 
 
 def writes(program, wrong):
-    """Fails each write; one that is interrupted is not tried again. That of errors is told by the status alone."""
+    """Fails each write; one that is interrupted is not tried again. Only the status shows that of errors."""
     for words, text in RUNS:
         whole = program.run(words, text)[:3]
         for error in [errno.EIO, errno.EINTR, 0]:

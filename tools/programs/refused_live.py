@@ -2,7 +2,7 @@
 top, with the program's path.
 
 It does for tsb_live what tools/programs/refused_calls.py does for tsb, by the same library. Where a tick, a command or
-the line of the plan was refused for want of memory, the answers behind it have to be those of a run in which it was not
+the line of the plan was refused for want of memory, the answers after it have to be those of a run in which it was not
 given; a row whose tick was refused is held all the same.
 """
 import collections
@@ -18,13 +18,13 @@ WORDS = [PLAN]
 GOOD = [WORDS, ["examples/two_short_yellow.json"], ["none.json"]]
 BAD = [["--what", PLAN], [PLAN, PLAN]]
 
-# Lines of each kind, none of them refused after any of the others. Each has one answer, but for steps.
+# Lines of each kind, none of them refused after any of the others. Each but a step has one answer.
 ROW, OTHER = "0100000000000001 00000100 0000", "0000010000000000 00000000 0010"
 LINES = [ROW, "changes 1", *INPUTS, "status", OTHER, "edits", "plan"]
 # Each line comes first once, where the room of the history is used up, or behind one that asks for less.
 FIRST = [[*NEARLY, "begin 1", "abort 1", *LINES[place:], *LINES[:place]] for place in range(len(LINES))]
 SESSIONS = [*FIRST, *BEHIND, *LATE]
-# Inputs that tell their events, and answers behind their commands; of a line each answer but those of `save` is short.
+# Inputs whose events are printed, and answers after their commands; each answer but those of `save` is short.
 ALONE = [it for it in INPUTS if not it.startswith("step")]
 TOLD = ["events on", "echo on", ROW, *ALONE, OTHER, "when input 2", "save", "events off", ROW, "save"]
 STRICT = ["--strict", PLAN]
@@ -62,7 +62,7 @@ def within_a_session(program: Program, wrong: Differences, lines: list[str], fir
 
 
 def within_told_inputs(program: Program, wrong: Differences, first: int) -> int:
-    """Where memory is refused to an input that would tell its events, it tells none, and all goes on as if it had not
+    """Where memory is refused to an input that has events, none is printed, and all goes on as if it had not
     been given; how often that was."""
     count, starts = 0, [answers_to(program, TOLD[:place]) for place in range(len(TOLD))]
     for number, ended in program.sweep(WORDS, text_of(TOLD), first=first):
@@ -89,7 +89,7 @@ def answers_to(program: Program, lines: list[str]) -> list[str]:
 
 
 def within_a_strict_run(program: Program, wrong: Differences, first: int) -> int:
-    """Where memory is refused in a strict run, that line ends it, which is told; how often that was."""
+    """Where memory is refused in a strict run, that line ends it and is reported; counts how often that was."""
     count, whole = 0, program.run(STRICT, text_of(LINES)).output.decode().splitlines()
     for number, ended in program.sweep(STRICT, text_of(LINES), first=first):
         answers = ended.output.decode().splitlines()
@@ -102,13 +102,13 @@ def within_a_strict_run(program: Program, wrong: Differences, first: int) -> int
 
 
 def usage_of(program: Program) -> bytes:
-    """The line that tells of bad words, which run_live.py compares."""
+    """The line about bad words, which run_live.py compares."""
     usage: bytes = program.run(BAD[0]).errors
     return usage
 
 
 def memory(program: Program, wrong: Differences) -> str:
-    """Refuses each request for memory, and tells how many lines of each kind it was refused to."""
+    """Refuses each request for memory, and counts the lines of each kind to which it was refused."""
     found: collections.Counter[str] = collections.Counter()
     before_answers(program, wrong, GOOD, BAD, usage_of(program))
     first = program.calls(WORDS) + 1
@@ -121,7 +121,7 @@ def memory(program: Program, wrong: Differences) -> str:
 
 
 def main(words: list[str]) -> int:
-    """Refuses all, and tells what came out."""
+    """Refuses all, and prints what came out."""
     if len(words) != 1:
         sys.exit("usage: python3 -m tools.programs.refused_live TSB_LIVE")
     path = pathlib.Path(words[0]).resolve()

@@ -47,7 +47,7 @@ class Release:
     moment: int
 
     def version(self) -> str:
-        """The version, from the one place where it stands."""
+        """The version, from the one file that has it."""
         return manual_pages.version(self.top)
 
     def name(self) -> str:

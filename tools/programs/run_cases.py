@@ -42,7 +42,7 @@ FROM = datetime.datetime(2026, 11, 22, 7)
 TICK = datetime.timedelta(seconds=0.1)
 # The codes of inputs that go on and off, by their column in the answers: vehicle and pedestrian detectors, preempts.
 ON, OFF = {"82": 0, "90": 1, "102": 2}, {"81": 0, "89": 1, "104": 2}
-# A plan in which one phase rests in green, as nothing else is called: each input is told in events all the same.
+# A plan in which one phase rests in green, as nothing else is called: each input has its events all the same.
 AT_REST = json.dumps({
     "version": 2, "phaseEnabled": {"1": 1}, "phaseRing": {"1": 1}, "phaseSide": {"1": 1}, "sequenceData": {"1": 1},
     "phaseMinimumGreen": {"1": 5}, "phaseMaximum1": {"1": 10}, "phaseMaximum2": {"1": 10},
@@ -111,7 +111,7 @@ def changed(words: list[str], bases: dict[str, Plan]) -> Plan:
 
 
 def text_of(plan: Plan) -> bytes:
-    """The plan text. Values stand as they are spelled, also where they are no values."""
+    """The plan text. Values are written as they are spelled, also where they are no values."""
     tables = (f'"{name}":{{' + ",".join(f'"{index}":{it}' for index, it in values.items()) + "}"
               for name, values in plan.members.items())
     return ("{" + ",".join([f'"version":{plan.version}', *tables]) + "}").encode()
@@ -131,7 +131,7 @@ def checks() -> Iterator[stored_cases.Spelled]:
 
 
 def answers_of(file: str, cases: list[stored_cases.Spelled]) -> list[bytes]:
-    """The stored answers to these cases: each stands behind a line with its name; those of `checks.txt` are lines."""
+    """The stored answers to these cases: each follows a line with its name; those of `checks.txt` are lines."""
     text = (CASES / f"{file}.answers").read_bytes()
     if file == "checks":
         return text.splitlines(keepends=True)
@@ -251,7 +251,7 @@ def difference(programs: Programs, job: Job) -> str | None:
 
 
 def main(words: list[str]) -> int:
-    """Compares all cases, and tells what differs or how many there are."""
+    """Compares all cases, and prints what differs or how many there are."""
     plays_all = words[2:] == ["--all"]
     if len(words) != 2 + plays_all:
         sys.exit(f"usage: {USAGE}")

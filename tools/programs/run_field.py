@@ -29,7 +29,7 @@ KINDS = list(field_rules.MOST)
 
 # How the stored picture of the hour was drawn.
 HOUR_SECONDS, HOUR_TITLE = 1200, "An hour of made-up traffic on quad"
-# The pictures of the options of coordination: their names but for the value, plan and log, the option, values of it,
+# The pictures of the options of coordination: their names without the value, plan and log, the option, values of it,
 # and the seconds. Those of lead and lag are of two patterns.
 OPTIONS = [
     ("late_force_off", "late_force_off", "late_force_off", "coordForceMode", (0, 1), 330),
@@ -113,7 +113,7 @@ def random_wires(chance):
 
 
 def logs_of_events(program):
-    """Events at random of which the program makes another log than the rule."""
+    """Events at random from which the program makes another log than the rule."""
     for count in range(TEXTS):
         chance = random.Random(f"events {count}")
         text, wires = random_events(chance), list(random_wires(chance))
@@ -211,7 +211,7 @@ def random_export(chance, is_late=False):
 
 
 def logs_of_exports(program):
-    """Exports at random of which the program makes another log than the rule."""
+    """Exports at random from which the program makes another log than the rule."""
     for count in range(EXPORTS):
         chance = random.Random(f"export {count}")
         text, device = random_export(chance), chance.choice([None, None, "7"])
@@ -229,7 +229,7 @@ def logs_of_exports(program):
 
 
 def sorted_exports(program):
-    """Exports at random, a little out of order, of which the program makes another log than the rule."""
+    """Exports at random, a little out of order, from which the program makes another log than the rule."""
     for count in range(LATE):
         chance = random.Random(f"late {count}")
         text, device = random_export(chance, chance.randrange(8) > 0), chance.choice([None, None, "7"])
@@ -260,7 +260,7 @@ def random_display(chance):
 
 
 def events_of_displays(program, folder):
-    """Display lines at random of which the program tells other events than the rule, or draws another diagram."""
+    """Display lines at random from which the program makes other events than the rule, or draws another diagram."""
     for count in range(TEXTS):
         chance = random.Random(f"display {count}")
         text = "\n".join(random_display(chance)).encode()
@@ -363,7 +363,7 @@ def closed_pipes(program):
 
 
 def one_stream(program):
-    """What is otherwise where output and errors are one stream: what is known stands before the fault that is told."""
+    """What is otherwise where output and errors are one stream: what is known comes before the line of the fault."""
     events, log = field_cases.switching(2000)
     told = b"events line 2001: " + field_cases.ENDS % b"time" + b"\n"
     short = field_cases.told("07:00:01 82 2", "07:00:03 81 2")

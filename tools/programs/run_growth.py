@@ -74,7 +74,7 @@ def ratio(row: Row, short: Texts, long: Texts) -> float:
 
 
 def is_within(name: str, most: float, measure: Callable[[], float]) -> bool:
-    """Whether what is measured, a number of times as long, is within a bound; it tells the least."""
+    """Whether what is measured, a number of times as long, is within a bound; prints the least."""
     found = float("inf")
     for _ in range(TRIES):
         found = min(found, measure())

@@ -6,7 +6,7 @@ The others are the programs of crates tsb and tsb_field. Live sessions whose row
 `tsb run` answers them; stored ones, in which tick numbers are taken again with other inputs, as an independent
 reference does. What is asked of a live session alone is compared with `tsb run`, `tsb check`, `tsb_field record` and
 cases that were worked by hand; tools/programs/run_status.py has the statuses. The last line of each group of checks
-tells how it came out.
+says how it came out.
 """
 import pathlib
 import sys
@@ -40,7 +40,7 @@ def checks(live: pathlib.Path, tsb: pathlib.Path, field: pathlib.Path) -> dict[s
 
 
 def main(words: list[str]) -> int:
-    """Checks all, and tells what came out."""
+    """Checks all, and prints what came out."""
     if len(words) != 3:
         sys.exit("usage: python3 -m tools.programs.run_live TSB_LIVE TSB TSB_FIELD")
     live, tsb, field = (pathlib.Path(word).resolve() for word in words)

@@ -37,7 +37,7 @@ def session_of_readme() -> list[str]:
 
 
 def a_missing_file_builds_nothing(room: pathlib.Path) -> bool:
-    """It is told, with no line of the build."""
+    """The fault is printed, with no line of the build."""
     done = look(room, "none.json", str(TOP / "examples/empty.log"))
     return done.returncode == 3 and done.stderr == "none.json: no such file, or it cannot be read\n"
 

@@ -32,12 +32,12 @@ SHOWN = 200
 
 
 def shown(line: bytes) -> bytes:
-    """A line as it is told: its first bytes, with `?` for each that is no printable ASCII."""
+    """A line as it is printed: its first bytes, with `?` for each that is no printable ASCII."""
     return bytes(byte if 32 <= byte <= 126 else ord("?") for byte in line[:SHOWN])
 
 
 def is_told(errors: bytes, commands: bytes) -> bool:
-    """Whether each line that is told has the number and the text of a line of the commands, in their order."""
+    """Whether each line that is printed has the number and the text of a line of the commands, in their order."""
     *ended, last = commands.split(b"\n")
     lines = [*(line.removesuffix(b"\r") for line in ended), last]
     before = 0
@@ -63,7 +63,7 @@ def wanted_of(wanted: str) -> list[str]:
 
 
 def strict_difference(strict: subprocess.CompletedProcess[bytes], case: stored_cases.Case, first: bytes) -> str | None:
-    """What a strict record has otherwise than it should, of a session in which this is told first."""
+    """What a strict record has otherwise than it should, where this is the first line that it reports."""
     if (strict.returncode, strict.stdout, strict.stderr) == (4, b"", first):
         return None
     return f"{case.name}: strict {strict.returncode}, {strict.stdout[:80]!r}, {strict.stderr[:200]!r}"

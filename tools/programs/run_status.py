@@ -1,4 +1,4 @@
-"""Has tsb_live tell the status throughout stored sessions, and compares with the sums of a reference.
+"""Asks tsb_live for the status throughout stored sessions, and compares with the sums of a reference.
 
     python3 -m tools.programs.run_status TSB_LIVE TSB [SUMS CASES..]
 
@@ -75,7 +75,7 @@ def difference(tsb: pathlib.Path, live: pathlib.Path, case: stored_cases.Case, w
 
 
 def main(words: list[str]) -> int:
-    """Compares, and tells what came out."""
+    """Compares, and prints what came out."""
     if len(words) < 2 or not pathlib.Path(words[1]).is_file():
         sys.exit(f"usage: {USAGE}")
     compared = functools.partial(difference, pathlib.Path(words[1]).resolve())

@@ -72,7 +72,7 @@ def write(path: pathlib.Path | str, title: str, source: str, cases: Iterable[byt
 
 
 def read_pieces(text: bytes, at: int, lengths: list[int]) -> tuple[list[bytes], int]:
-    """The pieces that stand in a text from a place on, and the place behind them."""
+    """The pieces of a text from a place on, and the place after them."""
     pieces = []
     for length in lengths:
         assert text[at + length:at + length + 1] == b"\n", "a piece does not end where its head says"

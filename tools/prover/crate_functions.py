@@ -25,7 +25,7 @@ class Function:
 
 
 def owner(rows: list[str], first: int) -> str:
-    """The name that the prover gives the block that a method stands in: of its type, its trait and the trait's words."""
+    """The name that the prover gives the block of a method: of its type, its trait and the trait's words."""
     head = next((row for row in reversed(rows[:first]) if row.startswith(("impl", "pub trait", "trait"))), "")
     found = IMPL.match(head)
     if not found:
@@ -37,7 +37,7 @@ def owner(rows: list[str], first: int) -> str:
 
 
 def function_at(path: Path, text: str, at: int) -> Function | None:
-    """The function that a place of a file stands in, if it stands in one."""
+    """The function around a place of a file, if there is one."""
     rows = text.split("\n")
     row = text.count("\n", 0, at)
     for first in range(row, -1, -1):
@@ -58,7 +58,7 @@ def function_at(path: Path, text: str, at: int) -> Function | None:
 
 
 def constant_at(text: str, at: int) -> str | None:
-    """The constant that a place of a file stands in; of a macro, the first constant that is made by it."""
+    """The constant around a place of a file; in a macro, the first constant that the macro makes."""
     for row in reversed(text[:at].split("\n")):
         constant, macro = CONSTANT.match(row), MACRO.match(row)
         if constant or HEAD.match(row):
@@ -85,13 +85,13 @@ def readers(path: Path, texts: dict[Path, str], at: int) -> list[Function]:
 
 
 def type_at(text: str, at: int) -> str | None:
-    """The struct whose fields a place of a file stands in, if it stands in one."""
+    """The struct whose fields hold a place of a file, if there is one."""
     found = [it for it in TYPE.finditer(text, 0, at) if "\n}" not in text[it.end():at]]
     return found[-1][1] if found else None
 
 
 def functions_at(path: Path, texts: dict[Path, str], at: int) -> list[Function]:
-    """The function that a place of a file stands in, or those that name the constant that it stands in."""
+    """The function around a place of a file, or those that name the constant around it."""
     found = function_at(path, texts[path], at)
     return [found] if found else readers(path, texts, at)
 

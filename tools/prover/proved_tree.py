@@ -7,7 +7,7 @@ from tools.prover import kit
 
 
 def files_of(top: pathlib.Path) -> list[str]:
-    """The files of the repository as they stand: those that git knows, and new ones that it does not ignore."""
+    """The files of the repository as they are: those that git knows, and new ones that it does not ignore."""
     words = ["git", "ls-files", "--cached", "--others", "--exclude-standard", "-z"]
     listed = subprocess.run(words, cwd=top, capture_output=True, text=True, check=True).stdout
     return [it for it in listed.split("\0") if it and (top / it).is_file()]
@@ -20,7 +20,7 @@ def listed(text: str, names: set[str]) -> str:
 
 
 def below(top: pathlib.Path, name: str) -> set[str]:
-    """A crate and those that it stands on."""
+    """A crate and those below it."""
     crate = kit.crates(top)[name]
     return {name, *(it.name for it in crate.below())}
 

@@ -38,7 +38,7 @@ BAD_ANSWER = re.compile(r"(?:\./)?(\w+)/proofs/(\S+)/[^/\s]+:\d+:\d+: error: ")
 # What an answer says that only names what the edit, or another one, took away.
 TAKEN_AWAY = re.compile(r"has no field|is not in scope|has no `|was not admitted|is no name")
 # What the kit says of an edit that shows little. It was tried over the whole crate, which takes minutes, so its line is
-# told again at the end.
+# printed again at the end.
 WEAK = "(only because a proof file names what the edit took away"
 # How many edits of several crates share a run at most, so that there are runs for all processors to the end.
 MOST = 60
@@ -48,7 +48,7 @@ EMPTY = "edits"
 
 @dataclasses.dataclass(frozen=True)
 class Change:
-    """A text of a file, which stands there once, and what an edit puts in its place."""
+    """A text that a file has once, and what an edit puts in its place."""
 
     path: Path
     old: str
@@ -114,7 +114,7 @@ def grouped(edits: list[Edit]) -> list[list[Edit]]:
 
 
 def joined(groups: list[list[Edit]]) -> list[list[Edit]]:
-    """Groups of crates put together, so that no crate of a group stands on another one of it."""
+    """Groups of crates put together, so that no crate of a group uses another one of it."""
     made: list[list[Edit]] = []
     for group in groups:
         for it in made:
@@ -127,7 +127,7 @@ def joined(groups: list[list[Edit]]) -> list[list[Edit]]:
 
 
 def are_apart(crate: Any, other: Any) -> bool:
-    """Whether two crates are different, and neither stands on the other."""
+    """Whether two crates are different, and neither uses the other."""
     return crate.name not in {it.name for it in [other, *other.below()]} and other.name not in {it.name for it in crate.below()}
 
 
@@ -139,7 +139,7 @@ def parts(group: list[Edit]) -> list[list[Edit]]:
 
 @dataclasses.dataclass(frozen=True)
 class Write:
-    """A text that is written into a file in place of what stands there, and what it is written for."""
+    """A text that is written into a file in place of another, and what it is written for."""
 
     path: Path
     start: int
@@ -149,7 +149,7 @@ class Write:
 
 
 def unedited(crate: Any, function: Function) -> pathlib.Path:
-    """What stands for the copy of a function of a crate in which nothing is changed."""
+    """What names the copy of a function of a crate in which nothing is changed."""
     return pathlib.Path("unedited", crate.name, function.path, function.name)
 
 

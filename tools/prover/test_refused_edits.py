@@ -6,7 +6,7 @@ a function which is not proved in that run, so that the prover refuses them ther
 turns the one callee, and the other is left out of the proof.
 
 The library and the program share a run. What is left out of a copy of a crate leaves all else on its lines, and no crate
-shares a run with one that it stands on.
+shares a run with one that it uses.
 """
 import dataclasses
 import os
@@ -148,7 +148,7 @@ def test_what_is_left_out_moves_no_line() -> None:
 
 @dataclasses.dataclass(frozen=True)
 class Crate:
-    """A crate, and those that it stands on."""
+    """A crate, and those below it."""
 
     name: str
     under: tuple["Crate", ...] = ()

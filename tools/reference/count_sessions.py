@@ -1,4 +1,4 @@
-"""Counts what occurs in stored sessions, and tells those whose stored answers are not the reference's.
+"""Counts what occurs in stored sessions, and names those whose stored answers are not the reference's.
 
     python3 -m tools.reference.count_sessions --reference FOLDER FILE..
 

@@ -1,6 +1,6 @@
 """Tests of the laws of local counters that come into step, on the runs at random of `test_coordination.py`.
 
-What is tested stands in `crates/tsb_coord/specs/Laws.antt` and `crates/tsb_laws/specs/InStep.antt`: where a pattern is
+`crates/tsb_coord/specs/Laws.antt` and `crates/tsb_laws/specs/InStep.antt` have what is tested: where a pattern is
 selected while another one runs its local counter goes on from where that one stood, but with correction mode 0; from
 tick to tick it takes at most one step, or two by the short way; it is in step after as many ticks as its mode and limit
 need; and once it is in step it stays so, and is the counter of the cycle and the offset. In these runs the plan stays.
@@ -19,7 +19,7 @@ def in_step(state: State) -> int:
 
 
 def long_enough(bench: Any, state: State) -> int:
-    """How many ticks behind the selection a counter is in step at the latest, by its mode and its limit."""
+    """How many ticks after the selection a counter is in step at the latest, by its mode and its limit."""
     mode, limit = bench.correction(state)
     cycle, ahead = 10 * state.plan["patternCycleTime"][state.pattern], state.ahead
     if mode == 0 or ahead == 0:

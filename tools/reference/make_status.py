@@ -35,7 +35,7 @@ HEAD = """\
 
 
 def states_of(bench: Any, session: Any, commands: bytes) -> Iterator[State]:
-    """The states of which a session has lines of status: after each tick, and after each other command."""
+    """The states whose status lines a session has: after each tick, and after each other command."""
     for command in commands_of(bench, commands):
         known = len(session.states)
         session.answer(command, [])

@@ -70,7 +70,7 @@ def changed_in_a_run(rng, plan, table):
 
 
 def taken_off(rng, plan, table):
-    """Force-offs that stand when an option, a cycle or the pattern is taken off, and greens that wait to end."""
+    """Force-offs in force when an option, a cycle or the pattern is taken off, and greens that wait to end."""
     walking = next(iter(plan["phaseWalk"]))
     plan["phaseWalk"][walking], plan["phasePedRecall"] = 4, {walking: 1}
     found, cycle = ["pattern 1", steps(rng, table, 0.1, 0.2, 0.4)], ("patternCycleTime", 1)
@@ -137,7 +137,7 @@ def yields(rng, plan, table, behinds):
 
 
 def in_a_permissive_time(rng, plan, table):
-    """Calls before, within, at the end of and just behind a permissive time."""
+    """Calls before, within, at the end of and just after a permissive time."""
     time = a_time(rng, table.cycle, table.clearance(table.held[0]))
     plan[PERMISSIVE] = {"1": time}
     end = 10 * time

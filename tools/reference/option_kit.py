@@ -49,7 +49,7 @@ def edits(rng, plan):
 
 
 def change(rng, changes):
-    """Commands that change options. The desk is closed behind them where a rule may be broken, and now and then."""
+    """Commands that change options. The desk is closed after them where a rule may be broken, and now and then."""
     closed = any(name == LEAD and not value for name, _, value in changes) or rng.random() < 0.1
     return commit(rng.randint(1, 4), changes)[:None if closed else -1]
 
@@ -81,7 +81,7 @@ def pressed(rng, plan, chance):
 
 
 def busy(rng, plan, last, gaps):
-    """A log in which all phases are called, with cars throughout but for some detectors now and then, and buttons."""
+    """A log in which all phases are called, with cars throughout except on some detectors now and then, and buttons."""
     detectors = numbers(plan, "vehicleDetectorCallPhase")
     found, now = row(1, detectors, pressed(rng, plan, 0.5)), 1
     for _ in range(gaps):
@@ -93,7 +93,7 @@ def busy(rng, plan, last, gaps):
 
 def some(rng, plan, table):
     """A log with cars throughout on some detectors: none on the phases whose instants come first, mostly, so that those
-    behind them begin before their splits do."""
+    after them begin before their splits do."""
     called = {int(detector): phase for detector, phase in plan["vehicleDetectorCallPhase"].items()}
     firsts = {min((p for p in table.found.phases if table.found.rings[p] == ring), key=table.instant, default=0)
               for ring in (1, 2)}
@@ -104,7 +104,7 @@ def some(rng, plan, table):
 
 
 def changed_within(rng, commands, changes):
-    """The commands with a change of options within the first long step behind a pattern."""
+    """The commands with a change of options within the first long step after a pattern."""
     begun = next(place for place, command in enumerate(commands) if command.startswith("pattern"))
     for place, command in enumerate(commands[begun:], begun):
         word, *ticks = command.split(" ")

@@ -113,7 +113,7 @@ def about_the_last_tick(rng, plan, table):
 
 
 def walks_about_a_permissive_time(rng, plan, table):
-    """A button before, in, at the end of and behind a permissive time, mostly without a conflict."""
+    """A button before, in, at the end of and after a permissive time, mostly without a conflict."""
     phase = walker(rng, plan, table)
     time = rng.choice([0, 1, 2, a_time(rng, table.cycle, table.clearance(int(phase)))])
     plan[PERMISSIVE], end = {"1": time}, 10 * time
@@ -184,7 +184,7 @@ def of_a_walk(rng, plan, table, phase):
 
 
 def walks_changed_in_a_green(rng, plan, table):
-    """What a walk is judged by, changed in a green: before, in and behind a walk, taken back or not."""
+    """What a walk is judged by, changed in a green: before, in and after a walk, taken back or not."""
     phase, first = walker(rng, plan, table), []
     if rng.random() < 0.4:
         plan[RECYCLE], first = {}, [(RECYCLE, phase, 1)]

@@ -1,6 +1,6 @@
 """Tests of the laws of walks that begin within a green, on the runs at random of `test_coordination.py`.
 
-What is tested stands in `crates/tsb_laws/specs/RecycledWalks.antt`: a coordinated phase with pedestrian recycle walks
+`crates/tsb_laws/specs/RecycledWalks.antt` has what is tested: a coordinated phase with pedestrian recycle walks
 again where it is forced off in none of the ticks that its walk and its pedestrian clearance take, and where the local
 counter was in step, and no other walk begins within a green; and such a walk is over in the tick in which its phase is
 next forced off. In these runs no preempt is in service, plan and pattern stay, and nothing trips.
@@ -85,7 +85,7 @@ class Watch:
             self.see_end(before, after, p)
 
     def see_begin(self, before: State, after: State, row: Row, p: int) -> None:
-        """Whether a walk of p begins within a green where it should, and only there: not where a force-off stands."""
+        """Whether a walk of p begins within a green where it should, and only there: not where a force-off is in force."""
         bench, plan = self.bench, before.plan
         if before.interval[p] != bench.G or before.ped[p] != bench.DW:
             return

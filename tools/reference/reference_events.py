@@ -372,7 +372,7 @@ def was_in_step(tick: Tick) -> bool:
 
 
 def steps(tick: Tick) -> list[int]:
-    """The local counter at each step that it takes in a tick: one, or two where it is faster, and where it stands if it
+    """The local counter at each step that it takes in a tick: one, or two where it is faster, and where it is if it
     takes none."""
     cycle, now = cycle_of(tick.before), tick.bench.local_of(tick.after)
     taken = (now - tick.bench.local_at(tick.after, tick.after.now - 1)) % cycle
@@ -599,7 +599,7 @@ def tick_events(tick: Tick) -> list[Told]:
 
 
 def common_events(bench: Any, before: State, given: Given, after: State) -> list[Told]:
-    """The events of an input that a record has in each form, but for those of rows."""
+    """The events of an input that a record has in each form, without those of rows."""
     told = phase_events(before, after) + overlap_events(bench, before, after) + failure_events(before, after)
     told += preempt_events(bench, before, after) + pattern_events(before, after) + cycle_events(bench, before, after)
     told += flash_events(before, after)
@@ -664,7 +664,7 @@ def records(reference: Reference, plan: bytes, log: bytes, commands: bytes, from
             device: str, forms: Sequence[Form]) -> list[bytes] | None:
     """The record of a session in each of these forms, as CSV: none where its plan or its log has a fault.
 
-    It has the events of the inputs that remain when the commands end. What was refused or taken back tells nothing.
+    It has the events of the inputs that remain when the commands end. What was refused or taken back has none.
     """
     session = opened(reference.bench, plan, log)
     if session is None:

@@ -23,7 +23,7 @@ INPUTS = {"input": (0, 16), "button": (1, 8), "preempt": (2, 4)}
 SWITCH = {"on": True, "off": False}
 
 
-# --- what is told in one line ---
+# --- what one line has ---
 
 def plan_text(state: State) -> str:
     """The plan in effect: what is not 0, as a plan text of version 2."""
@@ -95,7 +95,7 @@ class LiveSession:
         self.session.rows = [(0, tuple(tuple(byte == 49 for byte in field) for field in line.split(b" ")))]
 
     def rows(self) -> Iterator[Row]:
-        """The rows of the ticks that remain, from the newest on, and behind them one with all inputs off."""
+        """The rows of the ticks that remain, from the newest on, and after them one with all inputs off."""
         taken = (given[1] for given in reversed(self.session.inputs) if given[0] == "tick")
         return itertools.chain(taken, [self.bench.OFF])
 
@@ -181,17 +181,17 @@ class LiveSession:
         return None if command[0] == "quit" else self.told(command)
 
     def told(self, command: tuple[Any, ...]) -> Iterator[str]:
-        """The answers to a command of `tsb run`, each behind the events of its input."""
+        """The answers to a command of `tsb run`, each after the events of its input."""
         for told, answers in self.ticks(command[1]) if command[0] == "step" else [self.asked(command)]:
             yield from told + answers
 
     def said(self, line: bytes) -> list[bytes] | None:
-        """What is written to a line: with echo on, an answer that is no display line stands behind it."""
+        """What is written to a line: with echo on, an answer that is no display line follows it."""
         echoes, answers = self.echoes, self.answers(line)
         if answers is None:
             return None
         found = list(answers)
-        # (it comes behind the ticks of a step that is refused, and before the events of an input that is none)
+        # (it comes after the ticks of a step that is refused, and before the events of an input that is none)
         ticks = max((place for place, it in enumerate(found, 1) if DISPLAY.fullmatch(it)), default=0)
         echo = [b"> " + line[:LONGEST]] if echoes and ticks < len(found) else []
         lines = [it.encode() for it in found]

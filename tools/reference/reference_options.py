@@ -26,7 +26,7 @@ Plan = dict[str, list[int]]
 Found = TypeVar("Found")
 
 # The objects of the options, each with how many indices it has and its greatest value. They come last, in this order,
-# in the plan that a live session tells (docs/use/LIVE.md).
+# in the plan that a live session prints (docs/use/LIVE.md).
 OBJECTS = {
     "coordForceMode": (1, 2), "coordMaximumMode": (1, 2), "patternPermissiveTime": (16, 255), "patternLeadLag": (16, 1),
     "phasePedestrianRecycle": (16, 1), "coordCorrectionMode": (1, 3), "coordCorrectionLimit": (1, 50),
@@ -133,11 +133,11 @@ class Counter:
         return waited(ticks, (pattern.fo[pattern.first] - 1 - stood) % pattern.cycle, most, pattern.cycle)
 
     def at(self, tick: int) -> int:
-        """Where it stands at a tick."""
+        """Where it is at a tick."""
         return (self.pattern.in_step(tick) + self.ahead_at(tick)) % self.pattern.cycle
 
     def steps(self, tick: int) -> list[int]:
-        """Where it is at each step that it takes in a tick: one, or two where it is faster, and where it stands if it
+        """Where it is at each step that it takes in a tick: one, or two where it is faster, and where it is if it
         takes none."""
         now = self.at(tick)
         is_twice = (now - self.at(tick - 1)) % self.pattern.cycle == 2
@@ -158,7 +158,7 @@ def is_forced_off(pattern: Pattern, state: State, phase: int, local: int) -> boo
 
 
 def has_maxed_out(pattern: Pattern, state: State, phase: int) -> bool:
-    """Whether a conflict that still stands in this tick has stood for the maximum that acts in the pattern."""
+    """Whether a conflict that lasts in this tick has lasted for the maximum that acts in the pattern."""
     name = PATTERN_MAXIMUMS.get(pattern.plan["coordMaximumMode"][1])
     if name is None or phase in pattern.coord:
         return False
@@ -367,7 +367,7 @@ class Options:
         return after
 
     def ahead_when_selected(self, before: State, after: State) -> int:
-        """How many ticks a counter is ahead as its pattern is selected: it goes on from where another one's stands."""
+        """How many ticks a counter is ahead as its pattern is selected: it goes on from where another one's is."""
         stood, pattern = self.local_of(before), self.pattern(after)
         if stood is None or pattern is None or correction(before)[0] == AT_ONCE:
             return 0
@@ -419,7 +419,7 @@ class OptionState:
 
 def kept(function: Callable[..., Found]) -> Callable[..., Found]:
     """A function of a plan and other things that keeps what it finds, as long as it is asked of one plan: plans stay as
-    they are, and so do lists that are found of them."""
+    they are, and lists that are found of them likewise."""
     newest: list[Plan] = [{}]
     found: dict[tuple[Any, ...], Found] = {}
 

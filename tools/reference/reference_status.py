@@ -308,7 +308,7 @@ def preempt_state(bench: Any, state: State, preempt: int) -> int:
 
 
 def coordination(bench: Any, state: State) -> dict[str, int | None]:
-    """What is told of coordination."""
+    """The members of coordination."""
     runs = runs_pattern(state)
     cycle = 10 * state.plan["patternCycleTime"][state.pattern] if runs else 0
     return {

@@ -285,7 +285,7 @@ def waited_longest(bench, own: int = 8, across: int = 7) -> tuple[int, int]:
 
 
 def test(bench, seeds: range) -> int:
-    """Runs of these seeds; tells what was found, and gives the number of breaches."""
+    """Runs of these seeds; prints what was found, and returns the number of breaches."""
     found, breaches = Found(), 0
     for seed in seeds:
         run(bench, seed, found)

@@ -5,7 +5,7 @@
 FOLDER holds the reference, which is no part of this repository (make_sessions.py says which files). Each seed is one
 run: a plan of coordinated_plans.py, some ticks in free operation, some in pattern 2, and then pattern 1 for 8 cycles,
 with detectors that change at random; in every second run buttons are on just where a walk takes all that is left to its
-force-off, or a tick more. What is tested stands in `crates/tsb_laws/specs/CoordinatedGreens.antt`: how long a
+force-off, or a tick more. `crates/tsb_laws/specs/CoordinatedGreens.antt` has what is tested: how long a
 coordinated phase is not Green, by the time that is proved and by the shorter one that is stated and not proved; and how
 long any phase that stays called is not Green, by the time that is proved. A wait counts from where the local counter is
 in step. Each tick goes to `recycled_walks.py` too, which tests the laws of walks that begin within a green, and to

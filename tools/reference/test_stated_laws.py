@@ -5,12 +5,12 @@
 FOLDER holds the reference, which is no part of this repository (make_sessions.py says which files). Each seed is one
 run: a plan at random, in version 2 with pedestrian recycle of half of its phases, and 1,500 to 4,000 ticks with inputs
 of all kinds between; in every second run commits aim at the ticks in which an interval, a pedestrian part or a stage
-has just changed. What is tested stands in `crates/tsb_laws/specs/PreemptStages.antt`: a preempt that stays in a stage
+has just changed. `crates/tsb_laws/specs/PreemptStages.antt` has what is tested: a preempt that stays in a stage
 has all phases of that stage Green in time, from each tick in the stage on; and a preempt that stays in service has all
 of its dwell phases Green in time. The third is the older bound of `PreemptDwells.antt`, which is false, and is counted
 alone.
 Each seed is one run of `served_calls.py` too, which tests in what time called phases are served.
-It ends with status 1 where a run breaks a law, the older bound aside, and tells how often the premises were met.
+It ends with status 1 where a run breaks a law, the older bound aside, and prints how often the premises were met.
 """
 import argparse
 import importlib
@@ -26,7 +26,7 @@ LISTS = {"Track": "preemptTrackPhase", "Dwell": "preemptDwellPhase", "Exit": "pr
 
 
 def reference(folder):
-    """The modules of the reference: that which makes plans at random, and that which takes inputs."""
+    """The modules of the reference: one makes plans at random, one takes inputs."""
     sys.dont_write_bytecode = True
     sys.path[:0] = [folder, os.path.join(folder, "py")]
     return importlib.import_module("gen"), with_options(importlib.import_module("tsb_oracle"))

@@ -56,7 +56,7 @@ class Run:
             self.session.answer(self.bench.read_command(command.encode(), self.bench.V2), [])
 
     def go_until(self, holds, most):
-        """Steps to the first tick after which something holds, and tells whether there was one within so many."""
+        """Steps to the first tick after which something holds, and returns whether there was one within so many."""
         count = 0
         while count < most and not holds(self.state):
             self.session.answer(("step", 1), [])
@@ -168,7 +168,7 @@ def way_back(run, rng):
 
 
 def tripped(reference, rng, turn):
-    """A trip at each moment, in a transaction or none, what is done while it stands, a reset, and the way back."""
+    """A trip at each moment, in a transaction or none, what is done while it lasts, a reset, and the way back."""
     moment = list(MOMENTS)[turn % len(MOMENTS)]
     during = DURING[turn // len(MOMENTS) % len(DURING)]
     plan = plan_of_stages(reference, rng)
@@ -206,7 +206,7 @@ def undone(run, rng, most):
 
 
 def at_rest(reference, rng, turn):
-    """A trip while no phase is in service, at power-up or behind a reset: commits of the structure take effect."""
+    """A trip while no phase is in service, at power-up or after a reset: commits of the structure take effect."""
     plan, station = plan_of_stages(reference, rng), rng.randint(1, 4)
     run = Run(reference, plan, "")
     if turn % 2:
@@ -240,7 +240,7 @@ def at_a_tick(reference, rng, turn):
 
 
 def refused_until_reset(reference, rng, turn):
-    """A commit that has to wait is refused while the monitor has tripped in service, and taken behind the reset."""
+    """A commit that has to wait is refused while the monitor has tripped in service, and taken after the reset."""
     moment = list(MOMENTS)[turn % len(MOMENTS)]
     plan, station = plan_of_stages(reference, rng), rng.randint(1, 4)
     log = pulses(rng, range(1, 9), 300) if rng.random() < 0.5 else ""

@@ -12,10 +12,10 @@ The three are the built programs. Each subject gives tables of docs/trust/SPEED.
 - edits: what a transaction takes with more edits;
 - profile: the functions in which a session executes its instructions.
 
-By the clock the median and, in brackets, the least of N runs are told (7 without it). Where valgrind is there, the
+By the clock the median and, in brackets, the least of N runs are printed (7 without it). Where valgrind is there, the
 instructions are told too, as callgrind counts them: those of a run with some work less those of one without it, so that
 the start of the program falls out. They are the same each time, whatever else the machine does. With PLAIN, which
-answers `check` and `run` as TSB does, the runs of both are made in turn, and the ratios are told. `--write` puts the
+answers `check` and `run` as TSB does, the runs of both are made in turn, and the ratios are printed. `--write` puts the
 tables into docs/trust/SPEED.md; the words around them stay.
 """
 

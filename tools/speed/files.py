@@ -15,7 +15,7 @@ HOURS, SEED, EXPORT = 10, 2, 2_000_000
 TICKS_AN_HOUR = 36_000
 MILLI, MILLION = 1e-3, 1e6
 
-# How many logs there are of which days are recorded.
+# How many logs there are for the days that are recorded.
 LOGS = 4
 
 

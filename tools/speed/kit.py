@@ -18,7 +18,7 @@ from collections.abc import Callable, Iterable, Iterator, Sequence
 from concurrent.futures import ThreadPoolExecutor
 from typing import BinaryIO
 
-# How callgrind tells how many instructions were executed.
+# How callgrind prints how many instructions were executed.
 COLLECTED = re.compile(r"Collected : (\d+)")
 
 # A plan that is refused ends with 1, which is no fault here.
@@ -192,7 +192,7 @@ def in_turn(measures: Sequence[Callable[[], float]], runs: int) -> list[Times]:
 
 
 def rounded(value: float) -> str:
-    """A number with as many digits as tell it."""
+    """A number with as many digits as it needs."""
     if value >= 100:
         return f"{value:,.0f}"
     return f"{value:.1f}" if value >= 10 else f"{value:.2f}"
@@ -226,7 +226,7 @@ class Table:
 
 
 class Files:
-    """Files of a folder, each of which is made when it is asked for first."""
+    """Files of a folder; each is made when it is asked for first."""
 
     def __init__(self, folder: pathlib.Path) -> None:
         self.folder = folder

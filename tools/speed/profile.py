@@ -9,7 +9,7 @@ from tools.speed.sessions import COUNTED, PLAN, random_log_path, session
 # A line of callgrind_annotate: instructions, and the function, with its path of modules and without its types.
 LINE = re.compile(r"^ *([\d,]+) \( *[\d.]+%\)  \S*:((?:\w+::)+\w+|__mem\w+)")
 
-# Which part of all instructions a function has, with what it calls, to be told.
+# Which part of all instructions a function has at least, with what it calls, to have a row.
 LEAST = 0.02
 
 

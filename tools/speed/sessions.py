@@ -129,7 +129,7 @@ def measured(setup: Setup, name: str, rows: Sequence[Row], units: tuple[str, flo
 
 
 def time_cells(times: Sequence[Times], unit: float) -> list[str]:
-    """The cells of a row that tell times of each program, and of two the ratio of the medians."""
+    """The cells of a row with the times of each program, and of two the ratio of the medians."""
     cells = [it.text(unit) for it in times]
     return cells + [ratio(*(it.median() for it in times))] if len(times) == 2 else cells
 
@@ -146,7 +146,7 @@ def texts(setup: Setup) -> list[Table]:
 
 @dataclasses.dataclass(frozen=True)
 class Size:
-    """How much a session has: what the table tells of it, its plan, its log and its ticks."""
+    """How much a session has: its words in the table, its plan, its log and its ticks."""
 
     label: str
     plan: str

@@ -17,7 +17,7 @@ LONGEST_PLAN, LONGEST_LOG = 1 << 20, 64 << 20
 # How many seconds lie between the first and the last row of an export.
 EXPORT_SECONDS = 500_000
 
-# The row of a log before any input changes, and where vehicle detector 1 and pedestrian detectors 2 and 8 stand in it.
+# The row of a log before any input changes, and the places of vehicle detector 1 and pedestrian detectors 2 and 8.
 ROW = b"0000000 0000000000000000 00000000 0000\n"
 VEHICLE, PEDESTRIAN, LAST_PEDESTRIAN = 8, 26, 32
 
@@ -120,7 +120,7 @@ def advised_plan() -> bytes:
 
 
 def filled(start: str, piece: str, end: str) -> bytes:
-    """A text of so many pieces, behind each other, that it is as long as a plan text may be."""
+    """A text of so many pieces, one after another, that it is as long as a plan text may be."""
     return (start + piece * ((LONGEST_PLAN - len(start) - len(end)) // len(piece)) + end).encode()
 
 

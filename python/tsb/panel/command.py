@@ -106,7 +106,7 @@ async def _serve(
 
 
 def _quiet() -> logging.Logger:
-    """Where requests that are none are told: nowhere."""
+    """A logger that drops what aiohttp says of bad requests."""
     found = logging.getLogger("tsb.panel")
     found.addHandler(logging.NullHandler())
     found.propagate = False

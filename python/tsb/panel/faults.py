@@ -1,4 +1,4 @@
-"""What went wrong, as a page tells it: what, why, and what to do about it."""
+"""What went wrong, as a page shows it: what, why, and what to do about it."""
 
 from typing import Any
 
@@ -29,7 +29,7 @@ def told(title: str, text: str, cure: str = "", cause: str = "") -> dict[str, An
 
 
 def told_of(fault: Error) -> dict[str, Any]:
-    """What a page is told of a fault."""
+    """What a page gets of a fault."""
     match fault:
         case Refused():
             station = "" if fault.station is None else f" (station {fault.station})"

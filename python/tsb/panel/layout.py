@@ -143,7 +143,7 @@ def _number(name: str, text: str, most: int) -> int:
 
 
 def layout_of(plan: Plan, given: Layout | None = None) -> Layout:
-    """The layout of a plan: its usual places, but for those that are given."""
+    """The layout of a plan: its usual places where none is given."""
     given = given or Layout()
     lanes = _usual_lanes(plan)
     lanes |= {it: lane for it, lane in given.lanes.items() if it in plan.phases}

@@ -212,7 +212,7 @@ Given = Pattern | Switch | Lamp | NoLamp | Reset | Begin | Set | Verify | Commit
 
 @dataclass(frozen=True)
 class Look:
-    """Nothing: the state is told, as with each request."""
+    """Nothing: the answer is the state, as with each request."""
 
 
 @dataclass(frozen=True)

@@ -99,7 +99,7 @@ class Panel:
         self._held: dict[str, Held] = {}
         self.token = secrets.token_urlsafe(24)
         self.port = 0
-        #: Connections of which a request is being answered.
+        #: Connections with a request that is being answered.
         self.busy: set[object] = set()
 
     @property
@@ -138,7 +138,7 @@ class Panel:
 
     @web.middleware
     async def _guard(self, request: web.Request, handler: Handler) -> Any:
-        """Answers no one else's pages, and tells faults as objects of JSON."""
+        """Answers no one else's pages, and answers faults as objects of JSON."""
         self.busy.add(request.protocol)
         try:
             self._check(request)
@@ -272,7 +272,7 @@ class Panel:
         return web.json_response({})
 
     async def _ask(self, request: web.Request) -> web.Response:
-        """Carries out a request of a page, and tells the state after it."""
+        """Carries out a request of a page, and answers with the state after it."""
         asked = await _body(request)
         held = self._mine(asked)
         view = view_of(asked.pop("view", None))
@@ -351,7 +351,7 @@ def _is_closing(connection: Any) -> bool:
 
 
 def _busy(held: Held) -> Stopped:
-    """What a page is told whose bench does something else."""
+    """The answer to a page while its bench does something else."""
     text = f"the bench is busy with an earlier request: {held.doing}"
     return Stopped(409, "one at a time", text, "ask again")
 

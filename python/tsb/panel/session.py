@@ -112,10 +112,10 @@ class Session:
         """The plan in effect."""
         return self.run.bench.plan
 
-    # What is told
+    # What a page gets
 
     def opened(self) -> dict[str, Any]:
-        """What a page is told once: objects, and the runs that are kept."""
+        """What a page gets once: objects, and the runs that are kept."""
         return {
             "objects": objects_told(),
             "runs": self.keep.names(),

@@ -1,4 +1,4 @@
-"""What a page is told of a bench: its status in words and numbers."""
+"""What a page gets of a bench: its status in words and numbers."""
 
 from typing import Any
 
@@ -15,7 +15,7 @@ SEQUENCES, RINGS = 4, 2
 
 
 def state_of(run: Run) -> dict[str, Any]:
-    """All that a page shows, but for pictures and the plan."""
+    """All that a page shows, except pictures and the plan."""
     bench, tape, now = run.bench, run.tape, run.now
     hands, given, lamp = tape.hands(now), tape.before(now), tape.lamp(now)
     ahead = tape.end - now

@@ -18,7 +18,7 @@ Stretch = tuple[str, int]  # a row, and how many ticks it holds for
 
 
 def place(kind: str, number: int) -> int:
-    """Where the digit of an input stands in a row."""
+    """The place of an input's digit in a row."""
     return BEGINS[kind] + number - 1
 
 

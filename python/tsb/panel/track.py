@@ -27,7 +27,7 @@ INPUTS = [
     *(f"B{it}" for it in range(1, PEDESTRIANS + 1)),
     *(f"I{it}" for it in range(1, PREEMPTS + 1)),
 ]
-# The letters of which a column tells the share: right of way, a preempt, an input.
+# The letters whose share a column has: right of way, a preempt, an input.
 SHARED = frozenset(b"GWC1234")
 # What shows nothing: no head, and no preempt or input.
 DARK, NONE = ord("-"), ord("0")
@@ -62,7 +62,7 @@ class Band:
             self.letters.append(letter)
 
     def _shared(self, tick: int) -> int:
-        """For how many ticks it had right of way before a tick, behind the last."""
+        """For how many ticks it had right of way before a tick, since the last."""
         on = tick - self.ticks[-1] if self.letters[-1] in SHARED else 0
         return self._before[-1] + on
 

@@ -1,4 +1,4 @@
-"""A status in words: what docs/use/LIVE.md tells in names, as a person says it."""
+"""A status in words: what docs/use/LIVE.md has by names, as a person says it."""
 
 from tsb.status import RingStatus, Status, Wait
 

@@ -37,7 +37,7 @@ def _phases(tables: Sequence[pd.DataFrame]) -> list[int]:
 
 
 def _places(phases: Sequence[int], run: int, runs: int) -> dict[int, float]:
-    """Where the bar of a run stands for each phase."""
+    """The place of a run's bar for each phase."""
     shift = 0.0 if runs == 1 else (run - 0.5) * BAR * 1.1
     return {phase: place + shift for place, phase in enumerate(phases)}
 
@@ -374,7 +374,7 @@ def preempts(both: Both) -> str:
 
 
 def _numbered(axis: Any, at: Any, heights: Any, texts: "pd.Series[int]") -> None:
-    """Writes numbers above marks, those of which the height is known."""
+    """Writes numbers above the marks whose height is known."""
     for when, height, text in zip(at, heights, texts, strict=True):
         if np.isfinite(height):
             axis.annotate(

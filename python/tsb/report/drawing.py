@@ -1,4 +1,4 @@
-"""Figures of matplotlib as SVG that stands within a page."""
+"""Figures of matplotlib as SVG within a page."""
 
 import io
 import re
@@ -18,9 +18,9 @@ from matplotlib.figure import Figure  # noqa: E402
 
 WIDTH = 10.0  # inches, and so are the margins, and the gap between rows of axes
 LEFT, RIGHT, TOP, BOTTOM, GAP = 0.58, 0.06, 0.32, 0.46, 0.52
-#: Of each run, its colour, its hatching and its mark: to be told apart without colours.
+#: The colour, hatching and mark of each run: they differ in black and white as well.
 RUNS: Sequence[tuple[str, str, str]] = [("#24557d", "", "o"), ("#e39a3b", "////", "D")]
-#: Of each cause, likewise.
+#: The same of each cause.
 CAUSES: dict[str, tuple[str, str, str]] = {
     "gap": ("#5fa777", "", "."),
     "maximum": ("#c23b2e", "xxxx", "^"),

@@ -15,7 +15,7 @@ from tsb.told import CAUSES, OTHER, PATTERN, WALK
 
 ENDS = [*CAUSES.values(), OTHER]
 SHOWN = ["green", "yellow", "red"]
-# Lengths of the periods of a day, in ticks: the first of which there are few is taken.
+# Lengths of the periods of a day, in ticks: the first that gives few of them is taken.
 PERIODS = [600, 3000, 9000, 36000, 144000, 864000]
 MOST_PERIODS = 24
 FOLDS = 20  # parts of a cycle
@@ -111,7 +111,7 @@ class Numbers:
     @cached_property
     def splits(self) -> pd.DataFrame:
         """How long services took (`measures.spread` of `split_s`), and `planned_s`:
-        the split that the events told last (codes 134 to 149), NA for none."""
+        the split of the newest code 134 to 149 before it, NA for none."""
         each = self.each_split
         found = measures.spread(each["split_s"], each["phase"])
         last = self._planned().groupby("phase")["planned_s"].last()
@@ -136,7 +136,7 @@ class Numbers:
         return pd.DataFrame(rows, columns=names)
 
     def _planned(self) -> pd.DataFrame:
-        """Each split that the events tell: `tick`, `phase`, `planned_s` (0 for none),
+        """Each split that the events have: `tick`, `phase`, `planned_s` (0 for none),
         in the order of ticks."""
         events = self.run.events
         told = events[events["code"].between(FIRST_SPLIT, LAST_SPLIT)]
@@ -148,7 +148,7 @@ class Numbers:
         return pd.DataFrame(found).sort_values("tick", kind="stable")
 
     def _planned_at(self, each: pd.DataFrame) -> "pd.Series[float]":
-        """The split that was told last by the begin of each service."""
+        """The newest split at the begin of each service."""
         found = pd.Series(pd.NA, each.index, dtype="Float64", name="planned_s")
         for phase, told in self._planned().groupby("phase"):
             begins = each.loc[each["phase"] == phase, "begin"]
@@ -199,7 +199,7 @@ class Numbers:
 
     @cached_property
     def walks(self) -> pd.DataFrame:
-        """How long pedestrian calls waited for the walk, likewise."""
+        """How long pedestrian calls waited for the walk, in the same form."""
         return self._waited(self.each_walk)
 
     @cached_property

@@ -100,7 +100,7 @@ def _on_green(numbers: Numbers) -> Cell:
 
 
 def unlike(a: Numbers, b: Numbers) -> tuple[Table, Table]:
-    """What differs between two runs: what stands first, and the rest."""
+    """What differs between two runs: what comes first, and the rest."""
     head = ["what", "of", LOST, a.label, b.label, "difference", "standard errors"]
     rows = [_unlike(it) for it in differences(a, b)]
     return Table("", head, rows[:FIRST]), Table("", head, rows[FIRST:])

@@ -93,7 +93,7 @@ def of_rows(
     plan: Plan | None,
     name: str | None = None,
 ) -> Run:
-    """The run that rows of events tell (`tsb.frames.read_export`; there are some): of
+    """The run that rows of events show (`tsb.frames.read_export`; there are some): of
     a street, or of a record that was kept. Without a start they begin with their
     first row."""
     begin = export["time"].min() if start is None else moment(start)

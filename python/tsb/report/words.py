@@ -20,7 +20,7 @@ OF_BENCH = (
 
 
 def read_words(words: Sequence[str]) -> argparse.Namespace:
-    """What the words say. Bad ones end the program with status 2, behind the usage
+    """What the words say. Bad ones end the program with status 2, after the usage
     and what is wrong with them."""
     known = _words()
     given = known.parse_args(words)

@@ -149,7 +149,7 @@ def _connections(name: str, it: Approach, first: int) -> list[str]:
 
 
 def _detectors(folder: Path, first: int) -> dict[int, list[str]]:
-    """Writes the detectors: those of each channel, of which the zones of a phase are
+    """Writes the detectors: those of each channel, where the zones of a phase are
     on that of its number. `first` is the number of the first lane for cars."""
     rows: list[str] = []
     channels: dict[int, list[str]] = {}

@@ -9,7 +9,7 @@ from tsb.sumo.mapping import Mapping
 @dataclass
 class Draft:
     """A plan and a mapping that were worked out, and notes of what was guessed, what
-    was rounded, and what could not be told."""
+    was rounded, and what could not be found."""
 
     plan: Plan
     mapping: Mapping

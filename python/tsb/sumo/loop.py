@@ -38,7 +38,7 @@ class Loop:
 
     `routes` and `additional` are files of SUMO; `trips` is the file to which SUMO
     writes its trips (`tsb.sumo.read_trips`). `api` is `libsumo`, which is taken where
-    it is there, or `traci` for SUMO in a program of its own, as `sumo-gui`, the
+    it is installed, or `traci` for SUMO in a program of its own, as `sumo-gui`, the
     `program`. `options` are more of SUMO's own. `change` is asked for the row of each
     tick: it is given the tick, the traffic light and the row that was read, and gives
     the row that the bench takes. A step is a tenth of a second.

@@ -49,7 +49,7 @@ class Preempt:
 
 @dataclass(frozen=True)
 class Mapping:
-    """What stands in a mapping file, checked by itself.
+    """What a mapping file has, checked by itself.
 
     `phases`, `overlaps`: the links that show a head. `permissive`: of a phase, links
     that may go beside it and yield: `g` while it is green, unless their own head has a

@@ -2,7 +2,7 @@
 through 2 and 6 on the main street, 4 and 8 on the side street, and the left turn across
 each of them 1, 5, 3 and 7.
 
-Whatever is a guess, and whatever could not be told, is a note of the draft.
+Whatever is a guess, and whatever could not be found, is a note of the draft.
 """
 
 import math
@@ -54,7 +54,7 @@ def propose(
     main: str | None = None,
 ) -> Draft:
     """The draft for a traffic light of a net. Detectors of `additional` files become
-    channels where they stand on the light's lanes; without such files the mapping has
+    channels where they lie on the light's lanes; without such files the mapping has
     the names that `zones` gives to detectors of its own. `main` is an edge of the main
     street, which is guessed without it."""
     read = read_net(net)
@@ -192,7 +192,7 @@ class _Proposal:
 
     def _yield(self, plan: Plan) -> None:
         """Where two links that are green at once meet in the net, one of them yields:
-        that which turns back, left or right, in this order."""
+        the one that turns back, left or right, in this order."""
         turns = {it.index: it.turn.lower() for it in self._light.links}
         while True:
             mapping = Mapping(self._light.name, phases=_sorted(self.phases))

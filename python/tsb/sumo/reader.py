@@ -64,7 +64,7 @@ class Reader:
         return told
 
     def _waiting(self, name: str) -> Test:
-        """Whether somebody stands before a crossing and wants to cross."""
+        """Whether somebody waits at a crosswalk and wants to cross."""
         crossing, person = self._at.light.crossings[name], self._api.person
         lists = [self._get.persons(area) for area in crossing.areas]
 
