@@ -1,7 +1,7 @@
 -- All red ends: where some phase is wanted in each tick, no phase being in service does not last. The law here is the
 -- contract of a function in src/safety.rt, and proved there. Times are in tenths of a second, which are ticks.
 --
--- A plan here has 16 phases at most, as every plan in memory has: what the layers tell one another is of phases 1 to 16
+-- A plan here has 16 phases at most, as every plan in memory has: what layers give one another is of phases 1 to 16
 -- alone, so that a phase of a greater number would never be served.
 use Rattle.std.specs.Prelude.{◌≡◌, ℕ, ◌+◌, ◌≤◌, Bool, true, false, ◌||◌, List, [], ◌∷◌, ◌++◌, is_some}
 use Rattle.tsb_step.specs.tsb_types.Intervals.{in_service}

@@ -29,11 +29,11 @@ widened_puts es = map widened_put es
 
 -- ## The built-in plans
 
--- its sequence stands in places 1 and 2, in both versions
+-- its sequence has places 1 and 2, in both versions
 unfoldable pub narrow_two : Plan
 narrow_two = with_values narrow_empty two_values
 
--- the places of ring 2 begin at 9, and all else stands where it stands in version 2
+-- the places of ring 2 begin at 9, and all else is where version 2 has it
 abbrev pub narrow_quad_values : List (Object × ℕ × ℕ)
 narrow_quad_values =
     (SequenceData, 9, 5) ∷ (SequenceData, 10, 6) ∷ (SequenceData, 11, 7) ∷ (SequenceData, 12, 8) ∷

@@ -2,7 +2,7 @@
 -- that the plan says. Each law here is the contract of a function in src/safety.rt, and proved there. Times are in
 -- tenths of a second, which are ticks.
 --
--- A plan here has 16 phases at most, as every plan in memory has: what the layers tell one another is of phases 1 to 16
+-- A plan here has 16 phases at most, as every plan in memory has: what layers give one another is of phases 1 to 16
 -- alone, so that a commitment to a phase of a greater number would wait for ever.
 use Rattle.std.specs.Prelude.{◌≡◌, ℕ, ◌+◌, ◌<◌, ◌≤◌, true, max, List, ◌∷◌, ◌++◌, Some, None, ◌⊎◌}
 use Rattle.tsb_step.specs.tsb_types.declared.row.Row.{Row}
@@ -23,7 +23,7 @@ pub record ServesEnabled (s : State) : Type 0 where
   pub serves : (p : ℕ) → in_service (interval s p) ≡ true → is_enabled s.plan p ≡ true
   pub promised : (r : Ring) (c : ℕ) → s.rings.commitment r ≡ Some c → is_enabled s.plan c ≡ true
 
--- so it is after every run, by the plan in effect then
+-- the same after every run, by the plan in effect then
 abbrev pub EnabledAreServed : Type 0
 EnabledAreServed = OfEveryRun ServesEnabled
 

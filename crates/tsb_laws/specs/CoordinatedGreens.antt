@@ -127,7 +127,7 @@ pub record ClearsWithin (plan : Plan) (j : ℕ) : Type 0 where
 
 -- The longest that p is Green in pattern k once it has a conflict: until it is forced off at its instant and may end. A
 -- late or floating force-off and a maximum end it sooner. A permissive time ends greens that have a conflict only
--- behind the instant; what has one at the instant is forced off there.
+-- after the instant; what has one at the instant is forced off there.
 unfoldable pub longest_in_pattern : Plan → ℕ → ℕ → ℕ
 longest_in_pattern plan k p = max (cycle plan k) (max (longest_initial plan p) (walk plan p + pedestrian_clear plan p))
 

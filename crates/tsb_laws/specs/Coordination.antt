@@ -1,7 +1,7 @@
 -- What a pattern asks is kept: its coordinated phases end by their force-off alone, and what it omits is not served,
 -- unless a preempt is in service. Each law here is the contract of a function in src/safety.rt, and proved there.
 --
--- A plan here has 16 phases at most, as every plan in memory has: no hold and no omit is told of a phase of a greater
+-- A plan here has 16 phases at most, as every plan in memory has: no order holds or omits a phase of a greater
 -- number.
 use Rattle.std.specs.Prelude.{◌≡◌, ℕ, ◌+◌, ◌-◌, ◌≤◌, Bool, true, false, ◌&&◌, ◌||◌, List, [], ◌∷◌, Some, None, ◌⊎◌}
 use Rattle.tsb_step.specs.tsb_types.declared.row.Row.{Row}

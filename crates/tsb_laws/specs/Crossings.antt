@@ -2,7 +2,7 @@
 -- the rings to starts on the other side, in a time that the plan says. The law here is the contract of a function in
 -- src/safety.rt, and proved there. Times are in tenths of a second, which are ticks.
 --
--- A plan here has 16 phases at most, as every plan in memory has: what the layers tell one another is of phases 1 to 16
+-- A plan here has 16 phases at most, as every plan in memory has: what layers give one another is of phases 1 to 16
 -- alone, so that a crossing to a phase of a greater number would wait for ever.
 use Rattle.std.specs.Prelude.{◌≡◌, ℕ, suc, ◌+◌, ◌<◌, ◌≤◌, true, List, ◌∷◌, ◌++◌, Some, None, ◌⊎◌}
 use Rattle.tsb_step.specs.tsb_types.declared.row.Row.{Row}

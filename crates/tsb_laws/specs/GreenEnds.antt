@@ -1,7 +1,7 @@
 -- Why a green ends: what a tick that ends one has found, and for how long that had held. The law here is the contract of
 -- a function in src/operation.rt, and proved there. Times are in tenths of a second, which are ticks.
 --
--- A plan here has 16 phases at most, as every plan in memory has: of a phase of a greater number phase timing is told
+-- A plan here has 16 phases at most, as every plan in memory has: of a phase of a greater number phase timing is given
 -- nothing.
 use Rattle.std.specs.Prelude.{◌≡◌, ℕ, suc, ◌+◌, ◌≤◌, Bool, true, false, not, ◌&&◌, if◌then◌else◌, min, List, [], ◌∷◌, Option, Some, None, is_some, is_none, ◌⊎◌}
 use Rattle.tsb_step.specs.tsb_types.declared.row.Row.{Row}

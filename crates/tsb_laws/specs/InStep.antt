@@ -1,5 +1,5 @@
 -- When the local counter is in step with the cycle and the offset, and that a pattern that is selected goes on from
--- where it stands. The laws here are the contracts of functions in src/operation.rt, and proved there.
+-- where it is. The laws here are the contracts of functions in src/operation.rt, and proved there.
 use Rattle.std.specs.Prelude.{◌≡◌, ◌≢◌, ℕ, ◌-◌, ◌≤◌, ◌%◌, Bool, true, false, List, ◌∷◌, ◌++◌, Some, None, ◌⊎◌}
 use Rattle.tsb_step.specs.tsb_plan.declared.plan.patterns.CorrectionMode.TheVariants.{AtOnce}
 use Rattle.tsb_step.specs.tsb_plan.Parts.{cycle, correction_mode, correction_limit}
@@ -69,7 +69,7 @@ ComeIntoStep = (plan : Plan) (is later : List Input) (n : ℕ) → IsConsistent 
 
 -- ## Where a pattern is selected
 
--- pattern n, which is used, begins where the local counter l of the pattern that runs stands, within its own cycle
+-- pattern n, which is used, begins at the local counter l of the pattern that runs, within its own cycle
 abbrev pub GoesOnFrom : State → Type 0
 GoesOnFrom s = (n l : ℕ) → is_pattern s.plan n ≡ true → correction_mode s.plan ≢ AtOnce → local s ≡ Some l →
     local (step s (Pattern n)) ≡ Some (l % cycle s.plan n)

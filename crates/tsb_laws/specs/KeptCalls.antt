@@ -1,8 +1,8 @@
--- Calls are kept: what a detector or a button asks for is remembered, and what is remembered stands until it is served,
+-- Calls are kept: what a detector or a button asks for is remembered, and what is remembered lasts until it is served,
 -- whatever inputs come but the reset of a trip. Each law here is the contract of a function in src/operation.rt, and
 -- proved there.
 --
--- A plan here has 16 phases at most, as every plan in memory has: no pedestrian call is told of a phase of a greater
+-- A plan here has 16 phases at most, as every plan in memory has: no pedestrian call is given of a phase of a greater
 -- number.
 use Rattle.std.specs.Prelude.{◌≡◌, ◌≢◌, ℕ, ◌≤◌, Bool, true, false, ◌&&◌, List, [], ◌∷◌, ◌++◌, None, is_some, ◌⊎◌}
 use Rattle.tsb_step.specs.tsb_types.declared.interval.Interval.TheVariants.{Green}
@@ -66,7 +66,7 @@ pub record HasTurnedGreen (plan : Plan) (base : List Input) (p : ℕ) (later : L
   pub parts : later ≡ newer ++ (Tick next ∷ older)
   pub started : StartsGreen plan (older ++ base) next p
 
--- A remembered vehicle call stands until its phase turns Green.
+-- A remembered vehicle call lasts until its phase turns Green.
 abbrev pub VehicleCallsStand : Type 0
 VehicleCallsStand = (plan : Plan) (is later : List Input) (p : ℕ) → IsConsistent plan → AreTaken plan (later ++ is) →
     RunsOn plan is later → (replay plan is).memories.vehicle p ≡ true →
@@ -80,7 +80,7 @@ pub record HasBegunWalk (plan : Plan) (base : List Input) (p : ℕ) (later : Lis
   pub parts : later ≡ newer ++ (Tick next ∷ older)
   pub begun : BeginsWalk (replay plan (older ++ base)) next p
 
--- A remembered pedestrian call stands until its phase's walk begins.
+-- A remembered pedestrian call lasts until its phase's walk begins.
 abbrev pub PedestrianCallsStand : Type 0
 PedestrianCallsStand = (plan : Plan) (is later : List Input) (p : ℕ) → IsConsistent plan → plan.phase_count ≤ 16 →
     AreTaken plan (later ++ is) → RunsOn plan is later → (replay plan is).memories.pedestrian p ≡ true →

@@ -18,7 +18,7 @@ pub mod Coordination
 pub mod AllRed
 -- a bound for the dwell of a preempt that is false
 pub mod PreemptDwells
--- that what calls is remembered, and stands until it is served
+-- that what calls is remembered until it is served
 pub mod KeptCalls
 -- between which times the maximum in use stays, and how far it moves
 pub mod RunningMaximum
@@ -42,7 +42,7 @@ pub mod UnwantedGreens
 pub mod WantedStarts
 -- in what time calls are served in free operation
 pub mod ServedCalls
--- the runs of which the laws speak
+-- the runs that the laws are about
 pub mod Runs
 -- timers among the cells, and what a tick makes of them
 pub mod Timers
@@ -58,13 +58,13 @@ pub mod BuiltIn
 pub mod Versions
 -- plan texts of version 1, and the plans that they name and give
 pub mod Texts
--- that a session has one text, but for memory
+-- that a session has one text, up to want of memory
 pub mod OneText
--- that a live run has one answer to each line, but for memory
+-- that a live run has one answer to each line, up to want of memory
 pub mod OneAnswer
 -- that what is saved of a live run is a session which ends alike
 pub mod SavedRuns
--- what the events of runs tell
+-- what the events of runs show
 pub mod Told
 -- that coordinated phases are awaited and other greens forced off, and within which time a coordinated phase is Green again
 pub mod CoordinatedGreens

@@ -1,4 +1,4 @@
--- That a live run has one answer to each line, but for memory, as statements.
+-- That a live run has one answer to each line, up to want of memory, as statements.
 --
 -- All are proved, each as the contract of a function that does nothing (src/one_text.rt).
 use Rattle.std.specs.Prelude.{◌≡◌, ◌⊎◌, ℕ, List, [], ◌∷◌, Option, Some}

@@ -18,11 +18,11 @@ use Rattle.tsb_text.specs.Written.{with_feed}
 abbrev pub memory_line : List ℕ
 memory_line = refused_line Memory
 
--- a line of the text tells that memory ran out
+-- a line of the text says that memory ran out
 abbrev pub tells_memory : List ℕ → Bool
 tells_memory text = list_any (bytes_eq memory_line) (split text)
 
--- after lines that both texts begin with, the first tells that memory ran out
+-- after lines that both texts begin with, the first says that memory ran out
 pub record PartsAtMemory (text other : List ℕ) : Type 0 where
   pub front : List ℕ
   pub behind : List ℕ
@@ -31,7 +31,7 @@ pub record PartsAtMemory (text other : List ℕ) : Type 0 where
   pub told : text ≡ front ++ (with_feed memory_line ++ behind)
   pub shared : other ≡ front ++ others
 
--- they are equal, or they are up to a line where one of them tells that memory ran out
+-- they are equal, or they are up to a line where one of them says that memory ran out
 abbrev pub AreEqualButForMemory : List ℕ → List ℕ → Type 0
 AreEqualButForMemory text other = (text ≡ other) ⊎ (PartsAtMemory text other ⊎ PartsAtMemory other text)
 
@@ -42,7 +42,7 @@ abbrev pub OfTwoTexts : (List ℕ → List ℕ → Type 0) → Type 0
 OfTwoTexts fact = (given : Setup) (inputs : List Input) (bytes text other : List ℕ) → IsText given inputs bytes text →
     IsText given inputs bytes other → fact text other
 
--- Two texts to the same bytes part nowhere but where one of them tells that memory ran out.
+-- Two texts to the same bytes part nowhere but where one of them says that memory ran out.
 abbrev pub TextsPartAtMemory : Type 0
 TextsPartAtMemory = OfTwoTexts AreEqualButForMemory
 
@@ -50,7 +50,7 @@ TextsPartAtMemory = OfTwoTexts AreEqualButForMemory
 abbrev pub OneText : Type 0
 OneText = OfTwoTexts (λ text other. tells_memory text ≡ false → tells_memory other ≡ false → text ≡ other)
 
--- a text to these bytes that does not tell that memory ran out
+-- a text to these bytes that does not say that memory ran out
 pub record Untold (given : Setup) (inputs : List Input) (bytes : List ℕ) : Type 0 where
   pub text : List ℕ
   pub so : IsText given inputs bytes text
@@ -69,7 +69,7 @@ pub record Session (given : Setup) (bytes : List ℕ) : Type 0 where
   pub new : Option (List ℕ)
   pub ended : Ended (Ok tt) given (Some bytes) left old new
 
--- So two sessions over the same plan, log and bytes have written the same, where neither told that memory ran out.
+-- So two sessions over the same plan, log and bytes have written the same, where neither said that memory ran out.
 abbrev pub SessionsWriteOneText : Type 0
 SessionsWriteOneText = (given : Setup) (bytes : List ℕ) (session other : Session given bytes) → tells_memory session.ended.written ≡ false →
     tells_memory other.ended.written ≡ false → session.ended.written ≡ other.ended.written

@@ -79,7 +79,7 @@ ClearsWithItsSplit s = (rows : ℕ → Row) (n p c : ℕ) → IsForcedOff s n p 
 abbrev pub HasSafeField : State → Type 0
 HasSafeField s = s.trip ≡ None → conflict s.plan (field s) ≡ None
 
--- unless the controller has tripped, or a preempt chooses anew, a commitment stands over the next input, or its phase turns
+-- unless the controller has tripped, or a preempt chooses anew, a commitment lasts over the next input, or its phase turns
 -- Green by it
 abbrev pub KeepsCommitments : State → Type 0
 KeepsCommitments s = (i : Input) (r : Ring) (c : ℕ) → s.trip ≡ None → is_choosing (step s i) ≡ false →
@@ -253,13 +253,13 @@ ReachesChosenDwells plan is = (older later : List Input) (row : Row) (n g w c v 
     ReachesDwell plan (Tick row ∷ older) n limit later
     ⊎ ((replay plan (later ++ (Tick row ∷ older))).now < (replay plan (Tick row ∷ older)).now + limit)
 
--- a vehicle call that was remembered is so now, or its phase has turned Green since
+-- a vehicle call that was remembered still is, or its phase has turned Green since
 abbrev pub KeepsVehicleCalls : Plan → List Input → Type 0
 KeepsVehicleCalls plan is = (base later : List Input) (p : ℕ) → is ≡ later ++ base → RunsOn plan base later →
     (replay plan base).memories.vehicle p ≡ true →
     ((replay plan is).memories.vehicle p ≡ true) ⊎ HasTurnedGreen plan base p later
 
--- a pedestrian call that was remembered is so now, or the walk of its phase has begun since
+-- a pedestrian call that was remembered still is, or the walk of its phase has begun since
 abbrev pub KeepsPedestrianCalls : Plan → List Input → Type 0
 KeepsPedestrianCalls plan is = (base later : List Input) (p : ℕ) → is ≡ later ++ base → RunsOn plan base later →
     (replay plan base).memories.pedestrian p ≡ true →

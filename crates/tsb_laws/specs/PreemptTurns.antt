@@ -42,6 +42,6 @@ EndsFrom s i = (x : Service) → s.preempts.service ≡ Some x → (step s i).pr
 abbrev pub PreemptsGiveWay : Type 0
 PreemptsGiveWay = OfEveryRun (λ s. (i : Input) → GivesWay s i)
 
--- And so it is with each input that ends a service.
+-- The same holds of each input that ends a service.
 abbrev pub ServicesEnd : Type 0
 ServicesEnd = OfEveryRun (λ s. (i : Input) → EndsFrom s i)

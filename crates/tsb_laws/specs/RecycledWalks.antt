@@ -36,7 +36,7 @@ FitsBeforeForceOff s p = (t : ℕ) → s.now < t → t ≤ s.now + (walk s.plan 
     forces s.plan s.pattern s.correction t p ≡ false
 
 -- in the tick p may walk again: it has pedestrian recycle and is a coordinated phase of the pattern that runs, it was
--- Green in DontWalk and has a pedestrian call, no preempt is in service, no force-off stands for a conflict that it
+-- Green in DontWalk and has a pedestrian call, no preempt is in service, no force-off is in force for a conflict that it
 -- still has, the local counter is in step, and a walk fits
 pub record MayWalkAgain (s : State) (row : Row) (p : ℕ) : Type 0 where
   pub recycles : recycles_walk s.plan p ≡ true

@@ -1,4 +1,4 @@
--- The runs of which the laws of this crate speak: those of a plan such as the program holds, by inputs whose numbers
+-- The runs that the laws of this crate are about: those of a plan such as the program holds, by inputs whose numbers
 -- are of the program's types.
 use Rattle.std.specs.Prelude.{◌≡◌, ℕ, ◌≤◌, List, [], ◌∷◌}
 use Rattle.tsb_step.specs.tsb_plan.declared.object.Object.{Object}
@@ -30,7 +30,7 @@ abbrev pub AreTyped : List Input → Type 0
 AreTyped [] = Unit {0}
 AreTyped (i ∷ is) = IsTyped i × AreTyped is
 
--- a run from power-up, each input of which was taken
+-- a run from power-up; each of its inputs was taken
 pub record IsRun (plan : Plan) (is : List Input) : Type 0 where
   pub plan_held : IsHeld plan
   pub taken : AreTaken plan is

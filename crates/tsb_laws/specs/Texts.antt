@@ -1,6 +1,6 @@
 -- Plan texts of versions 1 and 2. Of version 1: the plan of 8 phases and 2 sides that a text names, and what holds of
 -- it and of the plan that is read. Of version 2: what is read where the number of version 3 takes its place. All of it
--- as statements; how a text is read, or refused, stands in tsb_plan_text.
+-- as statements; tsb_plan_text has how a text is read, or refused.
 --
 -- All are proved, as the contract of a function that does nothing (src/versions.rt).
 use Rattle.std.specs.Prelude.{◌≡◌, ◌↔◌, ℕ, ◌≤◌, false, List, length, map, if◌then◌else◌, Some, None, Ok, codes}
@@ -22,14 +22,14 @@ use Rattle.tsb_laws.specs.Widened.{IsNarrow, widened_input, AreWithin, widened_s
 use Rattle.tsb_laws.specs.Options.{HasNoOptions, OptionsOff}
 use Rattle.tsb_laws.specs.Versions.{SaysTheSame}
 
--- the text is a JSON object that tells this version, and these are its members
+-- the text is a JSON object of this version, and these are its members
 pub record IsOfVersion (v : Version) (text : List ℕ) (members : Members) : Type 0 where
   pub value : Data
   pub is_json : data_of text ≡ Some value
   pub is_table : as_object value ≡ Some members
   pub tells : version_in members ≡ Some v
 
--- the plan of 8 phases and 2 sides that the members of a text name: at an index of version 1 the number that stands
+-- the plan of 8 phases and 2 sides that the members of a text name: at an index of version 1 the number that is
 -- under the object's name and the index, and 0 where none does
 abbrev pub named_plan : Members → Plan
 named_plan members = record {
@@ -55,7 +55,7 @@ abbrev pub NamedPlansBreakNoRule : Type 0
 NamedPlansBreakNoRule = OfReadTexts (λ members plan. first_broken (named_plan members) ≡ None)
 
 -- what a bench of 16 phases and 4 sides does with the plan that is read, beside what one of 8 and 2 does with the plan
--- that is named: both take the same inputs, show the same heads, and are in the same state but for the translated plan
+-- that is named: both take the same inputs, show the same heads, and are in the same state, with the translated plan
 -- and edits
 pub record GoesAlike (named read : Plan) (is : List Input) : Type 0 where
   pub taken : AreTaken named is ↔ AreTaken read (map widened_input is)

@@ -77,7 +77,7 @@ cell_of (Delay n) = first_cell.PREEMPTS + (1 + n)
 cell_of Served = first_cell.PREEMPTS + 8
 cell_of Track = first_cell.PREEMPTS + 9
 
--- a timer after a tick in which it stayed Off or ran on; in a controller that has tripped timers stand still
+-- a timer after a tick in which it stayed Off or ran on; in a controller that has tripped timers rest
 abbrev pub waits : State → Timer → Timer
 waits s t = if is_some s.trip then t else advanced t
 

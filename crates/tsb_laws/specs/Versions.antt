@@ -74,7 +74,7 @@ HeadsAgree = OfBothBenches (λ narrow is wide translations. display (replay wide
 abbrev pub FieldsAgree : Type 0
 FieldsAgree = OfBothBenches (λ narrow is wide translations. field (replay wide translations) ≡ field (replay narrow is))
 
--- The whole states agree: but for the plan, and for the edits of the desk, which are translated, they are equal.
+-- The whole states agree: plan and edits of the desk are translated, and all else is equal.
 abbrev pub StatesAgree : Type 0
 StatesAgree = OfBothBenches (λ narrow is wide translations. replay wide translations ≡ widened_state (replay narrow is))
 
@@ -101,6 +101,6 @@ pub record RestsBeyond (plan : Plan) (is : List Input) (p : ℕ) : Type 0 where
   pub disabled : is_enabled (replay plan is).plan p ≡ false
   pub resting : (replay plan is).phases p ≡ phase.at_power_up
 
--- so it is after any inputs within version 1's ranges
+-- the same after any inputs within version 1's ranges
 abbrev pub OthersRest : Type 0
 OthersRest = (p : ℕ) → 8 < p → OfBothBenches (λ narrow is wide translations. RestsBeyond wide translations p)

@@ -1,4 +1,4 @@
--- The bench of 16 phases and 4 sides that stands for one of 8 and 2: the plan that a plan text of version 1 becomes,
+-- The bench of 16 phases and 4 sides in place of one of 8 and 2: the plan that a plan text of version 1 becomes,
 -- and inputs, edits and states with it. All of it is the profile's own.
 use Rattle.std.specs.Prelude.{◌≡◌, ℕ, ◌+◌, ◌-◌, ◌*◌, ◌/◌, ◌%◌, ◌≤◌, nat_le, nat_lt, Bool, true, false, ◌&&◌, if◌then◌else◌, List, [], ◌∷◌, map, Option, Some, None}
 use Rattle.tsb_step.specs.tsb_types.declared.lamp.Lamp.{Lamp}

@@ -1,4 +1,4 @@
-//! What the events of a run tell, each law the contract of a function that does nothing.
+//! What the events of a run show, each law the contract of a function that does nothing.
 ghost use Rattle.tsb_laws.specs.Told.{InputsMakeTheLog, LinesAreReadInRuns, LinesTellTheSame, RunsTellTheHeads, RunsTellTheInputs};
 
 /// `read`: The display line of each state of a run is read as what it shows. `shown_in` has its tick, and what the
@@ -10,11 +10,11 @@ ghost use Rattle.tsb_laws.specs.Told.{InputsMakeTheLog, LinesAreReadInRuns, Line
 ///
 /// `same`: Display lines tell what the controller tells. The events that come of the lines before and after an input are
 /// those of the same codes among the events of this input, in the same order. So where each input has its line,
-/// `events` of tsb_field tells the same of these codes.
+/// `events` of tsb_field gives the same of these codes.
 ///
 /// Needs: at most 16 phases, as every plan in memory has. In flash some enabled phase flashes, as a rule of plans wants
 /// one (K1), and a display line shows no phase beyond 16 (`in_flash`, `out_of_sight`). Preempts need nothing: where one
-/// follows another, both tell that it enters.
+/// follows another, both have it enter.
 /// Not said: anything of lines between which there are several inputs.
 /// Mistake: greens by the intervals of phases alone, which a trip leaves (`still_green`, `shows_none`).
 /// Witness: `a_trip`, `trip_lines` and `trip_told` of LineRuns.
@@ -40,7 +40,7 @@ pub fn runs_tell_the_heads()
 ///
 /// Needs: a record without outputs, whose detectors go on and off before delay and extension (`by_output`); and no
 /// operator's switch of a preempt on in the run, which asks for a preempt that no row does (`switched_told`).
-/// Mistake: inputs told against all off, and not against the tick before (`goes_on`, `would_come_again`).
+/// Mistake: events of inputs against all off, and not against the tick before (`goes_on`, `would_come_again`).
 /// Witness: `two_rows`, `two_told` and `no_switch` of LineRuns.
 ///
 /// `row`: The events of a run tell what is on at its end: of each vehicle detector its input in the newest tick, or its
@@ -48,7 +48,7 @@ pub fn runs_tell_the_heads()
 /// last event that says something of it decides. So they tell the row of each tick, by what the run has told as far as
 /// that tick.
 ///
-/// Mistake: an input that goes off is not told, so that it stays on (`stays_on`, `is_off`).
+/// Mistake: an input that goes off has no event, so that it stays on (`stays_on`, `is_off`).
 /// Witness: `two_told` and `switched_told` of LineRuns.
 pub fn inputs_make_the_log()
     ensures log { InputsMakeTheLog }

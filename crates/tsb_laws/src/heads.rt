@@ -43,14 +43,14 @@ pub fn lit_heads_stay()
 ///
 /// Needs: an untripped run, and an input that does not trip the controller.
 /// Mistake: a pattern that ends greens, `pattern_ends` (`stays_green`, `would_be_red`).
-/// Witness: `a_phase` of RedRevertRuns, of which the tick turns a head red.
+/// Witness: `a_phase` of RedRevertRuns, whose tick turns a head red.
 ///
 /// `overlaps`: So does the head of a normal overlap.
 ///
 /// Needs: as of phases.
 /// Not said: anything of overlaps of type minusGreenYellow, whose yellows may be shorter.
 /// Mistake: a commit of overlaps that does not wait, `relisting` (`waits_too`, `would_turn_red`).
-/// Witness: `a_lit_overlap` of RedRevertRuns, of which the tick turns a head red.
+/// Witness: `a_lit_overlap` of RedRevertRuns, whose tick turns a head red.
 pub fn lit_heads_clear_in_yellow()
     ensures phases { LitPhasesClearInYellow }
     ensures overlaps { LitOverlapsClearInYellow }

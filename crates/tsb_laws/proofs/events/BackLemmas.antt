@@ -1,4 +1,4 @@
--- The events of a run tell its heads back, as those of its display lines do.
+-- The events of a run give its heads back, as those of its display lines do.
 use Rattle.std.proofs.Common.{◌≡◌, ◌∙◌, ℕ, ◌≤◌, ◌==◌, Bool, true, false, ◌&&◌, List, [], ◌∷◌, ◌++◌, filter, Option, None, is_some, refl, sym, ap, inl, inr, append_assoc}
 use Rattle.std.proofs.lemmas.Bool.{cases_Bool, and_right}
 use Rattle.std.proofs.lemmas.List.{append-nil}
@@ -168,7 +168,7 @@ none-overlap-yellow c h = rw (differs by_line c 61 h refl, differs by_line c 63 
 none-flash : (e : Event) → by_line e.code ≡ false → says_flash e ≡ None
 none-flash e h = rw (differs by_line e.code 173 h refl) refl
 
--- ## Heads told back
+-- ## Heads given back
 
 flash-is-a-trip : (s : State) → (view s).flashes ≡ is_some s.trip
 unfolding view

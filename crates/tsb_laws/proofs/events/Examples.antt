@@ -1,2 +1,2 @@
--- Runs whose events tell what display lines and logs tell, and mistakes that the laws refuse.
+-- Runs with the events of their display lines and logs, and mistakes that the laws refuse.
 pub mod LineRuns

@@ -144,7 +144,7 @@ same-rows one other e =
       preempts = record { word = eqb-true one.preempts.word other.preempts.word rest.1 i };
     }
 
--- the same inputs again tell nothing
+-- the same inputs again have no event
 no-change : (tick : ℕ) (row : Row) → events_of_row row (record { tick = tick; row = row }) ≡ []
 unfolding events_of_row
 no-change tick row =
@@ -152,7 +152,7 @@ no-change tick row =
     ++ (none.none-told tick 89 (has_number row.pedestrians) i ++ none.none-told tick 90 (has_number row.pedestrians) i)
     ++ (none.none-told tick 102 (has_number row.preempts) i ++ none.none-told tick 104 (has_number row.preempts) i)
 
--- the row of the last of rows, of which the first comes after this
+-- the row of the last of rows, where the first comes after this
 abbrev row_after : Row → List LogRow → Row
 row_after before [] = before
 row_after before (row ∷ rows) = row_after row.row rows
@@ -167,7 +167,7 @@ row-append : (before : Row) (rows more : List LogRow) → row_after before (rows
 row-append before [] more = refl
 row-append before (row ∷ rows) more = row-append row.row rows more
 
--- a row that changes is told, and another tells nothing
+-- a row that changes has events, and another has none
 told-if-changed : (last : Row) (tick : ℕ) (row : Row) → events_behind last (if_changed last tick row) ≡ events_of_row last (record { tick = tick; row = row })
 told-if-changed last tick row = elim (cases_Bool (is_same_row last row)) [
   | inl same ↦ rw same (sym (no-change tick row) ∙ ap (λ (r : Row). events_of_row r (record { tick = tick; row = row })) (sym (same-rows last row same)))

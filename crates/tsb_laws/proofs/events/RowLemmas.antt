@@ -1,4 +1,4 @@
--- The events of a run tell which detectors and requests of preempts are on at its end.
+-- The events of a run show which detectors and requests of preempts are on at its end.
 use Rattle.std.proofs.Common.{◌≡◌, ◌∙◌, ℕ, ◌≤◌, Bool, true, false, not, ◌&&◌, ◌||◌, List, [], ◌∷◌, ◌++◌, filter, Option, None, if◌then◌else◌, refl, sym, ap}
 use Rattle.tsb_step.specs.tsb_types.Events.{begins, ends, told}
 use Rattle.tsb_step.specs.tsb_types.Sets.{all_off, has_number}
@@ -149,7 +149,7 @@ requests-off : (n : ℕ) (plan : Plan) → requests all_off (view (start plan)) 
 unfolding view
 requests-off n plan = ap (λ (b : Bool). b || false) (names-zero n)
 
--- ## What runs tell
+-- ## What the events of runs show
 
 pub tell-the-inputs : RunsTellTheInputs
 tell-the-inputs form plan is = record {

@@ -1,4 +1,4 @@
--- The events of a run: those of display lines, and the heads that they tell back.
+-- The events of a run: those of display lines, and the heads that they give back.
 use Rattle.std.proofs.Common.{◌≡◌, ◌∙◌, ◌≤◌, List, ◌∷◌, filter, sym, arith}
 use Rattle.tsb_step.specs.tsb_types.declared.limits.TheConstants.{TICKS}
 use Rattle.tsb_step.specs.tsb_plan.Plan.{Plan}

@@ -116,7 +116,7 @@ seek-answer plan is t (Changed c) r = absurd r
 
 -- ## Watches
 
--- of a run it is told once when a value changed last
+-- a run has one answer to when a value changed last
 one-change : (w : Watch) (ss : List State) (t u : Option ℕ) → TellsLastChange w ss t → TellsLastChange w ss u → t ≡ u
 one-change w [] t u p q = p ∙ sym q
 one-change w (s ∷ []) t u p q = p ∙ sym q
@@ -156,7 +156,7 @@ answers-alike plan is (Back n) a b p q = inl (back-answer plan is n a p ∙ sym 
 answers-alike plan is (Seek t) a b p q = inl (seek-answer plan is t a p ∙ sym (seek-answer plan is t b q))
 answers-alike plan is (When w) a b p q = inl (when-same plan is w a b (when-answer plan is w a p) (when-answer plan is w b q))
 
--- ## Answers told apart
+-- ## Answers that differ
 
 pub took-refused : (e : Refusal) → Took ≡ Refused e → ⊥
 took-refused e h = cc

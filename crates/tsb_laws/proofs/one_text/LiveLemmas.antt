@@ -80,7 +80,7 @@ refused-apart plan is cmd why whys x y = elim (answers-alike plan is cmd (answer
   ]
 ]
 
--- two refusals, each told by its line after the same bytes
+-- two refusals, each printed as its line after the same bytes
 refusals-same : (before : List ℕ) (is : List Input) (text other : List ℕ) (r q : Option Refusal) (new left : List Input) (why whys : Refusal) → (why ≡ whys) ⊎ ((why ≡ Memory) ⊎ (whys ≡ Memory))
     → text ≡ before ++ with_feed (refused_line why) → other ≡ before ++ with_feed (refused_line whys) → r ≡ Some why → q ≡ Some whys → new ≡ is → left ≡ is → Same text other r q new left
 refusals-same before is text other r q new left why whys (inl e) a b c d f g = inl (a ∙ ap (λ (w : Refusal). before ++ with_feed (refused_line w)) e ∙ sym b, c ∙ ap Some e ∙ sym d, f ∙ sym g)
@@ -110,7 +110,7 @@ task-same given b is tasks.Show text other why whys new left x y = inl (x.0 ∙ 
 task-same given b is tasks.Quit text other why whys new left x y = inl (x.0 ∙ sym y.0, x.1 ∙ sym y.1, x.2 ∙ sym y.2)
 task-same given b is (tasks.Ask cmd) text other why whys new left x y = once-same given b is cmd text other why whys new left x y
 
--- ## Ticks of which only the changes are told
+-- ## Ticks whose changes alone are printed
 
 changes-same : (plan : Plan) (b : Besides) (row : Row) (n : ℕ) (is : List Input) (before : List ℕ) (is_owed : Bool) (text other : List ℕ) (why whys : Option Refusal) (new left : List Input)
     → Changes plan b row is before is_owed n text why new → Changes plan b row is before is_owed n other whys left → Same text other why whys new left

@@ -1,4 +1,4 @@
--- Texts that are equal but for memory, put together line by line; and what tells that memory ran out.
+-- Texts that are equal up to want of memory, put together line by line; and which line says that memory ran out.
 use Rattle.std.proofs.Common.{◌≡◌, ℕ, ◌==◌, ◌||◌, if◌then◌else◌, Bool, true, false, List, [], ◌∷◌, ◌++◌, bytes_eq, refl, sym, ap, ◌∙◌, subst, append_assoc, append-nil, inl, inr}
 use Rattle.std.specs.List.{list_any}
 use Rattle.tsb_text.specs.tsb_lines.Lines.{split, onto_first}
@@ -56,7 +56,7 @@ equal-behind lines text other ended (inl same) = inl (ap (λ (l : List ℕ). lin
 equal-behind lines text other ended (inr (inl p)) = inr (inl (parts-behind lines text other ended p))
 equal-behind lines text other ended (inr (inr p)) = inr (inr (parts-behind lines other text ended p))
 
--- ## What tells that memory ran out
+-- ## Lines that say that memory ran out
 
 -- a line after the first passes the test
 PassesBehind : (List ℕ → Bool) → List (List ℕ) → Type 0

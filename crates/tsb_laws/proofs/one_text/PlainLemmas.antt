@@ -1,4 +1,4 @@
--- No answer but that memory ran out reads like it, and each is one line. So there is a text that does not tell it.
+-- No other answer reads like that of want of memory, and each is one line. So there is a text without that line.
 use Rattle.std.proofs.Common.{◌≡◌, ◌≢◌, ℕ, ◌<◌, ◌≤◌, ◌+◌, ◌==◌, Bool, false, List, [], ◌∷◌, ◌++◌, map, codes, bytes_eq, Option, Some, None, refl, ap, ◌∙◌, arith, append_assoc}
 use Rattle.std.specs.List.{list_any}
 use Rattle.std.proofs.lemmas.Bool.Decides.{nat_tests}
@@ -33,7 +33,7 @@ use Rattle.tsb_laws.specs.OneText.{memory_line, tells_memory}
 abbrev has_feed : List ℕ → Bool
 has_feed line = list_any (λ b. b == 10) line
 
--- a line, and another one than tells that memory ran out
+-- a line, and another one than says that memory ran out
 pub record IsPlain (line : List ℕ) : Type 0 where
   pub one : has_feed line ≡ false
   pub other : bytes_eq memory_line line ≡ false
@@ -44,7 +44,7 @@ split-line (b ∷ line) text none =
     let parts : ((b == 10) ≡ false) × (has_feed line ≡ false) = or_false (b == 10) (has_feed line) none in
     rw (parts.0, split-line line text parts.1) refl
 
--- such a line adds nothing to what a text tells of memory
+-- such a line adds nothing to what a text says of memory
 pub plain-before : (line text : List ℕ) → IsPlain line → tells_memory (with_feed line ++ text) ≡ tells_memory text
 plain-before line text plain =
     ap tells_memory (append_assoc line (10 ∷ []) text) ∙ ap (list_any (bytes_eq memory_line)) (split-line line text plain.one) ∙ rw plain.other refl
@@ -70,7 +70,7 @@ pedestrian-plain pedestrian_aspects.DontWalk = refl
 pedestrian-plain pedestrian_aspects.Clearance = refl
 pedestrian-plain pedestrian_aspects.Walk = refl
 
--- a list of bytes that has none; a record, so that the list is told by it
+-- a list of bytes that has none; a record, so that the list is known by it
 record IsFeedless (line : List ℕ) : Type 0 where
   none : has_feed line ≡ false
 

@@ -1,4 +1,4 @@
--- Two texts that a session may write to the same bytes are equal but for memory.
+-- Two texts that a session may write to the same bytes are equal up to want of memory.
 use Rattle.std.proofs.Common.{◌≡◌, ◌⊎◌, ℕ, zero, suc, false, List, [], ◌∷◌, ◌++◌, Option, Some, None, Ok, codes, sym, ap, ap₂, ◌∙◌, subst, subst₂, true≢false, append-nil, inl, inr}
 use Rattle.std.specs.Io.KnownBytes.{Consumes}
 use Rattle.tsb_step.specs.tsb_types.declared.refusal.Refusal.{Refusal}
@@ -31,7 +31,7 @@ record AreSame (text other : List ℕ) (left others : List Input) : Type 0 where
   inputs : left ≡ others
   ended : EndsLine text
 
--- the same, or one of them tells that memory ran out
+-- the same, or one of them says that memory ran out
 AreAnswersAlike : List ℕ → List ℕ → List Input → List Input → Type 0
 AreAnswersAlike text other left others = AreSame text other left others ⊎ (PartsAtMemory text other ⊎ PartsAtMemory other text)
 

@@ -1,4 +1,4 @@
--- There is a text to all bytes that does not tell that memory ran out.
+-- There is a text to all bytes that does not say that memory ran out.
 use Rattle.std.proofs.Common.{◌≡◌, ◌≢◌, ◌⊎◌, ℕ, zero, suc, nat_lt, Bool, true, false, List, [], ◌∷◌, ◌++◌, codes, Option, Some, None, refl, ap, ◌∙◌, rules, append_assoc, inl, inr}
 use Rattle.tsb_step.specs.tsb_types.declared.refusal.Refusal.{Refusal}
 use Rattle.tsb_step.specs.tsb_types.declared.refusal.Refusal.TheVariants.{Memory}
@@ -25,7 +25,7 @@ use Rattle.tsb_text.proofs.WatchLemmas.{some-change}
 use Rattle.tsb_laws.specs.OneText.{tells_memory, Untold}
 use Rattle.tsb_laws.proofs.one_text.PlainLemmas.{IsPlain, plain-before, display-plain, taken-plain, refused-plain, undone-plain, when-plain, nothing-plain, bad-plain}
 
--- an answer that adds nothing to what a text tells of memory
+-- an answer that adds nothing to what a text says of memory
 record Plain (IsAnswer : List ℕ → List Input → Type 0) : Type 0 where
   text : List ℕ
   left : List Input

@@ -70,7 +70,7 @@ pub count_run : (plan : Plan) (is : List Input) → (replay plan is).plan.phase_
 count_run plan [] = refl
 count_run plan (i ∷ is) = count_same (replay plan is) i ∙ count_run plan is
 
--- what the rings are told of one of 16 phases
+-- what the rings are given of one of 16 phases
 pub clipped_at : (test : ℕ → Bool) (plan : Plan) (p : ℕ) → plan.phase_count ≤ 16 → IsListed plan p → clipped test p ≡ test p
 clipped_at test plan p few listed =
     let it : IsPhase plan p = listed_is_phase plan p listed in

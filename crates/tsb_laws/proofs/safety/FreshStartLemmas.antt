@@ -69,7 +69,7 @@ module _ (s : State) (row : Row) (good : IsGood s) (calm : IsCalm s.plan (interv
         | inr k ↦ ring_starts_fresh Ring2 p (is-Some p (starting s.plan s.rings (rings_given s row) Ring2) k)
       ]
 
--- so it is after every run
+-- the same after every run
 pub fresh_start : (plan : Plan) (is : List Input) (row : Row) (p : ℕ) → IsConsistent plan → AreTaken plan is →
     is_started (moves (replay plan is) row) p ≡ true → in_service (interval (replay plan is) p) ≡ false
 fresh_start plan is row p ok taken h =

@@ -105,7 +105,7 @@ starts_not plan s given yellow_done symmetric sound ok r p own none =
         let same : r ≡ x = same_ring plan r x p own it.ringed in
         let bad : None ≡ Some p = sym none ∙ (rw same k) in absurd cc
 
--- nor does the one that it serves clear, where a commitment stands
+-- nor does the one that it serves clear, where a commitment is kept
 pub clears_not : (plan : Plan) (s : State) (given : Given) (r : Ring) (p c : ℕ) → in_ring plan r p ≡ true → s.commitment r ≡ Some c →
     starting plan s given r ≡ None → is_cleared (moves plan s given) p ≡ false
 unfolding moves clears

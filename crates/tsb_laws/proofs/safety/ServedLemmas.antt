@@ -155,7 +155,7 @@ module _ (plan : Plan) (base : List Input) (p : ℕ) (r : Ring) (c : ℕ) (ok : 
 
   -- ## A tick
 
-  -- the ring starts nothing in a tick after which the commitment stands
+  -- the ring starts nothing in a tick after which it still has the commitment
   record Quiet (row : Row) (later : List Input) : Type 0 where
     pub no_start : is_started (moves (replay plan (later ++ base)) row) p ≡ false
     pub no_clear : is_cleared (moves (replay plan (later ++ base)) row) p ≡ false

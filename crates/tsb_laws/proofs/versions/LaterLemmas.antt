@@ -1,4 +1,4 @@
--- A plan text of version 2 is one of version 3 as well, but for its number; and no version gives what came after it.
+-- A plan text of version 2 is, with another number, one of version 3; and no version gives what came after it.
 use Rattle.std.proofs.Common.{◌≡◌, ℕ, ◌≤◌, nat_lt, Bool, true, false, List, length, Some, Result, Ok, Err, codes, bytes_eq, if◌then◌else◌, Ordering, Less, Equal, Greater, is_eq, nat_cmp, refl, sym, ◌∙◌, true≢false, ap, subst, arith}
 use Rattle.std.proofs.lemmas.Bool.{and_parts, le-ltb}
 use Rattle.std.proofs.lemmas.Map.Text.{is_eq-slice_cmp}

@@ -141,7 +141,7 @@ pedestrian_now-same : (plan : Plan) (hold : ℕ → Bool) (given : Given) (p : �
 unfolding pedestrian_now
 pedestrian_now-same plan hold given p w = pedestrian_after-same plan hold given p w w.pedestrian
 
--- ## What the rings are told
+-- ## What the rings are given
 
 pub gapped_now-same : (plan : Plan) (hold : ℕ → Bool) (given : Given) (p : ℕ) (w : Phase) → IsNarrow plan →
     IsBeyondNarrow given.callable false →

@@ -72,7 +72,7 @@ two_is_wide = record {
   is_wide = puts_make_wide_plans two_values (values-fit two_values refl);
 }
 
--- rows that stand at the same indices in both versions
+-- rows at the same indices in both versions
 AreFlat : List (Object × List ℕ) → Type 0
 AreFlat [] = Unit {0}
 AreFlat (e ∷ es) = (list_all fits (row e.0 1 e.1) ≡ true) × (widened_puts (row e.0 1 e.1) ≡ row e.0 1 e.1) × AreFlat es

@@ -26,7 +26,7 @@ use Rattle.tsb_laws.proofs.versions.RefusalLemmas.{verdict-same}
 
 -- ## The wide plan
 
--- nothing stands at an index that none is translated to
+-- nothing is at an index that none is translated to
 nothing-elsewhere : (narrow : Plan) (o : Object) (k : ℕ) → IsNarrow narrow →
     ((i : ℕ) → has_index_in One o i ≡ true → translated One o i ≢ k) → (widened narrow).value o k ≡ 0
 nothing-elsewhere narrow o k is other =

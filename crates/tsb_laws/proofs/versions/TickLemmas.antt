@@ -121,7 +121,7 @@ output-same s row narrow =
 none-beyond : (s : State) (row : Row) → IsNarrow s.plan → IsBeyondNarrow (callable s row) false
 none-beyond s row narrow p out = calls.not-callable s.plan (calls_given s row) (set s row) p narrow (beyond-narrow p out)
 
--- none beyond the eighth is told to the layers
+-- none beyond the eighth is given to the layers
 none-told : (s : State) (row : Row) → IsNarrow s.plan → IsBeyondNarrow (clipped (callable s row)) false
 none-told s row narrow p out = ap (λ b. is_phase p && b) (none-beyond s row narrow p out) ∙ and-no (is_phase p)
   where

@@ -1,4 +1,4 @@
--- What the cells of the states of a run tell, and what the records of a run give back.
+-- What the cells of the states of a run say, and what the records of a run give back.
 use Rattle.std.proofs.Common.{◌≡◌, ℕ, ◌≤◌, false, List, [], ◌∷◌, length, drop, Option, sym, ap, ap₂, subst, arith, ◌∙◌}
 use Rattle.tsb_step.specs.tsb_types.declared.interval.PedestrianInterval.TheVariants.{DontWalk}
 use Rattle.tsb_step.specs.tsb_types.declared.limits.TheConstants.{TICKS}

@@ -69,7 +69,7 @@ pub clock-now : (now : ℕ) (o : Option Trip) → clock_at now (tripped-at now o
 clock-now now None = refl
 clock-now now (Some t) = refl
 
--- in a controller that has tripped the clock stands
+-- in a controller that has tripped the clock rests
 pub clock-stands : (m n : ℕ) (o : Option Tripped) → is_some o ≡ true → clock_at m o ≡ clock_at n o
 clock-stands m n None h = cc
 clock-stands m n (Some t) h = refl

@@ -1,4 +1,4 @@
--- Runs whose events tell what display lines and logs tell, and mistakes that the laws refuse, by computing. The plan is
+-- Runs with the events of their display lines and logs, and mistakes that the laws refuse, by computing. The plan is
 -- that of eight phases, in which pedestrians of phase 2 are recalled; overlap 1 includes phases 1 and 2.
 use Rattle.std.specs.Prelude.{◌≡◌, ◌≤◌, ◌==◌, true, false, not, List, [], ◌∷◌, filter, Some, refl}
 use Rattle.tsb_step.specs.tsb_types.Events.{event}
@@ -116,7 +116,7 @@ out_of_sight : lines.is_in_flash (signals flashing_17) ≡ false
 unfolding opened
 out_of_sight = refl
 
--- ## Heads told back
+-- ## Heads given back
 
 abbrev lit : Lit
 lit = read_back (told_along events.usual quick walked)
@@ -169,7 +169,7 @@ by_output : filter is_of_input (told_along outputs delaying passed) ≡ []
 unfolding opened
 by_output = refl
 
--- inputs told against all off
+-- events of inputs against all off
 goes_on : filter is_of_input (events_of (usual_after (vehicle 3)) (replay quick (Tick (vehicle 3) ∷ [])) (Tick (vehicle 3))) ≡ []
 unfolding opened
 goes_on = refl
@@ -178,7 +178,7 @@ would_come_again : filter is_of_input (events_of usual (replay quick (Tick (vehi
 unfolding opened
 would_come_again = refl
 
--- an input that goes off is told by nothing
+-- an input that goes off has no event
 stays_on : lit_after (says_at says_vehicle 3) false (filter (λ e. not (e.code == 81)) (told_along events.usual quick passed)) ≡ true
 unfolding opened
 stays_on = refl

@@ -67,7 +67,7 @@ would_be_green = refl
 
 -- ## Lit heads stay: a commit of overlaps that does not wait
 
--- overlap 1 includes 1 and 2, of which 2 is Green; it is to include none
+-- overlap 1 includes 1 and 2, and 2 is Green; it is to include none
 abbrev unlisting : State
 unlisting = editing Done (edit OverlapIncludedPhases 1 0 ∷ []) resting
 

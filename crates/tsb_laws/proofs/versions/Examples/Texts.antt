@@ -52,7 +52,7 @@ is_read : reading text ≡ Ok plan
 unfolding opened_texts
 is_read = refl
 
--- what is named at 9 stands at 17
+-- what is named at 9 is put at 17
 is_named : (named_plan members).value SequenceData 9 ≡ 2
 unfolding opened_texts
 is_named = refl
@@ -96,7 +96,7 @@ names_too_much = refl
 most : greatest_in One PhaseConcurrency ≡ 255
 most = refl
 
--- and so is an index that version 1 has not
+-- so is an index that version 1 does not have
 index_is_refused : reading (codes "{\"version\":1,\"phaseEnabled\":{\"9\":1}}") ≡ Err (no_such_index PhaseEnabled (codes "9"))
 unfolding opened_texts
 index_is_refused = refl

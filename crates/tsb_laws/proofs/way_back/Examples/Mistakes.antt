@@ -22,7 +22,7 @@ use Rattle.tsb_step.specs.Cells.{clock_at}
 use Rattle.tsb_step.specs.Past.{ticks_of}
 use Rattle.tsb_step.proofs.Examples.Scenes.{opened}
 
--- ## Cells tell the state: a clock that goes on while the controller is tripped
+-- ## Cells give the state: a clock that goes on while the controller is tripped
 
 -- a timer that was On 12 as the controller tripped at tick 40, read at tick 50
 reads_12 : timer_at (clock_at 50 (Some (record { cause = Conflict 2 4; tick = 40 }))) (timer_cell 40 (On 12)) ≡ On 12
