@@ -9,6 +9,7 @@ ghost use Rattle.tsb_ring.specs.Promises.{IsGivenUp};
 ghost use Rattle.tsb_ring.specs.Rings.{ring_numbered};
 
 use crate::crossing::{ring_1, ring_2};
+use crate::ring_state::RingState;
 use crate::rings::Rings;
 use crate::serving::targeted;
 use tsb_objects::{Checked, Phase, PhaseSet, Ring};
@@ -69,13 +70,17 @@ impl Rings {
         strays(set, self.commitment(ring_1())) || strays(set, self.commitment(ring_2()))
     }
 
-    /// What is left of the commitment of a ring.
+    /// What is left of a ring: its last phase, and of its commitment what does not stray.
     #[inline(always)]
-    fn kept(&self, set: PhaseSet, r: Ring) -> Option<Phase>
+    fn kept(&self, set: PhaseSet, r: Ring) -> RingState
         requires by { IsBy (cells_of self.now) }
-        ensures { result ≡ kept_commitment (has set) (is_some (state_of self.now).crossing) ((state_of self.now).commitment (ring_numbered r)) }
+        ensures last { result.last ≡ (state_of self.now).last (ring_numbered r) }
+        ensures commitment { result.commitment ≡ kept_commitment (has set) (is_some (state_of self.now).crossing) ((state_of self.now).commitment (ring_numbered r)) }
     {
-        kept_commitment(set, self.crossing().is_some(), self.commitment(r))
+        RingState {
+            last: self.last(r),
+            commitment: kept_commitment(set, self.crossing().is_some(), self.commitment(r)),
+        }
     }
 
     /// Takes away the commitments to phases outside the set, and the crossing with all that it committed the rings to.
@@ -88,13 +93,8 @@ impl Rings {
         ensures kept { kept_of self.new ≡ kept_of self.old }
         ensures opened { is_open self.new ≡ true }
     {
-        self.write(
-            self.last(ring_1()),
-            self.last(ring_2()),
-            self.kept(set, ring_1()),
-            self.kept(set, ring_2()),
-            self.side(),
-            None,
-        );
+        let first = self.kept(set, ring_1());
+        let second = self.kept(set, ring_2());
+        self.write(first, second, self.side(), None);
     }
 }

@@ -1,5 +1,5 @@
 //! One ring, taken out of its cell to act.
-ghost use Rattle.std.specs.Prelude.{◌≡◌};
+ghost use Rattle.std.specs.Prelude.{◌≡◌, None};
 ghost use Rattle.tsb_ring.specs.Layer.{ring_after};
 ghost use Rattle.tsb_ring.specs.Moves.{commitment_after, last_after, moves_of};
 ghost use Rattle.tsb_ring.specs.Rings.{ring_numbered};
@@ -29,6 +29,18 @@ fn moves_of(moves: &Moves, r: Ring) -> &RingMoves
 }
 
 impl RingState {
+    /// A ring that started no phase, and that is committed to none.
+    #[inline(always)]
+    pub(crate) fn new() -> RingState
+        ensures last { result.last ≡ None }
+        ensures commitment { result.commitment ≡ None }
+    {
+        RingState {
+            last: None,
+            commitment: None,
+        }
+    }
+
     /// The ring acts on the moves of a tick. It has them, which the other ring reads as well, and its own state alone.
     #[inline(always)]
     pub(crate) fn act(&mut self, moves: &Moves, r: Ring)
