@@ -12,7 +12,7 @@ use tsb_objects::{Checked, Pattern, PhaseSet};
 
 /// What the local counter asks of green phases in a tick.
 #[derive(Clone, Copy)]
-pub(crate) struct Asked {
+pub(crate) struct GreenOrders {
     /// Those that are forced off.
     pub(crate) forced: PhaseSet,
     /// Those that may walk again.
@@ -21,7 +21,7 @@ pub(crate) struct Asked {
 
 /// What it asks in tick `now`, where it was in step before.
 #[inline(always)]
-fn in_step(plan: &Checked, n: Pattern, correction: Correction, now: u32) -> Asked
+fn in_step(plan: &Checked, n: Pattern, correction: Correction, now: u32) -> GreenOrders
     requires used { is_used (checked_plan plan.now) n ≡ true }
     requires since { correction.since ≤ TICKS }
     requires in_time { now ≤ TICKS }
@@ -31,7 +31,7 @@ fn in_step(plan: &Checked, n: Pattern, correction: Correction, now: u32) -> Aske
 {
     let local = counter(plan, n, now);
     let forced = plan.forced_at(n, local);
-    Asked {
+    GreenOrders {
         forced,
         recycle: plan.recycled_at(n, local, forced),
     }
@@ -60,7 +60,7 @@ fn forced(plan: &Checked, n: Pattern, correction: Correction, before: u32, now: 
 /// What the local counter of a pattern asks in tick `now`. No phase may walk again while it comes into step. It stays
 /// out of line: in free operation it is not asked.
 #[inline(never)]
-pub(crate) fn asked_in(plan: &Checked, n: Pattern, correction: Correction, now: u32) -> Asked
+pub(crate) fn asked_in(plan: &Checked, n: Pattern, correction: Correction, now: u32) -> GreenOrders
     requires used { is_used (checked_plan plan.now) n ≡ true }
     requires since { correction.since ≤ TICKS }
     requires in_time { now ≤ TICKS }
@@ -71,7 +71,7 @@ pub(crate) fn asked_in(plan: &Checked, n: Pattern, correction: Correction, now: 
     if before == 0 {
         return in_step(plan, n, correction, now);
     }
-    Asked {
+    GreenOrders {
         forced: forced(plan, n, correction, before, now),
         recycle: PhaseSet::empty(),
     }
