@@ -1,6 +1,7 @@
 -- How far the local counter is ahead from tick to tick: by less than a cycle, by a tick less or more at most, and by
 -- none for good once it is in step. So what is asked of the rings then is what the counter in step asks.
 use Rattle.std.proofs.Common.{◌≡◌, ◌≢◌, ℕ, ◌+◌, ◌-◌, ◌*◌, ◌%◌, ◌<◌, ◌≤◌, ◌==◌, Bool, true, false, ◌&&◌, ◌||◌, if◌then◌else◌, Option, Some, None, refl, sym, ap, subst, ◌∙◌, arith, inl, inr}
+use Rattle.std.proofs.Math.Bool.{or-false}
 use Rattle.std.proofs.Math.Nat.{mod-lt, mod-eq_of_lt, mod-add-mod, mod-zero, mod-le, add-mul-mod_self_right}
 use Rattle.std.proofs.lemmas.Bool.{cases_lt, cases_eq, ne_eqb, eq-eqb, eqb-true}
 use Rattle.tsb_objects.specs.tsb_plan.declared.plan.patterns.CorrectionMode.{CorrectionMode}
@@ -12,7 +13,7 @@ use Rattle.tsb_objects.specs.tsb_rules.Rules.{first_broken}
 use Rattle.tsb_coord.specs.Coordinated.{counter, local, local_in, residue_of_difference, is_at_force_off, asks_force_off, asks_recycle, is_pattern, forces_off, recycles}
 use Rattle.tsb_coord.specs.Correction.{Correction, in_step, ahead_by, within_cycle, ahead_in, counted_tick, local_now, steps_twice_in, steps_twice, forces, comes_to_force_off, is_in_step, lets_walk_again, ahead_with, ahead_from, begun, selected_correction}
 use Rattle.tsb_coord.specs.Laws.{IsAtMostBehind, most_steps, CountsInStep, IsLongEnough}
-use Rattle.tsb_coord.proofs.LocalLemmas.{counter_moves_on, difference_moves_on, in_range, its_parts, or_false, runs_now}
+use Rattle.tsb_coord.proofs.LocalLemmas.{counter_moves_on, difference_moves_on, in_range, its_parts, runs_now}
 use Rattle.tsb_coord.proofs.AheadLemmas.{rest_grows, rest_stays, rest_goes_on, once_by, none_by, some_cycle, below_by, start_by, IsOn, on_by, arrives_by}
 
 -- ## How far it is ahead in a tick
@@ -90,7 +91,7 @@ at_step plan selected c t asks before =
     let none : steps_twice plan selected c t ≡ false =
     no_second_step plan (running plan selected) c t (eqb-true (ahead_in plan (running plan selected) c (t - 1)) 0 before) in
     ap (λ b. asks (counted_tick plan selected c t) || (b && asks (counted_tick plan selected c t - 1))) none
-    ∙ or_false (asks (counted_tick plan selected c t)) ∙ ap asks (counted_in_step plan selected c t now)
+    ∙ or-false (asks (counted_tick plan selected c t)) ∙ ap asks (counted_in_step plan selected c t now)
 
 pub forces_in_step : (plan : Plan) (selected : Option ℕ) (c : Correction) (t p : ℕ) → is_in_step plan selected c (t - 1) ≡ true →
     forces plan selected c t p ≡ asks_force_off plan t selected p

@@ -1,6 +1,7 @@
 -- The local counter a yellow change and a red clearance after a force-off instant, and so long behind it as the
 -- permissive time lets; and where force-off is late.
 use Rattle.std.proofs.Common.{zero, suc, ◌≡◌, ℕ, ◌+◌, ◌-◌, ◌*◌, ◌/◌, ◌%◌, ◌<◌, ◌≤◌, ◌==◌, nat_le, nat_lt, Bool, true, false, not, ◌&&◌, ◌||◌, if◌then◌else◌, Option, Some, None, refl, arith, sym, ap, ◌∙◌, inl, inr}
+use Rattle.std.proofs.Math.Bool.{or-false}
 use Rattle.std.proofs.Math.Nat.{div-add-mod', mod-lt, mod-eq_of_lt, mod-add-mod, add-mul-mod_self_right, mul-mod_left}
 use Rattle.std.proofs.lemmas.Bool.{and_parts, cases_lt, leb-true}
 use Rattle.std.proofs.lemmas.Bool.Decides.{nat_tests}
@@ -188,10 +189,6 @@ pub at_instant_asks : (plan : Plan) (t : ℕ) (selected : Option ℕ) (p : ℕ) 
 at_instant_asks plan t selected p at =
     ap (λ (b : Bool). b || (is_forced_late plan (running plan selected) (local plan t selected) p || is_in_permissive_time plan t selected p)) at
 
-pub or_false : (b : Bool) → (b || false) ≡ b
-or_false true = refl
-or_false false = refl
-
 pub never_late : (m : ℕ) (at from : Option ℕ) → is_late m at from None ≡ false
 never_late m None from = refl
 never_late m (Some l) None = refl
@@ -260,7 +257,7 @@ pub options_off : (plan : Plan) (t : ℕ) (selected : Option ℕ) (p : ℕ) → 
 options_off plan t selected p off none =
     mode_0 plan t selected p off
     ∙ ap (λ (b : Bool). is_at_force_off plan t selected p || b) (go (running plan selected) refl)
-    ∙ or_false (is_at_force_off plan t selected p)
+    ∙ or-false (is_at_force_off plan t selected p)
   where
     go : (runs : Option ℕ) → running plan selected ≡ runs → is_in_permissive_time plan t selected p ≡ false
     go None is = ap (λ (o : Option ℕ). is_permitted plan o (local plan t selected) p) is

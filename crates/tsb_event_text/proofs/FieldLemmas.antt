@@ -1,5 +1,5 @@
 -- Fields of a line, one after another.
-use Rattle.std.proofs.Common.{◌≡◌, ℕ, ◌+◌, ◌-◌, ◌<◌, true, false, List, [], ◌∷◌, length, refl, sym, ap, ◌∙◌, arith, zero, suc, get_or, take, drop, inl, inr, Option, Some, None, length-drop, take_all, add-one}
+use Rattle.std.proofs.Common.{◌≡◌, ℕ, ◌+◌, ◌-◌, ◌<◌, true, false, List, [], ◌∷◌, length, refl, sym, ap, ◌∙◌, arith, zero, suc, get_or, take, drop, inl, inr, Option, Some, None, length-drop, take_all}
 use Rattle.std.proofs.lemmas.Bool.Decides.{eqb_tells}
 use Rattle.std.specs.Prelude.{slice_get}
 use Rattle.tsb_event_text.specs.declared.columns.Column.{Column}
@@ -77,10 +77,6 @@ quoted-mark m xs n lt f e some is = quoted-first m xs n (fields_of m (drop 1 (dr
 pub quoted-other : (m : ℕ) (xs : List ℕ) (n : ℕ) → n < length xs → Without 34 xs n → get_or xs n 0 ≡ 34 → 0 < length (drop (suc n) xs) → (get_or (drop (suc n) xs) 0 0 ≡ m → ⊥)
     → fields_from m Quoted xs ≡ None
 quoted-other m xs n lt f e some other = quoted-first m xs n None lt f e (closed-other m (drop (suc n) xs) some other)
-
--- what stands after place n, as a slice
-pub behind : (xs : List ℕ) (n : ℕ) → n < length xs → take (length xs - (n + 1)) (drop (n + 1) xs) ≡ drop (suc n) xs
-behind xs n lt = rw (add-one n) (take_all (length xs - suc n) (drop (suc n) xs) (let l : length (drop (suc n) xs) ≡ length xs - suc n = length-drop (suc n) xs in omega (arith, l)))
 
 -- what stands after the first byte, as a slice
 pub tail : (xs : List ℕ) → take (length xs - 1) (drop 1 xs) ≡ drop 1 xs

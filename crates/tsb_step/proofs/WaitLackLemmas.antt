@@ -217,9 +217,6 @@ due-starts s row p h =
 
 -- ## A green that lacks something
 
-not-ready-parts : (a b c : Bool) → b ≡ false → (a && (b && c)) ≡ false
-not-ready-parts a b c h = rw h (and-false a)
-
 not-ready-done : (a b c : Bool) → c ≡ false → (a && (b && c)) ≡ false
 not-ready-done a b c h = rw (h, and-false b) (and-false a)
 
@@ -249,9 +246,12 @@ lacks-keep s row q l h = go l h
     done : Bool
     done = green_is_done s.plan g q w (ended_by g q)
 
+    not-yet : part ≡ false → (is_green w.interval && (part && done)) ≡ false
+    not-yet h = ap (λ (b : Bool). is_green w.interval && (b && done)) h ∙ and-false (is_green w.interval)
+
     go : (l : Lack) → still_lacks s row q l ≡ true → (is_green w.interval && (part && done)) ≡ false
-    go (lacks.Walk n) x = not-ready-parts (is_green w.interval) part done (not-true part x)
-    go (lacks.Clearance n) x = not-ready-parts (is_green w.interval) part done (not-true part x)
+    go (lacks.Walk n) x = not-yet (not-true part x)
+    go (lacks.Clearance n) x = not-yet (not-true part x)
     go (lacks.Initial n) x = not-ready-done (is_green w.interval) part done
         (time-lacks s.plan g q w (ended_by g q) (not-true (has_reached w.timer (time_to_last s.plan g q (ended_by g q))) x))
     go lacks.ForceOff x = not-ready-done (is_green w.interval) part done

@@ -1,7 +1,6 @@
 -- What rings give up for a target, and what they keep, by computing; and a mistake that the law refuses. Ring 1 is committed
 -- to 3 and ring 2 to 8, over the barrier, while 2 and 6 clear.
 use Rattle.std.specs.Prelude.{◌≡◌, ℕ, Bool, true, false, if◌then◌else◌, [], ◌∷◌, Option, Some, None, refl}
-use Rattle.tsb_objects.specs.tsb_plan.Plan.{is_concurrent}
 use Rattle.tsb_objects.specs.tsb_plan.Quad.{quad}
 use Rattle.tsb_ring.specs.Rings.{Ring1, Ring2, State, power_up}
 use Rattle.tsb_ring.specs.GivenUp.{strays, given_up}
@@ -73,8 +72,3 @@ keeps_its_own test c = if strays test c then None else c
 
 would_keep_3 : keeps_its_own (those (3 ∷ 7 ∷ [])) (under_way.commitment Ring1) ≡ Some 3
 would_keep_3 = refl
-
--- ring 2 still serves 6, and no crossing keeps 3 from beginning beside it
-apart_from_6 : is_concurrent quad 3 6 ≡ false
-unfolding opened
-apart_from_6 = refl

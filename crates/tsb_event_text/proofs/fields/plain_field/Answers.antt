@@ -1,7 +1,8 @@
 use Rattle.std.proofs.Common.{◌∙◌, List, ℕ, arith, ap, sym, eq-eqb, get_or, take}
 use Rattle.std.proofs.lemmas.Bool.{eqb-true}
+use Rattle.tsb_lines.proofs.LineLemmas.{behind}
 use Rattle.tsb_event_text.specs.Fields.{with_field, fields_of}
-use Rattle.tsb_event_text.proofs.FieldLemmas.{plain-last, plain-first, behind}
+use Rattle.tsb_event_text.proofs.FieldLemmas.{plain-last, plain-first}
 use Rattle.tsb_event_text.proofs.fields.plain_field.Goals as goal
 
 pub returns-in-None-clause-first : goal.returns-in-None-clause-first

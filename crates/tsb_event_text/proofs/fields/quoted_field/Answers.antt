@@ -1,7 +1,8 @@
 use Rattle.std.proofs.Common.{◌≡◌, ◌<◌, ◌∙◌, ◌-◌, ◌+◌, List, ℕ, arith, rules, ap, sym, subst, eq-eqb, get_or, take, drop, length}
 use Rattle.std.proofs.lemmas.Bool.{eqb-true}
+use Rattle.tsb_lines.proofs.LineLemmas.{behind}
 use Rattle.tsb_event_text.specs.Fields.{with_field, fields_of}
-use Rattle.tsb_event_text.proofs.FieldLemmas.{quoted-open, quoted-end, quoted-mark, quoted-other, behind, tail}
+use Rattle.tsb_event_text.proofs.FieldLemmas.{quoted-open, quoted-end, quoted-mark, quoted-other, tail}
 use Rattle.tsb_event_text.proofs.fields.quoted_field.Goals as goal
 
 pub returns-in_err-end-clause-first : goal.returns-in_err-end-clause-first

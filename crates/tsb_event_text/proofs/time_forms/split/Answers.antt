@@ -1,6 +1,6 @@
 use Rattle.std.proofs.Common.{◌∙◌, arith, sym, eq-eqb, get_or}
 use Rattle.std.proofs.lemmas.Bool.{eqb-true}
-use Rattle.tsb_event_text.proofs.FieldLemmas.{behind as tail_behind}
+use Rattle.tsb_lines.proofs.LineLemmas.{behind as tail_behind}
 use Rattle.tsb_event_text.proofs.SplitLemmas.{before-all, behind-none, before-first, behind-first}
 use Rattle.tsb_event_text.proofs.time_forms.split.Goals as goal
 
