@@ -3,8 +3,8 @@
 
 It reports files that are not in the layout of `rt fmt` (run on a copy), must-fail edits whose old text is not in its
 file exactly once, lines of documents that are over 120 characters, public definitions without a comment, names and
-paths that documents cite and the repository does not have, and what tools/pages/tree_facts.py, tools/pages/prose.py and
-tools/pages/program_words.py find.
+paths that documents cite and the repository does not have, functions of many parameters, lemmas that say the same, and
+what tools/pages/tree_facts.py, tools/pages/prose.py and tools/pages/program_words.py find.
 """
 import concurrent.futures
 import os
@@ -18,6 +18,7 @@ import tempfile
 sys.path[0] = str(pathlib.Path(__file__).resolve().parent.parent)
 
 from tools.pages import cited_names, definitions_index, program_words, prose, tree_facts  # noqa: E402
+from tools.prover import parameters, same_statements  # noqa: E402
 
 
 def lay_out(crate):
@@ -88,6 +89,8 @@ def main():
     found += tree_facts.missing()
     found += prose.missing()
     found += program_words.missing()
+    found += parameters.missing()
+    found += same_statements.missing()
     print("\n".join(found) if found else "ready")
     return 1 if found else 0
 

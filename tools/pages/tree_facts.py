@@ -1,8 +1,8 @@
 """Finds what documents and comments say of the repository and is not so; run it at the top, or by tools/ready.py.
 
-It finds a public type whose name another crate's type has, and a crate without a README. It finds a file that a
-comment in `specs/` names and that is not there, from the top, from the crate or from the folder of the comment. And it
-finds numbers of crates, edits, laws, objects and cells in documents that are not those of the tree.
+It finds a type whose name another crate's type has, where other modules use both, and a crate without a README. It
+finds a file that a comment in `specs/` names and that is not there, from the top, from the crate or from the folder of
+the comment. And it finds numbers of crates, edits, laws, objects and cells in documents that are not those of the tree.
 
 What is known and has to wait is in `TWICE` and `OTHERS`, each with its reason. A new case of one kind is found all
 the same, as these name crates, files and numbers.
@@ -17,7 +17,7 @@ from collections.abc import Iterator
 from tools.pages import written
 from tools.pages.laws import laws
 
-TYPE = re.compile(r"^pub (?:struct|enum|trait) (\w+)", re.M)
+TYPE = re.compile(r"^pub(?:\([^)]*\))? (?:struct|enum|trait) (\w+)", re.M)
 FILE = re.compile(r"(?<![\w./])((?:[\w-]+/)*[\w-]+\.(?:rt|antt|md|py|json|log|edit))\b")
 NUMBER = re.compile(r"\b([\d,]*\d|[a-z]+) (crates|edits|laws|objects|cells)\b")
 CELLS = re.compile(r"^pub const CELLS: usize = (\d+);", re.M)
@@ -42,13 +42,9 @@ TWICE = {
     "Cause": {"tsb_phase", "tsb_program"},
     "Command": {"tsb_command_text", "tsb_machine"},
     "Conditions": {"tsb_phase", "tsb_ring"},
-    "Entries": {"tsb_history", "tsb_ring"},
-    "Events": {"tsb_events", "tsb_field_display"},
     "Found": {"tsb_events", "tsb_ring"},
     "Kind": {"tsb_field_diagram", "tsb_field_log", "tsb_history"},
-    "Line": {"tsb_live_text", "tsb_review_text"},
     "Mark": {"tsb_field_diagram", "tsb_text"},
-    "Asked": {"tsb_coord", "tsb_words"},
     "Next": {"tsb_plan_notes", "tsb_status"},
     "Outcome": {"tsb_ring", "tsb_text"},
     "Place": {"tsb_breaches", "tsb_review"},
@@ -60,7 +56,7 @@ TWICE = {
     "Shown": {"tsb_event_text", "tsb_field_display"},
     "Sought": {"tsb_review", "tsb_rules"},
     "Status": {"tsb_program", "tsb_status"},
-    "Stop": {"tsb_plan_notes", "tsb_live_text"},
+    "Stop": {"tsb_plan_notes", "tsb_text"},
     "Watched": {"tsb_bench", "tsb_lines"},
 }
 UNPROVED = {"tsb_tests", "tsb_field_tests", "tsb_layer_runs", "tsb_runs"}
@@ -84,6 +80,9 @@ def types_in_two_crates() -> Iterator[str]:
     for name, found in sorted(crates.items()):
         if len(found) > 1 and not found <= TWICE.get(name, set()):
             yield f"a type {name} is in each of {', '.join(sorted(found))}"
+    for name, known in TWICE.items():
+        if crates[name] != known:
+            yield f"tools/pages/tree_facts.py: {name} is no longer a type of all of {', '.join(sorted(known))}"
 
 
 def crates_without_readme() -> Iterator[str]:
