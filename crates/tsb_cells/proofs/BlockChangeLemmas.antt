@@ -132,7 +132,7 @@ first-settled n word cells before cells_full before_full fits some =
     unmarked : (marks k : ℕ) → k < n → is_unmarked n marks k ≡ true → get_or (kept_in n marks cells before) k 0 ≡ get_or cells k 0
     unmarked marks k below none = kept-cell n marks cells before k below ∙ kept-unmarked n marks cells before k none
 
--- the same, behind a list to which the block's cells are added
+-- the same, after a list to which the block's cells are added
 pub block-added : (out more : List (ℕ × ℕ)) (offset : ℕ) (all own rest : List (ℕ × ℕ)) → all ≡ own ++ rest → more ≡ out ++ shifted offset own →
     more ++ shifted offset rest ≡ out ++ shifted offset all
 block-added out more offset all own rest is grows =
@@ -165,7 +165,7 @@ cell-agrees o k before now within also same =
       | inr other ↦ absurd (other.1 same)
     ])
 
--- behind the last cell none is left
+-- after the last cell none is left
 pub none-behind : (o k : ℕ) (before now : List ℕ) → length before ≤ k → diff_from (o + k) (drop k before) (drop k now) ≡ []
 none-behind o k before now over = rw (drop_all k before over) refl
 

@@ -78,7 +78,7 @@ first-before word width k fits some before =
     let low = bit_at-trailing_zeros w64 word (omega (arith, some)) fits in
     low.2 (k / (width + 1)) below
 
--- a block's cells stand side by side
+-- a block's cells are side by side
 pub block-start : (k b width : ℕ) → k / (width + 1) ≡ b → b * (width + 1) ≤ k
 block-start k b width in_block = rw (sym in_block) (div-mul-le_self k (width + 1))
 
@@ -87,7 +87,7 @@ block-end k b width in_block =
     let last : k < k / (width + 1) * (width + 1) + (width + 1) = lt-div-mul-add {a = k} {b = width + 1} (omega arith) in
     rw (sym in_block) last
 
--- the cells before the end of a block stand in it or in an earlier one, and those from its end on in later ones
+-- the cells before the end of a block are in it or in an earlier one, and those from its end on in later ones
 pub block-most : (k b width : ℕ) → k < b * (width + 1) + (width + 1) → k / (width + 1) ≤ b
 block-most k b width below =
     let last : k < (b + 1) * (width + 1) = omega arith in
@@ -97,7 +97,7 @@ block-most k b width below =
 pub block-least : (k b width : ℕ) → b * (width + 1) ≤ k → b ≤ k / (width + 1)
 block-least k b width from = (le-div_iff_mul-le {k = width + 1} {x = b} {y = k} (omega arith)).1 from
 
--- each cell stands in one of the 64 blocks
+-- each cell is in one of the 64 blocks
 pub block-within : (at n : ℕ) → at < n → at / (n / 64 + 1) < 64
 block-within at n within =
     let long : n < n / 64 * 64 + 64 = lt-div-mul-add {a = n} {b = 64} (omega arith) in

@@ -1,5 +1,5 @@
--- The local counter a yellow change and a red clearance after a force-off instant, and so long behind it as the
--- permissive time lets; and where force-off is late.
+-- The local counter a yellow change and a red clearance after a force-off instant, and at most the permissive time
+-- after that; and where force-off is late.
 use Rattle.std.proofs.Common.{zero, suc, ◌≡◌, ℕ, ◌+◌, ◌-◌, ◌*◌, ◌/◌, ◌%◌, ◌<◌, ◌≤◌, ◌==◌, nat_le, nat_lt, Bool, true, false, not, ◌&&◌, ◌||◌, if◌then◌else◌, Option, Some, None, refl, arith, sym, ap, ◌∙◌, inl, inr}
 use Rattle.std.proofs.Math.Bool.{or-false}
 use Rattle.std.proofs.Math.Nat.{div-add-mod', mod-lt, mod-eq_of_lt, mod-add-mod, add-mul-mod_self_right, mul-mod_left}
@@ -25,7 +25,7 @@ same_residue : (m a b i j : ℕ) → a + i * m ≡ b + j * m → a % m ≡ b % m
 same_residue m a b i j e =
     sym (add-mul-mod_self_right a i m) ∙ (ap (λ x. x % m) e ∙ add-mul-mod_self_right b j m)
 
--- k after the residue of a - (b + k) stands that of a - b
+-- k after the residue of a - (b + k) comes that of a - b
 pub difference_moves_on : (m a b k : ℕ) → 0 < m → (residue_of_difference m a (b + k) + k) % m ≡ residue_of_difference m a b
 difference_moves_on m a b k some =
     mod-add-mod (a + (m - (b + k) % m)) m k ∙
@@ -70,7 +70,7 @@ clear_at plan n t p c below at =
     joined : (t y r : ℕ) → t + y + r ≡ t + (y + r)
     joined t y r = omega arith
 
--- so many ticks behind the instant, and a yellow change and red clearance later
+-- so many ticks after the instant, and a yellow change and red clearance later
 clear_behind : (plan : Plan) (n t p c k : ℕ) → offset plan n < cycle plan n → counter plan n t ≡ (instant_from plan n c p + k) % cycle plan n →
     counter plan n (clear_of plan t p) ≡ (residue_of_difference (cycle plan n) (end_of plan n p) (end_of plan n c) + k) % cycle plan n
 clear_behind plan n t p c k below at =
@@ -334,7 +334,7 @@ ends_at_zero plan none n t p is from at =
 
 -- ## In the permissive time
 
--- the local counter l is so many ticks behind the instant of p, at most the permissive time
+-- the local counter l is so many ticks after the instant of p, at most the permissive time
 pub record StandsBehind (plan : Plan) (n p l : ℕ) : Type 0 where
   pub instant : ℕ
   pub is : force_off plan (Some n) p ≡ Some instant

@@ -76,7 +76,7 @@ pub record IsQuiet (plan : Plan) (n now wait : ℕ) : Type 0 where
   pub recycled : (p k : ℕ) → 1 ≤ p → p ≤ 16 → 1 ≤ k → k < wait →
       agree (Some ((counter plan n now + k) % cycle plan n)) (recycle_end plan (Some n) p) ≡ false
 
--- as the code tells it
+-- as the code finds it
 pub quiet_from : (plan : Plan) (n now wait local : ℕ) → local ≡ counter plan n now →
     ((p k : ℕ) → 1 ≤ p → p ≤ 16 → k < wait → 1 < wait → agree (Some ((local + k) % cycle plan n)) (force_off plan (Some n) p) ≡ false) →
     ((p k : ℕ) → 1 ≤ p → p ≤ 16 → 1 ≤ k → k < wait → agree (Some ((local + k) % cycle plan n)) (permissive_end plan (Some n) p) ≡ false) →
@@ -281,7 +281,7 @@ has_instant plan none n from_one within used =
       below = mod-lt _ (omega (arith, offset_below));
     }
 
--- so it is no whole cycle until one is met
+-- it is no whole cycle until one is met
 pub no_whole_cycle : (plan : Plan) → plan.phase_count ≤ 16 → first_broken plan ≡ None → (n now ticks : ℕ) → 1 ≤ n → n ≤ 16 → is_used plan n ≡ true →
     counter plan n now < cycle plan n → IsQuiet plan n now ticks → 1 < cycle plan n → ticks ≡ cycle plan n → ⊥
 no_whole_cycle plan few none n now ticks from_one within used here quiet some whole_cycle =

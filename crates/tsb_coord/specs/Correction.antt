@@ -25,7 +25,7 @@ in_step = record { since = 0; ahead = 0 }
 
 -- ## How far it has come, so many ticks after the selection
 
--- with this limit a cycle that is made longer loses so many ticks, evenly: the counter stands still in them
+-- with this limit a cycle that is made longer loses so many ticks, evenly: the counter waits in them
 abbrev pub lost : ℕ → ℕ → ℕ
 lost limit ticks = ticks * limit / (100 + limit)
 
@@ -83,7 +83,7 @@ ahead_in plan (Some n) c t = ahead_by (correction_mode plan) plan n (within_cycl
 
 -- ## The local counter as it goes, of the pattern that is selected, where it runs
 
--- the tick in which the counter in step stands where the local counter stands in tick t: as many later as it is ahead
+-- the tick in which the counter in step is where the local counter is in tick t: as many later as it is ahead
 abbrev pub counted_tick : Plan → Option ℕ → Correction → ℕ → ℕ
 counted_tick plan selected c t = t + ahead_in plan (running plan selected) c t
 

@@ -1,6 +1,6 @@
--- Where the local counter stands once a phase that is forced off in time has ended its yellow change and red clearance;
--- of which phases and modes late force-off and the permissive time are; how the local counter comes into step; and that
--- the cells of coordination are those of what they say. Each law here is the contract of a function in src/laws.rt, and
+-- Where the local counter is once a phase that is forced off in time has ended its yellow change and red clearance; the
+-- phases and modes of late force-off and of the permissive time; how the local counter comes into step; and that the
+-- cells of coordination are those of what they say. Each law here is the contract of a function in src/laws.rt, and
 -- proved there.
 use Rattle.std.specs.Prelude.{◌≡◌, ◌≢◌, ℕ, ◌+◌, ◌-◌, ◌*◌, ◌/◌, ◌%◌, ◌<◌, ◌≤◌, true, false, ◌||◌, List, Option, Some}
 use Rattle.tsb_objects.specs.tsb_plan.Plan.{Plan, yellow_change, red_clear}
@@ -36,7 +36,7 @@ abbrev pub CoordinatedEndAtZero : Plan → Type 0
 CoordinatedEndAtZero plan = (n t p : ℕ) → is_pattern plan n ≡ true → IsCountedFrom plan n p →
     is_at_force_off plan t (Some n) p ≡ true → local plan (clear_of plan t p) (Some n) ≡ Some 0
 
--- the local counter of pattern n is at most so many ticks behind this one
+-- the local counter of pattern n is at most so many ticks after this one
 abbrev pub IsAtMostBehind : Plan → ℕ → ℕ → ℕ → Option ℕ → Type 0
 IsAtMostBehind plan n from most at = (k : ℕ) × ((k ≤ most) × (at ≡ Some ((from + k) % cycle plan n)))
 

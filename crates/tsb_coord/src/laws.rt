@@ -52,7 +52,7 @@ pub fn late_force_off_is_an_option()
 ///
 /// Needs: a plan that breaks no rule, with a limit of 50 percent at most, as in all plans in memory; a counter that is
 /// ahead by less than a cycle, as each selection leaves it.
-/// Not said: that it is not in step sooner; that a commit in the meantime lets it go on from where it stands.
+/// Not said: that it is not in step sooner; that a commit in the meantime lets it go on from where it is.
 /// Mistakes: a counter that is in step at once in each mode, `at_once` (`would_jump`); one that gains without end,
 /// `gains_on` (`would_leave_step`); one that loses in each tick the limit of one tick, without a rest, `lost_in_each`
 /// (`would_never_arrive`).

@@ -6,7 +6,7 @@ abbrev pub onto_first : ℕ → List (List ℕ) → List (List ℕ)
 onto_first b [] = (b ∷ []) ∷ []
 onto_first b (l ∷ ls) = (b ∷ l) ∷ ls
 
--- what stands before, between and after the line feeds: one more than there are of them
+-- the parts before, between and after the line feeds: one more than the line feeds
 abbrev pub split : List ℕ → List (List ℕ)
 split [] = [] ∷ []
 split (b ∷ bs) = if b == 10 then [] ∷ split bs else onto_first b (split bs)
@@ -28,8 +28,8 @@ ended [] = []
 ended (l ∷ []) = l ∷ []
 ended (l ∷ m ∷ ms) = without_return l ∷ ended (m ∷ ms)
 
--- the lines of a text: a line feed ends a line, and a carriage return before it is part of that end. What stands after
--- the last line feed is the last line, as it is.
+-- the lines of a text: a line feed ends a line, and a carriage return before it is part of that end. The part after the
+-- last line feed is the last line, as it is.
 abbrev pub lines_of : List ℕ → List (List ℕ)
 lines_of text = ended (split text)
 

@@ -1,4 +1,4 @@
--- What is seen of a reader or a writer, and what is told on a writer.
+-- What is seen of a reader or a writer, and what is written to a writer.
 use Rattle.std.specs.Prelude.{◌≡◌, ℕ, List, Bool, true, false, Option}
 use Rattle.std.specs.Io.KnownBytes.{Appends}
 use Rattle.tsb_lines.specs.Writes.{AppendsFront}
@@ -11,7 +11,7 @@ pub record Seen : Type 0 where
   pub failed : Bool
   pub flushed : Bool
 
--- what is seen of a device, of which this gives the bytes
+-- what is seen of a device whose bytes this gives
 abbrev pub seen : {D : Type 0} → (D → Option (List ℕ)) → Watched D → Seen
 seen bytes watched = record { bytes = bytes watched.device; failed = watched.failed; flushed = watched.flushed }
 
@@ -23,6 +23,6 @@ IsFresh watched = (watched.failed ≡ false) × (watched.flushed ≡ true)
 abbrev pub GoesOut : Seen → Seen → List ℕ → Type 0
 GoesOut old new text = Appends old.bytes new.bytes text × (new.flushed ≡ true)
 
--- a text is told: it goes out whole, or the writer has failed, and has taken the first bytes of the text or none
+-- a text is written: it goes out whole, or the writer has failed, and has taken the first bytes of the text or none
 abbrev pub Tells : Seen → Seen → List ℕ → Type 0
 Tells old new text = AppendsFront old.bytes new.bytes text × (new.failed ≡ false → GoesOut old new text)

@@ -45,7 +45,7 @@ impl<const MOST: usize> KeptLine<MOST> {
         }
     }
 
-    /// Takes bytes of which none is a line feed. Of a line that gets longer than `MOST` its first ones are kept.
+    /// Takes bytes without a line feed. A line that gets longer than `MOST` keeps its first ones.
     pub fn extend(&mut self, bytes: &[u8])
         requires { HasNoFeed bytes.now }
         ensures kept { self.new ≡ kept MOST (self.old ++ bytes.now) }

@@ -1,4 +1,4 @@
--- Plans agree on what stands from one object up to another where their cells there are the same, and nowhere else.
+-- Plans agree on what is from one object up to another where their cells there are the same, and nowhere else.
 use Rattle.std.proofs.Common.{◌≡◌, ℕ, ◌+◌, ◌-◌, ◌<◌, ◌≤◌, Bool, true, false, List, length, get_or, refl, arith, sym, ap, ◌∙◌, inl, inr, if◌then◌else◌}
 use Rattle.std.proofs.lemmas.Bool.{cases_lt, cond-true}
 use Rattle.std.proofs.lemmas.Bool.Decides.{nat_tests}
@@ -14,7 +14,7 @@ use Rattle.tsb_plan.proofs.CellLemmas.{leave_no_cell}
 use Rattle.tsb_plan.proofs.TableLemmas.{order-injective, ends-before, ends-within, index-bounds}
 use Rattle.tsb_objects.specs.Agreement.{Agree, is_between}
 
--- first cells stand in the order of the objects
+-- first cells are in the order of the objects
 pub first-cells : (o p : Object) → order o ≤ order p → first_cell o ≤ first_cell p
 first-cells o p before =
     elim (cases_lt (order o) (order p)) [
@@ -60,7 +60,7 @@ agree-between cells others from to same = record { each = λ o i there. value-sa
 
 -- ## And back
 
--- the object whose cell stands within the part is between the two
+-- the object whose cell is within the part is between the two
 between-cell : (from to o : Object) (i cell : ℕ) → IsCellOf cell o i → first_cell from ≤ cell → cell < first_cell to → is_between from to o ≡ true
 between-cell from to o i cell is low high =
     let bounds : (1 ≤ i) × (i ≤ indices o) = index-bounds o i is.has in

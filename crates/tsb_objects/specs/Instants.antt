@@ -1,5 +1,5 @@
 -- Force-off instants: when within the cycle of a pattern a phase is forced off, so that its split ends with its red
--- clearance (fixed force-off, no transition after a change of pattern); late force-off and the permissive time, behind
+-- clearance (fixed force-off, no transition after a change of pattern); late force-off and the permissive time, after
 -- the instant; and pedestrian recycle, before it. Cycle, splits, split modes, coordinated phases and sequences are the
 -- objects of NTCIP 1202 of these names; that the local counter is 0 where the coordinated split of ring 1 ends, late
 -- force-off, the permissive time and pedestrian recycle are the profile's own. Times are in ticks, which are tenths of
@@ -138,7 +138,7 @@ is_permitted plan None local p = false
 is_permitted plan (Some n) local p =
     nat_lt 0 (yields_for plan n p) && is_behind (cycle plan n) (yields_for plan n p) local (force_off plan (Some n) p)
 
--- the tick of the local counter behind the permissive time of p, if it has one
+-- the tick of the local counter after the permissive time of p, if it has one
 abbrev pub permissive_end_from : ℕ → ℕ → Option ℕ → Option ℕ
 permissive_end_from m time None = None
 permissive_end_from m time (Some i) = if nat_lt 0 time then Some ((i + time + 1) % m) else None

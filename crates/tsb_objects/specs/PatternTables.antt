@@ -18,12 +18,12 @@ is_so MaximumRecall plan runs p = is_on_maximum_recall plan runs p
 is_so PedestrianRecall plan runs p = is_on_pedestrian_recall plan runs p
 is_so PedestrianRecycle plan runs p = may_recycle plan runs p
 
--- word 0 is of free operation, word n of pattern n; each is the list of the phases of which it is so
+-- word 0 is of free operation, word n of pattern n; each is the list of the phases that pass
 abbrev pub AreInEffect : Plan → Asked → List ℕ → Type 0
 AreInEffect plan asked words =
     (k p : ℕ) → k < 17 → 1 ≤ p → p ≤ 16 → names (slice_index words k) p ≡ is_so asked plan (unless_zero k) p
 
--- an instant as a word has it: one that is no local counter stands for none
+-- an instant as a word has it: one that is no local counter means none
 abbrev pub never : ℕ
 never = 65535
 
@@ -42,14 +42,14 @@ abbrev pub late_until : ℕ → ℕ → Option ℕ → ℕ
 late_until m i None = 0
 late_until m i (Some e) = counted_on m i e
 
--- the tick of the local counter behind the last one at which a phase with this instant, this late end and this
--- permissive time is forced off in a cycle of m, counted on past the cycle; 0 without an instant, as none is below it
+-- the tick of the local counter after the last one at which a cycle of m forces a phase off, counted on past the cycle.
+-- The phase has this instant, this late end and this permissive time; 0 without an instant, as none is below it
 abbrev pub end_behind : ℕ → Option ℕ → Option ℕ → ℕ → ℕ
 end_behind m None late time = 0
 end_behind m (Some i) late time = max (i + time + 1) (late_until m i late)
 
--- the end of a permissive time, as the words of a coordinated phase tell it in a cycle of m: the end is more than a
--- tick behind the instant
+-- the end of a permissive time, as the words of a coordinated phase have it in a cycle of m: the end is more than a
+-- tick after the instant
 abbrev pub permissive_end_in : ℕ → ℕ → ℕ → Option ℕ
 permissive_end_in m word end = if nat_lt (word + 1) end then Some (end % m) else None
 

@@ -15,7 +15,7 @@ use crate::late_ends::{late_end, yields_for};
 use tsb_plan::Plan;
 use tsb_types::{Pattern, Phase, PhaseSet};
 
-/// The word that stands for no instant: no local counter is so large.
+/// The word of a phase without an instant: no local counter is so large.
 pub(crate) const NEVER: u16 = 65535;
 
 /// What a table of the pattern that runs asks of a phase.
@@ -47,8 +47,8 @@ pub struct PatternTables {
     pub(crate) pedestrian_recycle: [u16; 17],
     /// The force-off instants of the phases, 16 for each pattern, or `NEVER`.
     pub(crate) instants: [u16; 256],
-    /// For each of these the tick of the local counter behind the last one at which the phase is forced off, or 0. It
-    /// is counted on past the end of the cycle; at most 5,100.
+    /// For each of these the tick of the local counter after the last one at which the phase is forced off, or 0. It is
+    /// counted on past the end of the cycle; at most 5,100.
     pub(crate) ends: [u16; 256],
     /// Where on its local counter each pattern waits while it comes into step (`coordCorrectionMode` 1).
     pub(crate) waiting_points: [u16; 16],
@@ -93,7 +93,7 @@ fn runs_at(k: usize) -> Option<Pattern>
     Pattern::new(k as u32)
 }
 
-/// Whether what is asked is so of a phase while the pattern of word `k` runs.
+/// Whether a phase passes the test while the pattern of word `k` runs.
 fn is_so(plan: &Plan, k: usize, asked: Asked, phase: Phase) -> bool
     requires { k < 17 }
     ensures { result ≡ is_so asked (plan_of plan.now) (unless_zero k) phase }
@@ -120,7 +120,7 @@ fn joined(set: PhaseSet, p: Phase, on: bool) -> PhaseSet
     if on { set.with(p, true) } else { set }
 }
 
-/// The phases of which it is so while the pattern of word `k` runs.
+/// The phases that pass the test while the pattern of word `k` runs.
 #[inline(always)]
 fn phases_so(plan: &Plan, k: usize, asked: Asked) -> PhaseSet
     requires { k < 17 }
@@ -145,8 +145,8 @@ fn has_split(plan: &Plan, k: usize) -> bool
     }
 }
 
-/// The phases of which it is so while the pattern of word `k` runs, as a list: without a split table those of free
-/// operation, which are handed in.
+/// The phases that pass the test while the pattern of word `k` runs, as a list: without a split table those of free
+/// operation, which the caller hands in.
 #[inline(always)]
 fn list_so(plan: &Plan, k: usize, asked: Asked, free: u16) -> u16
     requires word { k < 17 }
@@ -160,8 +160,8 @@ fn list_so(plan: &Plan, k: usize, asked: Asked, free: u16) -> u16
     }
 }
 
-/// The phases of which it is so, in free operation and in each pattern. It is inlined, so that what is asked is
-/// settled before its loops.
+/// The phases that pass the test, in free operation and in each pattern. It is inlined, so that the compiler settles
+/// the test before the loops.
 #[inline(always)]
 fn in_effect(plan: &Plan, asked: Asked) -> [u16; 17]
     ensures full { length result ≡ 17 }
@@ -242,8 +242,8 @@ fn late_until(cycle: u32, at: u32, late: &Option<u32>) -> u32
     }
 }
 
-/// The tick of the local counter behind the last one at which a phase is forced off in a pattern that is used. It is
-/// found from the words of all instants, and counts on past the cycle; 0 where there is none.
+/// The tick of the local counter after the last one at which a used pattern forces a phase off. It is found from the
+/// words of all instants, and counts on past the cycle; 0 where the pattern never does.
 fn end_word(plan: &Plan, instants: &[u16; 256], n: Pattern, p: Phase) -> u16
     requires used { is_used (plan_of plan.now) n ≡ true }
     requires told { AreInstants (plan_of plan.now) instants.now }
@@ -259,8 +259,8 @@ fn end_word(plan: &Plan, instants: &[u16; 256], n: Pattern, p: Phase) -> u16
     }
 }
 
-/// Puts the ticks behind the last ones at which phases are forced off in a pattern that is used among those of each
-/// pattern, by the words of all instants.
+/// Puts the ticks after the last ones at which a used pattern forces phases off among those of each pattern, by the
+/// words of all instants.
 fn put_ends(plan: &Plan, instants: &[u16; 256], n: Pattern, words: &mut [u16; 256])
     requires used { is_used (plan_of plan.now) n ≡ true }
     requires told { AreInstants (plan_of plan.now) instants.now }
@@ -277,8 +277,8 @@ fn put_ends(plan: &Plan, instants: &[u16; 256], n: Pattern, words: &mut [u16; 25
     }
 }
 
-/// The ticks behind the last ones at which phases are forced off in each pattern, by the words of their instants. They
-/// have no meaning for a pattern that is not used.
+/// The ticks after the last ones at which each pattern forces phases off, by the words of their instants. They have no
+/// meaning for a pattern that is not used.
 fn ends(plan: &Plan, instants: &[u16; 256]) -> [u16; 256]
     requires told { AreInstants (plan_of plan.now) instants.now }
     ensures full { length result ≡ 256 }
@@ -356,7 +356,7 @@ pub(crate) fn waiting_at(words: &[u16; 16], n: Pattern) -> u32
     u32::from(words[usize::from(n.number()) - 1])
 }
 
-/// The tick of the local counter behind the permissive time of a coordinated phase, from the words of all instants and
+/// The tick of the local counter after the permissive time of a coordinated phase, from the words of all instants and
 /// ends; none where the phase has no permissive time.
 #[inline(always)]
 pub(crate) fn permissive_end_at(
@@ -382,7 +382,7 @@ pub(crate) fn permissive_end_at(
 
 /// The phases that are forced off in a pattern with that cycle at that local counter, from the words of their instants
 /// and ends: from the instant to the end, in this cycle or from the last one on. A phase without an instant ends at 0,
-/// so it is not among them.
+/// which leaves it out.
 #[inline(always)]
 pub(crate) fn forced_in(
     instants: &[u16; 256],

@@ -1,4 +1,4 @@
--- Ticks that leave the cells as they are and tell what an earlier one told, where all phases are still.
+-- Ticks that leave the cells as they are and find what an earlier one found, where all phases are still.
 use Rattle.std.proofs.Common.{◌≡◌, ℕ, ◌-◌, ◌<◌, ◌≤◌, List, sym, ap, ◌∙◌, arith}
 use Rattle.tsb_objects.specs.tsb_types.declared.flow.Timing.{Timing}
 use Rattle.tsb_objects.specs.tsb_plan.Plan.{Plan}
@@ -32,7 +32,7 @@ module _ (now t : ℕ) (conditions : Conditions) (plan : Plan) (cells : List ℕ
       phase_in-row t cells p from within ∙ (still p from within).state
       ∙ ap (next_from_read plan (given_of conditions) none_moved p) (read-then p from within)
 
-  -- what is told of the phase as tick t reads it
+  -- what is found of the phase as tick t reads it
   retold : {A : Type 0} (f : Phase → A) (p : ℕ) → 1 ≤ p → p ≤ 16 → f (phase_of t (row_in cells p)) ≡ f (phase_of now (row_in cells p)) →
       f (read_in now cells p) ≡ f (read_in t cells p)
   retold f p from within same = ap f (sym (read-now p from within)) ∙ sym same ∙ ap f (read-then p from within)

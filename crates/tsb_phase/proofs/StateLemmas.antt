@@ -101,7 +101,7 @@ clears-on PedestrianClear h = refl
 not-walking : (x : PedestrianInterval) → x ≡ DontWalk → (is_walk x ≡ false) × (is_clearance x ≡ false)
 not-walking x e = rw e (refl, refl)
 
--- what the two lists tell is not Green, so the interval is not
+-- what the two lists have is not Green, so the interval is not
 not-green : (i : Interval) →
     is_green (if has_way i then (if is_clearing i then Yellow else Green) else (if is_clearing i then RedClear else Red)) ≡ false →
     is_green i ≡ false
@@ -152,7 +152,7 @@ at-column xs f n k p long place from to =
     get_or-append_right xs (column f) n k 0 long (omega (arith, from, place))
     ∙ ap (λ (j : ℕ). get_or (column f) j 0) behind ∙ at-run f 1 16 (p - 1) (omega (arith, from, to)) ∙ ap f number
 
--- what stands before a column stays
+-- what is before a column stays
 before : (xs : List ℕ) (f : ℕ → ℕ) (n k v : ℕ) → length xs ≡ n → k < n → get_or xs k 0 ≡ v → get_or (xs ++ column f) k 0 ≡ v
 before xs f n k v long below e = get_or_append_left xs (column f) 0 k (omega (arith, long, below)) ∙ e
 

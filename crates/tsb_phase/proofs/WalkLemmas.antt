@@ -1,4 +1,4 @@
--- A walk that begins within a green: it is told where it begins, and its phase is not ready in that tick.
+-- A walk that begins within a green: it is found where it begins, and its phase is not ready in that tick.
 use Rattle.std.proofs.Common.{◌≡◌, ℕ, Bool, true, false, not, ◌&&◌, if◌then◌else◌, refl, sym, ap, ◌∙◌, inl, inr}
 use Rattle.std.proofs.lemmas.Bool.{and_parts, cases_Bool}
 use Rattle.tsb_objects.specs.tsb_types.declared.interval.PedestrianInterval.{PedestrianInterval}
@@ -33,7 +33,7 @@ pub walk_begins : (plan : Plan) (given : Given) (p : ℕ) (w : Phase) →
 unfolding pedestrian_now
 walk_begins plan given p w = begins_in plan given p w w.pedestrian
 
--- and so a row tells it
+-- and so a row has it
 pub row_tells : (now : ℕ) (plan : Plan) (given : Given) (p : ℕ) (was : PhaseRow) (part : PedestrianInterval) →
     part ≡ pedestrian_now plan given p (phase_of now was) →
     (not was.walk && is_walk part) ≡ walks_again given p (phase_of now was)

@@ -1,4 +1,4 @@
--- Rows of phases that later ticks find and leave as tick `now` did, while what a tick tells phase timing stays the
+-- Rows of phases that later ticks find and leave as tick `now` did, while what a tick gives phase timing stays the
 -- same.
 use Rattle.std.specs.Prelude.{◌≡◌, ℕ, ◌+◌, ◌≤◌, min, Bool, List, Option, Some, None}
 use Rattle.tsb_cells.specs.Timer.{timer_at, has_reached}
@@ -12,7 +12,7 @@ use Rattle.tsb_phase.specs.Ready.{is_ready, is_over, is_gapped_now, red_revert_p
 use Rattle.tsb_phase.specs.Next.{next_from_read}
 use Rattle.tsb_phase.specs.Cells.{phase_of, row_in}
 
--- tick t makes of the row what it was, and tells of it what tick `now` tells
+-- tick t makes of the row what it was, and finds of it what tick `now` finds
 pub record IsStill (plan : Plan) (given : Given) (p : ℕ) (r : PhaseRow) (now t : ℕ) : Type 0 where
   pub state : phase_of t r ≡ next_from_read plan given none_moved p (phase_of t r)
   pub ready : is_ready plan given p (phase_of t r) ≡ is_ready plan given p (phase_of now r)

@@ -1,4 +1,4 @@
-//! When a test of phase timing next changes, while what a tick gives it stays the same. `u32::MAX` stands for no tick.
+//! When a test of phase timing next changes, while what a tick gives it stays the same. `u32::MAX` is no tick.
 ghost use Rattle.std.specs.Prelude.{◌≡◌, ℕ, ◌+◌, ◌-◌, ◌<◌, ◌≤◌, ◌^◌, true, false};
 ghost use Rattle.tsb_cells.specs.Timer.{timer_at, has_reached};
 ghost use Rattle.tsb_objects.specs.tsb_types.declared.interval.Interval.TheVariants.{Green, Yellow, RedClear};
@@ -29,7 +29,7 @@ use crate::visit::{held, number_in};
 use tsb_cells::Timer;
 use tsb_objects::{PedestrianInterval, Phase, Plan};
 
-/// The tick up to which a timer that is On, as its cell tells, has not reached a limit.
+/// The tick up to which a timer that is On, by its cell, has not reached a limit.
 #[inline(always)]
 fn until_on(cell: u32, limit: u32) -> u32
     requires on { 1 ≤ cell }
@@ -50,7 +50,7 @@ fn until(cell: u32, limit: u32) -> u32
     }
 }
 
-/// The tick up to which the timer of a cell has reached a limit exactly when it has at tick `now`. One comparison tells
+/// The tick up to which the timer of a cell has reached a limit exactly when it has at tick `now`. One comparison finds
 /// that it is Off or has reached it, so that a loop over all phases takes several of them at a time.
 #[inline(always)]
 fn turn(now: u32, cell: u32, limit: u32) -> u32
@@ -183,8 +183,8 @@ fn turn_gap(now: u32, plan: &Plan, p: Phase, was: &PhaseRow) -> u32
     now.saturating_add(ticks)
 }
 
-/// The tick up to which a green is still but for its red revert, where tick `now` leaves its timers and latches as they
-/// were.
+/// The tick up to which a green keeps still, its red revert aside, where tick `now` leaves its timers and latches as
+/// they were.
 #[inline(always)]
 fn due_kept(now: u32, plan: &Plan, conditions: &Conditions, p: Phase, was: &PhaseRow) -> u32
     requires fits { now + 1 < 2 ^ 32 }
@@ -209,7 +209,7 @@ fn due_kept(now: u32, plan: &Plan, conditions: &Conditions, p: Phase, was: &Phas
         .min(most.min(floating))
 }
 
-/// The tick up to which a Green phase is still but for its red revert: no further tick, where tick `now` changes its
+/// The tick up to which a Green phase keeps still, its red revert aside: no further tick, where tick `now` changes its
 /// timers or latches.
 #[inline(always)]
 fn due_green(now: u32, plan: &Plan, conditions: &Conditions, p: Phase, was: &PhaseRow) -> u32
@@ -225,7 +225,7 @@ fn due_green(now: u32, plan: &Plan, conditions: &Conditions, p: Phase, was: &Pha
     now
 }
 
-/// The tick up to which a Yellow phase is still but for its red revert.
+/// The tick up to which a Yellow phase keeps still, its red revert aside.
 #[inline(always)]
 fn due_yellow(plan: &Plan, p: Phase, was: &PhaseRow) -> u32
     requires { interval_of_row was.now ≡ Yellow }
@@ -236,7 +236,7 @@ fn due_yellow(plan: &Plan, p: Phase, was: &PhaseRow) -> u32
     until(was.timer, change)
 }
 
-/// The tick up to which a phase in red clearance is still but for its red revert.
+/// The tick up to which a phase in red clearance keeps still, its red revert aside.
 #[inline(always)]
 fn due_red_clear(now: u32, plan: &Plan, p: Phase, was: &PhaseRow) -> u32
     requires fits { now + 1 < 2 ^ 32 }

@@ -1,4 +1,4 @@
-//! A phase told as a plain value, and the maximum that acts on it: for those who say how much of a time is left.
+//! A phase as a plain value, and the maximum that acts on it: for those who say how much of a time is left.
 ghost use Rattle.std.specs.Prelude.{◌≡◌, ◌+◌, ◌<◌, ◌^◌};
 ghost use Rattle.tsb_objects.specs.Checked.{checked_plan};
 ghost use Rattle.tsb_phase.specs.Promises.{TellsPhase, TellsMaximum};
@@ -11,7 +11,7 @@ use crate::visit::number_in;
 use tsb_cells::Timer;
 use tsb_objects::{Checked, Interval, Pattern, PedestrianInterval, Phase};
 
-/// What phase timing keeps of a phase, but for how its last green ended. Timers are in ticks, which are tenths of a
+/// What phase timing keeps of a phase, apart from how its last green ended. Timers are in ticks, which are tenths of a
 /// second.
 #[derive(Clone, Copy)]
 pub struct PhaseTimes {

@@ -31,7 +31,7 @@ length-objects = refl
 pub order-injective : (o p : Object) → order o ≡ order p → o ≡ p
 order-injective o p e = sym (at-order o) ∙ ap (λ (n : ℕ). get_or objects n PhaseEnabled) e ∙ at-order p
 
--- what stands before a place, and at it, is no more than what stands before a later place
+-- the cells before a place, and at it, are no more than those before a later place
 sum-take : (f : Object → ℕ) (os : List Object) (j k : ℕ) → j < k → j < length os → sum_by f (take j os) + f (get_or os j PhaseEnabled) ≤ sum_by f (take k os)
 sum-take f [] j k below within = absurd (omega arith)
 sum-take f (x ∷ os) zero zero below within = absurd (omega arith)
@@ -53,7 +53,7 @@ counted o k below =
     sum-take indices objects (order o) k below (rw length-objects (order-below o)) in
     subst (λ (q : Object). sum_by indices (take (order o) objects) + indices q ≤ sum_by indices (take k objects)) (at-order o) step
 
--- the cells of an object stand before those of a later one
+-- the cells of an object come before those of a later one
 pub ends-before : (o p : Object) → order o < order p → first_cell o + indices o ≤ first_cell p
 unfolding first_cell
 ends-before o p below = counted o (order p) below

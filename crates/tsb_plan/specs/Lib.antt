@@ -1,6 +1,6 @@
--- THE TABLE of objects: names, indices, ranges, and where the cells of each stand
+-- THE TABLE of objects: names, indices, ranges, and where the cells of each are
 pub mod Objects
--- the two versions of plan texts: which objects each has, and where an index of version 1 comes to stand
+-- the two versions of plan texts: which objects each has, and the place that an index of version 1 gets
 pub mod Versions
 -- the names of objects, byte by byte, and which object has a name
 pub mod Names
@@ -10,13 +10,13 @@ pub mod Plan
 pub mod Parts
 -- what is in effect while a pattern runs, and in free operation
 pub mod Running
--- the plan that the cells of a plan in memory tell, and what reading and writing a value answer
+-- the plan in the cells of a plan in memory, and what reading and writing a value answer
 pub mod PlanOf
 -- the built-in plan of two phases in one ring
 pub mod Two
 -- the built-in plan of eight phases in two rings
 pub mod Quad
--- that objects, cells and values are told apart
+-- that no two objects, cells or values are taken for one another
 pub mod Laws
--- that translated indices and names are told apart
+-- that no two translated indices or names are taken for one another
 pub mod VersionLaws

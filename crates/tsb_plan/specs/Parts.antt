@@ -10,7 +10,7 @@ use Rattle.tsb_plan.specs.declared.plan.patterns.SplitMode.TheVariants.{NoMode, 
 use Rattle.tsb_plan.specs.Plan.{Plan}
 use Rattle.tsb_types.specs.Sets.{names}
 
--- a number where 0 stands for none
+-- a number, with 0 for none
 abbrev pub unless_zero : ℕ → Option ℕ
 unless_zero n = if n == 0 then None else Some n
 
@@ -42,7 +42,7 @@ maximum_presence plan d = 600 * plan.value VehicleDetectorMaxPresence d
 abbrev pub erratic_counts : Plan → ℕ → ℕ
 erratic_counts plan d = plan.value VehicleDetectorErraticCounts d
 
--- while an alarm stands the output is on but for a green that has lasted this time, in tenths of a second; with 0 it is
+-- while there is an alarm, the output is on until a green has lasted this time, in tenths of a second; with 0 it is
 -- off, with 2550 on all the time (profile)
 abbrev pub fail_time : Plan → ℕ → ℕ
 fail_time plan d = 10 * plan.value VehicleDetectorFailTime d
@@ -85,8 +85,8 @@ floats plan = plan.value CoordForceMode 1 == 2
 abbrev pub correction_limit : Plan → ℕ
 correction_limit plan = plan.value CoordCorrectionLimit 1
 
--- what each number of coordCorrectionMode stands for (profile), with this limit: 0 for at once; without a limit the
--- short way and add only are at once as well
+-- what each number of coordCorrectionMode means (profile), with this limit: 0 for at once; without a limit the short
+-- way and add only are at once as well
 abbrev pub correction_mode_of : ℕ → ℕ → CorrectionMode
 correction_mode_of limit n =
     if n == 1 then Dwell
@@ -114,7 +114,7 @@ abbrev pub permissive_time : Plan → ℕ → ℕ
 permissive_time plan n = 10 * plan.value PatternPermissiveTime n
 
 -- the splits of the coordinated phases of the pattern may end at different times, as where one direction of a street
--- has its left turn before and the other one behind
+-- has its left turn before and the other one after
 abbrev pub leads_and_lags : Plan → ℕ → Bool
 leads_and_lags plan n = plan.value PatternLeadLag n == 1
 
@@ -128,7 +128,7 @@ sequence_of plan n = unless_zero (plan.value PatternSequenceNumber n)
 
 -- split tables
 
--- the index of split objects that stands for phase p in table t: table after table, each in phase order
+-- the index of split objects for phase p in table t: table after table, each in phase order
 abbrev pub split_index : Plan → ℕ → ℕ → ℕ
 split_index plan t p = plan.phase_count * (t - 1) + p
 
@@ -136,7 +136,7 @@ split_index plan t p = plan.phase_count * (t - 1) + p
 abbrev pub split_time : Plan → ℕ → ℕ → ℕ
 split_time plan t p = 10 * plan.value SplitTime (split_index plan t p)
 
--- what each number of splitMode stands for (profile); 0, and any over 5, for no mode
+-- what each number of splitMode means (profile); 0, and any over 5, is no mode
 abbrev pub mode_of : ℕ → SplitMode
 mode_of n =
     if n == 1 then MinimumRecall else if n == 2 then MaximumRecall else if n == 3 then PedestrianRecall else

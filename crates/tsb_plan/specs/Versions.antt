@@ -8,7 +8,7 @@ use Rattle.tsb_plan.specs.declared.version.Version.{Version}
 use Rattle.tsb_plan.specs.declared.version.Version.TheVariants.{One, Two, Three}
 use Rattle.tsb_plan.specs.Objects.{Since, since_version_1, since_version_2, since_version_3, order, row, since}
 
--- the number that a text of the version tells
+-- the number that a text of the version has
 abbrev pub number_of : Version → ℕ
 number_of One = 1
 number_of Two = 2

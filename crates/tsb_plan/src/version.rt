@@ -21,7 +21,7 @@ impl Version {
     /// The last version, which has all objects as a plan has them.
     pub const NEWEST: Version = Version::Three;
 
-    /// The number that texts of this version tell.
+    /// The number that texts of this version have.
     pub fn number(self) -> u32
         ensures { result ≡ number_of self }
     {

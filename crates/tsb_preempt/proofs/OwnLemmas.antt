@@ -1,4 +1,4 @@
--- A tick looks at the inputs of preempts 1 to 4 and at the intervals of phases 1 to 16 alone; and what it asks stands.
+-- A tick looks at the inputs of preempts 1 to 4 and at the intervals of phases 1 to 16 alone; and what it asks stays.
 use Rattle.std.proofs.Common.{◌≡◌, ℕ, ◌-◌, ◌≤◌, ◌==◌, Bool, true, false, not, ◌&&◌, ◌||◌, Option, Some, None, is_some, is_none, refl, sym, ◌∙◌, ap, ap₂, subst, inl, inr, arith}
 use Rattle.std.proofs.lemmas.Bool.{cases_Bool, true≢false, eqb-true, and_right}
 use Rattle.tsb_types.specs.declared.interval.Interval.{Interval}
@@ -178,7 +178,7 @@ ticks-as-next now row intervals plan old new given count alike none by by_new ti
     (λ n out. off-outside now new n by_new.switches by_new.spent out)
     (λ n out. next-off plan given was n four out (none n out) (off-outside (now - 1) old n by.switches by.spent out))
 
--- ## What a tick asks stands
+-- ## What a tick asks stays
 
 pub orders-stand : OrdersStand
 orders-stand now row intervals plan old new result ticked orders stays = record {

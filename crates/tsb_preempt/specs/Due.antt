@@ -34,7 +34,7 @@ IsWaiting now t plan cells inputs spent was n =
 
 -- ## Of ticks
 
--- orders that stand: they ask what the stage in service asks, and no service ended
+-- orders that stay: they ask what the stage in service asks, and no service ended
 pub record AreStanding (now : ℕ) (plan : Plan) (cells : List ℕ) (orders : PreemptOrders) : Type 0 where
   pub target : target_of orders.target ≡ wanted_by plan (preempts_in now cells).service
   pub must_end : (p : ℕ) → 1 ≤ p → p ≤ 16 → has orders.must_end p ≡ is_outside (target_of orders.target) p
@@ -45,7 +45,7 @@ pub record AreStanding (now : ℕ) (plan : Plan) (cells : List ℕ) (orders : Pr
 abbrev pub AreQuietUntil : ℕ → Row → Intervals → Plan → List ℕ → ℕ → Type 0
 AreQuietUntil now row intervals plan cells due = (t : ℕ) → now < t → t < due → IsTicked t row intervals plan cells cells
 
--- and clause `orders`: orders that stand are what it answers
+-- and clause `orders`: orders that stay are what it answers
 abbrev pub OrdersStandUntil : ℕ → Row → Intervals → Plan → List ℕ → ℕ → Type 0
 OrdersStandUntil now row intervals plan cells due = (t : ℕ) → now < t → t < due → (orders : PreemptOrders) →
     AreStanding now plan cells orders → AreOrdered t row intervals plan cells orders

@@ -8,7 +8,7 @@ pub mod Events
 pub mod Clip
 -- tests of the interval of a vehicle head and of a pedestrian head
 pub mod Intervals
--- what layers tell one another of intervals, targets and refusals, phase by phase
+-- what layers give one another of intervals, targets and refusals, phase by phase
 pub mod Flow
--- that lists of phases and tests of phases tell the same
+-- that lists of phases and tests of phases agree
 pub mod Laws

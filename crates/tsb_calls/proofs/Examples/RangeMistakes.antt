@@ -1,5 +1,5 @@
--- What the laws of cells and of what the calls look at refuse, by computing: cells out of range, a 17th phase and a 17th
--- detector. Beside each stands what the definitions make of cells, memories and detectors in range.
+-- What the laws of cells and of what the calls look at refuse, by computing: cells out of range, a 17th phase and a
+-- 17th detector. Beside each is what the definitions make of cells, memories and detectors in range.
 use Rattle.std.proofs.Common.{◌≡◌, ◌∙◌, ℕ, ◌==◌, ◌≤◌, Bool, true, false, ◌&&◌, if◌then◌else◌, List, [], ◌∷◌, map, refl, sym, ap, arith, inl, inr}
 use Rattle.std.proofs.lemmas.Bool.{cases_Bool, eqb-true, true≢false}
 use Rattle.tsb_objects.specs.tsb_types.Lists.{run_from, some_passes}
@@ -13,7 +13,7 @@ use Rattle.tsb_calls.specs.Laws.{AreInRange}
 use Rattle.tsb_calls.proofs.StateLemmas.{calls-read}
 use Rattle.tsb_calls.proofs.Examples.Examples.{resting, remembering, staying}
 
--- ## Rows are told
+-- ## Rows are read
 
 -- 16 in vehicle memory, 2 in pedestrian memory, and of each phase as many vehicles as its number
 abbrev pub kept : Memories

@@ -1,11 +1,11 @@
--- Mistakes in differences of rows and in cells of timers, each with an example that tells it from the definition.
+-- Mistakes in differences of rows and in cells of timers, each with an example in which it differs from the definition.
 use Rattle.std.specs.Prelude.{◌≡◌, ℕ, ◌+◌, ◌-◌, ◌&&◌, nat_le, nat_lt, List, [], ◌∷◌, ◌++◌, filter, reverse, refl}
 use Rattle.tsb_cells.specs.declared.timer.Timer.{Timer}
 use Rattle.tsb_cells.specs.declared.timer.Timer.TheVariants.{Off, On}
 use Rattle.tsb_cells.specs.Diff.{diff_from, diff, apply_diff, part}
 use Rattle.tsb_cells.specs.Timer.{timer_cell, timer_at}
 
--- a row of three cells, of which the first and the last change, and one of one cell, which changes
+-- a row of three cells, whose first and last change, and one of one cell, which changes
 abbrev pub before : List ℕ
 before = 1 ∷ 2 ∷ 3 ∷ []
 
@@ -35,7 +35,7 @@ would_have_5 = refl
 would_stay : apply_diff now (diff_of_new before now) ≡ now
 would_stay = refl
 
--- ## The entries of later cells stand first
+-- ## The entries of later cells come first
 
 abbrev pub diff_down : List ℕ → List ℕ → List (ℕ × ℕ)
 diff_down before now = reverse (diff before now)

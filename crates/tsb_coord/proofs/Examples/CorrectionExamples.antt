@@ -2,10 +2,10 @@
 -- counter of pattern 1 is the tick number, within 800. Pattern 2 has an offset of 600 here, so that its counter is 200
 -- later. Both have instants of 510, 760, 110 and 360 in each ring; phases 2 and 6 are coordinated, with 760.
 --
--- Pattern 1 is selected at tick 1000: where pattern 2 runs, its counter stands at 400 there, and that of pattern 1 in
--- step at 200. So it goes on 200 ticks ahead. Pattern 2 is selected at tick 1001: the counter of pattern 1 stands at
--- 201 there, and that of pattern 2 in step at 401. So it goes on 600 ticks ahead, which is 200 ticks behind a whole
--- cycle.
+-- Pattern 1 is selected at tick 1000: where pattern 2 runs, its counter is at 400 there, and that of pattern 1 in step
+-- would be at 200. So it goes on 200 ticks ahead. Pattern 2 is selected at tick 1001: the counter of pattern 1 is at
+-- 201 there, and that of pattern 2 in step would be at 401. So it goes on 600 ticks ahead, which is 200 ticks short of
+-- a whole cycle.
 use Rattle.std.specs.Prelude.{◌≡◌, ℕ, true, false, List, [], ◌∷◌, Option, Some, None, filter, map, refl}
 use Rattle.std.proofs.Common.{arith}
 use Rattle.tsb_objects.specs.tsb_types.Lists.{run_from}
@@ -82,7 +82,7 @@ again = refl
 in_two_waits : map (waits 800 160) (200 ∷ 161 ∷ 160 ∷ 1 ∷ []) ≡ 1000 ∷ 961 ∷ 160 ∷ 1 ∷ []
 in_two_waits = refl
 
--- ## A selection goes on from where the old counter stands
+-- ## A selection goes on from where the old counter is
 
 abbrev pub ahead_200 : Correction
 ahead_200 = record { since = 1000; ahead = 200 }
@@ -104,7 +104,7 @@ to_pattern_2 : selected_correction by_short_way (Some 2) 1001 (Some 201) ≡ ahe
 unfolding by_short_way quad
 to_pattern_2 = refl
 
--- from free operation it is in step at once, and so is one that stands where it is in step, and free operation
+-- from free operation it is in step at once; one that is already at its place in step is too, and free operation
 else_in_step : selected_correction dwelling (Some 1) 1000 None ∷ selected_correction dwelling (Some 1) 1000 (Some 200)
     ∷ selected_correction dwelling None 1000 (Some 400) ∷ [] ≡ in_step ∷ in_step ∷ in_step ∷ []
 unfolding dwelling quad
@@ -133,7 +133,7 @@ in_a_shorter_cycle : ahead_in adding (Some 1) (record { since = 1000; ahead = 90
 unfolding adding quad
 in_a_shorter_cycle = refl
 
--- ## Add only: it stands still in each sixth tick, and is in step 1200 ticks later
+-- ## Add only: it waits in each sixth tick, and is in step 1200 ticks later
 
 abbrev pub locals : Plan → Option ℕ → Correction → List ℕ → List (Option ℕ)
 locals plan selected c ticks = map (local_now plan selected c) ticks
@@ -228,7 +228,7 @@ waits_for_long_enough = omega arith
 abbrev pub forced : Plan → Option ℕ → Correction → ℕ → List ℕ
 forced plan selected c t = filter (forces plan selected c t) (run_from 1 8)
 
--- while it waits no phase is forced off, so that phases 2 and 6 stay green; they are in the tick behind the wait
+-- while it waits no phase is forced off, so that phases 2 and 6 stay green; they are in the tick after the wait
 behind_the_wait : map (forced dwelling_on (Some 1) ahead_200) (1359 ∷ 1500 ∷ 1559 ∷ 1560 ∷ 1561 ∷ []) ≡ [] ∷ [] ∷ [] ∷ (2 ∷ 6 ∷ []) ∷ [] ∷ []
 unfolding dwelling_on quad run_from split_sum side_sum split_end force_off
 behind_the_wait = refl
@@ -267,7 +267,7 @@ zero_once : map (comes_to_zero adding (Some 1) ahead_200) (1478 ∷ 1479 ∷ 148
 unfolding adding quad
 zero_once = refl
 
--- phase 2 walks again from the tick on behind the first in which the counter is in step: at 1802, where that is at 402
+-- phase 2 walks again from the tick after the first in which the counter is in step: at 1802, where that is at 402
 unfoldable pub walking : Plan
 walking = with_values by_short_way ((PhasePedestrianRecycle, 2, 1) ∷ [])
 

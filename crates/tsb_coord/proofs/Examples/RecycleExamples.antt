@@ -34,7 +34,7 @@ up_to_its_end : map (walking recycling (Some 1)) (0 ∷ 360 ∷ 659 ∷ 660 ∷ 
 unfolding recycling quad run_from split_sum side_sum split_end force_off
 up_to_its_end = refl
 
--- not at the instant, and in the tick behind it for the next one
+-- not at the instant, and in the tick after it for the next one
 at_its_instant : map (walking recycling (Some 1)) (760 ∷ 761 ∷ 799 ∷ 800 ∷ 1460 ∷ 1461 ∷ [])
     ≡ [] ∷ (2 ∷ []) ∷ (2 ∷ []) ∷ (2 ∷ []) ∷ (2 ∷ []) ∷ [] ∷ []
 unfolding recycling quad run_from split_sum side_sum split_end force_off
@@ -62,7 +62,7 @@ ends_at_661 : map (λ t. filter (ends_recycle recycling t (Some 1)) (run_from 1 
 unfolding recycling quad run_from split_sum side_sum split_end force_off
 ends_at_661 = refl
 
--- ## In the permissive time, which lasts up to 860, no walk begins, and behind it one does
+-- ## In the permissive time, which lasts up to 860, no walk begins, and after it one does
 
 unfoldable pub permitted_too : Plan
 permitted_too = with_value recycling PatternPermissiveTime 1 10
@@ -87,7 +87,7 @@ each_by_its_own : map (walking led_walks (Some 1)) (510 ∷ 511 ∷ 610 ∷ 611 
 unfolding led_walks led quad run_from split_sum side_sum split_end force_off
 each_by_its_own = refl
 
--- ## A walk nearly as long as the cycle, of 790 ticks, fits just behind the instant; one of 800 never does
+-- ## A walk nearly as long as the cycle, of 790 ticks, fits just after the instant; one of 800 never does
 
 unfoldable pub long_walk : Plan
 long_walk = with_values recycling ((PhaseWalk, 2, 69) ∷ (PhasePedestrianClear, 2, 10) ∷ [])

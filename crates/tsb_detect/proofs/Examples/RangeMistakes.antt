@@ -1,5 +1,5 @@
 -- What the laws of cells and of what a tick looks at refuse, by computing: timers that begin after the tick, a bound on
--- how long timers run, and a 17th detector. Beside each stands what the definitions make of the same.
+-- how long timers run, and a 17th detector. Beside each is what the definitions make of the same.
 use Rattle.std.proofs.Common.{◌≡◌, ℕ, ◌+◌, ◌-◌, ◌==◌, nat_le, Bool, true, false, List, slice_index, refl, arith}
 use Rattle.tsb_cells.specs.declared.timer.Timer.{Timer}
 use Rattle.tsb_cells.specs.declared.timer.Timer.TheVariants.{Off}
@@ -12,7 +12,7 @@ use Rattle.tsb_detect.specs.Laws.{AreStatesBy}
 use Rattle.tsb_detect.proofs.StateLemmas.{states-by}
 use Rattle.tsb_detect.proofs.Examples.Examples.{plan}
 
--- ## Rows are told
+-- ## Rows are read
 
 -- what a controller that was switched on after tick 49 keeps of its detectors
 abbrev pub later : List ℕ

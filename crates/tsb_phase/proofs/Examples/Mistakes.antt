@@ -1,4 +1,4 @@
--- One-line mistakes, each with an example that tells it from the definition.
+-- One-line mistakes, each with an example in which it differs from the definition.
 use Rattle.std.specs.Prelude.{◌≡◌, ℕ, ◌==◌, Bool, true, false, not, ◌&&◌, ◌||◌, if◌then◌else◌, min, Option, Some, None, sum_by, refl, [], ◌∷◌}
 use Rattle.tsb_cells.specs.declared.timer.Timer.{Timer}
 use Rattle.tsb_cells.specs.declared.timer.Timer.TheVariants.{Off, On}
@@ -27,7 +27,7 @@ use Rattle.tsb_phase.proofs.Examples.PedestrianExamples.{called_by_pedestrians, 
 use Rattle.tsb_phase.proofs.Examples.ClearanceExamples.{starts_one, in_red, at_instant, coordinated, green}
 use Rattle.tsb_phase.proofs.Examples.MaximumExamples.{growing, green_since}
 
--- ## The reduction timer is On only in ticks in which one of its causes stands
+-- ## The reduction timer is On only in ticks in which it has one of its causes
 
 abbrev pub momentary_reduction : Plan → Given → ℕ → GreenHeld → Timer
 momentary_reduction plan given p held =
@@ -119,7 +119,7 @@ waits = refl
 walks : walk_under_preempt (record called_by_pedestrians { service = Some 1 }) 2 ≡ Walk
 walks = refl
 
--- ## The gapped latch stands when a commit has enabled simultaneous gap
+-- ## The gapped latch stays when a commit has enabled simultaneous gap
 
 abbrev pub latch_of_itself : Plan → Given → ℕ → GreenHeld → Bool
 latch_of_itself plan given p held =
@@ -209,7 +209,7 @@ no_walk_in_red = refl
 would_walk_in_red : may_walk_in_any recycling 2 at_power_up ≡ true
 would_walk_in_red = refl
 
--- ## .. or though the force-off stands, so that the green lasts for another walk while the conflict waits
+-- ## .. or though the phase is forced off, so that the green lasts for another walk while the conflict waits
 
 abbrev pub may_walk_though_forced : Given → ℕ → Phase → Bool
 may_walk_though_forced given p w =

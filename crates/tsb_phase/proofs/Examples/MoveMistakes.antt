@@ -1,5 +1,5 @@
--- One-line mistakes that break the laws of moves, of the timers that are told of greens and of phases that are over,
--- each with an example in which it shows.
+-- One-line mistakes that break the laws of moves, of the timers that are returned for greens and of phases that are
+-- over, each with an example in which it shows.
 use Rattle.std.specs.Prelude.{◌≡◌, ℕ, ◌+◌, Bool, true, false, refl}
 use Rattle.tsb_cells.specs.declared.timer.Timer.{Timer}
 use Rattle.tsb_cells.specs.declared.timer.Timer.TheVariants.{Off, On}
@@ -32,7 +32,7 @@ ended_in_conflict plan given p gapped x = record (ended plan given p gapped x) {
 would_run_on : (ended_in_conflict quad coordinated 2 true (ticked quad coordinated 2 green)).conflict ≡ On 301
 would_run_on = refl
 
--- ## Greens are told as on: a timer that is told as for how long it has run
+-- ## Greens are returned as on: a timer that is returned as for how long it has run
 
 abbrev pub told_as_run : Timer → ℕ
 told_as_run Off = 0

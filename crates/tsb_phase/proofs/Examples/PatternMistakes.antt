@@ -1,5 +1,5 @@
--- Mistakes in floating force-off and in the maximum that acts while a pattern runs, each with an example that tells it
--- from the definition. PatternExamples has what the definition gives there.
+-- Mistakes in floating force-off and in the maximum that acts while a pattern runs, each with an example in which it
+-- differs from the definition. PatternExamples has what the definition gives there.
 use Rattle.std.specs.Prelude.{◌≡◌, ℕ, ◌-◌, ◌*◌, ◌==◌, Bool, true, false, if◌then◌else◌, Option, Some, None, refl}
 use Rattle.tsb_cells.specs.declared.timer.Timer.TheVariants.{Off, On}
 use Rattle.tsb_objects.specs.tsb_plan.declared.object.Object.TheVariants.{CoordMaximumMode, PhaseMaximum1}
@@ -49,7 +49,7 @@ leaves_its_yellow : split_green floating 1 3 ≡ 110
 unfolding quad floating
 leaves_its_yellow = refl
 
--- yellow change and red clearance would end 3 seconds behind the split
+-- yellow change and red clearance would end 3 seconds after the split
 goes_over_its_split : green_and_yellow floating 1 3 ≡ 140
 unfolding quad floating
 goes_over_its_split = refl

@@ -146,7 +146,7 @@ in_service_stays : next quad in_service_of_1 none_moved 2 (in_part 150 DontWalk 
 unfolding quad reduction_timer gap initial pedestrian_now
 in_service_stays = refl
 
--- nor where its force-off stands against a conflict; one begins where the latch falls with its conflict
+-- nor where it is forced off for a conflict; one begins where the latch falls with its conflict
 abbrev pub forced_before : Phase
 forced_before = record (in_part 150 DontWalk Off) { forced = true }
 
@@ -174,7 +174,7 @@ a_tick_behind : next quad recycling none_moved 2 (in_part 200 DontWalk Off) ≡ 
 unfolding quad reduction_timer gap initial pedestrian_now
 a_tick_behind = refl
 
--- it is told of the tick in which it begins, and of no other part: in DontWalk, Walk and clearance at its end, and of
+-- it is found in the tick in which it begins, and of no other part: in DontWalk, Walk and clearance at its end, and of
 -- no phase that is Yellow or Red
 abbrev pub told_of : List Phase
 told_of =

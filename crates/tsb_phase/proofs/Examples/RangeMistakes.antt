@@ -1,5 +1,5 @@
 -- What the laws of cells and of what a phase looks at refuse, by computing: timers that begin after the tick, a bound
--- on how long timers run, and a 17th phase. Beside each stands what the definitions make of the same.
+-- on how long timers run, and a 17th phase. Beside each is what the definitions make of the same.
 use Rattle.std.proofs.Common.{◌≡◌, ◌∙◌, ℕ, ◌+◌, ◌-◌, ◌==◌, nat_le, Bool, true, false, if◌then◌else◌, List, slice_index, sum_by, refl, sym, ap, arith, inl, inr}
 use Rattle.std.proofs.lemmas.Bool.{cases_Bool, eqb-true, true≢false}
 use Rattle.tsb_cells.specs.declared.timer.Timer.TheVariants.{Off, On}
@@ -18,7 +18,7 @@ use Rattle.tsb_phase.proofs.Examples.Examples.{plan, nothing, held}
 abbrev pub one_in_yellow : ℕ → ℕ → Phase
 one_in_yellow n p = if p == n then in_yellow 0 else at_power_up
 
--- ## Rows are told
+-- ## Rows are read
 
 -- of tick 49
 abbrev pub later : List ℕ

@@ -1,5 +1,5 @@
 -- What the laws of cells and of what a tick looks at refuse, by computing: timers that begin after the tick, a bound on
--- how long timers run, and a fifth preempt. Beside each stands what the definitions make of the same.
+-- how long timers run, and a fifth preempt. Beside each is what the definitions make of the same.
 use Rattle.std.proofs.Common.{◌≡◌, ◌∙◌, ℕ, ◌+◌, ◌-◌, ◌==◌, nat_le, Bool, true, false, if◌then◌else◌, List, [], ◌∷◌, slice_index, Option, Some, None, refl, sym, ap, arith, inl, inr}
 use Rattle.std.proofs.lemmas.Bool.{cases_Bool, eqb-true, true≢false}
 use Rattle.tsb_cells.specs.Timer.{IsWithin}
@@ -17,7 +17,7 @@ use Rattle.tsb_preempt.specs.Laws.{IsStateBy}
 use Rattle.tsb_preempt.proofs.StateLemmas.{states-by}
 use Rattle.tsb_preempt.proofs.Examples.Examples.{both, with_row, serving, service}
 
--- ## Rows are told
+-- ## Rows are read
 
 -- of tick 49: preempt 2 came into service in it, after a delay
 abbrev pub begun : Preempts

@@ -1,5 +1,5 @@
 -- What the laws of cells and of what the rings look at refuse, by computing: a row with one cell more, a commitment of
--- 0 that is read as a number, and the call of a 17th phase. Beside each stands what the definitions make of the same.
+-- 0 that is read as a number, and the call of a 17th phase. Beside each is what the definitions make of the same.
 use Rattle.std.proofs.Common.{◌≡◌, ℕ, Bool, not, ◌&&◌, List, [], ◌∷◌, ◌++◌, slice_index, Option, Some, None, IfSome, refl, arith}
 use Rattle.tsb_types.specs.Lists.{some_passes, run_from}
 use Rattle.tsb_objects.specs.tsb_plan.Plan.{Plan}
@@ -13,7 +13,7 @@ use Rattle.tsb_ring.specs.Laws.{IsUpTo, IsInRange}
 use Rattle.tsb_ring.proofs.ToldLemmas.{states-by}
 use Rattle.tsb_ring.proofs.Examples.Scenes.{opened, those, still, moving, greens, resting, under_way}
 
--- ## Rows are told: a row with one cell more
+-- ## Rows are read: a row with one cell more
 
 last_fits : (r : Ring) → IfSome (under_way.last r) (IsUpTo 16)
 last_fits Ring1 = (omega arith, omega arith)
