@@ -31,7 +31,7 @@ use Rattle.tsb_controller.specs.Whole.{All, AreAllBy, all_in, all_changes}
 use Rattle.tsb_controller.proofs.ChangeLemmas.{rows-stay, changes-layers, changes-desk, changes-commit, nothing-differs}
 use Rattle.tsb_bench.specs.Cabinet.{IsDone, next_tick, tripped_by}
 
--- what stands beside the rows of the layers
+-- what is beside the rows of the layers
 abbrev pub beside : All → Beside
 beside a = record { plan = plan_in a.plan; desk = desk_in a.desk; lamp = lamp_in a.monitor; trip = trip_in a.monitor }
 
@@ -67,7 +67,7 @@ desk-done i now old new entries stays by new_by steps told =
 
 -- ## Ticks
 
--- a controller that has tripped stands still at a later tick
+-- a controller that has tripped does not change by a later tick
 later : (n : ℕ) (plan : Plan) (desk : Desk) (lamp : Option Lamp) (trip : Option Tripped) (r : Rows) → is_some trip ≡ true →
     state_of (n + 1) (record { plan = plan; desk = desk; lamp = lamp; trip = trip }) r
     ≡ record (state_of n (record { plan = plan; desk = desk; lamp = lamp; trip = trip }) r) { now = n + 1 }
@@ -228,7 +228,7 @@ reset-untripped now old by none = record {
   entries_are = sym (nothing-differs old);
 }
 
--- timers stand at a tick that has been
+-- timers are read at a tick that has been
 pub clock-most : (now : ℕ) (old : All) → AreAllBy now old → clock_at now (trip_in old.monitor) ≤ now
 clock-most now old by = at (trip_in old.monitor) refl
   where

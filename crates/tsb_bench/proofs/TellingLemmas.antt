@@ -1,4 +1,4 @@
--- What is told of an input, from what was kept of the cabinet before it and what is seen after it.
+-- The events of an input, from what was kept of the cabinet before it and what is seen after it.
 use Rattle.std.proofs.Common.{◌≡◌, ◌∙◌, ℕ, ◌+◌, ◌-◌, ◌<◌, ◌≤◌, Bool, true, false, ◌&&◌, if◌then◌else◌, [], Option, None, is_some, is_none, refl, sym, ap, ap₂, subst, arith}
 use Rattle.std.proofs.lemmas.Bool.Decides.{nat_tests}
 use Rattle.std.specs.Prelude.{Result, Ok, Err, OnOk}
@@ -50,7 +50,7 @@ unfolding step
 tripped-ends-none s row p trips =
     rw trips (not-both (interval s p) (is_none (ended_by (phases_given s row) p)))
 
--- the rows of a controller that has not tripped, as the layers tell causes of them
+-- the rows of a controller that has not tripped, as the layers give causes of them
 pub causes-told : (tick now : ℕ) (a new : All) (row : Row) (plan : Plan) (rows : Rows) (yellow : PhaseSet) (result : Causes) → trip_in a.monitor ≡ None →
     plan ≡ plan_in a.plan → rows ≡ a.layers → all_in now new ≡ step (all_in tick a) (inputs.Tick row) →
     ((p : ℕ) → 1 ≤ p → p ≤ 16 → has yellow p ≡ is_yellow (interval (all_in now new) p)) →
@@ -86,13 +86,13 @@ caused ForceOff false o = refl
 
 -- ## Events
 
--- what an input that is no tick tells
+-- the events of an input that is no tick
 pub other-told : (noted : Noted) (s after : State) (i : Input) → ((row : Row) → i ≡ inputs.Tick row → ⊥) →
     events_between noted s i after ≡ other_events after.now noted (view s) (view after) (selected s) (selected after)
 other-told noted s after (inputs.Tick row) none = absurd (none row refl)
 other-told noted s after i none = refl
 
--- a tick that is passed over, with the inputs of the tick before, tells nothing
+-- a tick that is passed over, with the inputs of the tick before, has no event
 pub passed-tells-none : (i : Input) (tick : ℕ) (a : All) (noted : Noted) → AreAllBy tick a → Passes i tick a → i ≡ inputs.Tick noted.row →
     EndsNoTime (all_in tick a) → events_of noted (all_in tick a) i ≡ []
 passed-tells-none i tick a noted by passes is ends =

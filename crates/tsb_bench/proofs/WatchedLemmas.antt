@@ -16,7 +16,7 @@ use Rattle.tsb_bench.specs.Held.{Held, state_of, IsHeld, HasSoundPast}
 use Rattle.tsb_bench.specs.Watched.{Holds, told}
 use Rattle.tsb_bench.proofs.HeldLemmas.{back-said, quiet-first}
 
--- ## Values are told apart
+-- ## Values differ
 
 abbrev untold : step.Watched → Value
 untold (step.OfInterval i) = values.Interval i
@@ -46,7 +46,7 @@ told-apart v w same = sym (untold-told v) ∙ ap untold same ∙ untold-told w
 abbrev pub Tells : Watch → Watched → Value → Type 0
 Tells w x value = (now : ℕ) (a : All) → Holds w a x → AreAllBy now a → told value ≡ watched w (all_in now a)
 
--- where it stands: the layer, the tick number and the value are those of rows from which the records left lead back
+-- where it is: the layer, the tick number and the value are those of rows from which the records left lead back
 pub record IsAt (h : Held) (w : Watch) (x : Watched) (tick : ℕ) (value : Value) (left : List Change) : Type 0 where
   pub rows : All
   pub sound : HasSoundPast tick rows left
@@ -106,7 +106,7 @@ module _ (h : Held) (w : Watch) (x : Watched) (tick : ℕ) (value : Value) (r : 
         (subst (λ (s : State). TellsLastChange w (pasts s rs) t) (sym before) then));
   }
 
-  -- another layer tells the same
+  -- another layer has the same
   pub goes-on-same : (y : Watched) (old : Value) → Holds w back y → Tells w y old → old ≡ value → IsAt h w y (tick - ticks_of r.kind) value rs
   goes-on-same y old holds tells same = goes-on y holds (subst (Tells w y) same tells)
 

@@ -1,8 +1,8 @@
 //! What holds of all lines of a live session, each law the contract of a function that does nothing.
 ghost use Rattle.tsb_command_text.specs.Laws.{AreBadWhereLong, AreNew, AreNoCommands, AreRowsOfLogs, AskByTheirFirstBytes, AskTheSame, SkipTheSame, TakeTheSameNumber};
 
-/// A line is a row exactly where it is a row of a log behind a tick, with the same inputs. So no space may stand before
-/// or behind it.
+/// A line is a row exactly where it is a row of a log after a tick, with the same inputs. So no space may come before
+/// it or after it.
 ///
 /// Mistake: spaces before a row are dropped, as those before a command, `reading_trimmed` (`is_bad`, `is_malformed`,
 /// `would_be_a_tick`).
@@ -34,7 +34,7 @@ pub fn rows_are_no_commands()
 
 /// What is asked live alone is a bad command to `tsb run`. So the words of `tsb run` stay as they are.
 ///
-/// Mistake: `step` tells the lines that differ, and `changes` is no word, `reading_step_as_changes` (`reads_step`,
+/// Mistake: `step` prints the lines that differ, and `changes` is no word, `reading_step_as_changes` (`reads_step`,
 /// `would_be_changes`).
 /// Witness: `asks_status`, `is_bad_to_a_session` of Mistakes.
 pub fn new_commands_are_new()
@@ -43,7 +43,7 @@ pub fn new_commands_are_new()
 
 /// `changes` takes a number exactly where `step` takes it. A number has the same digits and the same greatest value.
 ///
-/// Needs: at most 192 bytes behind the word and its space, since a line has at most 200.
+/// Needs: at most 192 bytes after the word and its space, since a line has at most 200.
 /// Mistake: `changes` takes no leading zero, `reading_without_zeros` (`takes_05`, `asks_05`, `would_be_bad`).
 /// Witness: `takes_05`, `asks_05` of Mistakes.
 pub fn changes_count_as_steps()

@@ -4,26 +4,27 @@ use crate::Command;
 use tsb_log_text::RowInput;
 use tsb_types::Row;
 
-/// What a live session can be told to do, beside a tick with inputs of its own.
+/// What a live session does on command, beside a tick with inputs of its own.
 #[derive(Clone, Copy)]
 pub enum LiveCommand {
     /// A command of `tsb run`: the same as there.
     Session(Command),
-    /// `status`: tells the status of the controller.
+    /// `status`: prints the status of the controller.
     Status,
-    /// `changes N`: takes this many ticks, as `step N`, and tells of them the lines that differ.
+    /// `changes N`: takes this many ticks, as `step N`, and prints of their lines those that differ.
     Changes(u32),
-    /// `plan`: tells the plan in effect.
+    /// `plan`: prints the plan in effect.
     Plan,
-    /// `edits`: tells the edits at the desk.
+    /// `edits`: prints the edits at the desk.
     Edits,
-    /// `events on` and `events off`: whether ticks and commands tell their events (`true`) or not.
+    /// `events on` and `events off`: whether ticks and commands print their events (`true`) or not.
     Events(bool),
-    /// `when input D`, `when button D` and `when preempt N`: tells the tick at which an input of the rows changed last.
+    /// `when input D`, `when button D` and `when preempt N`: prints the tick at which an input of the rows changed
+    /// last.
     When(RowInput),
-    /// `echo on` and `echo off`: whether answers stand behind their command (`true`) or not.
+    /// `echo on` and `echo off`: whether answers follow their command (`true`) or not.
     Echo(bool),
-    /// `save`: tells the log and the commands by which `tsb run` comes to the present state.
+    /// `save`: prints the log and the commands by which `tsb run` comes to the present state.
     Save,
 }
 

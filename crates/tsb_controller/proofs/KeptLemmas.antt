@@ -73,14 +73,14 @@ and-false : (b : Bool) → (b && false) ≡ false
 and-false true = refl
 and-false false = refl
 
--- The rows before tick `now` are `r` but for detectors and calls.
+-- The rows before tick `now` are `r`, apart from detectors and calls.
 module _ (now : ℕ) (plan : Plan) (desk : Desk) (lamp : Option Lamp) (row : Row) (detectors calls_row : List ℕ) (r : Rows) (one : 1 ≤ now)
     (by : AreBy (now - 1) (record r { detectors = detectors; calls = calls_row })) (settled_by : IsTicked now row plan (record r { detectors = detectors; calls = calls_row }) r) where
   -- the state before the tick
   abbrev s : State
   s = state_of (now - 1) (untripped plan desk lamp) (record r { detectors = detectors; calls = calls_row })
 
-  -- what calls were told
+  -- what calls were given
   abbrev given : Given
   given = calls_given s row
 
@@ -175,7 +175,7 @@ module _ (now : ℕ) (plan : Plan) (desk : Desk) (lamp : Option Lamp) (row : Row
     stands = ap (as_set plan given) memories_now ∙ set_twice s.memories ∙ sym memories_now
 
   module _ (placed : IsPlaced plan) (sensed : Sensed) (seen : IsSeen now plan r sensed) where
-    -- what the calls were told, by what was seen
+    -- what the calls were given, by what was seen
     abbrev told : Given
     told = calls.given_of (observed row sensed)
 
@@ -195,7 +195,7 @@ module _ (now : ℕ) (plan : Plan) (desk : Desk) (lamp : Option Lamp) (row : Row
     look = look-alike plan told given placed.count calls_alike
 
     module _ (calm : NoneRose now r) where
-      -- the memories as they stand are those that are set
+      -- the memories as they are now are those that are set
       pub as_sets : calls_looks.AreAlike (as_set plan told (memories_in r.calls)) (memories_in r.calls)
       as_sets =
           subst (calls_looks.AreAlike (as_set plan told (memories_in r.calls))) (stands calm)
@@ -208,7 +208,7 @@ module _ (now : ℕ) (plan : Plan) (desk : Desk) (lamp : Option Lamp) (row : Row
         count = sym (as_sets.count p from to);
       }
 
-      -- so what is called by the memories as they stand is called by those that are set
+      -- so what is called by the memories as they are now is called by those that are set
       pub calls_told : (called : Called) → ((p : ℕ) → 1 ≤ p → p ≤ 16 → calls.IsCalledAs plan told (memories_in r.calls) called p) →
           calls.TellsCalled (observed row sensed) plan r.calls called
       calls_told called stands p from to = record {

@@ -1,5 +1,5 @@
 -- What rows say at whatever tick they are read; that a phase which a tick left as it was has not moved; and what a tick
--- tells, as sets.
+-- finds, as sets.
 use Rattle.std.proofs.Common.{zero, suc, ◌≡◌, ℕ, ◌+◌, ◌-◌, ◌≤◌, Bool, true, false, ◌&&◌, if◌then◌else◌, List, Option, Some, None, is_some, is_none, option_map, refl, sym, ap, ◌∙◌, inl, inr, arith, subst, slice_index}
 use Rattle.std.proofs.lemmas.Bool.{cases_Bool, and_parts, true≢false}
 use Rattle.tsb_cells.specs.declared.timer.Timer.TheVariants.{Off, On}
@@ -183,7 +183,7 @@ module _ (now : ℕ) (plan : Plan) (cells : List ℕ) (given : phase.Given) (m :
     | inr off ↦ off
   ]
 
--- ## What a tick tells, as sets
+-- ## What a tick finds, as sets
 
 abbrev pub set : (ℕ → Bool) → PhaseSet
 set f = record { numbers = set_of_list (list_of 16 f) }
@@ -191,7 +191,7 @@ set f = record { numbers = set_of_list (list_of 16 f) }
 pub set-has : (f : ℕ → Bool) → Agree (has (set f)) f
 set-has f p from to = names-list_of 16 p f from to
 
--- what a tick that was told `c` tells of the phases in a row
+-- what a tick that was given `c` finds of the phases in a row
 abbrev pub timing_of : ℕ → Plan → phase.Given → List ℕ → Timing
 timing_of now plan given cells = record {
   ready = set (λ p. timing.is_ready plan given p (read_in now cells p));

@@ -111,8 +111,8 @@ none-rose now t row plan r soon behind sooner o d from to = actuated-at now t r.
 
 -- ## Two ticks
 --
--- Tick `now` has left the rows `r`, which were the same but for detectors and calls; tick t comes after it and before the
--- ones that are due.
+-- Tick `now` has left the rows `r`, which were the same apart from detectors and calls; tick t comes after it and
+-- before the ones that are due.
 
 module _ (now t : ℕ) (plan : Plan) (desk : Desk) (lamp : Option Lamp) (row : Row) (detectors calls_row : List ℕ) (r : Rows) (due soon : ℕ) (one : 1 ≤ now) (behind : now < t)
     (before : t < due) (sooner : t < soon) (placed : IsPlaced plan) (was_by : AreBy (now - 1) (record r { detectors = detectors; calls = calls_row }))
@@ -203,7 +203,7 @@ module _ (now t : ℕ) (plan : Plan) (desk : Desk) (lamp : Option Lamp) (row : R
       ap (λ (x : Preempts). is_some (service_as_read (preempts_in (t - 1) r.preempts).service) && is_none x.service) (sym preempts_then)
       ∙ not-ended (t - 1) t r.preempts
 
-  -- ### What the calls are told
+  -- ### What the calls are given
 
   intervals_same : interval u ≡ interval s
   intervals_same = fun_ext (λ p. same-interval (t - 1) (now - 1) r.phases p)
@@ -244,7 +244,7 @@ module _ (now t : ℕ) (plan : Plan) (desk : Desk) (lamp : Option Lamp) (row : R
       ∙ kept.stands now plan desk lamp row detectors calls_row r one was_by ticked calm
       ∙ kept.memories_now now plan desk lamp row detectors calls_row r one was_by ticked
 
-  -- ### What phase timing is told
+  -- ### What phase timing is given
 
   forced_agree : Agree (forced u) (forced s)
   forced_agree p from to =
@@ -282,7 +282,7 @@ module _ (now t : ℕ) (plan : Plan) (desk : Desk) (lamp : Option Lamp) (row : R
     recycle = recycle_same i;
   }
 
-  -- ### What tick `now` told, by what was seen
+  -- ### What tick `now` found, by what was seen
 
   look : calls_looks.LookAlike plan (calls.given_of (observed row a.sensed)) (calls_given s row)
   look = kept.look now plan desk lamp row detectors calls_row r one was_by ticked placed a.sensed a.seen
@@ -326,7 +326,7 @@ module _ (now t : ℕ) (plan : Plan) (desk : Desk) (lamp : Option Lamp) (row : R
   told : (p : ℕ) → 1 ≤ p → p ≤ 16 → IsToldTheSame plan (phases.given_of a.conditions) (phases_given s row) p
   told p from to = looks_only plan (phases.given_of a.conditions) (phases_given s row) placed.count phases_alike p from to
 
-  -- ### What phase timing tells
+  -- ### What phase timing finds
 
   abbrev tells : Timing
   tells = timing_of now plan (phases.given_of a.conditions) r.phases

@@ -37,7 +37,7 @@ AreQuietUntil now row plan rows due = (t : ℕ) → now < t → t < due → IsTi
 abbrev pub LeavesPhases : Rows → Rows → Type 0
 LeavesPhases old new = old ≡ record new { detectors = old.detectors; calls = old.calls }
 
--- tick `now` left these rows, and the phases with what comes behind them as they were
+-- tick `now` left these rows, and the phases with what comes after them as they were
 pub record IsSettled (now : ℕ) (row : Row) (plan : Plan) (rows : Rows) : Type 0 where
   pub old : Rows
   pub by : AreBy (now - 1) old
@@ -65,7 +65,7 @@ pub record IsSeen (now : ℕ) (plan : Plan) (rows : Rows) (s : Sensed) : Type 0 
   pub served : (n : ℕ) → s.service ≡ option_map (λ (x : Service). x.preempt) (preempts_in n rows.preempts).service
   pub ordered : coord.AreOrders now plan rows.pattern s.coordination
 
--- what phase timing is told by it: the calls, and the counts in `mid`, the calls' row as set
+-- what phase timing is given by it: the calls, and the counts in `mid`, the calls' row as set
 pub record AreTold (row : Row) (plan : Plan) (rows : Rows) (s : Sensed) (c : Conditions) : Type 0 where
   pub called : Called
   pub mid : List ℕ
@@ -75,7 +75,7 @@ pub record AreTold (row : Row) (plan : Plan) (rows : Rows) (s : Sensed) (c : Con
   pub lent : calls.LendsCounts mid counts
   pub conditions_are : AreConditions s called counts c
 
--- told this, phases stay and tell the same up to the tick that is due
+-- given this, phases stay, and ticks find the same of them, up to the tick that is due
 pub record ArePhasesStill (now : ℕ) (row : Row) (plan : Plan) (rows : Rows) (due : ℕ) : Type 0 where
   pub sensed : Sensed
   pub conditions : Conditions

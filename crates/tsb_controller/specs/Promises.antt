@@ -57,7 +57,7 @@ abbrev pub IsLit : Option Lamp → Option Lamp → Plan → Rows → Option Trip
 IsLit was lamp plan rows found = (now : ℕ) (desk : Desk) →
     state_of now (tripping now found plan desk lamp) rows ≡ with_lamp lamp (state_of now (untripped plan desk was) rows)
 
--- ## Other inputs, whatever stands beside the rows, and but for the first at whatever tick
+-- ## Other inputs, with anything beside the rows, and all except the first at any tick
 
 -- `set_pattern(n, now, plan)`, at that tick
 abbrev pub IsSelected : ℕ → ℕ → Plan → Rows → Rows → Type 0
@@ -81,7 +81,7 @@ IsForgotten old new = (now : ℕ) (b : Beside) →
 abbrev pub KeepsBy : Rows → Rows → Type 0
 KeepsBy old new = (now : ℕ) → AreBy now old → AreBy now new
 
--- ## Calls that tell, at whatever tick, whatever stands beside the rows
+-- ## Calls that answer, at any tick, with anything beside the rows
 
 -- `is_serving()`: in every plan that is checked
 abbrev pub TellsServing : Rows → Bool → Type 0

@@ -1,4 +1,4 @@
--- What the calls of `Controller` that tell its status ensure, over its rows.
+-- What the calls of `Controller` for its status ensure, over its rows.
 use Rattle.std.specs.Prelude.{◌≡◌, ◌==◌, ℕ, ◌-◌, ◌≤◌, Bool, ◌&&◌, if◌then◌else◌, List, Option, Some, None, is_some, get_or}
 use Rattle.tsb_step.specs.tsb_types.declared.number_set.NumberSet.{NumberSet}
 use Rattle.tsb_step.specs.tsb_types.declared.phase_set.PhaseSet.{PhaseSet}
@@ -58,7 +58,7 @@ TellsUnwanted plan rows p result = (now : ℕ) (b : Beside) → b.plan ≡ plan 
 abbrev pub TellsGreenFound : Plan → Rows → ℕ → GreenFound → Type 0
 TellsGreenFound plan rows p result = (now : ℕ) (b : Beside) → b.plan ≡ plan → IsGreenFound (state_of now b rows) p result
 
--- phase p as it is told, with what its green depends on, where the timers are read at tick `clock`
+-- phase p as its status has it, with what its green depends on, where the timers are read at tick `clock`
 abbrev pub TellsPhaseFound : ℕ → Plan → Rows → ℕ → PhaseFound → Type 0
 TellsPhaseFound clock plan rows p result = (now : ℕ) (b : Beside) → b.plan ≡ plan → clock_at now b.trip ≡ clock →
     IsPhaseFound (state_of now b rows) p result
@@ -98,12 +98,12 @@ pub record AreToldRings (s : State) (x : RingsTold) : Type 0 where
 abbrev pub TellsRings : ℕ → Plan → Rows → RingsTold → Type 0
 TellsRings clock plan rows result = (now : ℕ) (b : Beside) → b.plan ≡ plan → clock_at now b.trip ≡ clock → AreToldRings (state_of now b rows) result
 
--- a ring that is told, as waits need it
+-- a ring as waits need it
 abbrev pub TellsRingFound : ℕ → Plan → Rows → RingTold → RingFound → Type 0
 TellsRingFound clock plan rows ring result = (now : ℕ) (b : Beside) (r : Ring) → b.plan ≡ plan → clock_at now b.trip ≡ clock →
     IsToldRing (state_of now b rows) r ring → IsRing (state_of now b rows) r result
 
--- until the local counter is at the force-off instant of the phase that is told
+-- until the local counter is at the force-off instant of this phase
 abbrev pub force_off_by : Plan → ℕ → Rows → Option PhaseFound → Option ℕ
 force_off_by plan now rows None = None
 force_off_by plan now rows (Some q) =
@@ -112,7 +112,7 @@ force_off_by plan now rows (Some q) =
     (force_off plan (running plan (pattern_in rows.pattern)) q.phase)
     else None
 
--- this stands beside the rows
+-- this is beside the rows
 pub record StandsBeside (plan : Plan) (told : Told) (b : Beside) : Type 0 where
   pub plan_is : b.plan ≡ plan
   pub clock_is : clock_at told.tick b.trip ≡ told.clock
@@ -120,11 +120,11 @@ pub record StandsBeside (plan : Plan) (told : Told) (b : Beside) : Type 0 where
   pub owner_is : b.desk.owner ≡ told.owner
   pub desk_is : b.desk.state ≡ told.desk
 
--- the phase of a ring that a status tells: none in flash
+-- the phase that a status gives for a ring: none in flash
 abbrev pub shown_of : Told → RingTold → Option PhaseFound
 shown_of told ring = if told.tripped then None else ring.served
 
--- the status of a ring that is told
+-- the status of this ring
 abbrev pub ring_status_by : Plan → Told → Rows → RingTold → RingStatus
 ring_status_by plan told rows ring = ring_by plan ring.next (shown_of told ring) (force_off_by plan told.tick rows (shown_of told ring))
 
@@ -160,7 +160,7 @@ TellsWaitIn waiting found clock plan rows p result = (now : ℕ) (b : Beside) �
 abbrev pub AreWaits : NumberSet → WaitsFound → ℕ → Plan → Rows → List (Option Wait) → Type 0
 AreWaits waiting found clock plan rows result = (p : ℕ) → 1 ≤ p → p ≤ 16 → TellsWaitIn waiting found clock plan rows p (get_or result (p - 1) None)
 
--- each phase in turn, where both rings are told
+-- each phase in turn, with both rings given
 abbrev pub AreWaitsOf : NumberSet → RingsTold → Told → Plan → Rows → List (Option Wait) → Type 0
 AreWaitsOf waiting rings told plan rows result = (b : Beside) → StandsBeside plan told b → AreToldRings (state_of told.tick b rows) rings →
     (p : ℕ) → 1 ≤ p → p ≤ 16 → get_or result (p - 1) None ≡ (if has_number waiting p then wait (state_of told.tick b rows) p else None)
@@ -203,7 +203,7 @@ TellsPreempts plan rows result = (n : ℕ) → 1 ≤ n → n ≤ 4 → (now : �
 
 -- ## The pattern that runs
 
--- what is told of it, in a state
+-- its status, in a state
 pub record IsToldPattern (s : State) (x : PatternTold) : Type 0 where
   pub number : x.number ≡ (status s).pattern
   pub free : x.free ≡ (status s).free

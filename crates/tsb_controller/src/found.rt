@@ -1,4 +1,4 @@
-//! What the status of the controller is found from: a phase as it is told with what its green depends on, and a ring.
+//! What the status of the controller is found from: a phase with what its green depends on, and a ring.
 ghost use Rattle.std.specs.Prelude.{◌≡◌, ◌+◌, ◌<◌, ◌^◌};
 ghost use Rattle.tsb_objects.specs.Checked.{checked_plan};
 ghost use Rattle.tsb_calls.specs.Cells as calls;
@@ -13,7 +13,7 @@ use tsb_objects::{Checked, Phase, PhaseSet, Ring};
 use tsb_preempt::{preempt_of, stage_phases};
 use tsb_status::{GreenFound, Next, PhaseFound, RingFound, told};
 
-/// A ring as it is told.
+/// A ring as its status has it.
 #[derive(Clone, Copy)]
 pub(crate) struct RingTold {
     /// Its phase in service.
@@ -22,7 +22,7 @@ pub(crate) struct RingTold {
     pub(crate) next: Option<Phase>,
 }
 
-/// Both rings as they are told.
+/// Both rings as their status has them.
 #[derive(Clone, Copy)]
 pub(crate) struct RingsTold {
     /// Ring 1.
@@ -69,8 +69,8 @@ impl Controller {
         }
     }
 
-    /// A phase as it is told, with what its green depends on, as tick `clock` left it; of a controller that has tripped
-    /// that is the tick of the trip.
+    /// A phase as its status has it, with what its green depends on, as tick `clock` left it; of a controller that has
+    /// tripped that is the tick of the trip.
     fn found(&self, p: Phase, clock: u32, plan: &Checked) -> PhaseFound
         requires fits { clock + 1 < 2 ^ 32 }
         requires calls_by { calls.IsBy (rows_of self.now).calls }

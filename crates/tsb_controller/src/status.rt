@@ -23,12 +23,12 @@ use tsb_step::{FlashStatus, FreeStatus, PreemptState};
 use tsb_transact::DeskState;
 use tsb_types::event::FREE;
 
-/// What a status tells that the controller does not keep.
+/// What a status has that the controller does not keep.
 #[derive(Clone, Copy)]
 pub struct Beside {
     /// The tick number.
     pub tick: u32,
-    /// The tick number at which timers stand: that of the trip, where there is one.
+    /// The tick number at which timers are read: that of the trip, where there is one.
     pub clock: u32,
     /// Whether the monitor has tripped the controller.
     pub tripped: bool,
@@ -53,7 +53,7 @@ pub(crate) struct Sets {
     waiting: NumberSet,
 }
 
-/// What is told of the pattern that runs.
+/// The status of the pattern that runs.
 #[derive(Clone, Copy)]
 pub(crate) struct PatternTold {
     /// Its number, or `FREE`.
@@ -216,7 +216,7 @@ impl Controller {
         ]
     }
 
-    /// What is told of the pattern that runs, at tick number `now`.
+    /// The status of the pattern that runs, at tick number `now`.
     fn pattern_told(&self, now: u32, plan: &Checked) -> PatternTold
         requires pattern_by { coord.IsBy (rows_of self.now).pattern }
         requires in_time { now ≤ last_tick }

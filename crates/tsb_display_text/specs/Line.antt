@@ -29,7 +29,7 @@ pedestrian_letter pedestrian_aspects.Walk = 87
 
 -- ## Fields
 
--- the tick number, of which 7 digits stand
+-- the tick number, in 7 digits
 abbrev pub tick_field : ℕ → List ℕ
 tick_field now = seven_digits now
 
@@ -50,7 +50,7 @@ abbrev pub preempt_digit : Option ℕ → ℕ
 preempt_digit None = 48
 preempt_digit (Some n) = 48 + n
 
--- the local counter, of which 4 digits stand, and dashes where no pattern runs
+-- the local counter in 4 digits, and dashes where no pattern runs
 abbrev pub local_field : Option ℕ → List ℕ
 local_field None = codes "----"
 local_field (Some n) = digit n 1000 ∷ digit n 100 ∷ digit n 10 ∷ digit n 1 ∷ []

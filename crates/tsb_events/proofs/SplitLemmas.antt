@@ -1,4 +1,4 @@
--- Splits told one after the other.
+-- Events of splits, one after the other.
 use Rattle.std.proofs.Common.{◌≡◌, ◌∙◌, ℕ, ◌+◌, ◌-◌, ◌<◌, ◌≤◌, zero, suc, List, ◌++◌, flat_map, sym, ap, arith, append_assoc}
 use Rattle.std.proofs.lemmas.List.{append-nil}
 use Rattle.tsb_types.specs.Lists.{run_from}
@@ -14,7 +14,7 @@ next-told f k n e new rest below added =
     ∙ append_assoc e (f (k + 1)) (flat_map f (run_from (k + 1 + 1) n))
     ∙ ap (λ (m : ℕ). e ++ flat_map f (run_from (k + 1) m)) (sym one_more)
 
--- behind the last phase nothing is left to tell
+-- after the last phase no event is left
 pub all-told : (f : ℕ → List Event) (k : ℕ) (e all : List Event) → 16 ≤ k → e ++ flat_map f (run_from (k + 1) (16 - k)) ≡ all → e ≡ all
 unfolding run_from
 all-told f k e all over is_told =

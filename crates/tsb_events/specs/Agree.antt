@@ -1,4 +1,4 @@
--- Views that agree on the numbers 1 to 16. Events name no others, so views that agree tell the same events.
+-- Views that agree on the numbers 1 to 16. Events name no others, so views that agree have the same events.
 use Rattle.std.specs.Prelude.{◌≡◌, ℕ}
 use Rattle.tsb_step.specs.tsb_types.Clip.{Agree}
 use Rattle.tsb_step.specs.Events as events
@@ -56,12 +56,12 @@ pub record AgreeInSelected (s t : Selected) : Type 0 where
 
 -- ## Laws
 
--- ticks that agree tell the same events
+-- ticks that agree have the same events
 abbrev pub TicksTellByNumbers : Type 0
 TicksTellByNumbers = (tick : ℕ) (f g : Found) (was was_too now now_too : View) → AgreeInFound f g → AgreeInAll was was_too →
     AgreeInAll now now_too → events.tick_events tick f was now ≡ events.tick_events tick g was_too now_too
 
--- and so do other inputs
+-- and the same for other inputs
 abbrev pub OthersTellByNumbers : Type 0
 OthersTellByNumbers = (tick : ℕ) (noted : Noted) (was was_too now now_too : View) (s s_too t t_too : Selected) → AgreeInAll was was_too → AgreeInAll now now_too →
     AgreeInSelected s s_too → AgreeInSelected t t_too →

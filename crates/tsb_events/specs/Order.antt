@@ -1,4 +1,4 @@
--- The order in which the events of one input stand: by code, and those of one code by their parameters.
+-- The order of the events of one input: by code, and those of one code by their parameters.
 use Rattle.std.specs.Prelude.{◌≡◌, ◌⊎◌, ℕ, ◌<◌, List, [], ◌∷◌, All}
 use Rattle.tsb_step.specs.tsb_types.declared.event.Event.{Event}
 use Rattle.tsb_step.specs.declared.inputs.Input.{Input}
@@ -8,12 +8,12 @@ use Rattle.tsb_step.specs.Events.{View, Found, Selected}
 use Rattle.tsb_step.specs.State.{State}
 use Rattle.tsb_step.specs.Step.{step}
 
--- one event stands before another of its tick: by its code, or then by its parameter
+-- one event comes before another of its tick: by its code, or then by its parameter
 abbrev pub StandsBefore : Event → Event → Type 0
 StandsBefore one other =
     (one.tick ≡ other.tick) × ((one.code < other.code) ⊎ ((one.code ≡ other.code) × (one.parameter < other.parameter)))
 
--- each event stands before all later ones; so no two are the same
+-- each event comes before all later ones; so no two are the same
 abbrev pub AreInOrder : List Event → Type 0
 AreInOrder [] = Unit {0}
 AreInOrder (event ∷ events) = All (StandsBefore event) events × AreInOrder events

@@ -2,7 +2,7 @@
 ghost use Rattle.tsb_events.specs.Agree.{OthersTellByNumbers, TicksTellByNumbers};
 ghost use Rattle.tsb_events.specs.Order.{EventsHaveTheTick, InputsTellInOrder, OthersTellInOrder, TicksTellInOrder};
 
-/// Ticks tell the same events where what a log sees agrees on the numbers 1 to 16. So who reads a controller need not
+/// Ticks have the same events where what a log sees agrees on the numbers 1 to 16. So who reads a controller need not
 /// say what is seen of any other number.
 ///
 /// Needs: that both views agree before the tick and after it, and what the tick found as well.
@@ -12,7 +12,7 @@ pub fn ticks_tell_by_numbers()
     ensures { TicksTellByNumbers }
 {}
 
-/// Inputs that are no ticks tell the same events where what a log sees agrees on the numbers 1 to 16.
+/// Inputs that are no ticks have the same events where what a log sees agrees on the numbers 1 to 16.
 ///
 /// Needs: that both views agree before the input and after it, and what is seen of the selected patterns as well.
 /// Mistakes: agreement on the numbers 1 to 15 alone (`sixteen_is_told`, `seventeen_is_not`).
@@ -21,18 +21,19 @@ pub fn others_tell_by_numbers()
     ensures { OthersTellByNumbers }
 {}
 
-/// `ticks`: The events of a tick stand by code, and those of one code by their parameters. No two are the same. So the
-/// cause of an end, 4, 5 or 6, stands before the end, 7. It is so whatever a log sees before the tick and after it.
+/// `ticks`: The events of a tick are sorted by code, and those of one code by their parameters. No two are the same. So
+/// the cause of an end, 4, 5 or 6, comes before the end, 7. This holds whatever a log sees before the tick and after
+/// it.
 ///
 /// Mistake: two groups change places, the causes of ends and the ends (`end_first`, `is_not_in_order`).
 /// Witness: `gap_out` of Examples.
 ///
-/// `others`: The events of any other input stand by code and parameter too.
+/// `others`: The events of any other input are sorted by code and parameter too.
 ///
-/// Mistake: a flash that is told before the selected pattern (`flash_first`, `flash_is_not_in_order`).
+/// Mistake: a flash that comes before the selected pattern (`flash_first`, `flash_is_not_in_order`).
 /// Witness: `pattern` of Examples.
 ///
-/// `inputs`: So the events of an input stand by code and parameter, at whatever state it comes.
+/// `inputs`: So the events of an input are sorted by code and parameter, at whatever state it comes.
 ///
 /// Mistakes: those of the clauses above.
 /// Witness: `arrives` of EventExamples of tsb_step.

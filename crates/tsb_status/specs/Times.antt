@@ -1,11 +1,11 @@
--- The timers of a phase as they were told, and what its green depends on, as phase timing has them.
+-- The timers of a phase as they were given, and what its green depends on, as phase timing has them.
 use Rattle.std.specs.Prelude.{not, false, None}
 use Rattle.tsb_step.specs.tsb_cells.Timer.{is_on}
 use Rattle.tsb_step.specs.tsb_phase.Phase.{Phase, Given, as_read}
 use Rattle.tsb_phase.specs.declared.told.PhaseTimes.{PhaseTimes}
 use Rattle.tsb_status.specs.declared.times.GreenFound.{GreenFound}
 
--- the phase, but for how its last green ended
+-- the phase, apart from how its last green ended
 abbrev pub phase_by : PhaseTimes → Phase
 phase_by x = record {
   interval = x.interval;
@@ -26,7 +26,7 @@ phase_by x = record {
 abbrev pub read_by : PhaseTimes → Phase
 read_by x = as_read (phase_by x)
 
--- what phase timing would be told again of this phase; that it may walk again is part of no time that is left
+-- what phase timing would be given again of this phase; that it may walk again is part of no time that is left
 abbrev pub given_by : GreenFound → PhaseTimes → Given
 given_by found x = record {
   output = λ p. not (is_on x.passage);

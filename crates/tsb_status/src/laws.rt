@@ -15,16 +15,16 @@ pub fn waits_are_found()
     ensures { WaitsAreFound }
 {}
 
-/// `lacks`: What a green is found to lack, of the timers that its phase tells, is what it lacks in the state.
+/// `lacks`: What a green is found to lack, by the timers of its phase, is what it lacks in the state.
 ///
-/// Needs: that the phase is told, and what its green depends on is found, as the state has them.
+/// Needs: that the phase is given, and what its green depends on is found, as the state has them.
 /// Mistake: the timers as the next tick reads them, `lacks_next` of Examples (`has_one_left`, `would_have_none`).
 /// Witness: `has_one_left` of Examples.
 ///
-/// `next`: Whether a phase is found to be over in the next tick, or its red revert to have passed, is what the rings are
-/// told of it then.
+/// `next`: Whether a phase is found to be over in the next tick, or its red revert to have passed, is what the rings
+/// read of it then.
 ///
-/// Needs: that it is one of phases 1 to 16, and is told as the state has it.
+/// Needs: that it is one of phases 1 to 16, and is given as the state has it.
 /// Mistake: the timers as the last tick left them, `over_as_it_was` of WaitMistakes in tsb_step.
 /// Witness: `is_due`, `starts` of WaitExamples in tsb_step.
 pub fn times_are_found()
@@ -32,10 +32,10 @@ pub fn times_are_found()
     ensures next { NextTicksAreFound }
 {}
 
-/// The status that is found of a ring, of its phase in service as that is told, is the ring's status in the state.
+/// The status that is found of a ring, from its phase in service as that is given, is the ring's status in the state.
 ///
-/// Needs: that the phase is told, and what its green depends on is found, as the state has them.
-/// Mistake: a green that rests is told as one at its maximum, `resting_part` of Examples (`rests`, `would_be_maximum`).
+/// Needs: that the phase is given, and what its green depends on is found, as the state has them.
+/// Mistake: a green that rests is called one at its maximum, `resting_part` of Examples (`rests`, `would_be_maximum`).
 /// Witness: `rests` of Examples.
 pub fn rings_are_found()
     ensures { RingsAreFound }

@@ -5,7 +5,7 @@ use tsb_objects::{NumberSet, Phase, Station};
 use tsb_step::{FlashStatus, FreeStatus, PreemptState, RingPart, Wait};
 use tsb_transact::DeskState;
 
-/// What is told of a ring: `ringStatus`, and of its phase in service what is left of each time that runs, 0 once it is
+/// The status of a ring: `ringStatus`, and what is left of each time that runs for its phase in service, 0 once it is
 /// reached. `None` where a time does not run.
 #[derive(Clone, Copy)]
 pub struct RingStatus {
@@ -21,18 +21,18 @@ pub struct RingStatus {
     pub gap: Option<u32>,
     /// Of a green: of that gap, all of it while an output of the phase is on.
     pub gap_left: Option<u32>,
-    /// Of a green with a conflict: of the maximum that acts on it, if one does, at most 2,550.
+    /// The maximum that acts on a green with a conflict, if one does, at most 2,550.
     pub maximum_left: Option<u32>,
-    /// Of its walk; 0 where it rests in walk.
+    /// The walk; 0 where it rests in walk.
     pub walk_left: Option<u32>,
-    /// Of its pedestrian clearance.
+    /// The pedestrian clearance.
     pub clearance_left: Option<u32>,
-    /// Of its yellow change.
+    /// The yellow change.
     pub yellow_left: Option<u32>,
-    /// Of its red clearance.
+    /// The red clearance.
     pub red_clearance_left: Option<u32>,
-    /// Of a green in a pattern: until the local counter is at its force-off instant, less than the cycle. Steps of the
-    /// counter are counted; while it comes into step these are not ticks.
+    /// The ticks of a green in a pattern until the local counter is at its force-off instant, less than the cycle.
+    /// Steps of the counter are counted; while it comes into step these are not ticks.
     pub force_off_in: Option<u32>,
 }
 

@@ -1,5 +1,5 @@
 -- The cells of the whole controller, layer after layer in one row, and how they are read at a tick. The clock by which
--- timers are written and read stands still while the controller is tripped.
+-- timers are written and read stops while the controller is tripped.
 --
 -- | Cells from | Whose |
 -- |---|---|
@@ -13,7 +13,7 @@
 -- | `first_cell.PREEMPTS` | the preempts' |
 -- | `first_cell.MONITOR` | the monitor's and the injected lamp's |
 --
--- These numbers stand in `src/first_cell.rt`, each as a sum; `proofs/Examples/CellsExamples.antt` has them in digits.
+-- These numbers are in `src/first_cell.rt`, each as a sum; `proofs/Examples/CellsExamples.antt` has them in digits.
 use Rattle.std.specs.Prelude.{ℕ, List, ◌++◌, Option, Some, None}
 use Rattle.tsb_cells.specs.Row.{row_at}
 use Rattle.tsb_objects.specs.tsb_plan.declared.object.TheConstants.{PLAN_CELLS}
@@ -85,7 +85,7 @@ phases_row row = row_at PHASE_CELLS row first_cell.PHASES
 abbrev pub rings_row : List ℕ → List ℕ
 rings_row row = row_at RING_CELLS row first_cell.RINGS
 
--- the cells of coordination, of which the first has the pattern
+-- the cells of coordination; the first has the pattern
 abbrev pub pattern_row : List ℕ → List ℕ
 pattern_row row = row_at PATTERN_CELLS row first_cell.COORD
 
@@ -97,7 +97,7 @@ preempts_row row = row_at PREEMPT_CELLS row first_cell.PREEMPTS
 abbrev pub monitor_row : List ℕ → List ℕ
 monitor_row row = row_at MONITOR_CELLS row first_cell.MONITOR
 
--- the clock by which timers are read in all these cells, which tell the trip
+-- the clock by which timers are read in all these cells, which have the trip
 abbrev pub clock_in : ℕ → List ℕ → ℕ
 clock_in now row = clock_at now (trip_in (monitor_row row))
 

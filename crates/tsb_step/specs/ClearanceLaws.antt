@@ -1,6 +1,6 @@
 -- What a green that ends has had, and what follows it, tick by tick, until its phase is over: yellow change, red
--- clearance, and for a coordinated phase where the local counter stands then. Each law here is the contract of a
--- function in src/clearance_laws.rt, and proved there. Times are in tenths of a second, which are ticks.
+-- clearance, and for a coordinated phase where the local counter is then. Each law here is the contract of a function
+-- in src/clearance_laws.rt, and proved there. Times are in tenths of a second, which are ticks.
 use Rattle.std.specs.Prelude.{◌≡◌, ℕ, zero, suc, ◌+◌, ◌<◌, ◌≤◌, ◌==◌, true, Some, None}
 use Rattle.tsb_cells.specs.Timer.{has_reached}
 use Rattle.tsb_types.specs.declared.interval.Interval.TheVariants.{Yellow, RedClear}
@@ -80,7 +80,7 @@ InStepAtOnce = (s : State) → correction_mode s.plan ≡ AtOnce → IsInStep s
 abbrev pub StaysInStep : Type 0
 StaysInStep = (s : State) (rows : ℕ → Row) (k : ℕ) → IsInStep s → IsInStep (after_ticks s rows k)
 
--- ## Where the local counter stands then
+-- ## Where the local counter is then
 
 -- a coordinated phase of the pattern that runs, whose local counter is in step, forced off in the tick in which its
 -- green ends; that is at its instant, or in its permissive time

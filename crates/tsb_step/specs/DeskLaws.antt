@@ -47,7 +47,7 @@ abbrev pub by_any_station : Input → Input
 by_any_station (Commit station) = Commit 1
 by_any_station i = i
 
--- what a run tells the rest of the controller: its inputs but those of the desk, commits by any station
+-- what a run gives the rest of the controller: its inputs without those of the desk, commits by any station
 abbrev pub told : List Input → List Input
 told [] = []
 told (i ∷ is) = if is_of_desk i then told is else by_any_station i ∷ told is
@@ -59,11 +59,11 @@ put_into_effect plan (i ∷ is) =
     if is_commit i then committed_plan (replay plan is).plan (replay plan is).desk ∷ put_into_effect plan is
     else put_into_effect plan is
 
--- the controller but for its desk
+-- the controller without its desk
 abbrev pub without_desk : State → State
 without_desk s = record s { desk = closed }
 
--- two runs that tell the same and put the same plans into effect in turn end in states that are equal but for the desk
+-- two runs that give the same and put the same plans into effect in turn end in states that are equal, the desk aside
 abbrev pub ActByPlansAlone : Type 0
 ActByPlansAlone = (plan : Plan) (is js : List Input) → told is ≡ told js →
     put_into_effect plan is ≡ put_into_effect plan js → without_desk (replay plan is) ≡ without_desk (replay plan js)

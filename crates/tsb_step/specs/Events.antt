@@ -1,11 +1,11 @@
--- What an input tells: its events, by the Indiana Traffic Signal Hi Resolution Data Logger Enumerations, found from the
--- state before it, from what the log has noted before, and from the input itself. The code of an event
--- says what happened, its parameter to which phase, overlap, detector or preempt.
+-- The events of an input, by the Indiana Traffic Signal Hi Resolution Data Logger Enumerations, found from the state
+-- before it, from what the log has noted before, and from the input itself. The code of an event says what happened,
+-- its parameter to which phase, overlap, detector or preempt.
 --
 -- Where the enumerations are silent the choice is the profile's own: a controller in flash serves no phase and shows no
--- walk, so that a trip ends all of them; a vehicle call is that of a phase that is not Green. A stage of a preempt is
--- told once all of its phases are Green, which stay so as long as the stage does. The operator's switch of a preempt
--- counts as its input.
+-- walk, so that a trip ends all of them; a vehicle call is that of a phase that is not Green. A stage of a preempt has
+-- its event once all of its phases are Green, which stay Green as long as the stage does. The operator's switch of a
+-- preempt counts as its input.
 --
 -- A log has a form: with `recalls` the calls of phases on recall come and go in it too, and with `outputs` vehicle
 -- detectors go on and off as their outputs do, after delay and extension.
@@ -216,7 +216,7 @@ selected s = record {
   split = λ p. or_zero (split_in_effect s.plan (runs s)) (λ t. s.plan.value SplitTime (split_index s.plan t p));
 }
 
--- ## What a tick alone tells
+-- ## Events of ticks alone
 
 -- the greens whose minimum green a tick completed; those that it ended by gap, by maximum, by force-off; what the log has
 -- noted before; the inputs that are on in this tick; whether the local counter comes to 0 in it, and the coordinated
@@ -240,7 +240,7 @@ times_minimum s p = is_green (shown_interval s p) && is_below (s.phases p).timer
 abbrev pub completes_minimum : State → ℕ → Bool
 completes_minimum s p = times_minimum s p && not (times_minimum (waited s) p)
 
--- likewise the next tick ends the time of a red clearance
+-- and the next tick ends the time of a red clearance
 abbrev pub completes_red : State → ℕ → Bool
 completes_red s p = times_red s p && not (times_red (waited s) p)
 

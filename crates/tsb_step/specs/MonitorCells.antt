@@ -59,7 +59,7 @@ monitor_cells lamp trip = trip_cells trip ++ lamp_cells lamp
 abbrev pub cause_of : ℕ → ℕ → ℕ → Trip
 cause_of kind p q = if kind == 1 then Conflict p q else GreenToRed p
 
--- the trip that a row of 7 tells; none where cell 0 is 0
+-- the trip that a row of 7 has; none where cell 0 is 0
 abbrev pub trip_in : List ℕ → Option Tripped
 trip_in row =
     if slice_index row 0 == 0 then None
@@ -83,7 +83,7 @@ lamp_of kind n color =
     (if kind == 2 then lamps.Pedestrian n (pedestrian_of color) else
     lamps.Overlap n (signal_of color))
 
--- the lamp that a row of 7 tells; none where cell 4 is 0
+-- the lamp that a row of 7 has; none where cell 4 is 0
 abbrev pub lamp_in : List ℕ → Option Lamp
 lamp_in row =
     if slice_index row 4 == 0 then None

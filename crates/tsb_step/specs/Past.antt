@@ -1,6 +1,6 @@
--- The whole controller with its history, and the way back through the records. The record of an input tells what it
+-- The whole controller with its history, and the way back through the records. The record of an input has what it
 -- changed, each cell with its value before, so that it can be taken back. What the way back is, of any machine with
--- records, stands in tsb_machine.
+-- records, is in tsb_machine.
 use Rattle.std.specs.Prelude.{◌≡◌, ℕ, ◌-◌, List, length}
 use Rattle.tsb_cells.specs.Diff.{diff, apply_diff}
 use Rattle.tsb_machine.specs.tsb_history.History.{Change}
@@ -68,7 +68,7 @@ IsLeastBack t old new = past.IsLeastBack controller t old new
 
 -- ## What the way back rests on
 
--- Where the cells of a state tell it, the record of each input takes the input back.
+-- Where the state can be read from its cells, the record of each input takes the input back.
 abbrev pub RecordsGiveBack : Type 0
 RecordsGiveBack = (s : State) (i : Input) → state_in s.now (cells_of s) ≡ s →
     length (cells_of s) ≡ length (cells_of (step s i)) → GivesBack controller s i

@@ -1,6 +1,6 @@
--- What a list of commands comes to: the inputs that remain, and which answer is right where it stands. Inputs are piled
+-- What a list of commands comes to: the inputs that remain, and which answer is right at its place. Inputs are piled
 -- up, the newest first; the state is that of a replay of the inputs that remain. What each of these is, of any machine
--- with records, stands in tsb_machine.
+-- with records, is in tsb_machine.
 use Rattle.std.specs.Prelude.{ℕ, List}
 use Rattle.tsb_machine.specs.tsb_history.History.{Change}
 use Rattle.tsb_types.specs.declared.watch.Watch.{Watch}
@@ -50,7 +50,7 @@ remaining plan cs ans = play.remaining controller (start plan) cs ans
 abbrev pub IsRight : Plan → List Input → Cmd → Answer → Type 0
 IsRight plan is c a = play.IsRight controller (start plan) watched is c a
 
--- as many answers as commands, each right where it stands
+-- as many answers as commands, each right at its place
 abbrev pub AreRightFrom : Plan → List Input → List Cmd → List Answer → Type 0
 AreRightFrom plan is cs ans = play.AreRightFrom controller (start plan) watched is cs ans
 

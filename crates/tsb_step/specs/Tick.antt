@@ -3,8 +3,8 @@
 -- inputs that are on in the tick. No value is found from one that comes after it, and no field of the new state from
 -- another.
 --
--- What a layer is told of each phase is told of phases 1 to 16 alone: it is false, or 0, of any other number, as it is
--- in the sets that the layers tell one another.
+-- A layer is given of each phase what holds of phases 1 to 16 alone: false, or 0, of any other number, as in the sets
+-- that the layers give one another.
 use Rattle.std.specs.Prelude.{ℕ, ◌+◌, Bool, not, ◌&&◌, if◌then◌else◌, Option, Some, None, option_map}
 use Rattle.tsb_cells.specs.declared.timer.Timer.{Timer}
 use Rattle.tsb_cells.specs.declared.timer.Timer.TheVariants.{Off}
@@ -112,7 +112,7 @@ new_detectors s row =
 
 -- ## Calls: memories as set, counts, what is callable, conflict
 
--- what the calls are told: detectors as they are after the tick, phases as they were before it
+-- what the calls are given: detectors as they are after the tick, phases as they were before it
 abbrev pub calls_given : State → Row → calls.Given
 calls_given s row = record {
   output = λ d. (new_detectors s row d).output;
@@ -143,7 +143,7 @@ pedestrian_call s row = settled.pedestrian_call s.plan (calls_given s row) s.mem
 
 -- ## Phase timing: what is ready, over, reverted and gapped
 
--- what phase timing is told: of each phase its outputs, calls, conflict, count of vehicles and orders; which pattern
+-- what phase timing is given: of each phase its outputs, calls, conflict, count of vehicles and orders; which pattern
 -- runs, and which preempt is in service
 unfoldable pub phases_given : State → Row → phase.Given
 phases_given s row = record {
@@ -207,7 +207,7 @@ rings_given s row = record {
 unfoldable pub moves : State → Row → Moves
 moves s row = ring_moves.moves s.plan s.rings (rings_given s row)
 
--- the same of each phase, as phase timing is told it
+-- the same of each phase, as phase timing is given it
 abbrev pub moved : State → Row → phase.Moved
 moved s row = record {
   ends = ring_moves.is_ended (moves s row);
@@ -215,7 +215,7 @@ moved s row = record {
   starts = ring_moves.is_started (moves s row);
 }
 
--- the same as the calls are told it, with who has gapped out, whose walk begins within the green, and the preempt in
+-- the same as the calls are given it, with who has gapped out, whose walk begins within the green, and the preempt in
 -- service
 abbrev pub done : State → Row → settled.Done
 done s row = record {

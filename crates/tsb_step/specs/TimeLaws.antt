@@ -1,6 +1,6 @@
--- Laws of whole runs: of times, starts, commitments, sides and the field. Each is proved as the contract of a function
--- in src/time_laws.rt, but for CellsTellTheState and PastsAreTheRun. These two are proved in tsb_laws, of the plans
--- that the program holds: no value is over the greatest of its object.
+-- Laws of whole runs, on times, starts, commitments, sides and the field. Each is proved as the contract of a function
+-- in src/time_laws.rt, except CellsTellTheState and PastsAreTheRun. These two are proved in tsb_laws, for plans that
+-- the program holds: no value is over the greatest of its object.
 use Rattle.std.specs.Prelude.{◌≡◌, ◌≢◌, ℕ, suc, ◌+◌, ◌≤◌, Bool, true, false, not, ◌&&◌, ◌||◌, if◌then◌else◌, List, [], ◌∷◌, Some, None, Contains, ◌⊎◌}
 use Rattle.tsb_cells.specs.Timer.{has_reached}
 use Rattle.tsb_cells.specs.declared.timer.Timer.TheVariants.{Off, On}
@@ -44,8 +44,8 @@ held_for test plan (i ∷ is) =
 abbrev pub OfEveryUntrippedRun : (Plan → List Input → Type 0) → Type 0
 OfEveryUntrippedRun fact = (plan : Plan) (is : List Input) → IsConsistent plan → AreTaken plan is → (replay plan is).trip ≡ None → fact plan is
 
--- the timer of an interval or a pedestrian part tells for how many ticks it has held; that of red revert, where it is
--- On, for how many the phase has been neither Green nor Yellow
+-- the timer of an interval counts the ticks for which it has held, and so with a pedestrian part; that of red revert,
+-- where it is On, counts those for which the phase has been neither Green nor Yellow
 pub record TellsTime (plan : Plan) (is : List Input) (p : ℕ) : Type 0 where
   pub green : interval (replay plan is) p ≡ Green → ((replay plan is).phases p).timer ≡ On (held_for (λ s. is_green (interval s p)) plan is)
   pub yellow : interval (replay plan is) p ≡ Yellow → ((replay plan is).phases p).timer ≡ On (held_for (λ s. is_yellow (interval s p)) plan is)
@@ -56,7 +56,7 @@ pub record TellsTime (plan : Plan) (is : List Input) (p : ℕ) : Type 0 where
   pub red_revert : (n : ℕ) → ((replay plan is).phases p).red_revert ≡ On n →
       n ≡ held_for (λ s. not (is_green (interval s p) || is_yellow (interval s p))) plan is
 
--- so it is of each phase after every run, of a controller that has not tripped
+-- this holds for each phase after every run of a controller that has not tripped
 abbrev pub TimersTellTime : Type 0
 TimersTellTime = OfEveryUntrippedRun (λ plan is. (p : ℕ) → TellsTime plan is p)
 
@@ -77,7 +77,7 @@ pub record EndsInTime (s : State) (row : Row) (p : ℕ) : Type 0 where
   pub red_clear : interval s p ≡ RedClear → interval (step s (Tick row)) p ≢ RedClear → has_reached (phase_read s p).timer (red_clear s.plan p) ≡ true
   pub starts : interval s p ≢ Green → interval (step s (Tick row)) p ≡ Green → is_started (moves s row) p ≡ true
 
--- so it is of each phase in each tick after every run
+-- this holds for each phase in each tick after every run
 abbrev pub TicksEndInTime : Type 0
 TicksEndInTime = OfEveryRun (λ s. (row : Row) (p : ℕ) → EndsInTime s row p)
 
@@ -124,8 +124,8 @@ StartsAfterRedRevert = OfEveryUntrippedRun (λ plan is. (row : Row) (p : ℕ) �
 abbrev pub StandsOrStarts : State → Input → Ring → ℕ → Type 0
 StandsOrStarts s i r c = ((step s i).rings.commitment r ≡ Some c) ⊎ ((interval s c ≢ Green) × (interval (step s i) c ≡ Green))
 
--- while the controller has not tripped, a commitment stands over inputs of every kind, until its phase turns Green; but
--- where a preempt that chooses anew is in service after the input
+-- while the controller has not tripped, a ring keeps its commitment over inputs of every kind until its phase turns
+-- Green; a preempt that chooses anew and is in service after the input may take it
 abbrev pub CommitmentsStandInRuns : Type 0
 CommitmentsStandInRuns = OfEveryRun (λ s. (i : Input) (r : Ring) (c : ℕ) → s.trip ≡ None → is_choosing (step s i) ≡ false →
     s.rings.commitment r ≡ Some c → StandsOrStarts s i r c)
@@ -174,7 +174,7 @@ pub record Rests (x : Phase) : Type 0 where
   pub gapped : is_green x.interval ≡ false → x.gapped ≡ false
   pub forced : is_green x.interval ≡ false → x.forced ≡ false
 
--- so it is of every phase after every run
+-- this holds for every phase after every run
 abbrev pub PhasesRest : Type 0
 PhasesRest = OfEveryRun (λ s. (p : ℕ) → Rests (s.phases p))
 
@@ -185,7 +185,7 @@ pub record IsSided (plan : Plan) (interval : ℕ → Interval) (s : rings.State)
   pub inside : s.crossing ≡ None → (r : Ring) (c : ℕ) → s.commitment r ≡ Some c → side_of plan c ≡ s.side
   pub across : (d : ℕ) → s.crossing ≡ Some d → (r : Ring) (c : ℕ) → s.commitment r ≡ Some c → side_of plan c ≡ d
 
--- so it is after every run, by the sides of the plan in effect then
+-- this holds after every run, by the sides of the plan in effect then
 abbrev pub SidesAreServed : Type 0
 SidesAreServed = OfEveryRun (λ s. IsSided s.plan (interval s) s.rings)
 
@@ -204,6 +204,6 @@ pub record HasHeld (plan : Plan) (is : List Input) (row : Row) (p : ℕ) : Type 
   pub red_clear : interval (replay plan is) p ≡ RedClear → interval (replay plan (Tick row ∷ is)) p ≢ RedClear →
       red_clear (replay plan is).plan p ≤ suc (held_for (λ s. is_red_clear (interval s p)) plan is)
 
--- so it is of each phase in each tick after every run, of a controller that has not tripped
+-- this holds for each phase in each tick after every run of a controller that has not tripped
 abbrev pub EndedHaveHeld : Type 0
 EndedHaveHeld = OfEveryUntrippedRun (λ plan is. (row : Row) (p : ℕ) → HasHeld plan is row p)

@@ -96,8 +96,8 @@ WaitsAreSo = (s : State) (p : ℕ) (w : Wait) → waits_for s p ≡ Some w → I
 
 -- ## What keeps a phase from turning Green
 
--- what a wait names stays as it is in the next tick, where the state alone does not tell so: no preempt comes into
--- service; the one in service stays in its stage. Two kinds keep no phase
+-- what a wait names stays as it is in the next tick, where that does not follow from the state alone: no preempt comes
+-- into service; the one in service stays in its stage. Two kinds keep no phase
 abbrev pub StaysSo : State → Row → Wait → Type 0
 StaysSo s row waits.Omitted = target s row ≡ None
 StaysSo s row (waits.Preempted n) = stage_of (new_service s row) ≡ stage s

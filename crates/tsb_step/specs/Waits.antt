@@ -71,8 +71,8 @@ service_number (Some x) = Some x.preempt
 abbrev pub is_unwanted : State → ℕ → Bool
 is_unwanted s p = is_outside (wanted_by s.plan s.preempts.service) p
 
--- what phase timing would be told again, if outputs, conflicts and orders stay: a green's passage timer is Off where an
--- output is on, its conflict timer is On where there is a conflict, and its forced latch stands where it was forced
+-- what phase timing would be given again, if outputs, conflicts and orders stay: a green's passage timer is Off where
+-- an output is on, its conflict timer is On where there is a conflict, and its forced latch stays where it was forced
 -- off. No walk begins again in it: a walk that has not begun is not lacking
 unfoldable pub phases_again : State → phase.Given
 phases_again s = record {
@@ -130,11 +130,11 @@ lack s p = part_lack s.plan (phases_again s) p (s.phases p) (pedestrian_part s p
 unfoldable pub served : State → Ring → Option ℕ
 served s r = first (λ p. in_ring s.plan r p && in_service (interval s p)) (phases s.plan)
 
--- its clearance is done in the next tick, as the rings are told it
+-- its clearance is done in the next tick, as the rings read it
 abbrev pub is_over_next : State → ℕ → Bool
 is_over_next s p = clipped (over s) p
 
--- its red revert has passed in the next tick, as the rings are told it
+-- its red revert has passed in the next tick, as the rings read it
 abbrev pub is_reverted_next : State → ℕ → Bool
 is_reverted_next s p = clipped (reverted s) p
 
@@ -174,7 +174,7 @@ abbrev pub revert_wait : State → ℕ → Option Wait
 revert_wait s p = if is_reverted_next s p then None else Some (waits.RedRevert (red_revert_left s p))
 
 -- the first that applies: a phase of its ring that is not over, its red revert, a phase of the other ring that does not
--- make way, the red revert of the phase that starts with it; otherwise it starts
+-- make way, the red revert of the phase that starts with it. Otherwise it starts
 unfoldable pub committed_wait : State → ℕ → Ring → Option Wait
 committed_wait s p r =
     first_wait (option_map (λ q. waits.Clears q (until_over s q)) (not_over s (served s r)))
@@ -231,7 +231,7 @@ abbrev pub conflicting : State → ℕ → Ring → Option ℕ
 conflicting s p r =
     or_else (not_concurrent s.plan p (served s (other r))) (not_concurrent s.plan p (s.rings.commitment (other r)))
 
--- the first that applies: the pattern, a preempt, another phase that its ring is committed to, a crossing, a phase of
+-- the first that applies: the pattern, a preempt, another phase that its ring is committed to, a crossing; a phase of
 -- its ring that clears, its red revert, the barrier, a green of its ring, a phase of the other ring; otherwise its turn
 unfoldable pub free_wait : State → ℕ → Ring → Option Wait
 free_wait s p r =
@@ -258,7 +258,7 @@ wait s p =
     if is_some s.trip then Some waits.Flash else
     (if is_committed s p then committed_wait s p (own_ring s.plan p) else free_wait s p (own_ring s.plan p))
 
--- a call of the phase stands, and it is not Green
+-- the phase has a call, and is not Green
 abbrev pub is_waiting : State → ℕ → Bool
 is_waiting s p =
     not (is_green (interval s p)) &&

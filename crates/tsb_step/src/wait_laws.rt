@@ -2,9 +2,9 @@
 ghost use Rattle.tsb_step.specs.WaitLaws.{DuePhasesStart, GreensKeepRings, KeepersKeepTheBarrier, LacksKeepGreens, WaitsAreSo, WaitsKeepPhases};
 
 /// A wait says what is so. The phase that it names is of the ring that it says, and is Green, clears, or is to start
-/// next; it is not over, lacks what is told, or is not concurrent. This holds from any state, not only in runs.
+/// next; it is not over, lacks what the wait says, or is not concurrent. This holds from any state, not only in runs.
 ///
-/// Not said: that nothing else keeps the phase. Only the first that applies is told.
+/// Not said: that nothing else keeps the phase. The wait names only the first that applies.
 /// Mistakes: the commitment of the other ring, `next_of_other` (`is_3`, `would_name_8`); any phase in service, for a
 /// crossing or the barrier, `first_served` (`is_over_6`, `would_name_6`, `lacks_nothing`, `would_name_2`); any phase of
 /// the other ring as a conflict (`goes_with_6`, `would_name_6_too`).
@@ -13,15 +13,15 @@ pub fn waits_are_so()
     ensures { WaitsAreSo }
 {}
 
-/// What a phase waits for keeps it from turning Green in the next tick, whatever inputs are on in it. Of two kinds this
-/// is said while what is named stays as it is: of an omitted phase while no preempt comes into service, and of one that
-/// a preempt does not want while that stays in its stage.
+/// What a phase waits for keeps it from turning Green in the next tick, whatever inputs are on in it. For two kinds
+/// this is said while what is named stays as it is: for an omitted phase while no preempt comes into service, and for
+/// one that a preempt does not want while that stays in its stage.
 ///
 /// Not said: that the phase ever starts, or that it starts once what it waits for is gone. Of `Due` and `Turn` nothing is
 /// said here.
-/// Mistakes: an omit that is told to keep a phase from a preempt too (`is_omitted`, `would_start_it`); a preempt, where
-/// its service ends (`is_preempted`, `would_start_then`); red revert and clearance by timers as the last tick left them,
-/// `reverts_as_it_was` (`has_not_passed`, `starts_at_20`) and `over_as_it_was` (`is_not_over`, `starts`).
+/// Mistakes: an omit that seems to keep a phase from a preempt too (`is_omitted`, `would_start_it`); a preempt, where
+/// its service ends (`is_preempted`, `would_start_then`); red revert and clearance by timers as the last tick left
+/// them, `reverts_as_it_was` (`has_not_passed`, `starts_at_20`) and `over_as_it_was` (`is_not_over`, `starts`).
 /// Witness: `flashes` to `conflict_next` of WaitExamples.
 pub fn waits_keep_phases()
     ensures { WaitsKeepPhases }
@@ -30,9 +30,9 @@ pub fn waits_keep_phases()
 /// A phase that waits for nothing starts in the next tick, whatever inputs are on in it. This holds from any state.
 ///
 /// Not said: anything of a phase whose turn it is. Its ring has to want it, and another may be called first.
-/// Mistakes: a phase that its ring is committed to is told as due at once, `due_at_once` (`would_be_due_at_once`,
-/// `waits_for_6`); a crossing that looks at one ring alone, `without_across` (`would_be_due_alone`); one that leaves out
-/// the red revert of the phase beside (`would_be_due_beside`, `waits_for_8`); a controller that has tripped
+/// Mistakes: a phase that its ring is committed to is called due at once, `due_at_once` (`would_be_due_at_once`,
+/// `waits_for_6`); a crossing that looks at one ring alone, `without_across` (`would_be_due_alone`); one that leaves
+/// out the red revert of the phase beside (`would_be_due_beside`, `waits_for_8`); a controller that has tripped
 /// (`would_be_due`, `stays_red`).
 /// Witness: `is_due`, `starts` of WaitExamples.
 pub fn due_phases_start()
@@ -51,8 +51,8 @@ pub fn due_phases_start()
 /// `commits_all_the_same`).
 /// Witness: `initial` of WaitExamples.
 ///
-/// `barrier`: A phase that is told to keep the barrier from being crossed does so. As long as it is not ready, if it is
-/// Green, no crossing begins; and none begins where the other ring is to start it first.
+/// `barrier`: A phase that a wait names for the barrier keeps it from being crossed. As long as it is not ready, if it
+/// is Green, no crossing begins; and none begins where the other ring is to start it first.
 ///
 /// Mistake: the first phase in service is named, `first_served` (`would_name_2`, `lacks_nothing`).
 /// Witness: `at_side_1`, `kept_by_6` of WaitExamples.

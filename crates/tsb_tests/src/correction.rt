@@ -298,7 +298,7 @@ fn selections_begin_anew(rt: HostRuntime) {
 }
 
 /// Whether a selection writes its pattern, its tick and how far the counter is ahead: here pattern 2 is selected in
-/// tick 100, 790 ahead, and pattern 1 in tick 100 behind it, in step.
+/// tick 100, 790 ahead, and pattern 1 in tick 100 after it, in step.
 fn writes_three_cells(plan: &Checked) -> bool {
     let mut coord = Coord::new();
     coord.open();
@@ -354,7 +354,7 @@ fn forces_off_at_the_first_of_two_steps(rt: HostRuntime) {
 }
 
 /// Pattern 1 is selected in tick 99 at 109, so that phases 3 and 7 are forced off in tick 100, at 110. Selected in tick
-/// 98 at 108, the counter stands at 110 in tick 101, and they are forced off in both ticks.
+/// 98 at 108, the counter is at 110 in tick 101, and they are forced off in both ticks.
 #[test]
 fn forces_off_where_it_stands_still(rt: HostRuntime) {
     let once = [
@@ -444,7 +444,7 @@ fn selects_and_records(bench: &mut Bench) -> bool {
         && records(bench, [(1614, 2), (1615, 0), (1616, 0)])
 }
 
-/// Whether the selection and the ticks behind it are taken back, and taken again: no tick writes anything for it.
+/// Whether the selection and the ticks after it are taken back, and taken again: no tick writes anything for it.
 fn goes_back_and_forth(bench: &mut Bench) -> bool {
     runs(bench, 3, 112)
         && runs(bench, 27, 130)

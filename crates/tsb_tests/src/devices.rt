@@ -211,7 +211,7 @@ fn is_write_fault(ended: &Option<Result<(), SessionError>>) -> bool {
     matches!(ended, Some(Err(SessionError::Write)))
 }
 
-/// How a session goes whose reader fails after so many reads.
+/// The outcome of a session with a reader that fails after so many reads.
 fn read_fails(alloc: Global, piece: usize, odd: Odd, calls: usize) -> Outcome {
     let read = calls.saturating_mul(piece).min(INPUT.len());
     let mut writer = Taker::of(usize::MAX);
@@ -271,7 +271,7 @@ fn a_read_of_nothing_is_the_end(rt: HostRuntime) {
     }
 }
 
-/// How a session goes whose writer is odd after so many writes.
+/// The outcome of a session with a writer that is odd after so many writes.
 fn write_fails(alloc: Global, piece: usize, odd: Odd, calls: usize) -> Outcome {
     let mut writer = Taker::of(piece);
     writer.writes = Count::of(calls, odd);
@@ -307,7 +307,7 @@ fn a_write_that_fails_ends_a_session(rt: HostRuntime) {
     }
 }
 
-/// How a session goes whose writer fails after so many flushes.
+/// The outcome of a session with a writer that fails after so many flushes.
 fn flush_fails(alloc: Global, odd: Odd, calls: usize) -> Outcome {
     let mut writer = Taker::of(usize::MAX);
     writer.flushes = Count::of(calls, odd);

@@ -126,7 +126,7 @@ impl Write for Sink {
     }
 }
 
-/// Four lines, of which one ends with a return, one is empty, and the last has no line feed.
+/// Four lines: one ends with a return, one is empty, and the last has no line feed.
 const LINES: &[u8] = b"one\ntwo\r\n\nlast\r";
 
 /// Their numbers, and they themselves without their ends. The last line is answered as it is.
@@ -291,7 +291,7 @@ fn is_answer(taken: &Vec<u8>, line: &[u8], after: &[u8]) -> bool {
     }
 }
 
-/// Of a line 202 bytes are kept.
+/// A line keeps 202 bytes.
 #[test]
 fn long_lines_are_cut(rt: HostRuntime) {
     assert!(rt; KEPT == 202);
@@ -319,7 +319,7 @@ fn limited(
     }
 }
 
-/// `LINES` has 15 bytes. Of more than may be read one byte is read; before a reader that gives one at a time all whole
+/// `LINES` has 15 bytes. One byte is read past the most that may be; before a reader that gives one at a time all whole
 /// lines within the limit are answered, and those of earlier pieces before another.
 #[test]
 fn as_much_is_read_as_may_be(rt: HostRuntime) {

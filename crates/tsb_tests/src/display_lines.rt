@@ -46,7 +46,7 @@ fn tells(
     line(tick, display, preempt, local).as_str() == wanted
 }
 
-/// Whether lines tell what the heads of the plan show.
+/// Whether lines show what the heads of the plan show.
 fn tells_all(plan: &Checked) -> bool {
     tells(
         1,
@@ -99,7 +99,7 @@ fn makes(
     lines.line_bytes(tick, display, preempt, None).as_slice() == wanted
 }
 
-/// Whether a maker tells heads that stay, heads that change, and again those before.
+/// Whether a maker writes heads that stay, heads that change, and again those before.
 fn makes_all(plan: &Checked) -> bool {
     let mut lines = LineMaker::new();
     let green = shown(plan, 34, 0, 2, 0, false);

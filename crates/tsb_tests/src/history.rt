@@ -19,7 +19,7 @@ const SPELLED: [u8; 21] = [
     0x01, 0x00, 0x00, 0x02, 0x00,
 ];
 
-/// Three records, of which the first two have no change.
+/// Three records; the first two have no change.
 fn three(alloc: Global) -> Result<History, AllocError> {
     let mut history = History::new(alloc);
     push(&mut history, Kind::Tick, &[])?;
@@ -31,7 +31,7 @@ fn three(alloc: Global) -> Result<History, AllocError> {
 /// A kind, how many changes there are, and the first two of them.
 type Told = (Kind, usize, Option<(u16, u32)>, Option<(u16, u32)>);
 
-/// What the records tell, the newest first.
+/// The changes of the records, the newest first.
 fn told(alloc: Global, history: &History) -> Result<Vec<Told>, AllocError> {
     let mut found = Vec::new(alloc);
     for record in history.walk_back() {
@@ -55,14 +55,14 @@ fn tell_whether_they_are_empty(history: &History) -> bool {
     true
 }
 
-/// What the three records tell.
+/// The changes of the three records.
 const TOLD: [Told; 3] = [
     (Kind::Tick, 2, Some((5, 1)), Some((300, 65536))),
     (Kind::Reset, 0, None, None),
     (Kind::Tick, 0, None, None),
 ];
 
-/// Whether the records tell this, the newest first.
+/// Whether the records have these changes, the newest first.
 fn tell(alloc: Global, history: &History, wanted: &[Told]) -> bool {
     match told(alloc, history) {
         Ok(found) => found.as_slice() == wanted,
@@ -70,7 +70,7 @@ fn tell(alloc: Global, history: &History, wanted: &[Told]) -> bool {
     }
 }
 
-/// Whether the three records are spelled and tell what they are to.
+/// Whether the three records have their bytes and their changes.
 fn are_spelled_and_told(alloc: Global, history: &History) -> bool {
     spells(history, &SPELLED)
         && tell(alloc, history, &TOLD)
@@ -113,7 +113,7 @@ fn takes_back(rt: HostRuntime) -> Result<(), Fail> {
     Ok(())
 }
 
-/// Records of quiet ticks before and behind a reset and a tick that changed a cell, the newest last.
+/// Records of quiet ticks before and after a reset and a tick that changed a cell, the newest last.
 fn with_quiet_ticks(alloc: Global) -> Result<History, AllocError> {
     let mut history = History::new(alloc);
     push(&mut history, Kind::Tick, &[])?;

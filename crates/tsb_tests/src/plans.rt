@@ -76,7 +76,7 @@ fn quad_has_its_values(rt: HostRuntime) {
     assert!(rt; has_values(&Plan::quad(), &OF_QUAD));
 }
 
-/// What is changed in the built-in plan, so that it tells of all that phases and detectors have.
+/// The changes that give the built-in plan a value of each object of phases and detectors.
 const CHANGES: [(Object, u32, u32); 17] = [
     (Object::PhasePedRecall, 2, 1),
     (Object::PhaseSimGapDisable, 2, 1),
@@ -97,7 +97,7 @@ const CHANGES: [(Object, u32, u32); 17] = [
     (Object::VehicleDetectorFailTime, 3, 255),
 ];
 
-/// Whether the plan tells of phase 2 what it does not tell of phase 3.
+/// Whether the plan gives phase 2 what it does not give phase 3.
 fn tells_phases_apart(plan: &Plan) -> bool {
     let (second, third) = (Phase::of(2), Phase::of(3));
     plan.has_minimum_recall(second)
@@ -114,7 +114,7 @@ fn tells_phases_apart(plan: &Plan) -> bool {
         && !plan.has_variable_initial(third)
 }
 
-/// Whether the plan tells the times of phase 2.
+/// Whether the plan returns the times of phase 2.
 fn tells_of_times(plan: &Plan) -> bool {
     let second = Phase::of(2);
     plan.walk(second) == 40
@@ -129,7 +129,7 @@ fn tells_of_times(plan: &Plan) -> bool {
         && plan.dynamic_maximum_step(second) == 15
 }
 
-/// Whether the plan tells of detectors.
+/// Whether the plan returns the objects of detectors.
 fn tells_of_detectors(plan: &Plan) -> bool {
     let detector = Detector::of(3);
     plan.call_phase(detector) == Some(Phase::of(3))
@@ -154,7 +154,7 @@ fn plans_tell_of_phases_and_detectors(rt: HostRuntime) {
     assert!(rt; tells_of_detectors(&plan));
 }
 
-/// Whether the plan tells of overlaps.
+/// Whether the plan returns the objects of overlaps.
 fn tells_of_overlaps(plan: &Plan) -> bool {
     let overlap = Overlap::of(1);
     plan.included_phases(overlap).list() == 3
@@ -165,7 +165,7 @@ fn tells_of_overlaps(plan: &Plan) -> bool {
         && plan.overlaps_across_rings(Overlap::of(2))
 }
 
-/// Whether the plan tells of patterns.
+/// Whether the plan returns the objects of patterns.
 fn tells_of_patterns(plan: &Plan) -> bool {
     let (pattern, unused) = (Pattern::of(2), Pattern::of(3));
     plan.cycle(pattern) == 800
@@ -190,7 +190,7 @@ fn quad_in_modes(force: u32, maximum: u32) -> Option<Plan> {
     ])
 }
 
-/// Whether the plan of these modes tells which force mode it has: late, and floating.
+/// Whether the plan of these modes returns its force mode: late, and floating.
 fn tells_force_mode(force: u32, late: bool, floats: bool) -> bool {
     match quad_in_modes(force, 0) {
         Some(plan) => {
@@ -205,8 +205,8 @@ fn tells_force_mode(force: u32, late: bool, floats: bool) -> bool {
     }
 }
 
-/// Whether the plan with floating force-off tells after what green phases are forced off: coordinated phases never, a
-/// phase whose split is too short for its clearance at once, and in free operation none.
+/// Whether the plan with floating force-off returns the green after which it forces phases off. That is never for
+/// coordinated phases, at once where the split is too short for the clearance, and none in free operation.
 fn tells_of_floating(plan: &Plan) -> bool {
     let runs = Some(Pattern::of(2));
     plan.floating_time(runs, Phase::of(3)) == Some(110)
@@ -227,7 +227,7 @@ fn tells_maximum(mode: u32, maximum: Option<u32>) -> bool {
     }
 }
 
-/// Whether the plan tells of permissive times and of lead and lag, pattern by pattern.
+/// Whether the plan returns permissive times, lead and lag, pattern by pattern.
 fn tells_patterns_apart(plan: &Plan) -> bool {
     let (first, second) = (Pattern::of(1), Pattern::of(2));
     plan.permissive_time(first) == 0
@@ -250,7 +250,7 @@ fn plans_tell_how_greens_of_patterns_end(rt: HostRuntime) {
     );
 }
 
-/// Whether the plan with this mode and this limit tells how local counters come into step: so.
+/// Whether the plan with this mode and this limit returns this way into step.
 fn tells_correction(mode: u32, limit: u32, wanted: CorrectionMode) -> bool {
     let values = [
         (Object::CoordCorrectionMode, 1, mode),
@@ -274,7 +274,7 @@ fn plans_tell_how_counters_come_into_step(rt: HostRuntime) {
     assert!(rt; tells_correction(3, 50, CorrectionMode::AddOnly));
 }
 
-/// Whether the plan tells of splits.
+/// Whether the plan returns the objects of splits.
 fn tells_of_splits(plan: &Plan) -> bool {
     let split = Split::of(1);
     plan.split_time(split, Phase::of(2)) == 250
@@ -286,7 +286,7 @@ fn tells_of_splits(plan: &Plan) -> bool {
         && !plan.is_coordinated(split, Phase::of(5))
 }
 
-/// Whether the plan tells of preempts.
+/// Whether the plan returns the objects of preempts.
 fn tells_of_preempts(plan: &Plan) -> bool {
     let preempt = Preempt::of(1);
     plan.preempt_delay(preempt) == 6000

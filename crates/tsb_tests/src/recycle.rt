@@ -62,7 +62,7 @@ fn changed(bench: &Bench) -> Option<u32> {
     bench.when(Watch::Ped(Phase::of(2)))
 }
 
-/// Takes a tick, and tells whether a walk of phase 2 begins in it.
+/// Takes a tick, and returns whether a walk of phase 2 begins in it.
 fn begins(bench: &mut Bench, input: Input) -> Option<bool> {
     let before = walks(bench);
     bench.apply(input).ok()?;
@@ -103,9 +103,9 @@ fn walk_as_told(alloc: Global, values: &[Value], case: &Case) -> bool {
 /// Buttons that are pressed in the green, in a walk, in its clearance, and where there is no time for a walk.
 const PRESSED: [u32; 6] = [5, 20, 250, 340, 660, 720];
 
-/// The first gives a walk at once, and the second is lost in it. So is the third, whose clearance ends in tick 350, so
-/// that the fourth gives one in tick 351. That of tick 660 ends its clearance in the tick of the instant. The last is
-/// remembered, up to the tick behind the instant: from there it is 799 ticks to the next.
+/// The first gives a walk at once, and the second is lost in it. The third is too: its clearance ends in tick 350, and
+/// the fourth gives one in tick 351. That of tick 660 ends its clearance in the tick of the instant. The last is
+/// remembered, up to the tick after the instant: from there it is 799 ticks to the next.
 const BEGIN: [u32; 5] = [5, 250, 351, 660, 761];
 
 #[test]
@@ -142,7 +142,7 @@ fn without_recycle_a_walk_begins_with_a_green_alone(rt: HostRuntime) {
     assert!(rt; walk_as_told(rt.alloc(), &[other], &case));
 }
 
-/// By pedestrian recall a walk begins with the green and a tick behind each clearance, as long as there is time.
+/// By pedestrian recall a walk begins with the green and a tick after each clearance, as long as there is time.
 #[test]
 fn recalled_walks_begin_again_and_again(rt: HostRuntime) {
     let case = Case {

@@ -39,7 +39,7 @@ const RECYCLED: Given = Given {
     ..CALLED
 };
 
-/// Phase 2, if it is so.
+/// Phase 2, if the test holds.
 fn two_if(on: bool) -> PhaseSet {
     if on {
         PhaseSet::from_list(2)
@@ -100,7 +100,7 @@ fn at_power_up() -> Phases
 }
 
 impl Green {
-    /// One tick, and what it tells, up to the last tick that there is.
+    /// One tick, and what it finds, up to the last tick that there is.
     fn tick(&mut self, given: &Given, plan: &Checked) -> Option<Timing> {
         if self.now >= limits::TICKS {
             return None;
@@ -140,8 +140,8 @@ fn given_at(now: u32, given: &[Given]) -> Given {
     last
 }
 
-/// The first two ticks of 250 in which a walk begins within the green, 0 for none; `None` where such a walk is not told
-/// in its tick, or another is.
+/// The first two ticks of 250 in which a walk begins within the green, 0 for none; `None` where the tick does not
+/// report such a walk, or reports another.
 fn walks(given: &[Given]) -> Option<(u32, u32)> {
     let plan = Checked::new(Plan::quad()).ok()?;
     let mut green = Green {
@@ -177,14 +177,14 @@ fn with(found: (u32, u32), now: u32) -> (u32, u32) {
     }
 }
 
-/// With the order and a call a walk begins a tick behind each clearance, and lasts as the first did.
+/// With the order and a call a walk begins a tick after each clearance, and lasts as the first did.
 #[test]
 fn walks_begin_within_a_green(rt: HostRuntime) {
     assert!(rt; walks(&[RECYCLED]) == Some((102, 203)));
     assert!(rt; walks(&[CALLED]) == Some((0, 0)));
 }
 
-/// A call begins it in its own tick, and so does the order.
+/// A call begins it in its own tick, as the order does.
 #[test]
 fn walks_begin_in_the_tick_of_the_call(rt: HostRuntime) {
     let uncalled = Given {

@@ -1,6 +1,6 @@
 -- What the laws of rows, of records and of ticks that pass refuse, by computing: timers read by the tick number in a
 -- controller that has tripped, records that number, list or hold other than they should, a bound on how long timers
--- run, and a monitor that looks at some ticks only. Beside each stands what the definitions make of the same.
+-- run, and a monitor that looks at some ticks only. Beside each is what the definitions make of the same.
 use Rattle.std.specs.Prelude.{◌≡◌, ℕ, ◌+◌, ◌-◌, nat_le, Bool, true, false, if◌then◌else◌, List, [], ◌∷◌, ◌++◌, length, slice_get, slice_index, Option, Some, None, refl}
 use Rattle.tsb_step.specs.tsb_types.declared.lamp.Lamp.TheVariants as lamps
 use Rattle.tsb_step.specs.tsb_types.declared.lamp.SignalColor.TheVariants as signals
@@ -29,7 +29,7 @@ use Rattle.tsb_controller.specs.Rows.{Rows, Beside, state_of}
 use Rattle.tsb_controller.specs.Whole.{All, all_changes, all_put_back}
 use Rattle.tsb_controller.proofs.Examples.Examples.{occupied, on_side}
 
--- ## Rows are told: timers read by the tick number in a controller that has tripped
+-- ## Rows are read: timers read by the tick number in a controller that has tripped
 
 -- tripped at tick 40, while preempt 2 dwelt since tick 19
 abbrev pub tripped : Beside

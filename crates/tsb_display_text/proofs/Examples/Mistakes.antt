@@ -1,4 +1,4 @@
--- One-line mistakes, each with an example that tells it from the definition.
+-- One-line mistakes, each with an example in which it differs from the definition.
 use Rattle.std.specs.Prelude.{◌≡◌, ℕ, ◌+◌, ◌==◌, if◌then◌else◌, ◌∷◌, [], List, map, codes, Option, Some, None, refl}
 use Rattle.tsb_types.specs.declared.lamp.Aspect.{Aspect}
 use Rattle.tsb_types.specs.declared.lamp.Aspect.TheVariants.{Dark, Red, Yellow, Green, FlashingRed}
@@ -42,7 +42,7 @@ flashes = refl
 flashes_not : letter_of_lamp FlashingRed ∷ [] ≡ codes "R"
 flashes_not = refl
 
--- ## A head is told at the place before its phase's
+-- ## A head is written at the place before its phase's
 
 abbrev pub vehicle_field_early : (ℕ → Aspect) → List ℕ
 vehicle_field_early vehicle = map (λ p. letter (vehicle p)) (run_from 2 16)
@@ -58,7 +58,7 @@ early : vehicle_field_early green_on_2 ≡ codes "GRRRRRRRRRRRRRRR"
 unfolding run_from
 early = refl
 
--- ## A local counter of 0 is told as none
+-- ## A local counter of 0 is written as none
 
 abbrev pub local_field_unless_zero : Option ℕ → List ℕ
 local_field_unless_zero None = codes "----"

@@ -1,5 +1,5 @@
--- The cells of a controller in which much is going on: how many there are, where those of each layer stand, and that they are
--- read as what they say.
+-- The cells of a controller in which much is going on: how many there are, where those of each layer are, and that they
+-- are read as what they say.
 use Rattle.std.specs.Prelude.{◌≡◌, ◌+◌, ◌==◌, if◌then◌else◌, [], ◌∷◌, length, slice_index, Some, None, refl}
 use Rattle.tsb_cells.specs.declared.timer.Timer.TheVariants.{Off, On}
 use Rattle.tsb_types.specs.declared.interval.Interval.TheVariants.{Yellow}
@@ -58,7 +58,7 @@ busy = record {
   trip = Some (record { cause = Conflict 2 5; tick = 40 });
 }
 
--- ## Where they stand
+-- ## Where they are
 
 how_many : length (cells_of busy) ≡ ALL_CELLS
 unfolding opened busy
@@ -105,7 +105,7 @@ edits_again : again.desk.edits ≡ busy.desk.edits
 unfolding opened busy
 edits_again = refl
 
--- timers stand still since the trip
+-- timers have stopped since the trip
 clock_again : clock again ≡ 40
 unfolding opened busy
 clock_again = refl

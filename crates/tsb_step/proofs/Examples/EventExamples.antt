@@ -71,12 +71,12 @@ on_before : events_of with_outputs (after short (vehicle 3)) (Tick (vehicle 3)) 
 unfolding opened
 on_before = refl
 
--- a tick in which nothing changes tells nothing, and the same row again tells no input
+-- a tick in which nothing changes has no event, and the same row again has none of an input
 quiet : events_of usual resting (Tick all_off) ≡ []
 unfolding opened
 quiet = refl
 
--- it is a quiet one, in which the call of phase 3 stands
+-- it is a quiet one, in which phase 3 keeps its call
 abbrev standing : State
 standing = record short { memories = called (3 ∷ []); phases = these (2 ∷ 6 ∷ []) (record (green 9) { conflict = On 5 }) all_red }
 

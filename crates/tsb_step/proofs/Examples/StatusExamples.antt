@@ -108,7 +108,7 @@ parts_of_ring_1 : map part (short ∷ walking ∷ passing (record (green 59) { c
 unfolding opened
 parts_of_ring_1 = refl
 
--- all that is told of a green of 59 ticks with a conflict of 30, and a vehicle 5 ticks ago
+-- the status of a green of 59 ticks with a conflict of 30, and a vehicle 5 ticks ago
 green_of_59 : (status (passing (record (green 59) { passage = On 5; conflict = On 30 }))).ring Ring1 ≡ record {
   part = parts.Extension;
   phase = Some 2;
@@ -126,8 +126,8 @@ green_of_59 : (status (passing (record (green 59) { passage = On 5; conflict = O
 unfolding opened
 green_of_59 = refl
 
--- In pattern 1 the maximum that acts is told: none without a maximum mode, with mode 1 that of 200 of a phase that is
--- not coordinated, and none of one that is.
+-- In pattern 1 the status has the maximum that acts: none without a maximum mode, with mode 1 200 for a phase that is
+-- not coordinated, and none for one that is.
 abbrev crossed : Plan → State
 crossed plan = record (coordinated 60) { plan = plan; phases = these (3 ∷ 8 ∷ []) (record (green 59) { conflict = On 30 }) all_red }
 
@@ -196,7 +196,7 @@ is_forced_now : ((status (coordinated 760)).ring Ring1).force_off_in ≡ Some 0
 unfolding opened
 is_forced_now = refl
 
--- while it comes into step, from 50 on in two steps a tick, the local counter is told as it stands, and steps are told
+-- while it comes into step, from 50 on in two steps a tick, the status has the local counter as it is, and steps
 local_meanwhile : map (λ n. (status (hurrying 60 (coordinated n))).local) (60 ∷ 61 ∷ 70 ∷ 71 ∷ []) ≡ Some 50 ∷ Some 52 ∷ Some 70 ∷ Some 71 ∷ []
 unfolding opened
 local_meanwhile = refl
@@ -234,8 +234,8 @@ tracking list timer = record resting {
   };
 }
 
--- of 3 and 8 it enters; of 2 and 6, which are Green, its track is served, also before the timer runs; and so it is once it
--- has run
+-- of 3 and 8 it enters; of 2 and 6, which are Green, its track is served, also before the timer runs; and the same once
+-- it has run
 tracks : map (λ s. (status s).preempt 1) (tracking 132 Off ∷ tracking 34 Off ∷ tracking 132 (On 3) ∷ []) ≡
     preempt_states.EntryStarted ∷ preempt_states.TrackService ∷ preempt_states.TrackService ∷ []
 unfolding opened all_green

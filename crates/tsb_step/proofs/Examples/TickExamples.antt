@@ -1,4 +1,5 @@
--- What a tick gives, by computing: each layer is told what was found in the same tick, and timers as the tick reads them.
+-- What a tick gives, by computing: each layer is given what was found in the same tick, and timers as the tick reads
+-- them.
 use Rattle.std.specs.Prelude.{◌≡◌, ℕ, ◌==◌, true, false, [], ◌∷◌, map, Some, refl}
 use Rattle.tsb_cells.specs.declared.timer.Timer.TheVariants.{Off, On}
 use Rattle.tsb_types.specs.declared.interval.Interval.TheVariants.{Red, Green, Yellow}
@@ -122,12 +123,12 @@ walks_again : map (λ n. pedestrian_part (after (recycling n) (button 2)) 2) (99
 unfolding opened
 walks_again = refl
 
--- its memory falls with the walk, and stands where none begins
+-- its memory falls with the walk, and stays where none begins
 falls_with_walk : map (λ n. (after (recycling n) (button 2)).memories.pedestrian 2) (99 ∷ 659 ∷ 660 ∷ []) ≡ false ∷ false ∷ true ∷ []
 unfolding opened
 falls_with_walk = refl
 
--- so it is with a memory of an earlier tick, as of a button that was pressed in the clearance
+-- the same with a memory of an earlier tick, as of a button that was pressed in the clearance
 abbrev pub remembering : ℕ → State
 remembering n = record (recycling n) { memories = record (called (3 ∷ [])) { pedestrian = λ p. p == 2 } }
 

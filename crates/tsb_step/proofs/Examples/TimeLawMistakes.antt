@@ -1,5 +1,5 @@
--- What the laws of times refuse: for each law a mistake in the definitions, and by computing what comes of it. Beside each
--- stands what the definitions as they are make of the same state, and so that the law's premises can be met.
+-- What the laws of times refuse: for each law a mistake in the definitions, and by computing what comes of it. Beside
+-- each is what the definitions as they are make of the same state, and so that the law's premises can be met.
 use Rattle.std.specs.Prelude.{◌≡◌, ℕ, nat_le, ◌==◌, Bool, true, false, if◌then◌else◌, [], ◌∷◌, Option, Some, None, refl}
 use Rattle.tsb_types.specs.Sets.{all_off}
 use Rattle.tsb_types.specs.declared.interval.Interval.TheVariants.{Green, Red, Yellow, RedClear}
@@ -41,7 +41,7 @@ use Rattle.tsb_step.specs.Runs.{replay}
 use Rattle.tsb_step.specs.Play.{remaining}
 use Rattle.tsb_step.specs.TimeLaws.{held_for}
 
--- ## Timers tell time: a green's timer that starts late
+-- ## Timers count time: a green's timer that starts late
 
 -- 2 starts in the first tick: one tick later it has been Green for one
 told_1 : ((replay quad (Tick all_off ∷ Tick all_off ∷ [])).phases 2).timer ≡ On 1
@@ -159,7 +159,7 @@ passes_at_once t limit = true
 would_pass : passes_at_once (phase_read reverting 2).red_revert (red_revert quad 2) ≡ true
 would_pass = refl
 
--- ## Commitments stand in runs: a pattern that cancels them
+-- ## Commitments stay in runs: a pattern that cancels them
 
 abbrev pattern_cancels : ℕ → State → State
 pattern_cancels n s = record (with_pattern n s) { rings = record s.rings { commitment = λ r. None } }

@@ -164,7 +164,7 @@ at n = replay brisk (ticks_after [] n)
 pub met : (n : ℕ) → n ≤ 500 → Meets brisk (ticks_after [] n)
 met n few = meets_after brisk [] n (consistent brisk brisk_count brisk_rules brisk_none) tt refl (omega (arith, few))
 
--- ## Timers tell time
+-- ## Timers count time
 
 abbrev held : (State → Bool) → ℕ → ℕ
 held test n = held_for test brisk (ticks_after [] n)
@@ -295,7 +295,7 @@ overlap_held : held (λ s. is_yellow_head ((display s).overlap 1)) 23 ≡ 2
 unfolding opened two brisk
 overlap_held = refl
 
--- ## Commitments stand, starts wait, and what is cleared is over
+-- ## Commitments stay, starts wait, and what is cleared is over
 
 commits_to_4 : (at 30).rings.commitment Ring1 ≡ Some 4
 unfolding opened two brisk
@@ -410,7 +410,7 @@ paced_ends = record {
   untripped = λ k few. ap (λ (s : State). s.trip) (same_ticks paced selected 59 k) ∙ (paced_met (59 + k) (omega (arith, few))).untripped;
 }
 
--- 40 ticks later it is over, and the tick after stands at local zero
+-- 40 ticks later it is over, and the tick after is at local zero
 is_over : over (paced_at 99) 2 ≡ true
 unfolding opened paced brisk two
 is_over = refl
