@@ -38,9 +38,8 @@ pub fn run<T: Driven + Ticked>(
     Ok(sum)
 }
 
-/// Runs a layer from power-up over ticks, each of which repeats this many times, like a bench that passes over ticks:
-/// it asks after a tick that changed nothing how many may be passed over. Gives a sum as `run` does, of the other
-/// ticks.
+/// Runs a layer from power-up over ticks that each repeat this many times, like a bench that passes over ticks: it asks
+/// after a tick that changed nothing how many may be passed over. Gives a sum as `run` does, of the other ticks.
 #[inline(never)]
 pub fn run_passing<T: Driven + Ticked>(
     alloc: Global,

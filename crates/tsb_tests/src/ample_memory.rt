@@ -80,7 +80,7 @@ fn undone(bench: &mut Bench) -> Result<Kind, Nothing> {
     bench.undo()
 }
 
-/// Whether there are so many answers, each of which says that the input was taken.
+/// Whether there are so many answers, and each says that the input was taken.
 fn all_are_taken(answers: &[Answer], count: usize) -> bool {
     for answer in answers {
         if *answer != Answer::Took {

@@ -301,7 +301,7 @@ const CHANGES: [u32; 22] = [
     881, 911, 921,
 ];
 
-/// Whether the records are of so many ticks, of which just those of `CHANGES` have entries, the newest first.
+/// Whether the records are of so many ticks, and just those of `CHANGES` have entries, the newest first.
 fn records_changes(bench: &Bench) -> bool {
     let mut tick = number_of(bench);
     let mut left = CHANGES.len();
@@ -330,7 +330,7 @@ fn has_bytes_of_entries(bench: &Bench) -> bool {
     bench.history().bytes().len() == 3000 + 6 * entries
 }
 
-/// Whether 1,000 ticks leave 1,000 records, of which 22 have entries.
+/// Whether 1,000 ticks leave 1,000 records, 22 of them with entries.
 fn writes_changes_alone(bench: &mut Bench) -> bool {
     run_to(bench, 1000);
     number_of(bench) == 1000

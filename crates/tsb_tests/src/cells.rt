@@ -93,7 +93,7 @@ fn values_are_kept_in_cells(rt: HostRuntime) {
     assert!(rt; bank.load::<2, Reading>(120, 4).presence == Timer::Off);
 }
 
-/// Whether a timer that is on tells how long.
+/// Whether a timer that is on returns for how long.
 fn tells_how_long(timer: Timer) -> bool {
     timer == Timer::On(20)
         && timer.started() == Timer::On(20)
@@ -104,7 +104,7 @@ fn tells_how_long(timer: Timer) -> bool {
         && !timer.is_below(20)
 }
 
-/// Whether a timer that is off tells nothing.
+/// Whether a timer that is off returns nothing.
 fn tells_nothing(timer: Timer) -> bool {
     !timer.is_on() && !timer.has_reached(0) && !timer.is_below(1)
 }

@@ -1,6 +1,6 @@
 //! How the local counter comes into step where one pattern follows another, worked by hand from docs/use/MANUAL.md.
-//! Times are in ticks. Patterns 1 and 2 of the built-in plan of eight phases have a cycle of 800 and offsets 0 and 790,
-//! so in step the counter of pattern 2 is 10 more than the tick number, within the cycle. Phases 2 and 6 are
+//! Times are in ticks. Patterns 1 and 2 of the built-in plan of eight phases have a cycle of 800 and offsets 0 and 790.
+//! So in step the counter of pattern 2 is 10 more than the tick number, within the cycle. Phases 2 and 6 are
 //! coordinated and have their instants at 760, so the counter waits at 759. Instants of others are 510, 110 and 360.
 
 use std::alloc::Global;

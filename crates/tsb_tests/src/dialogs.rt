@@ -372,8 +372,8 @@ fn long_texts_are_said(rt: HostRuntime) {
     }
 }
 
-/// Whether a read and whether a write has failed, and whether all was passed on, after a dialog whose reader gives so many
-/// bytes and whose writer takes so many.
+/// Whether a read and whether a write has failed, and whether all was passed on, after a dialog with a reader that
+/// gives so many bytes and a writer that takes so many.
 fn seen_after(alloc: Global, good: usize, room: usize, flushes: bool) -> (bool, bool, bool) {
     let mut source = Source::new(LINES, 4);
     source.good = good;

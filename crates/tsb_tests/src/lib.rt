@@ -1,6 +1,6 @@
-//! Tests of the crates below, none of which has its own: a crate with tests is proved twice.
+//! Tests of the crates below, which have none of their own: a crate with tests is proved twice.
 //!
-//! Most of what a test checks stands in functions that have no contract and answer whether all of it holds. A test that
+//! Most of what a test checks is in functions that have no contract and answer whether all of it holds. A test that
 //! makes many calls itself takes several times as long to prove: it carries on what is known of each of them, and each
 //! assert in it costs about as much as such a function.
 #![tactic(auto)]

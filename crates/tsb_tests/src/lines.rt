@@ -28,7 +28,7 @@ fn lines_end_at_line_feeds(rt: HostRuntime) {
     laws::lines_make_up_the_text();
 }
 
-/// Whether the first line feed stands between these.
+/// Whether the first line feed is between these.
 fn is_cut(bytes: &[u8], before: &[u8], behind: &[u8]) -> bool {
     match cut_at_feed(bytes) {
         None => false,
@@ -104,7 +104,7 @@ fn spells(word: &[u8], value: Option<u32>) -> bool {
     number(word) == value
 }
 
-/// Whether words that spell no number are told from those that do.
+/// Whether words that spell no number are refused, and those that do are read.
 fn words_are_told_apart() -> bool {
     spells(b"0012", Some(12))
         && spells(b"4294967295", Some(4_294_967_295))

@@ -145,7 +145,7 @@ fn plans_keep_values(rt: HostRuntime) {
     assert!(rt; refuses(&mut plan) && takes(&mut plan));
 }
 
-/// Whether the built-in plan tells of its phases.
+/// Whether the built-in plan returns its phases.
 fn two_tells_of_phases(plan: &Plan) -> bool {
     let (second, third, fourth) = (Phase::of(2), Phase::of(3), Phase::of(4));
     plan.is_enabled(second)
@@ -161,7 +161,7 @@ fn two_tells_of_phases(plan: &Plan) -> bool {
         && &plan.sequence(Sequence::of(1), Ring::of(1))[..3] == [2, 4, 0].as_slice()
 }
 
-/// Whether a plan with the changes below tells of its phases.
+/// Whether a plan with the changes below returns its phases.
 fn changed_tells_of_phases(plan: &Plan) -> bool {
     let (second, fourth) = (Phase::of(2), Phase::of(4));
     plan.maximum(second) == 120

@@ -176,7 +176,7 @@ fn is_text(made: Result<String, AllocError>, text: &str) -> bool {
     }
 }
 
-/// Of a read the cause is told by a second line, with the name of the file.
+/// A second line names the cause of a read that failed, with the name of the file.
 #[test]
 fn each_fault_of_a_file_is_printed_as_its_line(rt: HostRuntime) {
     let faults = [

@@ -244,7 +244,7 @@ fn worked_plans_break_their_rules(rt: HostRuntime) {
     consistent::coordinated_phases_agree();
 }
 
-/// Ring 2 has its coordinated phase before the other one of the side, and so does its sequence.
+/// Ring 2 has its coordinated phase before the other one of the side, as its sequence does.
 const LED: [Value; 2] = [(Object::SequenceData, 17, 6), (Object::SequenceData, 18, 5)];
 
 /// Whether the built-in plan of eight phases is judged so with `LED` and these values put into it.

@@ -419,7 +419,7 @@ fn long_lines_are_bad(rt: HostRuntime) {
     }
 }
 
-/// Whether this is the answer to a line of so many bytes, blank but for the first.
+/// Whether this is the answer to a line of so many bytes, blank after the first.
 fn answers_blank(alloc: Global, first: u8, length: usize, text: &[u8]) -> bool {
     let mut line = [b' '; 5000];
     line[0] = first;

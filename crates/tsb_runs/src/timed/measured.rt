@@ -105,7 +105,7 @@ impl Measured<'_> {
         Ok(())
     }
 
-    /// Lets the ticks pass and asks for the status after each, and writes how many waits were told.
+    /// Lets the ticks pass and asks for the status after each, and writes how many waits it found.
     pub fn ask_status(&self) -> Result<()> {
         let Ok(mut bench) = Bench::power_up(self.rt.alloc(), self.plan) else {
             return Err(AllocError.into());
