@@ -122,7 +122,7 @@ newest-is now a (q ∷ rs) r sound is =
       whole_is = ap (λ (s : State). let made : Whole = record { state = s; records = rs } in made) (back-said now a q sound.0 sound.1);
     })
 
--- the history tells the newest record with the place at which it begins: the record, and the place
+-- the history gives the newest record with the place at which it begins: the record, and the place
 abbrev told_record : Option (Change × ℕ) → Option Change
 told_record None = None
 told_record (Some told) = Some told.0
@@ -202,7 +202,7 @@ pub goes-back : (t : ℕ) (h new : Held) → HasSoundPast h.tick h.rows h.record
 goes-back t h new sound ahead other is =
     let above : t < h.tick = omega arith in goes-on t h new above sound (sound-some h.tick h.rows h.records sound (omega arith)) is
 
--- behind a tick there is an input
+-- after a tick there is an input
 pub some-input : (t : ℕ) (h : Held) → HasSoundPast h.tick h.rows h.records → t ≤ h.tick → (h.tick ≡ t → ⊥) → h.records ≡ [] → ⊥
 some-input t h sound ahead other none =
     let some : 0 < length h.records = sound-some h.tick h.rows h.records sound (omega arith) in

@@ -14,7 +14,7 @@ use Rattle.tsb_step.specs.MonitorLaws.{IsMonitorBy, IsCause, IsTrip, IsLamp}
 use Rattle.tsb_step.specs.State.{Tripped}
 use Rattle.tsb_step.proofs.MonitorLemmas.{rows-told, state-read}
 
--- the first four cells tell the trip
+-- the first four cells have the trip
 four : (lamp : Option Lamp) (trip : Option Tripped) → row_at 4 (monitor_cells lamp trip) 0 ≡ trip_cells trip
 four lamp None = refl
 four lamp (Some trip) = at trip.cause trip.tick

@@ -5,7 +5,7 @@ use Rattle.tsb_controller.specs.Whole.{All, AreAllBy, all_changes, all_put_back}
 use Rattle.tsb_controller.proofs.ChangeLemmas.{rows-back}
 use Rattle.tsb_bench.specs.Shown.{IsShown, still_shown}
 
--- rows of which no cell has changed are those before
+-- rows without a changed cell are those before
 pub rows-same : (m n : ℕ) (old new : All) → AreAllBy m old → AreAllBy n new → all_changes old new ≡ [] → old ≡ new
 rows-same m n old new by by_new none = sym (rows-back m n old new by by_new) ∙ ap (all_put_back new) none
 

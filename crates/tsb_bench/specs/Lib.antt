@@ -6,7 +6,7 @@ pub mod Watched
 pub mod Held
 -- what becomes of a bench that is given an input
 pub mod Applied
--- what is kept of the cabinet before an input, by which its events are told
+-- what is kept of the cabinet before an input, by which its events are found
 pub mod Telling
 -- what is kept of the heads while no cell changes
 pub mod Shown

@@ -1,4 +1,4 @@
--- What is kept of the cabinet as it was before an input, by which the events of the input are told.
+-- What is kept of the cabinet as it was before an input, by which the events of the input are found.
 use Rattle.std.specs.Prelude.{◌≡◌, ℕ, None, is_some}
 use Rattle.tsb_types.specs.declared.row.Row.{Row}
 use Rattle.tsb_types.specs.Clip.{Agree}

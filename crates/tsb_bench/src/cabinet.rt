@@ -97,7 +97,7 @@ impl Cabinet {
         })
     }
 
-    /// Why an input is refused at tick number `tick`, but for memory.
+    /// Why an input is refused at tick number `tick`, other than for memory.
     #[inline(always)]
     pub(crate) fn refusal(&self, tick: u32, input: &Input) -> Option<Refusal>
         requires by { AreAllBy tick (rows_of self.now) }

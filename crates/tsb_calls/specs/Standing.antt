@@ -1,7 +1,7 @@
--- The calls that stand after an input, as the status objects of NTCIP 1202 and the log of a controller have them. That a
+-- The calls in force after an input, as the status objects of NTCIP 1202 and the log of a controller have them. That a
 -- vehicle call is one of a phase that is not Green, and a pedestrian call one of a phase that is not in Walk, is the
--- profile's own: so a call goes as it is served, a recall's as well. A soft recall is none, and an omitted phase has its
--- calls.
+-- profile's own: so a call goes as it is served, a recall's as well. A soft recall is none, and an omitted phase has
+-- its calls.
 --
 -- `given` is what the calls are found from, of the state, and `m` the memories in it.
 use Rattle.std.specs.Prelude.{ℕ, Bool, not, ◌&&◌, ◌||◌}

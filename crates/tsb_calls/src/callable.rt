@@ -69,7 +69,7 @@ fn called(
         .union(with_recall(plan, observed))
 }
 
-/// The calls that stand, by the memories and the outputs.
+/// The calls in force, by the memories and the outputs.
 pub(crate) fn find_standing(
     plan: &Checked,
     observed: &Observed,

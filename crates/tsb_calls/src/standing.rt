@@ -1,4 +1,4 @@
-//! The calls that stand after an input.
+//! The calls in force after an input.
 
 use tsb_objects::PhaseSet;
 

@@ -109,7 +109,7 @@ words-apart (w ∷ x ∷ y ∷ z ∷ ws) = tt
 
 -- ## Rows
 
--- words of which the first begins with a digit
+-- words whose first begins with a digit
 row-48 : (r : Row) (w : List ℕ) (ws : List (List ℕ)) → AreApart (Some r) (own_in ((48 ∷ w) ∷ ws)) (command_in ((48 ∷ w) ∷ ws))
 unfolding own_of_one own_of_two own_of_three command_of_one command_of_two command_of_three command_of_five
 row-48 r w [] = tt

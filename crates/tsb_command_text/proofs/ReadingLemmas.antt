@@ -1,4 +1,4 @@
--- What a line asks, beside what `tsb run` reads in it; and of a long line the first bytes tell as much as all.
+-- What a line asks, beside what `tsb run` reads in it; and the first bytes of a long line say as much as all.
 use Rattle.std.proofs.Common.{◌≡◌, ◌∙◌, ℕ, ◌+◌, ◌<◌, ◌≤◌, nat_lt, Bool, true, false, List, [], ◌∷◌, length, refl, sym, ap, subst, arith, inl, inr, ◌⊎◌, Option, Some, None, if◌then◌else◌}
 use Rattle.std.specs.Prelude.{◌↔◌}
 use Rattle.std.specs.Option.{option_map, option_or}

@@ -45,7 +45,7 @@ row-length line r e = elim (eqb_tells (length line) 30) [
   | inr off ↦ absurd (subst IsNone (sym (other-length line off.0) ∙ e) tt)
 ]
 
--- a line behind a tick of 7 digits
+-- a line after a tick of 7 digits
 whole-row : (digits line : List ℕ) → length digits ≡ 7 → length line ≡ 30
     → row_of (digits ++ 32 ∷ line) ≡ row_with (tick_of digits) (inputs_of line)
 unfolding row_of

@@ -15,7 +15,7 @@ use Rattle.tsb_command_text.specs.declared.live_command.LiveCommand.{LiveCommand
 use Rattle.tsb_command_text.specs.declared.live_command.LiveCommand.TheVariants.{Session, Changes}
 use Rattle.tsb_command_text.specs.declared.live_command.LiveReading.TheVariants.{Skip, Bad, Tick, Ask}
 
--- a line is a row exactly where it is a row of a log once a tick of 7 digits and a space stand before it, and both have
+-- a line is a row exactly where it is a row of a log once a tick of 7 digits and a space come before it, and both have
 -- the same inputs
 abbrev pub AreRowsOfLogs : Type 0
 AreRowsOfLogs = (digits line : List ℕ) (tick : ℕ) (r : Row) → length digits ≡ 7 → tick_of digits ≡ Some tick →

@@ -3,7 +3,7 @@
 use tsb_plan::ObjectId;
 use tsb_types::{Lamp, Station, Watch};
 
-/// What a session can be told to do. A number that nothing has, such as that of a pattern or an index, is refused when
+/// What a session does on command. A number that nothing has, such as that of a pattern or an index, is refused when
 /// the command is done, and not when it is read.
 #[derive(Clone, Copy, PartialEq, Eq)]
 pub enum Command {

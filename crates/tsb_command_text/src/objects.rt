@@ -24,7 +24,7 @@ pub(crate) fn object(word: &[u8]) -> Option<Object>
     }
 }
 
-/// The first of these objects whose name, which stands beside it, the word is.
+/// The first of these objects with the word as its name beside it.
 macro_rules! first_named {
     ($word:ident, $($object:ident $name:literal)*) => {{
         $(

@@ -48,7 +48,7 @@ twice true false f x apart = refl
 twice false true f x apart = refl
 twice false false f x apart = refl
 
--- or of which the second does nothing more
+-- or where the second does nothing more
 again : {A : Type 0} (a b : Bool) (f : A → A) (x : A) → f (f x) ≡ f x →
     (if b then f (if a then f x else x) else (if a then f x else x)) ≡ (if a || b then f x else x)
 again true true f x same = same

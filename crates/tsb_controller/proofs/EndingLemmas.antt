@@ -1,4 +1,4 @@
--- What ends the greens that a tick ends, by what the layers tell of it.
+-- What ends the greens that a tick ends, by what the layers give of it.
 use Rattle.std.proofs.Common.{◌≡◌, ◌≢◌, ℕ, ◌≤◌, Bool, true, false, not, ◌&&◌, ◌||◌, if◌then◌else◌, List, Option, Some, None, IfSome, is_none, refl, ap, ◌∙◌, inl, inr, slice_index}
 use Rattle.std.proofs.lemmas.Bool.Decides.{eqb_tells}
 use Rattle.tsb_step.specs.tsb_types.declared.flow.Intervals.{Intervals}
@@ -33,7 +33,7 @@ cause-alike plan g h p w from to same told green =
 pub by-alike : (g h : Given) (p : ℕ) → 1 ≤ p → p ≤ 16 → AgreeOnPhases g h → is_none (ended_by g p) ≡ is_none (ended_by h p)
 by-alike g h p from to same = rw (same.must_end p from to, same.service) refl
 
--- a set that is told of the same phases, with causes that are the same of these
+-- a set for the same phases, with causes that are the same of these
 told-alike : (a b : Bool) (c d : Bool) → a ≡ b → (b ≡ true → c ≡ d) → (a && c) ≡ (b && d)
 told-alike a true c d e same = rw (e, same refl) refl
 told-alike a false c d e same = rw e refl

@@ -43,7 +43,7 @@ some-number n p e most =
       | inr other ↦ (let here : Some n ≡ Some p = rw other at e in let same : n ≡ p = cc in rw (← same) (is_phase_from n (grind (arith, nat_tests, other)) most))
     ]
 
--- what is in a ring is a phase, and so is a commitment
+-- what is in a ring is a phase, as a commitment is
 pub within : (plan : Plan) (row : List ℕ) → IsPlaced plan → IsBy row → IsWithin plan (rings_in row)
 unfolding rings_in
 within plan row ok by = record { count = ok.count; ringed = ringed; committed = committed }

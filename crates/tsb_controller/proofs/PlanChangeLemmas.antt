@@ -49,7 +49,7 @@ passed-over (suc n) k before after within also same =
     ∙ passed-over n (k + 1) before after (omega (arith, within)) (omega (arith, also)) (λ j from below. same j (omega (arith, from)) (omega (arith, below)))
     ∙ ap (λ (m : ℕ). diff_from m (drop m before) (drop m after)) (let e : k + 1 + n ≡ k + suc n = omega arith in e)
 
--- behind the last cell none is left
+-- after the last cell none is left
 pub none-left : (k : ℕ) (before after : List ℕ) → length before ≤ k → diff_from k (drop k before) (drop k after) ≡ []
 none-left k before after over = rw (drop_all k before over) refl
 

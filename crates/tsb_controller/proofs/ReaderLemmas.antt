@@ -1,4 +1,4 @@
--- What the rows tell of the rings, in the words of the step.
+-- What the rows have of the rings, in the words of the step.
 use Rattle.std.proofs.Common.{◌≡◌, ℕ, Bool, ◌||◌, Option, Some, None, is_some, refl, sym, ap, ap₂, ◌∙◌, arith}
 use Rattle.std.specs.List.{list_any}
 use Rattle.tsb_step.specs.tsb_types.declared.flow.Intervals.{Intervals}
@@ -20,7 +20,7 @@ use Rattle.tsb_step.specs.State.{State, interval}
 use Rattle.tsb_controller.specs.Promises.{TellsServing}
 use Rattle.tsb_controller.specs.Rows.{Rows, Beside, state_of}
 
--- the phases in service, by what phase timing tells of all phases
+-- the phases in service, by what phase timing gives of all phases
 pub service-told : (rows : Rows) (i : Intervals) → TellsIntervals rows.phases i → (now : ℕ) (b : Beside) (checked : Checked) → b.plan ≡ checked_plan checked →
     list_any (λ p. in_service (interval_of i p)) (run_from 1 16) ≡ list_any (λ p. in_service (interval (state_of now b rows) p)) (phases b.plan)
 unfolding checked_plan plan_of

@@ -1,4 +1,4 @@
--- What is told of a phase and of what its green depends on, and of a ring, is what the state has.
+-- The status of a phase and of what its green depends on, and of a ring, is what the state has.
 use Rattle.std.proofs.Common.{◌≡◌, ℕ, ◌≤◌, ◌==◌, Bool, true, false, not, ◌&&◌, if◌then◌else◌, [], ◌∷◌, get_or, Option, Some, None, is_some, option_map, IfSome, refl, sym, subst, ap, ap₂, arith, ◌∙◌, inl, inr}
 use Rattle.std.proofs.lemmas.Bool.{cases_Bool}
 use Rattle.std.proofs.lemmas.Bool.Decides.{nat_tests}

@@ -86,7 +86,7 @@ preempt-told rows n entered spent called served is_spent is_called is_stage now 
     go None = refl
     go (Some x) = branch (x.preempt == n) x
 
--- the preempt in service has entered, by the intervals that phase timing tells
+-- the preempt in service has entered, by the intervals of phase timing
 pub entered-told : (rows : Rows) (i : Intervals) (checked : Checked) (entered : Bool) → TellsIntervals rows.phases i →
     TellsEntered i (checked_plan checked) rows.preempts entered → (now : ℕ) (b : Beside) → b.plan ≡ checked_plan checked →
     entered ≡ entered_of b.plan (interval (state_of now b rows)) (state_of now b rows).preempts.service

@@ -1,4 +1,4 @@
--- What phases are told to wait for is what they wait for in the state.
+-- What the status lets phases wait for is what they wait for in the state.
 use Rattle.std.proofs.Common.{◌≡◌, ℕ, ◌==◌, Bool, true, false, Option, Some, None, is_some, refl, sym, subst, ap, ◌∙◌}
 use Rattle.tsb_step.specs.tsb_types.declared.phase_set.PhaseSet.{PhaseSet}
 use Rattle.tsb_step.specs.tsb_types.declared.stage.Stage.{Stage}

@@ -27,7 +27,7 @@ use Rattle.tsb_controller.specs.Rows.{Rows, Beside, state_of, untripped}
 abbrev pub with_cause : Cause → ℕ → Cause → (ℕ → Bool) → ℕ → Bool
 with_cause c p d others n = (n == p && is_cause c (Some d)) || others n
 
--- each set has those of these phases of which a test finds its cause
+-- each set has those of these phases whose cause a test finds
 pub record AreCausesOf (test : ℕ → Bool) (found : ℕ → Option Cause) (result : Causes) : Type 0 where
   pub gap : Agree (has_number result.gap) (λ p. test p && is_cause Gap (found p))
   pub maximum : Agree (has_number result.maximum) (λ p. test p && is_cause Maximum (found p))

@@ -63,7 +63,7 @@ orders s = record {
   target = s.asked.target;
 }
 
--- what phase timing is told, with the counts that `calls` lends
+-- what phase timing is given, with the counts that `calls` lends
 pub record AreConditions (s : Sensed) (called : Called) (counts : List ℕ) (c : phase_conditions.Conditions) : Type 0 where
   pub called_are : c.called ≡ called
   pub counts_are : c.counts.now ≡ counts
@@ -81,7 +81,7 @@ for_rings s called timing = record {
   orders = orders s;
 }
 
--- what the calls are told that the rings did
+-- what the calls are given of what the rings did
 pub record AreDecided (s : Sensed) (called : Called) (m : Movement) (d : Decided) : Type 0 where
   pub starts_are : (p : ℕ) → has d.starts p ≡ is_started m.moves p
   pub ends_are : (p : ℕ) → has d.ends p ≡ is_ended m.moves p

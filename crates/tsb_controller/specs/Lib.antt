@@ -1,4 +1,4 @@
--- the rows of cells of the six layers, and the state that they tell at a tick
+-- the rows of cells of the six layers, and the state that they have at a tick
 pub mod Rows
 -- the rows of `Controller`, now and at the last `open`, and whether its layers are open
 pub mod Layer
@@ -16,7 +16,7 @@ pub mod Seen
 pub mod Causes
 -- the clauses of the public calls of `Controller`
 pub mod Promises
--- the clauses of the calls that tell its status
+-- the clauses of the calls for its status
 pub mod StatusPromises
 -- ticks that may be passed over: up to which one all layers stay as they are
 pub mod Passing

@@ -1,5 +1,4 @@
--- What a record of an input says of the layers' rows: their cells stand one after another among all cells of the
--- bench.
+-- What a record of an input says of the layers' rows: their cells are one after another among all cells of the bench.
 use Rattle.std.specs.Prelude.{ℕ, ◌≤◌, List, ◌++◌, length}
 use Rattle.tsb_cells.specs.Diff.{diff, apply_diff, part, shifted}
 use Rattle.tsb_detect.specs.declared.TheConstants.{CELLS as DETECTOR_CELLS}

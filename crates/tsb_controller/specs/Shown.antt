@@ -9,7 +9,7 @@ use Rattle.tsb_heads.specs.declared.display.Display.{Display}
 use Rattle.tsb_heads.specs.Promises.{IsDisplayed}
 use Rattle.tsb_controller.specs.Rows.{Rows}
 
--- a display of these rows: by the intervals, the pedestrian parts and both commitments as the layers tell them; in
+-- a display of these rows: by the intervals, the pedestrian parts and both commitments as the layers give them; in
 -- flash where `tripped` says so
 pub record IsShown (plan : Plan) (tripped : Bool) (rows : Rows) (display : Display) : Type 0 where
   pub intervals : Intervals

@@ -55,8 +55,8 @@ pub record AreFull (a : All) : Type 0 where
 abbrev pub all_in : ℕ → All → State
 all_in now a = state_of now (record { plan = plan_in a.plan; desk = desk_in a.desk; lamp = lamp_in a.monitor; trip = trip_in a.monitor }) a.layers
 
--- rows that the bench can hold at tick number `now`; in a controller that has tripped timers stand at the tick of the
--- trip
+-- rows that the bench can hold at tick number `now`; in a controller that has tripped timers are read at the tick of
+-- the trip
 pub record AreAllBy (now : ℕ) (a : All) : Type 0 where
   pub plan : length a.plan ≡ PLAN_CELLS
   pub desk : desk.IsBy a.desk

@@ -1,4 +1,4 @@
-//! What ends the greens that a tick ends, as the log of a controller tells it.
+//! What ends the greens that a tick ends, as the log of a controller has it.
 ghost use Rattle.std.specs.Prelude.{◌≡◌, ◌&&◌, ◌-◌, ◌+◌, ◌<◌, ◌≤◌, ◌^◌, ℕ, false, is_none};
 ghost use Rattle.tsb_step.specs.tsb_types.Sets.{has, has_number};
 ghost use Rattle.tsb_step.specs.Events.{is_cause};
@@ -127,7 +127,7 @@ impl Controller {
 
     /// Whether the preempt in service has been served, as the tick after `clock` finds it, with the inputs of `row` on
     /// in it: its input is off, after its minimum duration. It is asked of a controller as it was before the tick.
-    /// `clock` is the tick number, or the tick of the trip, at which timers stand.
+    /// `clock` is the tick number, or the tick of the trip, at which timers are read.
     pub fn is_served(&self, clock: u32, row: &Row, plan: &Checked) -> bool
         requires in_time { clock ≤ last_tick }
         requires preempts_by { preempts.IsBy clock (rows_of self.now).preempts }

@@ -66,7 +66,7 @@ impl Controller {
         let _done = self.preempts.switch(n, on, plan);
     }
 
-    /// All layers start anew at tick `now`, as at power-up but for the switches of preempts.
+    /// All layers start anew at tick `now`, as at power-up, except the switches of preempts.
     pub fn reset(&mut self, now: u32)
         requires opened { IsOpen self.old }
         requires fits { now + 1 < 2 ^ 32 }

@@ -84,7 +84,7 @@ impl Controller {
     }
 
     /// The tick up to which phases stay as tick `now` left them, and report the same. No output of a detector rose in
-    /// that tick, so that another one sets no memory and counts no vehicle: calls are found from those that stand.
+    /// that tick, so that another one sets no memory and counts no vehicle: calls are found from those in force.
     #[inline(always)]
     fn phases_due(&self, now: u32, row: &Row, plan: &Checked) -> u32
         requires begun { 1 ≤ now }

@@ -161,7 +161,7 @@ fn overlaps_off(lit: NumberSet, served: PhaseSet, plan: &Checked) -> NumberSet
 impl Controller {
     ghost use Rattle.tsb_controller.specs.Layer.{rows_of};
 
-    /// The calls that stand, of phases in these intervals and pedestrian parts.
+    /// The calls in force, of phases in these intervals and pedestrian parts.
     fn standing(&self, intervals: &Intervals, pedestrians: &Pedestrians, plan: &Checked) -> Standing
         requires pattern_by { coord.IsBy (rows_of self.now).pattern }
         ensures { IsStanding intervals.now pedestrians.now (checked_plan plan.now) (rows_of self.now) result }

@@ -120,7 +120,7 @@ impl Controller {
         waits
     }
 
-    /// What each phase of a set waits for, by both rings as they are told; none of any other.
+    /// What each phase of a set waits for, by both rings as they are given; none of any other.
     pub(crate) fn waits_of(
         &self,
         waiting: NumberSet,

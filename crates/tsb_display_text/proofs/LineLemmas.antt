@@ -1,4 +1,4 @@
--- A display line is ASCII text of 53 bytes, and of heads it tells only those of phases 1 to 16 and of overlaps 1 to 4.
+-- A display line is ASCII text of 53 bytes, and of heads it has only those of phases 1 to 16 and of overlaps 1 to 4.
 use Rattle.std.proofs.Common.{◌≡◌, ◌∙◌, ℕ, ◌+◌, ◌-◌, ◌%◌, ◌<◌, ◌≤◌, List, [], ◌∷◌, ◌++◌, map, length, refl, ap, arith, zero, suc, Option, Some, None, IfSome, take, drop, set, replicate}
 use Rattle.std.specs.Str.{IsUtf8, IsAscii}
 use Rattle.std.proofs.lemmas.Str.{IsUtf8-from_ascii}

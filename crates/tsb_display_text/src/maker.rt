@@ -11,8 +11,8 @@ use tsb_heads::Display;
 use tsb_lines::{digit, seven_digits};
 use tsb_types::Preempt;
 
-/// What the heads showed in a line, and that line. Its tick number ends in 0 here, and it tells of no preempt and of no
-/// local counter.
+/// What the heads showed in a line, and that line. Its tick number ends in 0 here, and it has no preempt and no local
+/// counter.
 #[derive(Clone, Copy)]
 struct Shown {
     heads: Display,
@@ -22,7 +22,7 @@ struct Shown {
 }
 
 /// Makes display lines one after another. It finds letters anew only where the heads show something else than in the
-/// line before, as most ticks change no head. Most digits it finds only at each tenth tick. What it keeps tells in no
+/// line before, as most ticks change no head. Most digits it finds only at each tenth tick. What it keeps shows in no
 /// line, so clauses see nothing of it.
 #[derive(Drop)]
 pub struct LineMaker {

@@ -1,4 +1,4 @@
--- Views that agree on the numbers 1 to 16 tell the same events.
+-- Views that agree on the numbers 1 to 16 have the same events.
 use Rattle.std.proofs.Common.{◌≡◌, ℕ, ◌+◌, ◌-◌, ◌<◌, ◌≤◌, Bool, not, ◌&&◌, ◌||◌, zero, suc, List, [], ◌∷◌, ◌++◌, map, filter, flat_map, if◌then◌else◌, nat_eq, refl, ap, arith}
 use Rattle.std.specs.Option.{option_eq}
 use Rattle.tsb_types.specs.Clip.{Agree}
@@ -34,7 +34,7 @@ agree-either f g h k one other n from to = λ i. one n from to i || other n from
 agree-begins : (f g h k : ℕ → Bool) → Agree f g → Agree h k → Agree (begins f h) (begins g k)
 agree-begins f g h k was now n from to = λ i. now n from to i && not (was n from to i)
 
--- what begins, and so what ends, is told the same
+-- what begins, and so what ends, has the same events
 pub begun-same : (tick code : ℕ) (f g h k : ℕ → Bool) → Agree f g → Agree h k → told tick code (begins f h) ≡ told tick code (begins g k)
 begun-same tick code f g h k was now = told-same tick code (begins f h) (begins g k) (agree-begins f g h k was now)
 

@@ -1,7 +1,7 @@
-//! The events of an input, told from what the log of a controller sees before and after it.
+//! The events of an input, found from what the log of a controller sees before and after it.
 //!
 //! [`Seen`] is what the log sees: sets of phases, overlaps, detectors and preempts, the side that is served, flash.
-//! [`tick_events`] and [`other_events`] compare it before and after an input, and tell what differs in the order of a
+//! [`tick_events`] and [`other_events`] compare it before and after an input, and write what differs in the order of a
 //! log: by code, and those of one code by their parameters. Nothing here takes memory.
 #![tactic(auto)]
 

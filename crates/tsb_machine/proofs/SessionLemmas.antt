@@ -13,7 +13,7 @@ use Rattle.tsb_machine.specs.Laws.{GiveBack, TellsKinds, IsReplayed}
 use Rattle.tsb_machine.proofs.PastLemmas.{taken-after, pasts_are_the_run, seeks_are_replays}
 
 module _ {State Input Change : Type 0} (m : Machine State Input Change) (start : State) where
-  -- what holds of a list of inputs that were taken, each of which can be taken back
+  -- what holds of a list of inputs that were taken, and that can all be taken back
   pub record IsKept (is : List Input) : Type 0 where
     pub back : GiveBack m start is
     pub taken : AreTaken m start is

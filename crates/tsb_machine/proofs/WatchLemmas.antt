@@ -1,4 +1,4 @@
--- The last change of a watched value, as it is told of a run, is the one with the greatest tick number.
+-- The last change of a watched value, as a run has it, is the one with the greatest tick number.
 use Rattle.std.proofs.Common.{zero, suc, ◌≡◌, ◌≢◌, ℕ, ◌<◌, ◌≤◌, List, [], ◌∷◌, length, Option, Some, None, refl, sym, ap, subst, arith, ◌∙◌, inl, inr, ◌⊎◌}
 use Rattle.tsb_machine.specs.Machine.{Machine, replay, run, records_of}
 use Rattle.tsb_machine.specs.Past.{Whole, after, earlier}
@@ -27,7 +27,7 @@ module _ {State Input Change Value : Type 0} (m : Machine State Input Change) (s
   length-records [] = refl
   length-records (i ∷ is) = ap suc (length-records is)
 
-  -- what is told of one input more
+  -- what one input more gives
   told-more : (i : Input) (is : List Input) (t : Option ℕ) → TellsLastChange m value (run m start (i ∷ is)) t →
       ((value (replay m start (i ∷ is)) ≢ value (replay m start is)) × (t ≡ Some (m.now (replay m start (i ∷ is)))))
       ⊎ ((value (replay m start (i ∷ is)) ≡ value (replay m start is)) × TellsLastChange m value (run m start is) t)

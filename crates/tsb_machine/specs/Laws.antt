@@ -35,7 +35,7 @@ module _ {State Input Change : Type 0} (m : Machine State Input Change) (start :
   GiveBack [] = Unit {0}
   GiveBack (i ∷ is) = GiveBack is × GivesBack m (replay m start is) i
 
-  -- so it is in every run of a machine that has this of its good states: power-up is good, an input that can come
+  -- this holds in every run of a machine that has this of its good states: power-up is good, an input that can come
   -- leaves a good state, and its record takes it back
   pub record GoesBack (IsGood : State → Type 0) (CanCome : State → Input → Type 0) : Type 0 where
     pub begins : IsGood start
@@ -73,8 +73,8 @@ module _ {State Input Change : Type 0} (m : Machine State Input Change) (start :
   SeeksAreLeast = CountsTicks → (is : List Input) → GiveBack is → (t : ℕ) → t ≤ m.now (replay m start is) →
       IsLeastBack m t (after m start is) (sought m t (replay m start is) (records_of m start is))
 
-  -- The tick number at which a value changed last, as it is told of a run, is the greatest of those not taken back at
-  -- which it changed.
+  -- The tick number at which a value changed last, as a run has it, is the greatest of those not taken back at which it
+  -- changed.
   abbrev pub LastIsGreatest : {Value : Type 0} → (State → Value) → Type 0
   LastIsGreatest value = CountsTicks → (is : List Input) → GiveBack is → (t : Option ℕ) →
       TellsLastChange m value (run m start is) t → IsTold m value (after m start is) t

@@ -1,5 +1,5 @@
--- What a list of commands comes to: the inputs that remain, and which answer is right where it stands. The state is
--- that of a replay of the inputs that remain.
+-- What a list of commands comes to: the inputs that remain, and which answer is right at its place. The state is that
+-- of a replay of the inputs that remain.
 use Rattle.std.specs.Prelude.{◌≡◌, ◌-◌, ◌<◌, ◌≤◌, List, [], ◌∷◌, Option, Some, None}
 use Rattle.tsb_history.specs.declared.kinds.Kind.{Kind}
 use Rattle.tsb_types.specs.declared.refusal.Refusal.{Refusal}
@@ -65,7 +65,7 @@ module _ {State Input Change Watch Value : Type 0} (m : Machine State Input Chan
   IsRight is (When w) (Changed t) = TellsLastChange m (watched w) (run m start is) t
   IsRight is c a = ⊥
 
-  -- as many answers as commands, each right where it stands
+  -- as many answers as commands, each right at its place
   abbrev pub AreRightFrom : List Input → List (Command Input Watch) → List Answer → Type 0
   AreRightFrom is [] [] = Unit {0}
   AreRightFrom is [] (a ∷ ans) = ⊥

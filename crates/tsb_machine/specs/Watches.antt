@@ -26,7 +26,7 @@ module _ {State Input Change Value : Type 0} (m : Machine State Input Change) (v
     pub changes : ChangesAt w back
     pub greatest : (k : ℕ) → k < length w.records → ChangesAt w k → m.now (earlier m w k).state ≤ t
 
-  -- what is told of the whole in the subject's words
+  -- what the whole gives in the subject's words
   abbrev pub IsTold : Whole State Change → Option ℕ → Type 0
   IsTold w None = (k : ℕ) → k < length w.records → value (earlier m w k).state ≡ value (earlier m w (suc k)).state
   IsTold w (Some t) = IsLastChange w t

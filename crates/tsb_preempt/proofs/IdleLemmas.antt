@@ -119,7 +119,7 @@ module _ (now : ℕ) (plan : Plan) (row : Row) (intervals : Intervals) (cells : 
       subst (λ (w : Preempts). IsSame (preempts_in now cells) (next_from_read plan (given_by row intervals) w)) (sym (read now cells begun by))
       (idle-done now plan row intervals cells inputs nothing late told idle (record { target_is = refl; must_end_is = λ p from within. names-zero p; ended_is = refl })).state
 
-  -- orders that stand, at whatever tick they are read, are what it answers
+  -- orders that stay, at whatever tick they are read, are what it answers
   pub idle-standing : (m : ℕ) (orders : PreemptOrders) → AreStanding m plan cells orders → AreOrdered now row intervals plan cells orders
   unfolding preempts_in service_in
   idle-standing m orders standing =

@@ -1,4 +1,4 @@
--- Ticks in which nothing happens to the preempts: their cells stay, and so does what they ask.
+-- Ticks in which nothing happens to the preempts: their cells and what they ask stay.
 use Rattle.std.proofs.Common.{◌≡◌, ℕ, ◌+◌, ◌-◌, ◌<◌, ◌≤◌, ◌==◌, Bool, true, false, not, ◌&&◌, ◌||◌, if◌then◌else◌, List, slice_index, Option, Some, None, is_some, is_none, refl, sym, ◌∙◌, ap, subst, arith}
 use Rattle.tsb_types.specs.declared.flow.Intervals.{Intervals}
 use Rattle.tsb_types.specs.declared.interval.Interval.{Interval}

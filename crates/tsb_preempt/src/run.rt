@@ -54,7 +54,7 @@ fn outside(target: &Option<PhaseSet>) -> PhaseSet
     }
 }
 
-/// The least of the four preempts for which it is so.
+/// The least of the four preempts that passes.
 #[inline(always)]
 #[tactic(auto, unfolding(tsb_types::specs::Lists::run_from))]
 fn least(one: bool, two: bool, three: bool, four: bool) -> Option<Preempt>

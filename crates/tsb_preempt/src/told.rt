@@ -1,5 +1,5 @@
-//! Which preempts are called for and which are spent, and whether the one in service has entered: for those who tell the
-//! state of each.
+//! Which preempts are called for and which are spent, and whether the one in service has entered: for those who report
+//! the state of each.
 ghost use Rattle.tsb_objects.specs.Checked.{checked_plan};
 ghost use Rattle.tsb_preempt.specs.Promises.{TellsCalled, TellsEntered, TellsSpent, TellsSwitches};
 

@@ -1,4 +1,4 @@
--- What is found of a phase as it was told is what the definitions say of the state.
+-- What is found of a phase as it was given is what the definitions say of the state.
 use Rattle.std.proofs.Common.{◌≡◌, ℕ, true, Option, refl, subst, ◌∙◌}
 use Rattle.tsb_step.specs.tsb_types.Sets.{is_phase}
 use Rattle.tsb_phase.specs.declared.ending.Ending.{Ending}
@@ -13,7 +13,7 @@ use Rattle.tsb_status.specs.declared.times.GreenFound.{GreenFound}
 use Rattle.tsb_status.specs.Times.{phase_by, read_by, given_by}
 use Rattle.tsb_status.specs.TimesFound.{IsGreenFound}
 
--- a phase is what was told of it, and how its last green ended
+-- a phase is what was given of it, and how its last green ended
 with-ending : PhaseTimes → Option Ending → Phase
 with-ending x e = record (phase_by x) { last_ending = e }
 

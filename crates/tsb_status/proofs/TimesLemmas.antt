@@ -1,5 +1,5 @@
 -- No vehicles wait where no phase is callable, so that the gap of a green is reduced by its time alone; and a force-off
--- that has come is told once.
+-- that has come has one event.
 use Rattle.std.proofs.Common.{zero, suc, ◌≡◌, ℕ, nat_le, nat_lt, Bool, true, false, ◌&&◌, ◌||◌, if◌then◌else◌, List, [], ◌∷◌, sum_by, refl, sym, ap, arith, ◌∙◌}
 use Rattle.std.proofs.lemmas.Bool.Decides.{nat_tests}
 use Rattle.std.proofs.Math.Bool.{and-false}
@@ -39,7 +39,7 @@ reduction-rests plan found x p time on off same short =
     go (On n) (On m) cars e f h l = absurd cc
     go (On n) Off cars e f h l = rw (l, h) refl
 
--- the latch stands for the force-off by the cycle too
+-- the latch is set by the force-off of the cycle too
 pub once_forced : (forced floats : Bool) → (forced || (floats || forced)) ≡ (forced || floats)
 once_forced true floats = refl
 once_forced false true = refl

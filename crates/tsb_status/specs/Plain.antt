@@ -1,4 +1,4 @@
--- The status that a plain value stands for.
+-- The status that a plain value means.
 use Rattle.std.specs.Prelude.{ℕ, ◌-◌, None, get_or}
 use Rattle.tsb_step.specs.tsb_types.Sets.{has_number}
 use Rattle.tsb_step.specs.tsb_ring.Rings.{Ring, Ring1, Ring2}
@@ -47,7 +47,7 @@ ring_status_of x = record {
   force_off_in = x.force_off_in;
 }
 
--- the status: preempts and phases stand from the first on
+-- the status: preempts and phases are from the first on
 abbrev pub status_of : Status → statuses.Status
 status_of x = record {
   now = x.now;

@@ -1,5 +1,5 @@
--- The status of a ring, of its phase in service as it was told: the definition of tsb_step, with what was found of the
--- phase in place of the state.
+-- The status of a ring, from its phase in service as it was given: the definition of tsb_step, with what was found of
+-- the phase in place of the state.
 use Rattle.std.specs.Prelude.{ℕ, nat_lt, Bool, not, ◌&&◌, ◌||◌, if◌then◌else◌, Option, Some, None, option_map}
 use Rattle.tsb_step.specs.tsb_cells.Timer.{is_on}
 use Rattle.tsb_step.specs.tsb_types.declared.interval.Interval.{Interval}

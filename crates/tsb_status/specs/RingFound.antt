@@ -9,7 +9,7 @@ use Rattle.tsb_status.specs.Plain.{ring_status_of}
 use Rattle.tsb_status.specs.RingBy.{ring_by}
 use Rattle.tsb_status.specs.TimesFound.{IsGreenFound}
 
--- a phase as it is told
+-- a phase as it is given
 pub record IsPhaseFound (s : State) (q : ℕ) (x : PhaseFound) : Type 0 where
   pub phase : x.phase ≡ q
   pub told : IsTold (s.phases q) x.times

@@ -1,4 +1,4 @@
--- What is told of a phase, as a state has it, and that what is found of it is then what the definitions say.
+-- The status of a phase, as a state has it, and that what is found of it is then what the definitions say.
 use Rattle.std.specs.Prelude.{◌≡◌, ℕ, true}
 use Rattle.tsb_step.specs.tsb_types.Clip.{clipped, within}
 use Rattle.tsb_step.specs.tsb_types.Sets.{is_phase}

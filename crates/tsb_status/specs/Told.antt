@@ -1,4 +1,4 @@
--- What waits are found from, of phases as they are told.
+-- What waits are found from, of phases as they are given.
 use Rattle.std.specs.Prelude.{ℕ, Bool}
 use Rattle.tsb_step.specs.tsb_types.Intervals.{is_green}
 use Rattle.tsb_step.specs.tsb_plan.Plan.{Plan, red_revert}

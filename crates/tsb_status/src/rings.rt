@@ -1,4 +1,4 @@
-//! The status of a ring, of its phase in service as it is told.
+//! The status of a ring, from its phase in service as it is given.
 ghost use Rattle.std.specs.Prelude.{◌≡◌, Some, None, if◌then◌else◌};
 ghost use Rattle.tsb_step.specs.tsb_types.Intervals.{is_clearance, is_green, is_red_clear, is_walk, is_yellow};
 ghost use Rattle.tsb_objects.specs.Checked.{checked_plan};
@@ -13,7 +13,7 @@ use tsb_objects::{Checked, Interval, PedestrianInterval, Phase};
 use tsb_phase::{PhaseTimes, Phases};
 use tsb_step::RingPart;
 
-/// A phase in service, as it is told.
+/// A phase in service, as it is given.
 #[derive(Clone, Copy)]
 pub struct PhaseFound {
     /// Its number.

@@ -1,4 +1,4 @@
-//! What waits are found from, of phases as they are told.
+//! What waits are found from, of phases as they are given.
 ghost use Rattle.std.specs.Prelude.{◌≡◌, true, option_map, IfSome};
 ghost use Rattle.tsb_step.specs.tsb_types.Intervals.{is_green};
 ghost use Rattle.tsb_step.specs.tsb_types.Sets.{is_phase};

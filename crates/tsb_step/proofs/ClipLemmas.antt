@@ -1,4 +1,4 @@
--- What a layer is told of a phase holds of it.
+-- What a layer is given of a phase holds of it.
 use Rattle.std.proofs.Common.{◌≡◌, ℕ, Bool, true}
 use Rattle.std.proofs.lemmas.Bool.{and_parts}
 use Rattle.tsb_types.specs.Clip.{clipped}

@@ -1,4 +1,4 @@
--- Whole runs, but for their desks: two that tell the same and put the same plans into effect are the same.
+-- Whole runs, their desks aside: two that give the same and put the same plans into effect are the same.
 use Rattle.std.proofs.Common.{◌≡◌, Bool, true, false, List, [], ◌∷◌, refl, sym, ap, ◌∙◌, subst, inl, inr}
 use Rattle.std.proofs.lemmas.Bool.{cases_Bool}
 use Rattle.tsb_objects.specs.tsb_plan.Plan.{Plan}

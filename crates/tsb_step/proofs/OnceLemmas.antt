@@ -82,7 +82,7 @@ untouched id base (e ∷ es) none =
     let apart : same_place e.id id ≡ false = turned e.id id ∙ parts.0 in
     untouched id (with_value base e.id.object e.id.index e.value) es parts.1 ∙ rw apart refl
 
--- an edit that is put, once, stands
+-- an edit that is put, once, stays
 stands : (base : Plan) (e : Edit) (es : List Edit) → has_edit_of e.id es ≡ false →
     (with_edits base (e ∷ es)).value e.id.object e.id.index ≡ e.value
 stands base e es none =
@@ -106,7 +106,7 @@ shows test plan base (e ∷ es) once same =
     no_change : (m n : ℕ) → m ≡ n → not (m == n) ≡ false
     no_change m n same = grind (arith, nat_tests, same)
 
--- so whether edits change a plan is told by the plan with them
+-- so the plan with the edits shows whether they change it
 still_unchanged : (test : Object → Bool) (plan : Plan) (es fs : List Edit) → AreOnce fs →
     with_edits plan es ≡ with_edits plan fs → changes_some test plan es ≡ false → changes_some test plan fs ≡ false
 still_unchanged test plan es fs once same unchanged =

@@ -1,4 +1,4 @@
--- A quiet tick with the inputs of the tick before tells nothing.
+-- A quiet tick with the inputs of the tick before has no event.
 use Rattle.std.proofs.Common.{◌≡◌, ◌∙◌, ℕ, ◌+◌, ◌≤◌, ◌==◌, Bool, true, false, not, ◌&&◌, ◌||◌, List, [], ◌∷◌, ◌++◌, map, Option, Some, None, is_some, is_none, if◌then◌else◌, refl, ap, sym, arith}
 use Rattle.std.proofs.Math.Bool.{and-not_self}
 use Rattle.tsb_cells.specs.declared.timer.Timer.{Timer}

@@ -42,7 +42,7 @@ use Rattle.tsb_step.proofs.TellLemmas.{is_in_green}
 
 -- ## How a phase starts
 
--- the phase that a ring has in service, as the rings are told it
+-- the phase that a ring has in service, as the rings are given it
 pub served-is : (s : State) (row : Row) (r : Ring) → serving s.plan (rings_given s row) r ≡ served s r
 unfolding served serving rings_given
 served-is s row r = refl

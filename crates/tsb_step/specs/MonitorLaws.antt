@@ -1,5 +1,5 @@
 -- What holds of the cells of the monitor and of the injected lamp: which rows they can hold at a tick, and that rows
--- and states tell one another. Proved as the contract of a function in src/monitor_laws.rt.
+-- and states give one another. Proved as the contract of a function in src/monitor_laws.rt.
 use Rattle.std.specs.Prelude.{◌≡◌, ℕ, ◌≤◌, List, length, slice_index, Option, Some, None}
 use Rattle.tsb_types.specs.declared.lamp.Lamp.{Lamp}
 use Rattle.tsb_types.specs.declared.lamp.Lamp.TheVariants as lamps
@@ -15,7 +15,7 @@ IsUpTo n k = (1 ≤ k) × (k ≤ n)
 
 -- ## Rows that the monitor can hold at tick `now`
 
--- so many cells, each in its range, 0 where it has nothing to tell, with no trip of a later tick
+-- so many cells, each in its range, 0 where it has nothing to say, with no trip of a later tick
 pub record IsMonitorBy (now : ℕ) (row : List ℕ) : Type 0 where
   pub full : length row ≡ MONITOR_CELLS
   pub cause : slice_index row 0 ≤ 2

@@ -11,7 +11,7 @@ abbrev pub detectors_waited : (ℕ → Detector) → ℕ → Detector
 detectors_waited was d = if detector.is_detector d then detector.as_read (was d) else was d
 
 -- the state once a tick has passed in which each timer stayed Off or went from On n to On (n + 1), and nothing else
--- changed but the tick number; the timers of a controller that has tripped stand still
+-- changed except the tick number; the timers of a controller that has tripped have stopped
 abbrev pub waited : State → State
 waited s =
     if is_some s.trip then record s { now = s.now + 1 }

@@ -62,7 +62,7 @@ start plan = record {
   trip = None;
 }
 
--- a controller that starts anew: as at power-up, but for its plan, desk, switches and tick number
+-- a controller that starts anew: as at power-up, except its plan, desk, switches and tick number
 abbrev pub restarted : State → State
 restarted s = record (start s.plan) { now = s.now; desk = s.desk; preempts = preempts.after_reset s.preempts }
 

@@ -60,7 +60,7 @@ pub record RingStatus : Type 0 where
   -- of its yellow change, of its red clearance
   pub yellow_left : Option ℕ
   pub red_clearance_left : Option ℕ
-  -- of a green: until the local counter is at its force-off instant, 0 where it is there
+  -- of a green: until the local counter is at its force-off instant, 0 at the instant
   pub force_off_in : Option ℕ
 
 -- the ring's phase in service; none in flash
@@ -122,8 +122,8 @@ abbrev pub part_of : State → Option ℕ → RingPart
 part_of s None = parts.RedRest
 part_of s (Some p) = part_in s p (interval s p)
 
--- from a place of the local counter until an instant, within the cycle: in its steps, each of which is a tick where it
--- is in step
+-- from a place of the local counter until an instant, within the cycle: in its steps, which are ticks where it is in
+-- step
 abbrev pub until_instant : ℕ → ℕ → ℕ → ℕ
 until_instant length now instant = (instant + length - now) % length
 

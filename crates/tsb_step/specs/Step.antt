@@ -99,7 +99,7 @@ set_refusal s station id v =
     (desk.or_refusal (place_refusal s.plan id v)
     (desk.refused_if (desk.has_no_room id s.desk.edits) TooManyEdits))
 
--- the rings serve: a phase is in service, or a commitment or a crossing stands
+-- the rings serve: a phase is in service, or there is a commitment or a crossing
 abbrev pub is_serving : State → Bool
 is_serving s = commit.serves s.plan (interval s) (commitment s) s.rings.crossing
 

@@ -13,7 +13,7 @@ pub fn desk_inputs_change_the_desk()
 {}
 
 /// Only the plans put into effect matter. Two runs from one plan whose inputs are the same once those of the desk are
-/// left out, and whose commits put the same plans into effect in turn, end in states that are equal but for the desk,
+/// left out, and whose commits put the same plans into effect in turn, end in states that are equal, the desk aside,
 /// and show the same. This holds for any edits, of any station, with refused inputs among them.
 ///
 /// Not said: that two different plans act alike.

@@ -17,10 +17,10 @@ pub enum Input {
     /// with no dwell phases.
     Switch(u32, bool),
     /// A lamp is lit whatever the controller orders, in place of the one before; or, with none, the one before is taken
-    /// out. Never refused but for memory.
+    /// out. Refused for want of memory alone.
     Fault(Option<Lamp>),
     /// A controller that has tripped starts anew, and keeps its plan, desk, switches and tick number. Any other stays
-    /// as it is. Never refused but for memory.
+    /// as it is. Refused for want of memory alone.
     Reset,
     /// The station opens a transaction. Refused with E4 while one is open.
     Begin(Station),

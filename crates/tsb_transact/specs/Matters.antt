@@ -1,4 +1,4 @@
--- What a change of an object is about, by which it is told what a commit has to wait for.
+-- What a change of an object is about, which says what a commit has to wait for.
 use Rattle.std.specs.Prelude.{Bool}
 use Rattle.tsb_plan.specs.declared.object.Object.{Object}
 use Rattle.tsb_plan.specs.Objects.{is_structural}

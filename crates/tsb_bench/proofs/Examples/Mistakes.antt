@@ -1,5 +1,5 @@
 -- What the law of the room refuses, by computing: records that are counted without what each has beside its entries.
--- Beside it stands what the definitions make of the same.
+-- Beside it is what the definitions make of the same.
 use Rattle.std.proofs.Common.{◌≡◌, ℕ, ◌-◌, ◌*◌, ◌≤◌, nat_lt, true, [], ◌∷◌, refl, arith}
 use Rattle.std.specs.Prelude.{Ok}
 use Rattle.tsb_cells.proofs.DiffLemmas.{diff-same}

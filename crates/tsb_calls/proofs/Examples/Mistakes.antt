@@ -1,5 +1,5 @@
--- One-line mistakes, each with an example that tells it from the definition. In the built-in plan of eight phases detector d
--- calls phase d.
+-- One-line mistakes, each with an example in which it differs from the definition. In the built-in plan of eight phases
+-- detector d calls phase d.
 use Rattle.std.specs.Prelude.{◌≡◌, ℕ, ◌+◌, ◌==◌, Bool, true, false, not, ◌&&◌, ◌||◌, if◌then◌else◌, [], ◌∷◌, refl}
 use Rattle.tsb_objects.specs.tsb_types.declared.interval.PedestrianInterval.TheVariants.{PedestrianClear}
 use Rattle.tsb_objects.specs.tsb_types.Flow.{gives_walk}

@@ -1,4 +1,4 @@
--- Mistakes in what lines ask, each with an example that tells it from the definition.
+-- Mistakes in what lines ask, each with an example in which it differs from the definition.
 use Rattle.std.specs.Prelude.{◌≡◌, ℕ, ◌*◌, ◌+◌, ◌==◌, nat_lt, List, [], ◌∷◌, ◌++◌, length, codes, bytes_eq, if◌then◌else◌, Option, Some, None, refl}
 use Rattle.std.specs.List.{repeat}
 use Rattle.std.specs.Option.{option_map, option_or}
@@ -142,7 +142,7 @@ reads_undo = refl
 would_be_all_off : reading_loosely undo_of_30 ≡ Tick all_off
 would_be_all_off = refl
 
--- ## `step` tells the lines that differ, and `changes` is no word
+-- ## `step` prints the lines that differ, and `changes` is no word
 
 abbrev pub own_step : List (List ℕ) → Option LiveCommand
 own_step (w ∷ x ∷ []) = if bytes_eq w (codes "step") then option_map Changes (number_of x) else None

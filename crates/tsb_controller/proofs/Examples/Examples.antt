@@ -1,4 +1,4 @@
--- Rows that meet what the laws of rows and records ask for: of tick 49, as at power-up but for the side that the rings
+-- Rows that meet what the laws of rows and records ask for: of tick 49, as at power-up, except the side that the rings
 -- serve. And a tick of them, by computing.
 use Rattle.std.proofs.Common.{◌≡◌, ℕ, zero, suc, ◌+◌, ◌≤◌, true, false, [], ◌∷◌, map, None, refl, arith}
 use Rattle.tsb_cells.specs.declared.timer.Timer.TheVariants.{On}

@@ -55,7 +55,7 @@ walks_on_2 : line_at 1 (with_value two PhaseWalk 2 4) (record (two_in 2 interval
 unfolding opened
 walks_on_2 = refl
 
--- ## Eight phases, of which the second has a walk, and an overlap of 1 and 2
+-- ## Eight phases, the second with a walk, and an overlap of 1 and 2
 
 green_of_2_and_6 : line_at 170 quad through ≡ codes "0000170 RGRRRGRR-------- -D-------------- G--- 0 ----"
 unfolding opened
@@ -125,7 +125,7 @@ flash : line_at 60 quad (record through { tripped = true }) ≡ codes "0000060 F
 unfolding opened
 flash = refl
 
--- a preempt and a pattern are told in flash too
+-- a preempt and a pattern are written in flash too
 flash_in_service : line_with 251 quad (record through { tripped = true }) (Some 1) None
     ≡ codes "0000251 FFFFFFFF-------- ---------------- F--- 1 ----"
 unfolding opened

@@ -13,7 +13,7 @@ unfoldable pub opened : Unit {0}
 unfolding examples.opened
 opened = examples.opened
 
--- an event whose code is the lower does not stand behind
+-- an event whose code is the lower does not come after
 behind : (e f : Event) (es : List Event) → f.code ≢ e.code → (e.code < f.code → ⊥) → AreInOrder (e ∷ f ∷ es) → ⊥
 behind e f es other lower order =
     let first : StandsBefore e f = All-head (StandsBefore e) f es order.0 in
@@ -22,7 +22,7 @@ behind e f es other lower order =
       | inr same ↦ other (omega (arith, same.0))
     ]
 
--- ## The causes of ends behind the ends
+-- ## The causes of ends after the ends
 
 -- a tick that ends the green of phase 2 by its gap
 abbrev ends_first : List Event

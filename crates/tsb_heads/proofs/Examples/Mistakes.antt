@@ -1,4 +1,4 @@
--- One-line mistakes, each with an example that tells it from the definition.
+-- One-line mistakes, each with an example in which it differs from the definition.
 use Rattle.std.specs.Prelude.{◌≡◌, ℕ, nat_lt, Bool, true, false, not, ◌&&◌, ◌||◌, if◌then◌else◌, [], ◌∷◌, reverse, Option, Some, None, is_some, refl}
 use Rattle.std.specs.Option.{option_map, option_or}
 use Rattle.tsb_objects.specs.tsb_types.declared.interval.Interval.TheVariants as intervals

@@ -1,5 +1,5 @@
--- Mistakes in the way back, each with an example that tells it from the definition, on a machine whose inputs are ticks
--- that set a value.
+-- Mistakes in the way back, each with an example in which it differs from the definition, on a machine whose inputs are
+-- ticks that set a value.
 use Rattle.std.proofs.Common.{◌≡◌, ◌≢◌, ◌<◌, ℕ, zero, suc, ◌+◌, ◌-◌, ◌==◌, List, [], ◌∷◌, Option, Some, None, if◌then◌else◌, ◌⊎◌, inl, refl, arith}
 use Rattle.tsb_history.specs.declared.kinds.Kind.TheVariants.{Tick}
 use Rattle.tsb_machine.specs.declared.commands.Command.{Command}

@@ -36,7 +36,7 @@ apart_2_3 : is_concurrent plan 2 3 ≡ false
 unfolding plan quad
 apart_2_3 = refl
 
--- ## Orders stand: they ask for the stage that was
+-- ## Orders stay: they ask for the stage that was
 
 abbrev pub wanted_before : Plan → Preempts → Option (ℕ → Bool)
 wanted_before plan w = wanted_by plan w.service

@@ -1,5 +1,5 @@
 -- What the laws of the local counter in step refuse: for each a mistake in the definitions, and by computing what comes
--- of it. Beside each stands what the definitions as they are make of the same state.
+-- of it. Beside each is what the definitions as they are make of the same state.
 use Rattle.std.specs.Prelude.{◌≡◌, ℕ, ◌%◌, true, false, [], ◌∷◌, Some, map, refl}
 use Rattle.tsb_types.specs.Sets.{all_off}
 use Rattle.tsb_objects.specs.tsb_plan.declared.object.Object.TheVariants.{CoordCorrectionMode, CoordCorrectionLimit}

@@ -46,7 +46,7 @@ abbrev pub replay_at_once : Plan → List Input → State
 replay_at_once plan [] = start plan
 replay_at_once plan (i ∷ is) = step_at_once (replay_at_once plan is) i
 
--- this run tells as little, and puts as few plans into effect, as one of no inputs
+-- this run gives as little, and puts as few plans into effect, as one of no inputs
 abbrev pub set_alone : List Input
 set_alone = Set 1 (at PhaseMaximum1 2) 40 ∷ Begin 1 ∷ []
 

@@ -91,7 +91,7 @@ apart_3_7 : is_concurrent wants_3_7 3 7 ≡ false
 unfolding opened wants_3_7
 apart_3_7 = refl
 
--- ## Phases in service go together: a commit of the structure while a crossing stands
+-- ## Phases in service go together: a commit of the structure during a crossing
 
 -- from all red to side 2, for 3 and 8; and edits that part these
 unfoldable crossing_3_8 : State

@@ -17,7 +17,7 @@ use Rattle.tsb_step.specs.Tables.{has_place, place_refusal}
 abbrev value_beyond : List ℕ → Object → ℕ → ℕ
 value_beyond cells o i = slice_index cells (first_cell o + (i - 1))
 
--- there is no phaseRing of phase 18; in its place stands phaseSide of phase 2
+-- there is no phaseRing of phase 18; in its place is phaseSide of phase 2
 has_no_place : has_place two PhaseRing 18 ≡ false
 unfolding two
 has_no_place = refl

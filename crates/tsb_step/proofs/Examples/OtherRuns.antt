@@ -77,7 +77,8 @@ together : is_concurrent (replay pair one_tick).plan 2 4 ≡ true
 unfolding opened pair two
 together = refl
 
--- its rings are sound while both are in service, and what they are told in the next tick is what their own laws ask for
+-- its rings are sound while both are in service, and what they are given in the next tick is what their own laws ask
+-- for
 good : IsGood (replay pair one_tick)
 good = good_run pair one_tick pair_consistent pair_taken
 
@@ -166,7 +167,7 @@ are_right = (refl, (refl, (refl, tt)))
 remains : remaining two asked answered ≡ Begin 2 ∷ []
 remains = refl
 
--- ## Monitor cells tell the monitor: a row without the second phase of a conflict
+-- ## Monitor cells have the monitor: a row without the second phase of a conflict
 
 is_told : trip_in (monitor_cells None (Some (record { cause = Conflict 2 4; tick = 40 }))) ≡ Some (record { cause = Conflict 2 4; tick = 40 })
 is_told = refl

@@ -72,7 +72,7 @@ need_desk : map (verdict owned) (Verify 2 ∷ Abort 2 ∷ Commit 2 ∷ Verify 1 
 unfolding opened
 need_desk = refl
 
--- the structure waits while a phase is in service, or a commitment or a crossing stands alone
+-- the structure waits while a phase is in service, or there is a commitment or a crossing alone
 abbrev pub commit_at : List Edit → State → Option Refusal
 commit_at edits s = verdict (editing Done edits s) (Commit 1)
 

@@ -143,7 +143,8 @@ coordinated n = record resting { now = n; pattern = Some 1; memories = called (3
 abbrev pub recycling : ℕ → State
 recycling n = record (coordinated n) { plan = with_value quad PhasePedestrianRecycle 2 1 }
 
--- the local counter, 10 ticks behind a whole cycle ahead at tick n, takes two steps in each of the 10 ticks that follow
+-- the local counter, 10 ticks short of a whole cycle ahead at tick n, takes two steps in each of the 10 ticks that
+-- follow
 abbrev pub hurrying : ℕ → State → State
 hurrying n s = record s {
   plan = with_values s.plan ((CoordCorrectionMode, 1, 2) ∷ (CoordCorrectionLimit, 1, 50) ∷ []);

@@ -18,7 +18,7 @@ use Rattle.tsb_step.specs.Waits.{committed_wait, first_wait, is_committed, is_ov
 use Rattle.tsb_step.proofs.Examples.Scenes.{after, all_red, at_barrier, clearing, dwelling, green, preempt, red, these, walking}
 use Rattle.tsb_step.proofs.Examples.WaitExamples.{opened, calling, crossing_alone, omitting, one_short, parted, reverting, reverts_beside, slow_other}
 
--- ## Flash: the rings' wait is told of a controller that has tripped
+-- ## Flash: the rings' wait is given for a controller that has tripped
 
 abbrev pub tripped_late : State
 tripped_late = record at_barrier { trip = Some (record { cause = GreenToRed 4; tick = 50 }) }

@@ -56,7 +56,7 @@ for_no_preempt : commit_refusal quad 1 false true checked ≡ None
 unfolding quad
 for_no_preempt = refl
 
--- what was not verified is told before what has to wait
+-- what was not verified is answered before what has to wait
 verify_is_first : commit_refusal quad 1 true false apart ≡ Some NotVerified
 verify_is_first = refl
 

@@ -24,7 +24,7 @@ use Rattle.tsb_controller.proofs.PlacedLemmas.{placed}
 use Rattle.tsb_controller.proofs.TickLemmas.{phases_alike, told}
 use Rattle.tsb_controller.proofs.controller.Controller.causes.Goals as goal
 
--- three tests, of which the first two were found together
+-- three tests; the first two were found together
 all-three : (e g y n g_too n_too : Bool) → e ≡ (g && y) → g ≡ g_too → n ≡ n_too → (e && n) ≡ (g_too && (y && n_too))
 all-three e true y n g_too n_too found green none = rw (found, ← green, ← none) refl
 all-three e false y n g_too n_too found green none = rw (found, ← green) refl
