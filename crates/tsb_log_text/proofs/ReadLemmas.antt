@@ -4,8 +4,8 @@ use Rattle.std.proofs.lemmas.Bool.Decides.{leb_tells}
 use Rattle.tsb_lines.specs.Lines.{is_skipped, lines_of}
 use Rattle.std.specs.Prelude.{MatchOption}
 use Rattle.tsb_log_text.specs.Rows.{row_of}
-use Rattle.tsb_log_text.specs.Logs.{rows_from, row_then, with_rows, log_of, Gives, Rises}
-use Rattle.tsb_log_text.specs.Steps.{Stepped}
+use Rattle.tsb_log_text.specs.Logs.{rows_from, row_then, with_rows, log_of, Gives, HasRow, Rises}
+use Rattle.tsb_log_text.specs.Steps.{ReadSo, Stepped}
 use Rattle.tsb_log_text.specs.declared.log.LogRow.{LogRow}
 use Rattle.tsb_log_text.specs.declared.error.LogError.{LogError}
 use Rattle.tsb_log_text.specs.declared.error.LogError.TheVariants.{Memory, TooLarge, Malformed, TickOrder}
@@ -99,18 +99,75 @@ fault-says : (text : List ℕ) (rows : List LogRow) (n last : ℕ) (lines : List
     → with_rows rows (rows_from n last lines) ≡ rows_from 1 0 (lines_of text) → rows_from n last lines ≡ Err e → log_of text ≡ Err e
 fault-says text rows n last lines e le read h = within-limit text le ∙ sym read ∙ ap (with_rows rows) h
 
-pub faulty : (text rest line : List ℕ) (others : List (List ℕ)) (rows new : List LogRow) (n last : ℕ) (e : LogError) → length text ≤ 67108864
-    → with_rows rows (rows_from n last (lines_of rest)) ≡ rows_from 1 0 (lines_of text) → lines_of rest ≡ line ∷ others → Stepped (Err e) rows last n line new
-    → Gives (Err e) (log_of text)
-faulty text rest line others rows new n last Memory le read first s = λ large. never-large 1 0 (lines_of text) (sym (within-limit text le) ∙ large)
-faulty text rest line others rows new n last TooLarge le read first s = fault-says text rows n last (lines_of rest) TooLarge le read (rw first (s others))
-faulty text rest line others rows new n last (Malformed m) le read first s = fault-says text rows n last (lines_of rest) (Malformed m) le read (rw first (s others))
-faulty text rest line others rows new n last (TickOrder m) le read first s = fault-says text rows n last (lines_of rest) (TickOrder m) le read (rw first (s others))
+-- ## The lines that were read
 
--- what the last line says of the whole text
-pub last-read : (text rest line : List ℕ) (rows new : List LogRow) (n last tick : ℕ) → with_rows rows (rows_from n last (lines_of rest)) ≡ rows_from 1 0 (lines_of text)
-    → lines_of rest ≡ line ∷ [] → Stepped (Ok tick) rows last n line new → rows_from 1 0 (lines_of text) ≡ Ok new
-last-read text rest line rows new n last tick read only s = sym read ∙ ap (λ (ls : List (List ℕ)). with_rows rows (rows_from n last ls)) only ∙ s [] ∙ all-read new (n + 1) tick
+-- they are the first lines of the text, and whatever lines follow give the same after these rows as after them
+pub record IsAfter (text : List ℕ) (rest : List (List ℕ)) (rows : List LogRow) (n last : ℕ) : Type 0 where
+  pub first : List (List ℕ)
+  pub all : lines_of text ≡ first ++ rest
+  pub read : (lines : List (List ℕ)) → with_rows rows (rows_from n last lines) ≡ rows_from 1 0 (first ++ lines)
 
-pub log-read : (text : List ℕ) (rows : List LogRow) → length text ≤ 67108864 → rows_from 1 0 (lines_of text) ≡ Ok rows → log_of text ≡ Ok rows
-log-read text rows le h = within-limit text le ∙ h
+with-none : (read : Result (List LogRow) LogError) → with_rows [] read ≡ read
+with-none (Ok rows) = refl
+with-none (Err e) = refl
+
+pub after-none : (text : List ℕ) (rows : List LogRow) → rows ≡ [] → IsAfter text (lines_of text) rows 1 0
+after-none text rows none = record {
+  first = [];
+  all = refl;
+  read = λ lines. ap (λ (v : List LogRow). with_rows v (rows_from 1 0 lines)) none ∙ with-none (rows_from 1 0 lines);
+}
+
+pub after-line : (text line : List ℕ) (rest others : List (List ℕ)) (rows new : List LogRow) (n last tick : ℕ) → IsAfter text rest rows n last → rest ≡ line ∷ others → Stepped (Ok tick) rows last n line new
+    → IsAfter text others new (n + 1) tick
+after-line text line rest others rows new n last tick h first s = record {
+  first = h.first ++ line ∷ [];
+  all = h.all ∙ ap (λ (ls : List (List ℕ)). h.first ++ ls) first ∙ sym (append_assoc h.first (line ∷ []) others);
+  read = λ lines. sym (s lines) ∙ h.read (line ∷ lines) ∙ ap (rows_from 1 0) (sym (append_assoc h.first (line ∷ []) lines));
+}
+
+-- all of the text gives what is left after these rows
+pub after-whole : (text : List ℕ) (rest : List (List ℕ)) (rows : List LogRow) (n last : ℕ) → IsAfter text rest rows n last → with_rows rows (rows_from n last rest) ≡ rows_from 1 0 (lines_of text)
+after-whole text rest rows n last h = h.read rest ∙ ap (rows_from 1 0) (sym h.all)
+
+has-row : (text line : List ℕ) (rest others : List (List ℕ)) (rows new : List LogRow) (n last : ℕ) → IsAfter text rest rows n last → rest ≡ line ∷ others → Stepped (Err Memory) rows last n line new → HasRow text
+has-row text line rest others rows new n last h first s = record {
+  first = h.first ++ line ∷ [];
+  others = others;
+  all = h.all ∙ ap (λ (ls : List (List ℕ)). h.first ++ ls) first ∙ sym (append_assoc h.first (line ∷ []) others);
+  rows = rows;
+  row = s.0;
+  right = sym (h.read (line ∷ [])) ∙ s.1 [] ∙ all-read (rows ++ s.0 ∷ []) (n + 1) s.0.tick;
+}
+
+-- a line with a fault, or a row without room
+pub faulty : (text line : List ℕ) (rest others : List (List ℕ)) (rows new : List LogRow) (n last : ℕ) (e : LogError) → length text ≤ 67108864
+    → IsAfter text rest rows n last → rest ≡ line ∷ others → Stepped (Err e) rows last n line new → ReadSo (Err e) text new
+faulty text line rest others rows new n last Memory le h first s =
+    (λ large. never-large 1 0 (lines_of text) (sym (within-limit text le) ∙ large), has-row text line rest others rows new n last h first s)
+faulty text line rest others rows new n last TooLarge le h first s = fault-says text rows n last rest TooLarge le (after-whole text rest rows n last h) (rw first (s others))
+faulty text line rest others rows new n last (Malformed m) le h first s = fault-says text rows n last rest (Malformed m) le (after-whole text rest rows n last h) (rw first (s others))
+faulty text line rest others rows new n last (TickOrder m) le h first s = fault-says text rows n last rest (TickOrder m) le (after-whole text rest rows n last h) (rw first (s others))
+
+-- of all of it
+pub faulty-gives : (text : List ℕ) (rows : List LogRow) (e : LogError) → ReadSo (Err e) text rows → Gives (Err e) (log_of text)
+faulty-gives text rows Memory h = h.0
+faulty-gives text rows TooLarge h = h
+faulty-gives text rows (Malformed m) h = h
+faulty-gives text rows (TickOrder m) h = h
+
+-- and where memory ran out, it has a row
+pub wants-row : (text : List ℕ) (rows : List LogRow) (e : LogError) → ReadSo (Err e) text rows → e ≡ Memory → HasRow text
+wants-row text rows Memory h is = h.1
+wants-row text rows TooLarge h is = absurd (cc)
+wants-row text rows (Malformed m) h is = absurd (cc)
+wants-row text rows (TickOrder m) h is = absurd (cc)
+
+-- the last line
+pub last-read : (text line : List ℕ) (rest : List (List ℕ)) (rows new : List LogRow) (n last tick : ℕ) → length text ≤ 67108864 → IsAfter text rest rows n last → rest ≡ line ∷ [] → Stepped (Ok tick) rows last n line new → log_of text ≡ Ok new
+last-read text line rest rows new n last tick le h only s =
+    within-limit text le ∙ sym (after-whole text rest rows n last h) ∙ ap (λ (ls : List (List ℕ)). with_rows rows (rows_from n last ls)) only ∙ s [] ∙ all-read new (n + 1) tick
+
+-- the rows of a text rise
+pub log-rises : (text : List ℕ) (rows : List LogRow) → length text ≤ 67108864 → log_of text ≡ Ok rows → Rises 0 rows
+log-rises text rows le h = rises (lines_of text) rows (sym (within-limit text le) ∙ h)

@@ -29,6 +29,15 @@ rows_from n last (line ∷ lines) =
 abbrev pub log_of : List ℕ → Result (List LogRow) LogError
 log_of text = if nat_lt 67108864 (length text) then Err TooLarge else rows_from 1 0 (lines_of text)
 
+-- the first lines of a text are right, and have a row
+pub record HasRow (text : List ℕ) : Type 0 where
+  pub first : List (List ℕ)
+  pub others : List (List ℕ)
+  pub all : lines_of text ≡ first ++ others
+  pub rows : List LogRow
+  pub row : LogRow
+  pub right : rows_from 1 0 first ≡ Ok (rows ++ row ∷ [])
+
 -- what a reader returned is what reading gives. Memory may run out in place of all but too large a text.
 abbrev pub Gives : Result (List LogRow) LogError → Result (List LogRow) LogError → Type 0
 Gives (Err Memory) read = read ≡ Err TooLarge → ⊥

@@ -42,3 +42,24 @@ Gives view (Err e) read = Tells e read
 abbrev pub Makes : Result (Unit {0}) PlanError → Plan → Result Plan Error → Type 0
 Makes (Ok u) plan read = read ≡ Ok plan
 Makes (Err e) plan read = Tells e read
+
+-- ## Of a value that was made
+
+-- it is a fault with a name or an index, which takes memory
+abbrev pub HasText : {A : Type 0} → Result A Error → Type 0
+HasText (Ok x) = ⊥
+HasText (Err (no_such_object name)) = Unit {0}
+HasText (Err (no_such_index o index)) = Unit {0}
+HasText (Err (not_a_whole_number o index)) = Unit {0}
+HasText (Err (out_of_range o index)) = Unit {0}
+HasText (Err f) = ⊥
+
+-- The answer is this fault, or memory ran out for the text of a fault that has one.
+abbrev pub TellsOf : {A : Type 0} → PlanError → Result A Error → Type 0
+TellsOf told.Memory read = HasText read
+TellsOf e read = Tells e read
+
+-- What a call made of a plan, as in `Makes`: from a value on, memory is taken only for the text of a fault.
+abbrev pub MakesOf : Result (Unit {0}) PlanError → Plan → Result Plan Error → Type 0
+MakesOf (Ok u) plan read = read ≡ Ok plan
+MakesOf (Err e) plan read = TellsOf e read

@@ -5,7 +5,7 @@ ghost use Rattle.tsb_plan.specs.Names.{object_named};
 ghost use Rattle.tsb_plan.specs.Plan.{with_value};
 ghost use Rattle.tsb_plan.specs.PlanOf.{plan_of};
 ghost use Rattle.tsb_plan.specs.Versions.{range_in, indices_in, greatest_in, has_index_in, translated};
-ghost use Rattle.tsb_plan_text.specs.PlanErrors.{Makes};
+ghost use Rattle.tsb_plan_text.specs.PlanErrors.{MakesOf};
 ghost use Rattle.tsb_plan_text.specs.PlanText.{index_named, with_entry, with_table};
 
 use crate::error::PlanError;
@@ -53,7 +53,7 @@ impl Listed {
         table: &Map<String, Value>,
         plan: &mut Plan,
     ) -> Result<(), PlanError>
-        ensures { Makes result (plan_of plan.new)
+        ensures { MakesOf result (plan_of plan.new)
             (with_table self.version self.object (members_view table.now.entries) (plan_of plan.old)) }
     {
         for (index, value) in table.iter() {
@@ -71,7 +71,7 @@ impl Listed {
         value: &Value,
         plan: &mut Plan,
     ) -> Result<(), PlanError>
-        ensures { Makes result (plan_of plan.new)
+        ensures { MakesOf result (plan_of plan.new)
             (with_entry self.version self.object text.now (view value.now) (plan_of plan.old)) }
     {
         let object = self.object;

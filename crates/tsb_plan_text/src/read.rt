@@ -5,7 +5,7 @@ ghost use Rattle.serde_json.specs.View.{view, members_view};
 ghost use Rattle.tsb_objects.specs.Checked.{checked_plan};
 ghost use Rattle.tsb_plan.specs.Plan.{empty};
 ghost use Rattle.tsb_plan.specs.PlanOf.{plan_of};
-ghost use Rattle.tsb_plan_text.specs.PlanErrors.{Gives, Makes, not_json};
+ghost use Rattle.tsb_plan_text.specs.PlanErrors.{Gives, Makes, MakesOf, not_json};
 ghost use Rattle.tsb_plan_text.specs.PlanTextSays.{Says};
 ghost use Rattle.tsb_plan_text.specs.TreeSize.{has_room};
 ghost use Rattle.tsb_plan_text.specs.PlanText.{drafted, reading, data_plan, or_fault, with_member, with_members, data_of};
@@ -120,10 +120,10 @@ fn json_fault(error: &Error) -> PlanError
     }
 }
 
-/// Makes an empty plan the one that the value gives.
+/// Makes an empty plan the one that the value gives. It runs out of memory only for the name or the index of a fault.
 #[tactic(auto, unfolding(crate::specs::PlanText::data_plan))]
 fn read_value(alloc: Global, value: &Value, plan: &mut Plan) -> Result<(), PlanError>
-    ensures { plan_of plan.old ≡ empty → Makes result (plan_of plan.new) (data_plan (view value.now)) }
+    ensures { plan_of plan.old ≡ empty → MakesOf result (plan_of plan.new) (data_plan (view value.now)) }
 {
     let Some(members) = value.as_object() else {
         return Err(PlanError::NotATable);
@@ -142,7 +142,7 @@ fn read_members(
     members: &Map<String, Value>,
     plan: &mut Plan,
 ) -> Result<(), PlanError>
-    ensures { Makes result (plan_of plan.new)
+    ensures { MakesOf result (plan_of plan.new)
         (with_members version (members_view members.now.entries) (plan_of plan.old)) }
 {
     for (name, value) in members.iter() {
@@ -160,7 +160,7 @@ fn read_member(
     value: &Value,
     plan: &mut Plan,
 ) -> Result<(), PlanError>
-    ensures { Makes result (plan_of plan.new)
+    ensures { MakesOf result (plan_of plan.new)
         (with_member version name.now (view value.now) (plan_of plan.old)) }
 {
     if name == VERSION {
