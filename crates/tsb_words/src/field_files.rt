@@ -1,8 +1,9 @@
 //! The words of `tsb_field`, and what they ask for.
-ghost use Rattle.std.specs.Prelude.{◌≡◌, map, option_map};
+ghost use Rattle.std.specs.Prelude.{◌≡◌, Err, map, option_map};
 ghost use Rattle.clap.specs.Words.{found_of, rows_of};
 ghost use Rattle.clap.specs.Simple.{subcommand_rows_of};
-ghost use Rattle.tsb_words.specs.FieldProgram.{Spells, asked_by, diagram_in, diagram_with, events_in, events_with, is_set, is_timed, log_in, manner_in, manner_with, other_in, record_in, record_manner_in, record_with, review_in, review_with, wires_in};
+ghost use Rattle.tsb_words.specs.declared.error.WordsError.TheVariants.{Memory};
+ghost use Rattle.tsb_words.specs.FieldProgram.{HasWires, NeedsMemory, Spells, asked_by, diagram_in, diagram_with, events_in, events_with, is_set, is_timed, log_in, manner_in, manner_with, other_in, record_in, record_manner_in, record_with, review_in, review_with, wires_in};
 ghost use Rattle.tsb_words.specs.FieldWords.{seen};
 ghost use Rattle.tsb_words.specs.Wires.{AreSpelled};
 ghost use Rattle.tsb_words.specs.Words.{SpelledBy};
@@ -120,7 +121,7 @@ pub enum Asked<'a> {
 /// `--log LOG`, `--title TEXT`, `--seconds-per-line N`, and `--from TIME`, and with that `--events FILE`; `review` has the file of a plan. Options come in any order, and
 /// `--NAME=VALUE` is `--NAME VALUE`. A value that begins with a hyphen comes after `=`. All else is `Bad`, and so are a
 /// request for help and a device of `record` or `events` with a double quote, an end of a line or over 900 bytes. `Memory`
-/// may come in place of every answer.
+/// may come in place of every answer, as `clap` allocates. Where it takes the words, only those of `log` may need more.
 pub fn read_words<'a, S: AsStr>(alloc: Global, words: &'a [S]) -> Result<Asked<'a>, WordsError>
     ensures { Spells (map S.text words.now) result }
 {
@@ -130,9 +131,10 @@ pub fn read_words<'a, S: AsStr>(alloc: Global, words: &'a [S]) -> Result<Asked<'
     }
 }
 
-/// What the subcommand that was met asks for.
+/// What the subcommand that was met asks for. Only the wires of `log` need memory.
 fn asked_of<'a>(alloc: Global, matches: &ArgMatches<'a>) -> Result<Asked<'a>, WordsError>
-    ensures { SpelledBy seen (asked_by (subcommand_rows_of matches.now)) result }
+    ensures asked { SpelledBy seen (asked_by (subcommand_rows_of matches.now)) result }
+    ensures memory { result ≡ Err Memory → NeedsMemory (subcommand_rows_of matches.now) }
 {
     let Some((name, options)) = matches.subcommand() else {
         return Err(WordsError::Bad);
@@ -163,7 +165,8 @@ fn other_asked<'a>(name: &str, options: &ArgMatches<'a>) -> Option<Asked<'a>>
 
 /// What `log` asks for, with these options.
 fn log_asked<'a>(alloc: Global, options: &ArgMatches<'a>) -> Result<Asked<'a>, WordsError>
-    ensures { SpelledBy seen (log_in (rows_of (found_of options.now))) result }
+    ensures asked { SpelledBy seen (log_in (rows_of (found_of options.now))) result }
+    ensures memory { result ≡ Err Memory → HasWires (rows_of (found_of options.now)) }
 {
     let Some(from) = moment(options) else {
         return Err(WordsError::Bad);
