@@ -48,6 +48,24 @@ pub fn wide_row(
     wide_in(mark, line, columns, times, zone, asked)
 }
 
+/// The fields of a row, or `None` for one that a line lacks.
+#[derive(Clone, Copy)]
+struct Found<'a> {
+    device: Option<&'a [u8]>,
+    time: Option<&'a [u8]>,
+    code: Option<&'a [u8]>,
+    parameter: Option<&'a [u8]>,
+}
+
+/// The fields of a row, without spaces around them.
+#[derive(Clone, Copy)]
+struct Fields<'a> {
+    device: &'a [u8],
+    time: &'a [u8],
+    code: &'a [u8],
+    parameter: &'a [u8],
+}
+
 /// The row of a line whose fields this mark parts.
 fn wide_in(
     mark: u8,
@@ -59,15 +77,13 @@ fn wide_in(
 ) -> Option<WideRow>
     ensures { result ≡ wide_in columns times zone (option_map (λ device. device.now) asked.entry) (fields_of mark line.now) }
 {
-    wide_with(
-        asked,
-        times,
-        zone,
-        device_in(mark, line, columns.device),
-        field_in(mark, line, columns.time),
-        field_in(mark, line, columns.code),
-        field_in(mark, line, columns.parameter),
-    )
+    let found = Found {
+        device: device_in(mark, line, columns.device),
+        time: field_in(mark, line, columns.time),
+        code: field_in(mark, line, columns.code),
+        parameter: field_in(mark, line, columns.parameter),
+    };
+    wide_with(asked, times, zone, found)
 }
 
 /// The row of these four fields, where they are there.
@@ -75,35 +91,30 @@ fn wide_with(
     asked: Option<&[u8]>,
     times: Option<TimeForm>,
     zone: Option<Zone>,
-    device: Option<&[u8]>,
-    time: Option<&[u8]>,
-    code: Option<&[u8]>,
-    parameter: Option<&[u8]>,
+    found: Found<'_>,
 ) -> Option<WideRow>
     ensures { result
-        ≡ wide_with (option_map (λ text. text.now) asked.entry) times zone (option_map (λ text. text.now) device.entry) (option_map (λ text. text.now) time.entry) (option_map (λ text. text.now) code.entry) (option_map (λ text. text.now) parameter.entry) }
+        ≡ wide_with (option_map (λ text. text.now) asked.entry) times zone (option_map (λ text. text.now) found.entry.device) (option_map (λ text. text.now) found.entry.time) (option_map (λ text. text.now) found.entry.code) (option_map (λ text. text.now) found.entry.parameter) }
 {
-    let Some(device) = device else {
+    let Some(device) = found.device else {
         return None;
     };
-    let Some(time) = time else {
+    let Some(time) = found.time else {
         return None;
     };
-    let Some(code) = code else {
+    let Some(code) = found.code else {
         return None;
     };
-    let Some(parameter) = parameter else {
+    let Some(parameter) = found.parameter else {
         return None;
     };
-    wide_fields(
-        asked,
-        times,
-        zone,
-        trimmed(device),
-        trimmed(time),
-        trimmed(code),
-        trimmed(parameter),
-    )
+    let fields = Fields {
+        device: trimmed(device),
+        time: trimmed(time),
+        code: trimmed(code),
+        parameter: trimmed(parameter),
+    };
+    wide_fields(asked, times, zone, fields)
 }
 
 /// The row of four fields without spaces around them.
@@ -111,22 +122,19 @@ fn wide_fields(
     asked: Option<&[u8]>,
     times: Option<TimeForm>,
     zone: Option<Zone>,
-    device: &[u8],
-    time: &[u8],
-    code: &[u8],
-    parameter: &[u8],
+    fields: Fields<'_>,
 ) -> Option<WideRow>
-    ensures { result ≡ wide_fields (option_map (λ device. device.now) asked.entry) times zone device.now time.now code.now parameter.now }
+    ensures { result ≡ wide_fields (option_map (λ device. device.now) asked.entry) times zone fields.entry.device.now fields.entry.time.now fields.entry.code.now fields.entry.parameter.now }
 {
-    let form = form_by(times, time)?;
-    let moment = moment_in(form, zone, time)?;
-    let code = whole(code)?;
+    let form = form_by(times, fields.time)?;
+    let moment = moment_in(form, zone, fields.time)?;
+    let code = whole(fields.code)?;
     Some(WideRow {
-        ours: is_asked(asked, device),
+        ours: is_asked(asked, fields.device),
         form,
         moment,
         code,
-        parameter: whole(parameter),
+        parameter: whole(fields.parameter),
     })
 }
 
