@@ -149,6 +149,8 @@ fn of_phase(plan: &Plan, advice: Advice, phase: Phase) -> Numbers
         Advice::A19 => four(p, plan.passage(phase), 0, 0),
         Advice::A20 => four(p, plan.time_before_reduction(phase), plan.maximum(phase), 0),
         Advice::A21 => four(p, plan.minimum_green(phase), 0, 0),
+        Advice::A57 => four(p, plan.red_clear(phase), 0, 0),
+        Advice::A58 => four(p, plan.passage(phase), 0, 0),
         _ => four(p, 0, 0, 0),
     }
 }
