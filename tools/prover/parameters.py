@@ -17,7 +17,6 @@ OPENS, CLOSES = "([{<", ")]}>"
 WAITING = {
     "crates/tsb/src/run.rt": {"run"},
     "crates/tsb_bench/src/telling.rt": {"tell"},
-    "crates/tsb_event_text/src/wide.rt": {"wide_with", "wide_fields"},
     "crates/tsb_field/src/outputs_run.rt": {"write_beside"},
     "crates/tsb_field/src/run.rt": {"write_record", "record_plan", "record_run", "write_events", "write_events_of",
                                     "write_diagram", "write_diagram_beside", "write_diagram_by", "write_diagram_told",
