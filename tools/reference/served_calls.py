@@ -133,12 +133,16 @@ class Times:
         return sum(map(self.turn, here)) + self.begun()
 
     def to_serve(self, q: int) -> int:
-        """Within how many ticks q is served, if it stays called."""
+        """Within how many ticks q is served, if it stays called: `time_by_turns`."""
         r, d = self.plan["phaseRing"][q], self.plan["phaseSide"][q]
         own, across = ([p for p in self.order[x] if self.plan["phaseSide"][p] == d] for x in (r, 3 - r))
-        passed = len(own) * (sum(map(self.turn, across)) + self.begun())
-        begun = 2 * (self.begun() + self.clear)
-        return 2 * sum(map(self.turn, self.phases)) + begun + SIDES * (3 * self.clear + 3) + passed
+        others = [p for p in self.phases if self.plan["phaseSide"][p] != d]
+        begun = self.begun() + self.clear
+        waits = sum(map(self.turn, across)) + begun
+        leaves = begun + 1 + waits + sum(self.turn(p) + waits + 1 for p in own)
+        elsewhere = sum(map(self.turn, others)) + SIDES * (3 * self.clear + 3)
+        home = sum(map(self.turn, own)) + self.clear + 2
+        return self.clear + 1 + leaves + elsewhere + home
 
 
 # --- what a tick has found, by the states before and after it ---

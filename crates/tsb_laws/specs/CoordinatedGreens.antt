@@ -18,7 +18,6 @@ use Rattle.tsb_step.specs.tsb_rules.Consistent.{IsPhase}
 use Rattle.tsb_step.specs.tsb_coord.Coordinated.{serving_order}
 use Rattle.tsb_step.specs.tsb_coord.Correction.{forces, comes_to_force_off}
 use Rattle.tsb_step.specs.tsb_ring.Rings.{Ring, other, number, in_ring}
-use Rattle.tsb_step.specs.tsb_ring.Wants.{is_on_side}
 use Rattle.tsb_step.specs.declared.inputs.Input.{Input}
 use Rattle.tsb_step.specs.declared.inputs.Input.TheVariants.{Tick, Pattern, Commit}
 use Rattle.tsb_step.specs.State.{State, interval}
@@ -27,7 +26,7 @@ use Rattle.tsb_step.specs.Signs.{IsInStep}
 use Rattle.tsb_step.specs.Runs.{replay, AreTaken}
 use Rattle.tsb_step.specs.Laws.{IsConsistent}
 use Rattle.tsb_laws.specs.Stretches.{IsUntripped}
-use Rattle.tsb_laws.specs.ServedCalls.{longest_initial, IsFullyConcurrent}
+use Rattle.tsb_laws.specs.ServedCalls.{longest_initial, IsFullyConcurrent, time_by_turns}
 
 -- a test held at each of the inputs that came later, of the state that the input found
 abbrev pub HasGoneOn : (State → Input → Bool) → Plan → List Input → List Input → Type 0
@@ -137,15 +136,6 @@ turn_in_pattern plan k j p = longest_in_pattern plan k p + j + 2
 
 -- ## Within what time
 
--- the times of those of a list that pass a test
-abbrev pub times_where : (ℕ → Bool) → (ℕ → ℕ) → List ℕ → ℕ
-times_where test time [] = 0
-times_where test time (p ∷ ps) = (if test p then time p else 0) + times_where test time ps
-
--- of those that are on side d
-abbrev pub times_on : (ℕ → ℕ) → Plan → ℕ → List ℕ → ℕ
-times_on time plan d ps = times_where (is_on_side plan d) time ps
-
 -- the order of a ring by the sequence in effect
 abbrev pub order_in_effect : State → Ring → List ℕ
 order_in_effect s r = serving_order s.plan s.pattern (number r)
@@ -155,35 +145,10 @@ pub record TurnsInPattern (plan : Plan) (k j h : ℕ) : Type 0 where
   pub clears : ClearsWithin plan j
   pub green : (p : ℕ) → longest_in_pattern plan k p ≤ h
 
--- what a ring has begun takes so long at most
-abbrev pub time_begun : ℕ → ℕ → ℕ
-time_begun j h = h + 2 * j + 1
-
--- the other ring comes to the barrier in so long: what it has begun, and the turns beside c
-abbrev pub time_across : State → ℕ → ℕ → ℕ → Ring → ℕ → ℕ
-time_across s k j h r c = times_on (turn_in_pattern s.plan k j) s.plan (side_of s.plan c) (order_in_effect s (other r)) + time_begun j h
-
--- both rings leave the side of c in so long, where ring r has passed c: it may be called on to each phase beside c, and find
--- the other ring anywhere in its order
-abbrev pub time_to_leave : State → ℕ → ℕ → ℕ → Ring → ℕ → ℕ
-time_to_leave s k j h r c =
-    time_begun j h + 1 + time_across s k j h r c
-    + times_on (λ p. turn_in_pattern s.plan k j p + time_across s k j h r c + 1) s.plan (side_of s.plan c) (order_in_effect s r)
-
--- both come through all other sides in so long, with the crossings to them
-abbrev pub time_elsewhere : State → ℕ → ℕ → ℕ → ℕ
-time_elsewhere s k j c =
-    times_where (λ p. is_enabled s.plan p && not (is_on_side s.plan (side_of s.plan c) p)) (turn_in_pattern s.plan k j) (phases s.plan)
-    + s.plan.side_count * (3 * j + 3)
-
--- and c comes in its turn in so long, after the crossing to its side
-abbrev pub time_to_come_home : State → ℕ → ℕ → Ring → ℕ → ℕ
-time_to_come_home s k j r c = times_on (turn_in_pattern s.plan k j) s.plan (side_of s.plan c) (order_in_effect s r) + j + 2
-
--- Within which time a called phase c of ring r is Green, wherever the rings stand: a crossing that is under way, the way from
--- its side, all other sides, and its turn.
+-- Within which time a called phase c of ring r is Green, wherever the rings stand: as in free operation (ServedCalls), by
+-- the turns and the orders of the pattern.
 abbrev pub time_to_be_served : State → ℕ → ℕ → ℕ → Ring → ℕ → ℕ
-time_to_be_served s k j h r c = j + 1 + time_to_leave s k j h r c + time_elsewhere s k j c + time_to_come_home s k j r c
+time_to_be_served s k j h r c = time_by_turns s.plan (turn_in_pattern s.plan k j) (order_in_effect s) j h r c
 
 -- c is callable in the tick, a pattern runs and no preempt is in service; no other input selects a pattern or commits
 abbrev pub is_called_in_pattern : ℕ → State → Input → Bool

@@ -4,7 +4,7 @@
 --
 -- All but the first are of plans in which all phases of one side and of different rings are concurrent. Where they
 -- are not, a ring can wait for ever for a phase across that its own next phase does not go with.
-use Rattle.std.specs.Prelude.{◌≡◌, ◌≢◌, ℕ, ◌+◌, ◌*◌, ◌≤◌, Bool, true, false, ◌&&◌, if◌then◌else◌, max, List, [], ◌∷◌, ◌++◌, Option, Some, None, is_some, is_none, ◌⊎◌}
+use Rattle.std.specs.Prelude.{◌≡◌, ◌≢◌, ℕ, ◌+◌, ◌*◌, ◌≤◌, Bool, true, false, not, ◌&&◌, if◌then◌else◌, max, List, [], ◌∷◌, ◌++◌, Option, Some, None, is_some, is_none, ◌⊎◌}
 use Rattle.tsb_step.specs.tsb_types.declared.row.Row.{Row}
 use Rattle.tsb_step.specs.tsb_types.Intervals.{is_green, in_service}
 use Rattle.tsb_step.specs.tsb_types.Lists.{among, later, or_else}
@@ -90,10 +90,20 @@ pub record TurnsTakeAtMost (plan : Plan) (k h : ℕ) : Type 0 where
 abbrev pub turn : Plan → ℕ → ℕ → ℕ
 turn plan k p = longest_green plan p + k + 2
 
--- the turns of those in a list that are on side d
+-- ## What the phases of a list take
+
+-- the times of those of a list that pass a test
+abbrev pub times_where : (ℕ → Bool) → (ℕ → ℕ) → List ℕ → ℕ
+times_where test time [] = 0
+times_where test time (p ∷ ps) = (if test p then time p else 0) + times_where test time ps
+
+-- of those that are on side d
+abbrev pub times_on : (ℕ → ℕ) → Plan → ℕ → List ℕ → ℕ
+times_on time plan d ps = times_where (is_on_side plan d) time ps
+
+-- the turns of those on side d
 abbrev pub turns : Plan → ℕ → ℕ → List ℕ → ℕ
-turns plan k d [] = 0
-turns plan k d (p ∷ ps) = (if is_on_side plan d p then turn plan k p else 0) + turns plan k d ps
+turns plan k d ps = times_on (turn plan k) plan d ps
 
 -- ## On the side that is served
 
@@ -153,27 +163,45 @@ CrossingsBegin = (plan : Plan) (base later : List Input) (q k h : ℕ) → IsCon
 
 -- ## On whatever side
 
--- the turns of all enabled phases in a list
-abbrev pub all_turns : Plan → ℕ → List ℕ → ℕ
-all_turns plan k [] = 0
-all_turns plan k (p ∷ ps) = (if is_enabled plan p then turn plan k p else 0) + all_turns plan k ps
+-- Below, `time` is the turn of each phase, and `order` the order of each ring. `k` is as large as each clearance and each
+-- red revert, and `h` as the longest green of each phase. CoordinatedGreens has the turns and orders of a pattern.
 
--- how many of a list are on side d
-abbrev pub places : Plan → ℕ → List ℕ → ℕ
-places plan d [] = 0
-places plan d (p ∷ ps) = (if is_on_side plan d p then 1 else 0) + places plan d ps
+-- what a ring has begun takes so long at most
+abbrev pub time_begun : ℕ → ℕ → ℕ
+time_begun k h = h + 2 * k + 1
 
--- Within which time q of ring r is served, wherever the rings have come: each turn twice, what both rings have begun,
--- and a crossing for each side, with what a ring waits after it that enters none. And where its ring has passed q, each
--- phase of its ring on its side may find the other ring anywhere in its order, and wait for all turns across before the
--- barrier is crossed.
+-- the other ring comes to the barrier in so long: what it has begun, and its turns on the side of q
+abbrev pub time_across : Plan → (ℕ → ℕ) → (Ring → List ℕ) → ℕ → ℕ → Ring → ℕ → ℕ
+time_across plan time order k h r q = times_on time plan (side_of plan q) (order (other r)) + time_begun k h
+
+-- both rings leave the side of q in so long, where ring r has passed q: it may be called on to each phase beside q, and find
+-- the other ring anywhere in its order
+abbrev pub time_to_leave : Plan → (ℕ → ℕ) → (Ring → List ℕ) → ℕ → ℕ → Ring → ℕ → ℕ
+time_to_leave plan time order k h r q =
+    time_begun k h + 1 + time_across plan time order k h r q
+    + times_on (λ p. time p + time_across plan time order k h r q + 1) plan (side_of plan q) (order r)
+
+-- both come through all other sides in so long, with the crossings to them
+abbrev pub time_elsewhere : Plan → (ℕ → ℕ) → ℕ → ℕ → ℕ
+time_elsewhere plan time k q =
+    times_where (λ p. is_enabled plan p && not (is_on_side plan (side_of plan q) p)) time (phases plan) + plan.side_count * (3 * k + 3)
+
+-- and q comes in its turn in so long, after the crossing to its side
+abbrev pub time_to_come_home : Plan → (ℕ → ℕ) → (Ring → List ℕ) → ℕ → Ring → ℕ → ℕ
+time_to_come_home plan time order k r q = times_on time plan (side_of plan q) (order r) + k + 2
+
+-- Within which time a called phase q of ring r is Green, wherever the rings have come: a crossing that is under way, the way
+-- from its side, all other sides, and its turn.
+abbrev pub time_by_turns : Plan → (ℕ → ℕ) → (Ring → List ℕ) → ℕ → ℕ → Ring → ℕ → ℕ
+time_by_turns plan time order k h r q =
+    k + 1 + time_to_leave plan time order k h r q + time_elsewhere plan time k q + time_to_come_home plan time order k r q
+
+-- in free operation
 abbrev pub time_to_serve : Plan → Ring → ℕ → ℕ → ℕ → ℕ
-time_to_serve plan r q k h =
-    2 * all_turns plan k (phases plan) + 2 * (h + 2 * k + 1) + plan.side_count * (3 * k + 3)
-    + places plan (side_of plan q) (order plan r) * (turns plan k (side_of plan q) (order plan (other r)) + h + k + 1)
+time_to_serve plan r q k h = time_by_turns plan (turn plan k) (order plan) k h r q
 
 -- A called phase waits for so long at most, on whatever side it is: a stretch in which it is called in each tick, and
--- not Green, is no longer. Without the last product that is FALSE: docs/trust/SAFETY.md has a run.
+-- not Green, is no longer. Without the waits for the other ring beside q that is FALSE: docs/trust/SAFETY.md has a run.
 abbrev pub CalledPhasesAreServed : Type 0
 CalledPhasesAreServed = (plan : Plan) (base later : List Input) (r : Ring) (q k h : ℕ) → IsConsistent plan → plan.phase_count ≤ 16 →
     AreTaken plan (later ++ base) → IsUntripped plan base later → IsFullyConcurrent (replay plan base).plan →

@@ -284,8 +284,9 @@ pub fn crossings_begin()
 
 /// A called phase is served in time. In free operation and with no preempt in service, a phase that stays called is
 /// Green within a time that the plan gives (`time_to_serve`), on whatever side it is, and wherever the rings have come.
-/// That time is twice the turns of all phases, what both rings have begun, and a crossing for each side; and for each
-/// phase of its ring on its side all turns of the other ring there. A preempt may have left the rings as it likes.
+/// That time is a crossing that is under way, the time to leave its side, the turns of all phases of other sides with a
+/// crossing for each side, and the turns of its ring on its own. To leave its side its ring may be called on to each phase
+/// beside it, and wait each time for all turns across. A preempt may have left the rings as it likes.
 ///
 /// Needs: a plan in which all phases of one side and of different rings are concurrent; a call that stays, and no commit;
 /// an untripped run; at most 16 phases.
@@ -341,11 +342,9 @@ pub fn coordination_goes_on()
 {}
 
 /// `called`: A called phase is served in time in a pattern. While a pattern runs and no preempt is in service, a phase that
-/// stays called is Green within a time that the plan gives, wherever the rings stand and whatever other calls come. That
-/// time is a crossing that is under way, the time to leave its side, the turns of all phases of other sides with a crossing
-/// for each side, and the turns of its ring on its own. To leave its side its ring may be called on to each phase beside
-/// it, and wait each time for all turns across. A turn is a cycle, or what the phase asks for if that is longer, and what
-/// its ring may clear.
+/// stays called is Green within a time that the plan gives, wherever the rings are and whatever other calls come. That
+/// time is the sum that `called_phases_are_served` names, by the turns and the orders of the pattern. A turn is a cycle,
+/// or what the phase asks for if that is longer, and what its ring may clear.
 ///
 /// Needs: a plan in which all phases of one side and of different rings are concurrent; a local counter that is in step
 /// as it begins; no pattern selected and nothing committed meanwhile; an untripped run; at most 16 phases.

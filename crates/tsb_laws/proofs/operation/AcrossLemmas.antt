@@ -1,5 +1,6 @@
--- A crossing that commits a ring goes to another side than the one that is served: so what a ring is committed to is not in
--- service, inside a crossing and outside, after every run.
+-- A crossing that commits a ring goes to another side than the one that is served: so what a ring is committed to is
+-- not in service, inside a crossing and outside, after every run. For the laws of called phases and of preempts, and of
+-- red reverts.
 use Rattle.std.proofs.Common.{◌≡◌, ℕ, Bool, true, false, List, Option, Some, None, refl, sym, ap, ◌∙◌, inl, inr}
 use Rattle.std.proofs.lemmas.Bool.{cases_Bool, true≢false}
 use Rattle.tsb_step.specs.tsb_types.declared.interval.Interval.{Interval}

@@ -1,7 +1,8 @@
--- Rings that want to cross the barrier: what they take and keep, and that a crossing begins where both join. And a ring that
--- clears with no commitment, as where a preempt has ended its green: it goes Red once it is over, and joins in a crossing.
-use Rattle.std.proofs.Common.{◌≡◌, ℕ, true, false, ◌&&◌, Option, Some, None, refl, sym, ◌∙◌, inl, inr}
-use Rattle.std.proofs.lemmas.Bool.{and_parts, or_cases, true≢false, false_from_ne_true, false≢true, or_right, and_right}
+-- Rings that want to cross the barrier: what they take and keep, and that a crossing begins where both join. And a ring
+-- that clears with no commitment, as where a preempt has ended its green: it goes Red once it is over. For the laws
+-- that called phases are served, in free operation and in patterns.
+use Rattle.std.proofs.Common.{◌≡◌, ℕ, Bool, true, false, ◌&&◌, Option, Some, None, refl, sym, ap, ◌∙◌, inl, inr}
+use Rattle.std.proofs.lemmas.Bool.{and_parts, or_cases, true≢false, false_from_ne_true, false≢true, and_right}
 use Rattle.tsb_step.specs.tsb_types.declared.interval.Interval.TheVariants.{Red, Green, Yellow, RedClear}
 use Rattle.tsb_step.specs.tsb_types.declared.row.Row.{Row}
 use Rattle.tsb_step.specs.tsb_types.Intervals.{is_green, in_service}
@@ -9,26 +10,21 @@ use Rattle.tsb_step.specs.tsb_types.Lists.{is}
 use Rattle.tsb_step.specs.tsb_plan.Plan.{Plan}
 use Rattle.tsb_step.specs.tsb_ring.declared.want.Want.TheVariants.{Cross}
 use Rattle.tsb_step.specs.tsb_ring.Rings as rings
-use Rattle.tsb_step.specs.tsb_ring.Rings.{Ring, Ring1, Ring2, Given, in_ring, serving, other}
-use Rattle.tsb_step.specs.tsb_ring.Wants.{is_called_elsewhere, is_idle_or_green, want_of, pick}
-use Rattle.tsb_step.specs.tsb_ring.Crossings.{ring_joins, begins, wants_cross, committed as committed_to}
-use Rattle.tsb_step.specs.tsb_ring.Next.{ends, clears}
+use Rattle.tsb_step.specs.tsb_ring.Rings.{Ring, Ring1, Ring2, Given, in_ring, serving}
+use Rattle.tsb_step.specs.tsb_ring.Wants.{is_idle_or_green, want_of, pick}
+use Rattle.tsb_step.specs.tsb_ring.Crossings.{ring_joins, begins, target_side, committed as committed_to}
+use Rattle.tsb_step.specs.tsb_ring.Next.{ends, clears, new_crossing, next as rings_after}
 use Rattle.tsb_step.specs.tsb_ring.Moves.{ring_moves, moves as moves_in, is_ended, is_started, is_cleared}
 use Rattle.tsb_step.proofs.tsb_ring.ClaimLemmas.{ring_of_is}
-use Rattle.tsb_step.proofs.tsb_ring.MoveLemmas.{passed}
+use Rattle.tsb_step.proofs.tsb_ring.MoveLemmas.{passed, clears_over}
 use Rattle.tsb_step.proofs.tsb_ring.WantLemmas.{pick_free}
 use Rattle.tsb_step.specs.State.{State, interval}
-use Rattle.tsb_step.specs.Tick.{rings_given, moves, next, yellow_done}
+use Rattle.tsb_step.specs.tsb_phase.Ready.{yellow_is_done}
+use Rattle.tsb_step.specs.Tick.{phase_read, rings_given, moves, next, yellow_done, after_moves}
 use Rattle.tsb_step.proofs.GivenLemmas.{symmetric, given}
 use Rattle.tsb_step.specs.tsb_types.declared.interval.Interval.{Interval}
 use Rattle.tsb_step.proofs.tsb_ring.StartLemmas.{is_cleared_in}
 use Rattle.tsb_step.specs.Good.{IsGood}
-
--- it wants to cross the barrier, and joins in a crossing
-pub record IsAtBarrier (s : State) (row : Row) (r : Ring) : Type 0 where
-  pub wants : want_of s.plan s.rings (rings_given s row) r ≡ Some Cross
-  pub joins : ring_joins s.plan s.rings (rings_given s row) r ≡ true
-  pub away : is_called_elsewhere s.plan s.rings (rings_given s row) ≡ true
 
 -- ## A ring that wants to cross
 
@@ -63,12 +59,6 @@ pub cross_keeps : (plan : Plan) (s : rings.State) (given : Given) (r : Ring) (p 
 unfolding ends
 cross_keeps plan s given r p own w none = rw (none, ring_of_is plan r p own, w) (and_right (given.ready p) false refl)
 
-pub no_end_at : (s : State) (row : Row) (r : Ring) (p : ℕ) → in_ring s.plan r p ≡ true → want_of s.plan s.rings (rings_given s row) r ≡ Some Cross →
-    begins s.plan s.rings (rings_given s row) ≡ false → is_ended (moves s row) p ≡ false
-unfolding moves
-no_end_at s row r p own w none =
-    false_from_ne_true _ (λ h. true≢false (sym (ended_is s.plan s.rings (rings_given s row) p h) ∙ cross_keeps s.plan s.rings (rings_given s row) r p own w none))
-
 -- ## A ring that clears with no commitment
 
 -- a ring that clears wants nothing, and takes nothing
@@ -95,10 +85,6 @@ unfolding moves rings_given
 cleared_is s row r p good e h =
     is_cleared_in s.plan s.rings (rings_given s row) (yellow_done s) (symmetric s.plan good.plan.rules) good.rings (given s row good) r p e h
 
-pub given_dark : (s : State) (row : Row) (p : ℕ) → is_green (interval s p) ≡ false → is_green ((rings_given s row).interval p) ≡ false
-unfolding rings_given
-given_dark s row p dark = dark
-
 -- a phase that clears and is cleared is Red
 pub cleared_red : (s : State) (row : Row) (p : ℕ) → is_green (interval s p) ≡ false → is_started (moves s row) p ≡ false → is_cleared (moves s row) p ≡ true →
     interval (next s row) p ≡ Red
@@ -110,25 +96,43 @@ cleared_red s row p dark no_start cleared = go (interval s p) refl
     go Yellow e = rw (no_start, e, cleared) refl
     go RedClear e = rw (no_start, e, cleared) refl
 
--- ## At the barrier
+-- ## What a tick ends and clears
 
--- where both join, a crossing begins
-pub both_join : (s : State) (row : Row) (r : Ring) → IsAtBarrier s row r → ring_joins s.plan s.rings (rings_given s row) (other r) ≡ true →
-    begins s.plan s.rings (rings_given s row) ≡ true
-unfolding begins
-both_join s row Ring1 bar joins = rw (bar.joins, joins, bar.wants) refl
-both_join s row Ring2 bar joins = rw (joins, bar.joins, bar.wants) (or_right (wants_cross (want_of s.plan s.rings (rings_given s row) Ring1)) true refl)
+pub ended_none : (s : State) (row : Row) (p : ℕ) → ends s.plan s.rings (rings_given s row) p ≡ false → is_ended (moves s row) p ≡ false
+unfolding moves
+ended_none s row p h = false_from_ne_true _ (λ g. true≢false (sym (ended_is s.plan s.rings (rings_given s row) p g) ∙ h))
 
-pub joins_clearing : (plan : Plan) (s : rings.State) (given : Given) (r : Ring) (p : ℕ) → serving plan given r ≡ Some p → in_service (given.interval p) ≡ true →
-    is_green (given.interval p) ≡ false → s.commitment r ≡ None → ring_joins plan s given r ≡ true
-joins_clearing plan s given r p e serves dark free = go (given.interval p) refl
+pub cleared_over : (s : State) (row : Row) (p : ℕ) → is_cleared (moves s row) p ≡ true → (rings_given s row).over p ≡ true
+unfolding moves
+cleared_over s row p h = clears_over s.plan s.rings (rings_given s row) p h
+
+-- a phase that clears and is not cleared clears on
+pub still_clearing : (s : State) (row : Row) (p : ℕ) → in_service (interval s p) ≡ true → is_green (interval s p) ≡ false → is_started (moves s row) p ≡ false →
+    is_cleared (moves s row) p ≡ false → (in_service (interval (after_moves s row) p) ≡ true) × (is_green (interval (after_moves s row) p) ≡ false)
+still_clearing s row p serves dark no_start kept = go (interval s p) refl
   where
-    go : (i : Interval) → given.interval p ≡ i → ring_joins plan s given r ≡ true
-    go Red f = absurd (false≢true (rw f at serves))
-    go Green f = absurd (true≢false (rw f at dark))
-    go Yellow f = rw (e, f, free) refl
-    go RedClear f = rw (e, f, free) refl
+    both : (i : Interval) → interval (after_moves s row) p ≡ i → in_service i ≡ true → is_green i ≡ false →
+        (in_service (interval (after_moves s row) p) ≡ true) × (is_green (interval (after_moves s row) p) ≡ false)
+    both i e f g = (ap in_service e ∙ f, ap is_green e ∙ g)
 
-pub given_serves : (s : State) (row : Row) (p : ℕ) → in_service (interval s p) ≡ true → in_service ((rings_given s row).interval p) ≡ true
-unfolding rings_given
-given_serves s row p serves = serves
+    yellow : interval s p ≡ Yellow → (b : Bool) → yellow_is_done s.plan p (phase_read s p) ≡ b →
+        (in_service (interval (after_moves s row) p) ≡ true) × (is_green (interval (after_moves s row) p) ≡ false)
+    yellow e true l = both RedClear (rw (no_start, e, kept, rw e at l) refl) refl refl
+    yellow e false l = both Yellow (rw (no_start, e, kept, rw e at l) refl) refl refl
+
+    go : (i : Interval) → interval s p ≡ i → (in_service (interval (after_moves s row) p) ≡ true) × (is_green (interval (after_moves s row) p) ≡ false)
+    go Red e = absurd (false≢true (rw e at serves))
+    go Green e = absurd (true≢false (rw e at dark))
+    go Yellow e = yellow e (yellow_is_done s.plan p (phase_read s p)) refl
+    go RedClear e = both RedClear (rw (no_start, e, kept) refl) refl refl
+
+-- ## Crossings that begin
+
+pub begun_crosses : (plan : Plan) (s : rings.State) (given : Given) → begins plan s given ≡ true → (rings_after plan s given).crossing ≡ Some (target_side plan s given)
+unfolding rings_after new_crossing
+begun_crosses plan s given b = rw b refl
+
+pub begins_now : (plan : Plan) (s : rings.State) (given : Given) → ring_joins plan s given Ring1 ≡ true → ring_joins plan s given Ring2 ≡ true →
+    want_of plan s given Ring1 ≡ Some Cross → begins plan s given ≡ true
+unfolding begins
+begins_now plan s given one two w = rw (one, two, w) refl

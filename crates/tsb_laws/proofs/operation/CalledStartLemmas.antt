@@ -1,6 +1,7 @@
 -- Where no preempt is in service only what is called enters, what dual entry lets in, and what rings were committed to.
+-- For `uncalled_phases_stay`.
 use Rattle.std.proofs.Common.{◌≡◌, ℕ, Bool, true, false, ◌&&◌, List, Option, Some, None, option_map, is_none, refl, sym, ap, ◌∙◌, inl, inr, ◌⊎◌}
-use Rattle.std.proofs.lemmas.Bool.{and_parts, false≢true, or_cases}
+use Rattle.std.proofs.lemmas.Bool.{and_parts, false≢true}
 use Rattle.std.proofs.lemmas.Option.{cond_some}
 use Rattle.tsb_step.specs.tsb_types.declared.row.Row.{Row}
 use Rattle.tsb_step.specs.tsb_types.Lists.{is, or_else}
@@ -13,12 +14,9 @@ use Rattle.tsb_step.specs.tsb_ring.Rings as rings
 use Rattle.tsb_step.specs.tsb_ring.Rings.{Ring, Ring1, Ring2, Given, in_ring, serving}
 use Rattle.tsb_step.specs.tsb_ring.Wants.{concurrent_with, fits, is_idle_or_green, is_on_side, pick, picked_before, want, want_by_calls, want_found, want_of}
 use Rattle.tsb_step.specs.tsb_ring.Crossings.{called_in_ring_1, called_in_ring_2, dual, entry, entry_by_calls, entry_for, is_called_in, may_enter, target_side}
-use Rattle.tsb_step.specs.tsb_ring.Next.{idle_pick, starting, new_commitment, next as rings_next}
-use Rattle.tsb_step.specs.tsb_ring.Moves as moving
+use Rattle.tsb_step.specs.tsb_ring.Next.{new_commitment, next as rings_next}
 use Rattle.tsb_step.specs.tsb_ring.Moves.{is_started}
 use Rattle.tsb_step.specs.tsb_ring.Laws.{IsSymmetric}
-use Rattle.tsb_step.proofs.tsb_ring.ActLemmas.{starts_alone}
-use Rattle.tsb_step.proofs.tsb_ring.MoveLemmas.{is-Some}
 use Rattle.tsb_step.proofs.tsb_ring.SoundLemmas.{Commits, enters, stands, makes, commits, new_commits}
 use Rattle.tsb_step.proofs.tsb_ring.WaitLemmas.{called_candidate, first-passes}
 use Rattle.tsb_step.proofs.tsb_ring.WantLemmas.{and_four, pick_want}
@@ -36,6 +34,7 @@ use Rattle.tsb_step.proofs.GoodLemmas.{good_run}
 use Rattle.tsb_step.proofs.StandLemmas.{rings_then}
 use Rattle.tsb_laws.specs.CalledStarts.{EntersByCall}
 use Rattle.tsb_laws.proofs.safety.IntergreenLemmas.{started_now}
+use Rattle.tsb_laws.proofs.operation.StartLemmas.{picked_or_bound}
 
 -- ## Tests of several parts
 
@@ -50,9 +49,6 @@ fourth true true true false e f h = absurd (false≢true h)
 fourth true true false d e f h = absurd (false≢true h)
 fourth true false c d e f h = absurd (false≢true h)
 fourth false b c d e f h = absurd (false≢true h)
-
-some-is : (x y : ℕ) → Some x ≡ Some y → x ≡ y
-some-is x y h = cc
 
 -- ## What a ring picks, and what it enters a crossing for
 
@@ -123,30 +119,8 @@ module _ (s : State) (row : Row) (good : IsGood s) (idle : service s row ≡ Non
   picked : (r : Ring) (q : ℕ) → pick s.plan s.rings (rings_given s row) r ≡ Some q → callable s row q ≡ true
   picked r q h = is_callable q (picks_called s.plan s.rings (rings_given s row) told r q h)
 
-  picks_in : (r : Ring) (q : ℕ) → s.rings.commitment r ≡ None → starting s.plan s.rings (rings_given s row) r ≡ Some q →
-      pick s.plan s.rings (rings_given s row) r ≡ Some q
-  unfolding starting
-  picks_in r q none h = go (serving s.plan (rings_given s row) r) (rw none at h)
-    where
-      go : (o : Option ℕ) → idle_pick o (pick s.plan s.rings (rings_given s row) r) ≡ Some q → pick s.plan s.rings (rings_given s row) r ≡ Some q
-      go None k = k
-      go (Some p) k = absurd cc
-
-  ring_starts : (r : Ring) (q : ℕ) → starting s.plan s.rings (rings_given s row) r ≡ Some q →
-      (callable s row q ≡ true) ⊎ ((x : Ring) × (s.rings.commitment x ≡ Some q))
-  ring_starts r q h = go (s.rings.commitment r) refl
-    where
-      go : (o : Option ℕ) → s.rings.commitment r ≡ o → (callable s row q ≡ true) ⊎ ((x : Ring) × (s.rings.commitment x ≡ Some q))
-      go None e = inl (picked r q (picks_in r q e h))
-      go (Some c) e = let same : q ≡ c = starts_alone s.plan s.rings (rings_given s row) r c q e h in inr (r, e ∙ ap Some (sym same))
-
   pub starts_own : (q : ℕ) → is_started (moves s row) q ≡ true → (callable s row q ≡ true) ⊎ ((x : Ring) × (s.rings.commitment x ≡ Some q))
-  unfolding moves moving.moves
-  starts_own q h =
-      elim (or_cases (is q (starting s.plan s.rings (rings_given s row) Ring1)) (is q (starting s.plan s.rings (rings_given s row) Ring2)) h) [
-        | inl k ↦ ring_starts Ring1 q (is-Some q (starting s.plan s.rings (rings_given s row) Ring1) k)
-        | inr k ↦ ring_starts Ring2 q (is-Some q (starting s.plan s.rings (rings_given s row) Ring2) k)
-      ]
+  starts_own q h = picked_or_bound s row (λ x. callable s row x ≡ true) picked q h
 
   even : IsSymmetric s.plan
   even = symmetric s.plan good.plan.rules

@@ -1,5 +1,6 @@
--- Outside a crossing a commitment is not in service, a ring that is committed serves no green, and while a crossing is under way
--- no phase is Green: through inputs of every kind.
+-- Outside a crossing a commitment is not in service, a ring that is committed serves no green, and while a crossing is
+-- under way no phase is Green: through inputs of every kind. Proves `crossings_have_no_green`; for the laws of called
+-- phases and of preempts as well.
 use Rattle.std.proofs.Common.{◌≡◌, ℕ, ◌==◌, Bool, true, false, ◌&&◌, ◌||◌, if◌then◌else◌, List, Option, Some, None, refl, sym, ap, ◌∙◌, inl, inr}
 use Rattle.std.proofs.lemmas.Bool.{cases_Bool, or_cases, eq-eqb, true≢false, false≢true, false_from_ne_true, or_right}
 use Rattle.tsb_step.specs.tsb_types.declared.interval.Interval.{Interval}

@@ -1,9 +1,10 @@
 -- A preempt that chooses anew has all phases of a stage Green in the time of a worksheet, and so reaches its dwell.
+-- Proves `preempts_that_choose_come_sooner`.
 use Rattle.std.proofs.Common.{◌≡◌, ℕ, ◌+◌, ◌-◌, ◌<◌, ◌≤◌, ◌==◌, Bool, true, false, not, ◌&&◌, if◌then◌else◌, max, List, [], ◌∷◌, ◌++◌, None, refl, sym, ap, subst, ◌∙◌, inl, inr, ◌⊎◌, arith}
-use Rattle.std.proofs.lemmas.Bool.{and_parts, eq-eqb, true≢false, false≢true}
+use Rattle.std.proofs.lemmas.Bool.{not-true, and_parts, eq-eqb}
 use Rattle.tsb_step.specs.tsb_types.declared.row.Row.{Row}
 use Rattle.tsb_step.specs.tsb_types.declared.stage.Stage.{Stage}
-use Rattle.tsb_step.specs.tsb_types.declared.stage.Stage.TheVariants.{Track, Dwell, Exit}
+use Rattle.tsb_step.specs.tsb_types.declared.stage.Stage.TheVariants.{Track, Dwell}
 use Rattle.tsb_step.specs.tsb_plan.Parts.{track_green}
 use Rattle.tsb_step.specs.tsb_plan.Plan.{Plan}
 use Rattle.tsb_step.specs.tsb_preempt.Service.{has_track, stage_phases}
@@ -11,8 +12,7 @@ use Rattle.tsb_step.specs.declared.inputs.Input.{Input}
 use Rattle.tsb_step.specs.declared.inputs.Input.TheVariants.{Tick}
 use Rattle.tsb_step.specs.Signs.{is_choosing, is_lasting}
 use Rattle.tsb_step.specs.State.{State}
-use Rattle.tsb_step.specs.Step.{step, kind_of}
-use Rattle.tsb_step.specs.Past.{ticks_of}
+use Rattle.tsb_step.specs.Step.{step}
 use Rattle.tsb_step.specs.Runs.{replay, AreTaken}
 use Rattle.tsb_step.specs.Laws.{IsConsistent}
 use Rattle.tsb_step.proofs.ClearLemmas.{plan_stays, one_later}
@@ -23,11 +23,12 @@ use Rattle.tsb_laws.specs.PreemptChoices.{chooses, HasChosen, ChoiceTakesAtMost,
 use Rattle.tsb_laws.specs.PreemptDwells.{BeginsService, is_served}
 use Rattle.tsb_laws.specs.PreemptStages.{is_in_stage, ReachesStage, ReachesWithin, ReachesDwell}
 use Rattle.tsb_laws.specs.PreemptTurns.{place}
-use Rattle.tsb_laws.proofs.safety.StretchLemmas.{dark_now, taken_before, IsSame, Goes, ticks, stays, goes}
+use Rattle.tsb_laws.proofs.safety.StretchLemmas.{dark_now, taken_before, Goes, ticks, stays, goes}
 use Rattle.tsb_laws.proofs.operation.StageArrivalLemmas.{Near, AreGreen}
 use Rattle.tsb_laws.proofs.operation.StageChoiceLemmas.{near_by_choice}
 use Rattle.tsb_laws.proofs.operation.StageFactLemmas.{Limits, Within}
-use Rattle.tsb_laws.proofs.operation.StageRunLemmas.{stays_at, then_near, near_some, Covers, covers_before, covers_now, Arrives, Course, near, lit, done, one_on, limits, covered, one_more, reached_now}
+use Rattle.tsb_laws.proofs.operation.StageInputLemmas.{stays_at}
+use Rattle.tsb_laws.proofs.operation.StageRunLemmas.{then_near, near_some, Covers, covers_before, covers_now, Arrives, Course, near, lit, done, one_on, limits, covered, one_more, reached_now}
 use Rattle.tsb_laws.proofs.operation.StageServiceLemmas.{Way, to_track, in_track, timed, to_dwell, arrived, way}
 
 -- ## The times
@@ -53,10 +54,6 @@ takes_some : (g w c v : ℕ) → 1 ≤ time_by_choice g w c v
 takes_some g w c v = omega arith
 
 -- ## What has held
-
-quiet : (b : Bool) → not b ≡ true → b ≡ false
-quiet true h = absurd (false≢true h)
-quiet false h = refl
 
 held_first : (test : State → Bool) (plan : Plan) (base later : List Input) → has_held_since test plan base later ≡ true → test (replay plan base) ≡ true
 held_first test plan base [] h = h
@@ -85,7 +82,7 @@ module _ (plan : Plan) (base later : List Input) (n g w c v : ℕ) (ok : IsConsi
   chosen_near is row stage taken dark held on within d time =
       then_near s row n stage dark bounds d
       (near_by_choice s row (stage_phases s.plan n stage) n (stays_at plan is row n stage ok few taken dark held) bounds within (longest g w v) v
-      (has_walks g w v) (has_green g w v) (has_revert g w v) most.revert (gave_up s row dark both.0 (quiet (is_lasting (step s (Tick row))) both.1)) d time)
+      (has_walks g w v) (has_green g w v) (has_revert g w v) most.revert (gave_up s row dark both.0 (not-true (is_lasting (step s (Tick row))) both.1)) d time)
     where
       s : State
       s = replay plan is

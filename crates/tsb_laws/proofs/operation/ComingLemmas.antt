@@ -1,5 +1,6 @@
 -- A pattern that is selected while another runs comes into step: the correction that it began with stays, with plan and
--- pattern, over inputs that neither select a pattern nor commit, until a reset of a trip has it in step.
+-- pattern, over inputs that neither select a pattern nor commit, until a reset of a trip has it in step. Proves
+-- `counters_are_in_step`.
 use Rattle.std.proofs.Common.{◌≡◌, ℕ, ◌+◌, ◌-◌, ◌<◌, ◌≤◌, ◌%◌, Bool, true, false, if◌then◌else◌, List, [], ◌∷◌, ◌++◌, Option, Some, None, ◌⊎◌, is_some, refl, sym, ap, subst, arith, ◌∙◌, inl, inr}
 use Rattle.std.proofs.Math.Nat.{mod-lt}
 use Rattle.std.proofs.lemmas.Bool.{cases_eq, false≢true}

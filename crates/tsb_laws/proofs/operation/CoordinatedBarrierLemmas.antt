@@ -1,5 +1,6 @@
--- What one tick makes of a green that is ready and has a conflict, with no preempt in service, where all phases of one side go
--- together: it ends, or waits for the other ring at the barrier.
+-- What one tick makes of a green that is ready and has a conflict, with no preempt in service, where all phases of one
+-- side go together: it ends, or waits for the other ring at the barrier. Proves the clause `ends` of
+-- `coordination_goes_on`.
 use Rattle.std.proofs.Common.{◌≡◌, ◌≢◌, ℕ, ◌≤◌, ◌==◌, Bool, true, false, not, ◌&&◌, List, ◌∷◌, Option, Some, None, refl, sym, ap, arith, ◌∙◌, inl, inr, ◌⊎◌}
 use Rattle.std.proofs.lemmas.Bool.{cases_Bool, not-true, and_parts, or_right, eqb-true, true≢false, false≢true, false_from_ne_true}
 use Rattle.tsb_step.specs.tsb_types.declared.interval.Interval.{Interval}

@@ -1,5 +1,5 @@
--- A coordinated phase of the pattern that runs is called in each tick in which it is not Green, so that each phase that is
--- not concurrent with it has a conflict.
+-- A coordinated phase of the pattern that runs is called in each tick in which it is not Green, so that each phase that
+-- is not concurrent with it has a conflict. Proves the clause `awaited` of `coordination_goes_on`.
 use Rattle.std.proofs.Common.{◌≡◌, ◌≢◌, ℕ, ◌==◌, Bool, true, false, not, ◌&&◌, ◌||◌, if◌then◌else◌, List, Option, Some, None, refl, sym, ap, ◌∙◌}
 use Rattle.std.proofs.lemmas.Bool.{and_from, or_left, or_right, ne_eqb, true≢false, false≢true}
 use Rattle.tsb_step.specs.tsb_types.declared.row.Row.{Row}

@@ -1,5 +1,6 @@
--- How many ticks more a green takes in a pattern until it is forced off and may end, where it is forced off in tick f, has
--- a conflict in each tick and no preempt is in service: found of the phase as it stands, and one less after each tick.
+-- How many ticks more a green takes in a pattern until it is forced off and may end, where it is forced off in tick f,
+-- has a conflict in each tick and no preempt is in service: found of the phase as it stands, and one less after each
+-- tick. For the clause `forced` of `coordination_goes_on`, and `phases_are_served_in_patterns`.
 use Rattle.std.proofs.Common.{◌≡◌, ℕ, ◌+◌, ◌-◌, ◌<◌, ◌≤◌, nat_le, Bool, true, false, ◌&&◌, ◌||◌, if◌then◌else◌, max, Option, None, is_some, refl, sym, ap, subst, arith, ◌∙◌, inl, inr, ◌⊎◌}
 use Rattle.std.proofs.lemmas.Bool.{and_from, or_left, or_right, cases_eq, cases_lt, true≢false}
 use Rattle.std.proofs.lemmas.Bool.Decides.{nat_tests}
@@ -24,7 +25,8 @@ use Rattle.tsb_step.specs.Tick.{service, runs, forced, conflict, phases_given, p
 use Rattle.tsb_step.specs.Good.{IsGood}
 use Rattle.tsb_laws.specs.ServedCalls.{longest_initial}
 use Rattle.tsb_laws.proofs.operation.PhaseTimeLemmas.{left, walking_in, Runs, IsTimed}
-use Rattle.tsb_laws.proofs.operation.PressedGreenLemmas.{initial_most, rests_not, walks_down, walks_no_more, no_preempt}
+use Rattle.tsb_laws.proofs.operation.PressedGreenLemmas.{initial_most, rests_not, no_preempt}
+use Rattle.tsb_laws.proofs.operation.WalkTimeLemmas.{stays_dark, walks_down, walks_no_more, walk_then}
 use Rattle.tsb_laws.proofs.operation.RecycleTimeLemmas.{fits_to}
 use Rattle.tsb_laws.proofs.operation.RecycledTickLemmas.{Again, again_parts}
 
@@ -171,7 +173,8 @@ module _ (s : State) (row : Row) (p f : ℕ) (on : is_phase p ≡ true) (pressed
       (pedestrian_now s.plan (phases_given s row) p (phase_read s p))
       ≤ walking_in a b (s.phases p).pedestrian_timer (s.phases p).pedestrian - 1
   walks_less again a b most_a most_b timed =
-      walks_down s.plan (phases_given s row) p (phase_read s p) ends_by_none (rests_not s.plan (phases_given s row) p busy) again a b most_a most_b
+      walks_down s.plan (phases_given s row) p (phase_read s p) None ends_by_none (rests_not s.plan (phases_given s row) p busy)
+      (stays_dark (phases_given s row) p (phase_read s p) again) a b most_a most_b
       (s.phases p).pedestrian_timer refl timed.walk timed.clearance
 
   -- a walk that begins within the green fits up to tick f, which is still to come
@@ -206,15 +209,7 @@ module _ (s : State) (row : Row) (p f : ℕ) (on : is_phase p ≡ true) (pressed
       let ticks : ((next s row).phases p).timer ≡ On (run.count + 1) = rw (no_start, e, no_end, run.is) refl in
       let first : left i ((next s row).phases p).timer ≡ left i (On (run.count + 1)) = ap (λ (t : Timer). left i t) ticks in
       let was : left i (s.phases p).timer ≡ left i (On run.count) = ap (λ (t : Timer). left i t) run.is in
-      let part : ((next s row).phases p).pedestrian ≡ pedestrian_now s.plan (phases_given s row) p (phase_read s p) = rw (no_start, e, no_end) refl in
-      let timer : ((next s row).phases p).pedestrian_timer
-      ≡ pedestrian_timer_in (s.phases p).pedestrian (pedestrian_now s.plan (phases_given s row) p (phase_read s p)) (phase_read s p).pedestrian_timer =
-      rw (no_start, e, no_end) refl in
-      let same : walking_in a b ((next s row).phases p).pedestrian_timer ((next s row).phases p).pedestrian
-      ≡ walking_in a b (pedestrian_timer_in (s.phases p).pedestrian (pedestrian_now s.plan (phases_given s row) p (phase_read s p)) (phase_read s p).pedestrian_timer)
-      (pedestrian_now s.plan (phases_given s row) p (phase_read s p)) =
-      ap (λ (t : Timer). walking_in a b t ((next s row).phases p).pedestrian) timer
-      ∙ ap (λ (x : PedestrianInterval). walking_in a b (pedestrian_timer_in (s.phases p).pedestrian (pedestrian_now s.plan (phases_given s row) p (phase_read s p)) (phase_read s p).pedestrian_timer) x) part in
+      let same = walk_then s row p e no_end no_start a b in
       at_most (forcing_left f (s.now + 1 + 1) ((next s row).phases p).forced) (forcing_left f (s.now + 1) (s.phases p).forced)
       (left i ((next s row).phases p).timer) (left i (s.phases p).timer)
       (walking_in a b ((next s row).phases p).pedestrian_timer ((next s row).phases p).pedestrian)
@@ -268,6 +263,7 @@ module _ (s : State) (row : Row) (p f : ℕ) (on : is_phase p ≡ true) (pressed
       let reached : nat_le (initial s.plan p ((phases_given s row).count p)) (run.count + 1) ≡ true = grind (arith, nat_tests, zero, most, most_i) in
       let long : initial_has_passed s.plan (phases_given s row) p (held_of (phase_read s p)) ≡ true = rw now reached in
       let still : pedestrian_now s.plan (phases_given s row) p (phase_read s p) ≡ DontWalk =
-      walks_no_more s.plan (phases_given s row) p (phase_read s p) ends_by_none (rests_not s.plan (phases_given s row) p busy) (none_again ahead first) a b most_a most_b (s.phases p).pedestrian_timer refl
+      walks_no_more s.plan (phases_given s row) p (phase_read s p) None ends_by_none (rests_not s.plan (phases_given s row) p busy)
+      (stays_dark (phases_given s row) p (phase_read s p) (none_again ahead first)) a b most_a most_b (s.phases p).pedestrian_timer refl
       timed.walk timed.clearance third in
       ready_by s.plan (phases_given s row) p (phase_read s p) (ap is_green e) still ends_by_none long (latched_now ahead first)

@@ -1,4 +1,5 @@
--- The force-off instant of an enabled phase comes in each cycle of the pattern that runs.
+-- The force-off instant of an enabled phase comes in each cycle of the pattern that runs. Proves the clause `instants`
+-- of `coordination_goes_on`.
 use Rattle.std.proofs.Common.{◌≡◌, ℕ, ◌+◌, ◌%◌, ◌<◌, ◌≤◌, ◌==◌, Bool, true, false, if◌then◌else◌, List, Option, Some, None, refl, ap, arith, ◌∙◌}
 use Rattle.std.proofs.Math.Nat.{mod-lt}
 use Rattle.tsb_step.specs.tsb_plan.Plan.{Plan, is_enabled}

@@ -1,5 +1,5 @@
--- A green that has had a conflict for long enough in a pattern may end: along a run, over inputs of every kind but those
--- that select a pattern or commit.
+-- A green that has had a conflict for long enough in a pattern may end: along a run, over inputs of every kind but
+-- those that select a pattern or commit. Proves the clause `forced` of `coordination_goes_on`.
 use Rattle.std.proofs.Common.{◌≡◌, ℕ, ◌+◌, ◌-◌, ◌<◌, ◌≤◌, Bool, true, false, ◌&&◌, if◌then◌else◌, List, [], ◌∷◌, ◌++◌, Option, None, is_some, is_none, refl, sym, ap, subst, arith, ◌∙◌, inl, inr}
 use Rattle.std.proofs.lemmas.Bool.{cases_Bool, and_parts, true≢false, false≢true}
 use Rattle.tsb_step.specs.tsb_types.declared.interval.Interval.TheVariants.{Green}

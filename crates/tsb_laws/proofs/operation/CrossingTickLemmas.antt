@@ -1,5 +1,5 @@
--- One tick of a crossing that is under way: it has a tick less to go, or it is completed; each ring then serves what it was
--- committed to, or nothing.
+-- One tick of a crossing that is under way: it has a tick less to go, or it is completed; each ring then serves what it
+-- was committed to, or nothing. For the laws that called phases are served, in free operation and in patterns.
 use Rattle.std.proofs.Common.{◌≡◌, ℕ, ◌-◌, ◌≤◌, Bool, true, false, Option, Some, None, is_some, refl, sym, ap, ◌∙◌, inl, inr, arith}
 use Rattle.std.proofs.lemmas.Bool.{cases_Bool, true≢false, false_from_ne_true}
 use Rattle.tsb_step.specs.tsb_types.declared.interval.Interval.{Interval}
@@ -28,7 +28,7 @@ use Rattle.tsb_laws.proofs.safety.CrossingRingLemmas.{begins_no_more, starts_all
 use Rattle.tsb_laws.proofs.safety.DueLemmas.{clipped_at}
 use Rattle.tsb_laws.proofs.operation.AcrossLemmas.{GoesAcross, promised_red}
 use Rattle.tsb_laws.proofs.operation.PhaseTimeLemmas.{IsTimed, clears_down, not_yet_over, reverts_down, not_yet_reverted}
-use Rattle.tsb_laws.proofs.operation.TurnStepLemmas.{clear_left, back_left}
+use Rattle.tsb_laws.proofs.operation.PhaseLeftLemmas.{clear_left, back_left}
 use Rattle.tsb_laws.proofs.operation.TickLemmas.{dark_is}
 
 -- ## The rings as it is completed

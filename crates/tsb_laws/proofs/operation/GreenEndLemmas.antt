@@ -1,4 +1,5 @@
--- Why a tick ends a green: by its gap, its maximum or its force-off, or as a preempt wants other phases.
+-- Why a tick ends a green: by its gap, its maximum or its force-off, or as a preempt wants other phases. Proves
+-- `greens_end_for_a_reason`.
 use Rattle.std.proofs.Common.{◌≡◌, ℕ, ◌+◌, ◌≤◌, Bool, true, false, not, ◌&&◌, ◌||◌, if◌then◌else◌, min, List, Option, Some, None, is_some, is_none, refl, sym, ap, subst, arith, ◌∙◌, inl, inr, ◌⊎◌}
 use Rattle.std.proofs.lemmas.Bool.{and_parts, or_cases, false≢true}
 use Rattle.std.proofs.lemmas.Option.{cond_some}

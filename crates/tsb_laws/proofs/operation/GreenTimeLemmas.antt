@@ -1,5 +1,5 @@
 -- The timers of a green tell for how many ticks of it a test has held, and its latches what has happened in it, through
--- inputs of every kind.
+-- inputs of every kind. For `greens_end_for_a_reason` and `maximums_move_by_steps`.
 use Rattle.std.proofs.Common.{suc, ◌≡◌, ℕ, ◌+◌, ◌≤◌, Bool, true, false, not, ◌&&◌, ◌||◌, if◌then◌else◌, List, [], ◌∷◌, Option, Some, None, is_some, is_none, refl, sym, ap, arith, ◌∙◌, inl, inr, ◌⊎◌}
 use Rattle.std.proofs.lemmas.Bool.{cases_Bool, and_parts, or_cases, leb-true, true≢false, false≢true}
 use Rattle.tsb_step.specs.tsb_cells.declared.timer.Timer.{Timer}

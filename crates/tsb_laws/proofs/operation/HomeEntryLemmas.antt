@@ -1,4 +1,5 @@
 -- A crossing that begins to the side of a called phase commits its ring to that phase, or to one that comes before it.
+-- For the laws that called phases are served, in free operation and in patterns.
 use Rattle.std.proofs.Common.{◌≡◌, ℕ, Bool, true, ◌&&◌, Option, Some, None, refl, sym, ap, ◌∙◌, ◌⊎◌}
 use Rattle.std.proofs.lemmas.Bool.{eqb-true, eq-eqb}
 use Rattle.tsb_step.specs.tsb_types.Lists.{among, later, or_else}

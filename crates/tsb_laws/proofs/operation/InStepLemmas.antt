@@ -1,4 +1,5 @@
--- While the local counter is in step it stays so, and a phase is forced off where the cycle and the offset say so.
+-- While the local counter is in step it stays so, and a phase is forced off where the cycle and the offset say so. For
+-- the laws of patterns whose local counter is in step.
 use Rattle.std.proofs.Common.{◌≡◌, ℕ, ◌+◌, ◌-◌, ◌<◌, ◌≤◌, true, ◌&&◌, Option, sym, ap, arith, ◌∙◌, inl, inr}
 use Rattle.std.proofs.lemmas.Bool.{and_parts, and_from, or_cases, or_left, or_right}
 use Rattle.tsb_step.specs.tsb_plan.Plan.{Plan}

@@ -1,4 +1,5 @@
--- In each tick of its late span a phase is forced off, and so what nothing else keeps is ready.
+-- In each tick of its late span a phase is forced off, and so what nothing else keeps is ready. Proves
+-- `late_greens_are_ready`.
 use Rattle.std.proofs.Common.{◌≡◌, ℕ, ◌+◌, ◌≤◌, ◌||◌, true, false, List, ◌∷◌, ◌++◌, Option, Some, is_some, refl, ap, ◌∙◌, arith}
 use Rattle.std.proofs.lemmas.Bool.{or_left, or_right}
 use Rattle.tsb_step.specs.tsb_types.declared.row.Row.{Row}

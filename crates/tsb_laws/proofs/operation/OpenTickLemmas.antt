@@ -1,17 +1,20 @@
--- What holds of the controller in a tick with no preempt in service, outside a crossing, where all phases of one side go
--- together: what its rings are told and do, in a pattern and in free operation.
-use Rattle.std.proofs.Common.{◌≡◌, ◌≢◌, ℕ, ◌≤◌, ◌==◌, true, false, not, ◌&&◌, Option, Some, None, refl, sym, ap, ◌∙◌, arith}
-use Rattle.std.proofs.lemmas.Bool.{and_parts, eqb-true, eq-eqb, true≢false, false≢true, false_from_ne_true}
+-- What holds of the controller in a tick with no preempt in service, outside a crossing, where all phases of one side
+-- go together: what its rings are told and do. For the laws that called phases are served, in free operation and in
+-- patterns.
+use Rattle.std.proofs.Common.{◌≡◌, ◌≢◌, ℕ, ◌≤◌, ◌==◌, Bool, true, false, not, ◌&&◌, Option, Some, None, refl, sym, ap, ◌∙◌, inl, inr, arith}
+use Rattle.std.proofs.lemmas.Bool.{and_parts, or_cases, eqb-true, eq-eqb, true≢false, false≢true, false_from_ne_true}
 use Rattle.tsb_step.specs.tsb_types.declared.interval.Interval.TheVariants.{Green}
 use Rattle.tsb_step.specs.tsb_types.declared.row.Row.{Row}
 use Rattle.tsb_step.specs.tsb_types.Intervals.{is_green, in_service}
 use Rattle.tsb_step.specs.tsb_types.Lists.{among}
-use Rattle.tsb_step.specs.tsb_plan.Plan.{phases, is_enabled, is_concurrent, ring_of, side_of}
+use Rattle.tsb_step.specs.tsb_plan.Plan.{Plan, phases, is_enabled, is_concurrent, ring_of, side_of}
 use Rattle.tsb_step.specs.tsb_plan.Running.{running, sequence_in_effect}
 use Rattle.tsb_step.specs.tsb_rules.Consistent.{IsPhase, ListsRing}
 use Rattle.tsb_step.specs.tsb_rules.SequenceRules.{lists_once}
 use Rattle.tsb_step.proofs.tsb_rules.ConsistentLemmas.{together}
-use Rattle.tsb_step.specs.tsb_calls.Callable.{has_conflict}
+use Rattle.tsb_step.specs.tsb_calls.Memories as calls
+use Rattle.tsb_step.specs.tsb_calls.Memories.{Memories}
+use Rattle.tsb_step.specs.tsb_calls.Callable.{is_called, is_free as is_unserved, is_softly_recalled, is_callable, has_conflict}
 use Rattle.tsb_step.specs.tsb_ring.Rings.{Ring, number, in_ring, serving}
 use Rattle.tsb_step.specs.tsb_ring.Wants.{is_on_side, is_called_elsewhere}
 use Rattle.tsb_step.specs.tsb_ring.Next.{starting}
@@ -20,9 +23,10 @@ use Rattle.tsb_step.specs.tsb_ring.Laws.{IsListed}
 use Rattle.tsb_step.proofs.tsb_ring.MoveLemmas.{ends_ready}
 use Rattle.tsb_step.proofs.tsb_ring.WaitLemmas.{is_serving}
 use Rattle.tsb_step.specs.State.{State, interval}
-use Rattle.tsb_step.specs.Tick.{service, callable, conflict, over, reverted, ready, rings_given, moves, yellow_done, next}
+use Rattle.tsb_step.specs.Tick.{service, calls_given, set, callable, conflict, over, reverted, ready, rings_given, moves, yellow_done, next}
 use Rattle.tsb_step.specs.Good.{IsGood}
 use Rattle.tsb_step.specs.TimeLaws.{IsSided}
+use Rattle.tsb_step.proofs.ClipLemmas.{clipped_holds}
 use Rattle.tsb_step.proofs.GivenLemmas.{listed_is_phase, enabled_is_listed, lists_now, lists_ring, symmetric, given}
 use Rattle.tsb_step.proofs.IntervalLemmas.{ended_was_green}
 use Rattle.tsb_laws.specs.CrossingGreens.{IsCalm}
@@ -32,7 +36,6 @@ use Rattle.tsb_laws.proofs.safety.DueLemmas.{clipped_at}
 use Rattle.tsb_laws.proofs.safety.EnabledLemmas.{AreEnabled, callable_on, callable_no_green}
 use Rattle.tsb_laws.proofs.safety.SideSoughtLemmas.{Found, some_found, found_some}
 use Rattle.tsb_laws.proofs.safety.CoordinationLemmas.{no_target}
-use Rattle.tsb_laws.proofs.operation.BarrierStepLemmas.{told_back}
 use Rattle.tsb_laws.proofs.operation.CalmLemmas.{not_started}
 use Rattle.tsb_laws.proofs.operation.PhaseTimeLemmas.{IsTimed}
 use Rattle.tsb_laws.proofs.operation.PressLemmas.{serving_is}
@@ -50,6 +53,29 @@ pub record IsOpenTick (s : State) (row : Row) : Type 0 where
   pub quiet : service s row ≡ None
   pub outside : s.rings.crossing ≡ None
 
+-- ## What is callable
+
+unserved : (plan : Plan) (given : calls.Given) (m : Memories) (q : ℕ) → is_callable plan given m q ≡ true → is_unserved plan given q ≡ true
+unfolding is_callable
+unserved plan given m q h =
+    elim (or_cases (is_unserved plan given q && is_called plan given m q) (is_unserved plan given q && is_softly_recalled plan given m q) h) [
+      | inl k ↦ (and_parts (is_unserved plan given q) (is_called plan given m q) k).0
+      | inr k ↦ (and_parts (is_unserved plan given q) (is_softly_recalled plan given m q) k).0
+    ]
+
+pub callable_enabled : (s : State) (row : Row) (q : ℕ) → callable s row q ≡ true → is_enabled s.plan q ≡ true
+callable_enabled s row q h = (and_parts (is_enabled s.plan q) _ (unserved s.plan (calls_given s row) (set s row) q h)).0
+
+pub callable_told : (s : State) (row : Row) (q : ℕ) → s.plan.phase_count ≤ 16 → IsListed s.plan q → callable s row q ≡ true →
+    (rings_given s row).callable q ≡ true
+unfolding rings_given
+callable_told s row q few there h = clipped_at (callable s row) s.plan q few there ∙ h
+
+-- what the rings find callable is callable
+pub told_back : (s : State) (row : Row) (p : ℕ) → (rings_given s row).callable p ≡ true → callable s row p ≡ true
+unfolding rings_given
+told_back s row p h = clipped_holds (callable s row) p h
+
 -- ## Orders
 
 module _ (s : State) (good : IsGood s) where
@@ -60,18 +86,22 @@ module _ (s : State) (good : IsGood s) where
   some_phase p h zero_is =
       let it : IsPhase s.plan p = listed_is_phase s.plan p (listed p h) in let low : 1 ≤ p = it.from_one in omega (arith, low, zero_is)
 
+module _ (free : Bool) (s : State) (good : IsGood s) where
   -- the sequence in effect lists each enabled phase of the ring once
-  pub lists : (r : Ring) → ListsRing s.plan (number r) (order_of (view s) r)
-  lists r =
-      lists_ring s.plan (sequence_in_effect s.plan (running s.plan s.pattern)) r (lists_now s.plan good.plan.rules s.pattern good.pattern)
+  pub lists : (r : Ring) → ListsRing s.plan (number r) (order_of (view free s) r)
+  lists r = go free
+    where
+      go : (b : Bool) → ListsRing s.plan (number r) (order_of (view b s) r)
+      go true = lists_ring s.plan 1 r (lists_now s.plan good.plan.rules None (λ n e. absurd cc))
+      go false = lists_ring s.plan (sequence_in_effect s.plan (running s.plan s.pattern)) r (lists_now s.plan good.plan.rules s.pattern good.pattern)
 
-  pub once : (r : Ring) → lists_once (order_of (view s) r) ≡ true
-  once r = let it : ListsRing s.plan (number r) (order_of (view s) r) = lists r in it.once
+  pub once : (r : Ring) → lists_once (order_of (view free s) r) ≡ true
+  once r = let it : ListsRing s.plan (number r) (order_of (view free s) r) = lists r in it.once
 
-  pub in_order : (r : Ring) (p : ℕ) → in_ring s.plan r p ≡ true → is_enabled s.plan p ≡ true → among p (order_of (view s) r) ≡ true
+  pub in_order : (r : Ring) (p : ℕ) → in_ring s.plan r p ≡ true → is_enabled s.plan p ≡ true → among p (order_of (view free s) r) ≡ true
   in_order r p own on =
-      let it : ListsRing s.plan (number r) (order_of (view s) r) = lists r in
-      it.each p (listed_is_phase s.plan p (listed p on)) on (eqb-true (ring_of s.plan p) (number r) own)
+      let it : ListsRing s.plan (number r) (order_of (view free s) r) = lists r in
+      it.each p (listed_is_phase s.plan p (listed s good p on)) on (eqb-true (ring_of s.plan p) (number r) own)
 
 -- ## The tick
 
@@ -90,10 +120,6 @@ module _ (s : State) (row : Row) (tick : IsOpenTick s row) where
     told = given s row tick.good;
     outside = tick.outside;
   }
-
-  pub in_sequence : (r : Ring) → (rings_given s row).sequence r ≡ order_of (view s) r
-  unfolding rings_given
-  in_sequence r = refl
 
   -- two phases of one ring are not concurrent
   pub apart : (r : Ring) (p q : ℕ) → in_ring s.plan r p ≡ true → in_ring s.plan r q ≡ true → is_enabled s.plan p ≡ true → is_enabled s.plan q ≡ true →
@@ -116,10 +142,6 @@ module _ (s : State) (row : Row) (tick : IsOpenTick s row) where
     where
       other : (q == p) ≡ false
       other = false_from_ne_true _ (λ e. true≢false (sym (ap is_green green) ∙ ap (λ (x : ℕ). is_green (interval s x)) (sym (eqb-true q p e)) ∙ callable_no_green s row q told))
-
-  pub told_callable : (q : ℕ) → callable s row q ≡ true → IsListed s.plan q → (rings_given s row).callable q ≡ true
-  unfolding rings_given
-  told_callable q h there = clipped_at (callable s row) s.plan q tick.few there ∙ h
 
   pub told_ready : (p : ℕ) → IsListed s.plan p → (rings_given s row).ready p ≡ ready s row p
   unfolding rings_given
@@ -176,7 +198,7 @@ module _ (s : State) (row : Row) (tick : IsOpenTick s row) where
   pub pressed_beside : (r : Ring) (p q : ℕ) → in_ring s.plan r p ≡ true → in_ring s.plan r q ≡ true → is_enabled s.plan q ≡ true → callable s row q ≡ true →
       interval s p ≡ Green → conflict s row p ≡ true
   pressed_beside r p q own_p own_q on called green =
-      conflicts p q green called (listed s tick.good q on) (apart r p q own_p own_q (tick.on.serves p (ap in_service green)) on) (told_callable q called (listed s tick.good q on))
+      conflicts p q green called (listed s tick.good q on) (apart r p q own_p own_q (tick.on.serves p (ap in_service green)) on) (callable_told s row q tick.few (listed s tick.good q on) called)
 
   -- and with one that is called elsewhere
   pub pressed_across : is_called_elsewhere s.plan s.rings (rings_given s row) ≡ true → (p : ℕ) → interval s p ≡ Green → conflict s row p ≡ true
@@ -203,7 +225,7 @@ module _ (s : State) (row : Row) (tick : IsOpenTick s row) where
       is_called_elsewhere s.plan s.rings (rings_given s row) ≡ true
   called_away q on called other =
       found_some (λ x. (rings_given s row).callable x && not (is_on_side s.plan s.rings.side x)) (phases s.plan) q (listed s tick.good q on)
-      (rw (told_callable q called (listed s tick.good q on), not_here) refl)
+      (rw (callable_told s row q tick.few (listed s tick.good q on) called, not_here) refl)
     where
       not_here : is_on_side s.plan s.rings.side q ≡ false
       not_here = false_from_ne_true _ (λ e. other (eqb-true (side_of s.plan q) s.rings.side e))

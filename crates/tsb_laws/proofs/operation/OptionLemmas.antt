@@ -1,4 +1,5 @@
--- Where the options of coordination are 0, each definition that reads one is the definition without it.
+-- Where the options of coordination are 0, each definition that reads one is the definition without it. For
+-- `options_off_change_nothing`, and `texts_of_version_1_have_no_options`.
 use Rattle.std.proofs.Common.{◌≡◌, ℕ, suc, zero, ◌+◌, ◌*◌, ◌%◌, ◌<◌, ◌==◌, nat_lt, Bool, true, false, not, ◌&&◌, ◌||◌, if◌then◌else◌, List, [], ◌∷◌, Option, Some, None, is_some, is_none, refl, arith, sym, ap, ◌∙◌}
 use Rattle.std.specs.List.{list_all}
 use Rattle.std.proofs.lemmas.Bool.{and_parts, true≢false}

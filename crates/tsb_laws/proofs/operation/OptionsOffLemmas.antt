@@ -1,4 +1,5 @@
--- In a plan whose options are 0, each definition that reads an option is the one without it.
+-- In a plan whose options are 0, each definition that reads an option is the one without it. Proves
+-- `options_off_change_nothing`.
 use Rattle.std.proofs.Common.{◌≡◌, ℕ, ◌==◌, ◌-◌, ◌*◌, Bool, true, false, ◌&&◌, ◌||◌, if◌then◌else◌, Option, Some, None, refl, ap, ◌∙◌}
 use Rattle.std.proofs.Math.Path.{fun_ext}
 use Rattle.tsb_step.specs.tsb_plan.declared.object.Object.TheVariants.{CoordCorrectionMode}

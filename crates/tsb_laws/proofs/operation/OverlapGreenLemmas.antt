@@ -1,5 +1,5 @@
 -- A normal overlap leaves green only as the green of an included phase ends; so not between two phases that follow one
--- another over the barrier, as nothing is Green there.
+-- another over the barrier, as nothing is Green there. Proves `overlaps_last_across_rings`.
 use Rattle.std.proofs.Common.{◌≡◌, ℕ, ◌==◌, Bool, true, false, ◌&&◌, ◌||◌, Some, None, refl, sym, ap, ◌∙◌}
 use Rattle.std.proofs.lemmas.Bool.{eqb-true, or_right, true≢false, false≢true}
 use Rattle.tsb_step.specs.tsb_types.declared.interval.Interval.{Interval}

@@ -1,4 +1,4 @@
--- An overlap that is green or yellow includes a phase that is in service.
+-- An overlap that is green or yellow includes a phase that is in service. Proves `overlaps_go_with_phases`.
 use Rattle.std.proofs.Common.{◌≡◌, ℕ, ◌==◌, Bool, true, false, not, ◌&&◌, ◌||◌, if◌then◌else◌, is_some, refl, inl, inr}
 use Rattle.std.proofs.lemmas.Bool.{cases_Bool, and_parts, or_cases, false≢true}
 use Rattle.tsb_step.specs.tsb_types.declared.interval.Interval.{Interval}

@@ -1,5 +1,6 @@
 -- A green of a pattern that has its initial time, its walk and its pedestrian clearance behind it is ready by floating
--- force-off, by a maximum that acts in the pattern, and within its permissive time.
+-- force-off, by a maximum that acts in the pattern, and within its permissive time. Proves `floating_greens_are_ready`,
+-- `maximums_end_greens_in_patterns` and `permissive_times_let_calls_in`.
 use Rattle.std.proofs.Common.{◌≡◌, ℕ, ◌+◌, ◌≤◌, nat_le, nat_lt, Bool, true, false, not, ◌&&◌, ◌||◌, if◌then◌else◌, List, ◌++◌, Option, Some, None, is_some, is_none, refl, sym, ap, arith, ◌∙◌, inl, inr, ◌⊎◌}
 use Rattle.std.proofs.lemmas.Bool.{or_left, or_right, false≢true}
 use Rattle.std.proofs.lemmas.Bool.Decides.{nat_tests}

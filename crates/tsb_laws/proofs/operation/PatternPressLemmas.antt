@@ -1,6 +1,7 @@
 -- A green that has had a conflict in each tick of a pattern for long enough has its initial time, its walk and its
 -- pedestrian clearance behind it, and its conflict has lasted as long: along a run, over inputs of every kind but those
--- that select a pattern or commit.
+-- that select a pattern or commit. For `floating_greens_are_ready`, `maximums_end_greens_in_patterns` and
+-- `permissive_times_let_calls_in`.
 use Rattle.std.proofs.Common.{◌≡◌, ℕ, ◌+◌, ◌-◌, ◌≤◌, nat_le, Bool, true, false, ◌&&◌, List, [], ◌∷◌, ◌++◌, Option, Some, None, is_some, refl, sym, ap, subst, arith, ◌∙◌, inl, inr}
 use Rattle.std.proofs.lemmas.Bool.{cases_Bool, true≢false}
 use Rattle.std.proofs.lemmas.Bool.Decides.{nat_tests}
@@ -38,7 +39,8 @@ use Rattle.tsb_laws.specs.PatternEnds.{HasWaitedInPattern}
 use Rattle.tsb_laws.proofs.safety.StretchLemmas.{dark_now, at_next}
 use Rattle.tsb_laws.proofs.safety.DueLemmas.{count_run}
 use Rattle.tsb_laws.proofs.operation.PhaseTimeLemmas.{left, Runs, IsTimed}
-use Rattle.tsb_laws.proofs.operation.PressedGreenLemmas.{pressed_left, initial_most, rests_not, walks_not, walks_no_more, presses_down_quiet}
+use Rattle.tsb_laws.proofs.operation.PressedGreenLemmas.{pressed_left, initial_most, rests_not, walks_not, presses_down_quiet}
+use Rattle.tsb_laws.proofs.operation.WalkTimeLemmas.{stays_dark, walks_no_more}
 use Rattle.tsb_laws.proofs.operation.PressedRunLemmas.{timed_run, pressed_most, is_one, not_ended}
 use Rattle.tsb_laws.proofs.operation.CoordinatedForceLemmas.{ended_by_none, told_conflict}
 use Rattle.tsb_laws.proofs.operation.CoordinatedRunLemmas.{Leaves, leaves, IsPressed, pressed_parts}
@@ -177,8 +179,8 @@ module _ (s : State) (row : Row) (p n a b : ℕ) (on : is_phase p ≡ true) (it 
     quiet = it.quiet;
     on = on;
     initial = rw now reached;
-    dont_walk = walks_no_more s.plan (phases_given s row) p (phase_read s p) (ended_by_none s row p on it.conflict it.quiet)
-        (rests_not s.plan (phases_given s row) p (told_conflict s row p on it.conflict it.quiet)) (walks_not s row p (others_not s p other)) a b most_a most_b (s.phases p).pedestrian_timer refl timed.walk timed.clearance
+    dont_walk = walks_no_more s.plan (phases_given s row) p (phase_read s p) None (ended_by_none s row p on it.conflict it.quiet)
+        (rests_not s.plan (phases_given s row) p (told_conflict s row p on it.conflict it.quiet)) (stays_dark (phases_given s row) p (phase_read s p) (walks_not s row p (others_not s p other))) a b most_a most_b (s.phases p).pedestrian_timer refl timed.walk timed.clearance
         (omega (arith, none));
     long = omega (arith, none);
   }

@@ -1,4 +1,5 @@
--- Times summed by sides, whatever time each phase takes: what both orders have of a side, and what is crossed before another.
+-- Times summed by sides, whatever time each phase takes: what both orders have of a side, and what is crossed before
+-- another. For the laws that called phases are served, in free operation and in patterns.
 use Rattle.std.proofs.Common.{◌≡◌, ◌≢◌, ℕ, ◌+◌, ◌*◌, ◌≤◌, Bool, true, false, not, ◌&&◌, if◌then◌else◌, List, [], ◌∷◌, refl, sym, ap, ◌∙◌, arith}
 use Rattle.std.proofs.lemmas.Bool.{and_parts, eqb-true, true≢false, false_from_ne_true, and_from}
 use Rattle.std.proofs.lemmas.Nat.{row_fits}
@@ -13,7 +14,7 @@ use Rattle.tsb_step.specs.State.{State}
 use Rattle.tsb_step.specs.Laws.{IsConsistent}
 use Rattle.tsb_step.specs.Good.{IsGood}
 use Rattle.tsb_step.proofs.GivenLemmas.{listed_is_phase}
-use Rattle.tsb_laws.specs.CoordinatedGreens.{times_where, times_on}
+use Rattle.tsb_laws.specs.ServedCalls.{times_where, times_on}
 use Rattle.tsb_laws.proofs.operation.SideSumLemmas.{sum_of, sum_apart, sum_more, sum_within, IsSide, away, away_itself, away_most, away_some, is_here, is_before, is_between, before_is, to_before, way_on, goes_by}
 use Rattle.tsb_laws.proofs.operation.RingPlaceLemmas.{view, order_of}
 use Rattle.tsb_laws.proofs.operation.OpenTickLemmas.{listed, lists}
@@ -32,44 +33,44 @@ module _ (time : ℕ → ℕ) (k : ℕ) where
   far_of plan d t = sum_of (is_between plan d t) time (phases plan) + away plan.side_count d t * (3 * k + 3)
 
   -- both rings have those of a side in their orders
-  module _ (s : State) (good : IsGood s) (d : ℕ) (some : 1 ≤ d) where
-    its : (r : Ring) → ListsRing s.plan (number r) (order_of (view s) r)
-    its r = lists s good r
+  module _ (free : Bool) (s : State) (good : IsGood s) (d : ℕ) (some : 1 ≤ d) where
+    its : (r : Ring) → ListsRing s.plan (number r) (order_of (view free s) r)
+    its r = lists free s good r
 
     zero_out : is_on_side s.plan d 0 ≡ false
     zero_out =
         false_from_ne_true _ (λ h. (let same : side_of s.plan 0 ≡ d = eqb-true (side_of s.plan 0) d h in let none : side_of s.plan 0 ≡ 0 = good.plan.placed PhaseSide 0 refl in omega (arith, same, none, some)))
 
     within : Ring → ℕ → Bool
-    within r p = among p (order_of (view s) r) && is_on_side s.plan d p
+    within r p = among p (order_of (view free s) r) && is_on_side s.plan d p
 
     some_phase : (p : ℕ) → is_on_side s.plan d p ≡ true → p ≢ 0
     some_phase p h zero_is = true≢false (sym h ∙ ap (λ (x : ℕ). is_on_side s.plan d x) zero_is ∙ zero_out)
 
-    one : (r : Ring) → times_on time s.plan d (order_of (view s) r) ≤ sum_of (within r) time (phases s.plan)
+    one : (r : Ring) → times_on time s.plan d (order_of (view free s) r) ≤ sum_of (within r) time (phases s.plan)
     unfolding within
     one r =
-        let sums = where_is (is_on_side s.plan d) time (order_of (view s) r) in
-        let most = sum_within (is_on_side s.plan d) time (phases s.plan) (order_of (view s) r) zero_out ((its r).once)
+        let sums = where_is (is_on_side s.plan d) time (order_of (view free s) r) in
+        let most = sum_within (is_on_side s.plan d) time (phases s.plan) (order_of (view free s) r) zero_out ((its r).once)
         (λ p there one_too. listed s good p ((its r).only_enabled p there one_too)) in
         omega (arith, sums, most)
 
     placed_here : (r : Ring) (p : ℕ) → within r p ≡ true → is_here s.plan d p ≡ true
     unfolding within
     placed_here r p h =
-        let both = and_parts (among p (order_of (view s) r)) (is_on_side s.plan d p) h in
+        let both = and_parts (among p (order_of (view free s) r)) (is_on_side s.plan d p) h in
         and_from (is_enabled s.plan p) (is_on_side s.plan d p) ((its r).only_enabled p both.0 (some_phase p both.1)) both.1
 
     apart : (p : ℕ) → within Ring1 p ≡ true → within Ring2 p ≡ true → ⊥
     unfolding within
     apart p h g =
-        let first = and_parts (among p (order_of (view s) Ring1)) (is_on_side s.plan d p) h in
-        let second = and_parts (among p (order_of (view s) Ring2)) (is_on_side s.plan d p) g in
+        let first = and_parts (among p (order_of (view free s) Ring1)) (is_on_side s.plan d p) h in
+        let second = and_parts (among p (order_of (view free s) Ring2)) (is_on_side s.plan d p) g in
         let one_is : ring_of s.plan p ≡ 1 = (its Ring1).only_ring p first.0 (some_phase p first.1) in
         let two_is : ring_of s.plan p ≡ 2 = (its Ring2).only_ring p second.0 (some_phase p first.1) in
         omega (arith, one_is, two_is)
 
-    pub both_in_order : times_on time s.plan d (order_of (view s) Ring1) + times_on time s.plan d (order_of (view s) Ring2) ≤ here_of s.plan d
+    pub both_in_order : times_on time s.plan d (order_of (view free s) Ring1) + times_on time s.plan d (order_of (view free s) Ring2) ≤ here_of s.plan d
     both_in_order =
         let first = one Ring1 in let second = one Ring2 in
         let both = sum_apart (within Ring1) (within Ring2) (is_here s.plan d) time (phases s.plan) (λ p l h. placed_here Ring1 p h) (λ p l h. placed_here Ring2 p h) apart in

@@ -1,27 +1,23 @@
--- How many ticks more a phase takes: to clear, to have passed its red revert, and under a preempt that ends it to be ready.
--- Each is found of the phase as it stands, by times that no plan in effect exceeds, and goes down by one in each tick. By them
--- the time is bounded in which a preempt reaches its stages.
-use Rattle.std.proofs.Common.{◌≡◌, ℕ, ◌+◌, ◌-◌, ◌<◌, ◌≤◌, ◌==◌, nat_le, Bool, true, false, not, ◌&&◌, if◌then◌else◌, min, max, Some, None, refl, sym, ap, arith, ◌∙◌}
-use Rattle.std.proofs.lemmas.Bool.{eqb-true, true≢false, false≢true}
-use Rattle.std.proofs.lemmas.Bool.Decides.{nat_tests}
+-- How many ticks more a phase takes to clear, and to have passed its red revert. Each is found of the phase as it is,
+-- by times that no plan in effect exceeds, and goes down by one in each tick. For the laws of called phases, of
+-- patterns and of preempts.
+use Rattle.std.proofs.Common.{◌≡◌, ℕ, ◌+◌, ◌-◌, ◌<◌, ◌≤◌, Bool, true, false, max, refl, sym, arith, ◌∙◌}
+use Rattle.std.proofs.lemmas.Bool.{true≢false, false≢true}
 use Rattle.tsb_step.specs.tsb_cells.declared.timer.Timer.{Timer}
 use Rattle.tsb_step.specs.tsb_cells.declared.timer.Timer.TheVariants.{Off, On}
-use Rattle.tsb_step.specs.tsb_cells.Timer.{advanced, has_reached}
+use Rattle.tsb_step.specs.tsb_cells.Timer.{advanced}
 use Rattle.tsb_step.specs.tsb_types.declared.interval.Interval.{Interval}
 use Rattle.tsb_step.specs.tsb_types.declared.interval.Interval.TheVariants.{Red, Green, Yellow, RedClear}
 use Rattle.tsb_step.specs.tsb_types.declared.interval.PedestrianInterval.{PedestrianInterval}
 use Rattle.tsb_step.specs.tsb_types.declared.interval.PedestrianInterval.TheVariants.{DontWalk, Walk, PedestrianClear}
 use Rattle.tsb_step.specs.tsb_types.declared.row.Row.{Row}
 use Rattle.tsb_step.specs.tsb_types.Intervals.{is_green, in_service}
-use Rattle.tsb_step.specs.tsb_plan.Parts.{preempt_minimum_green}
-use Rattle.tsb_step.specs.tsb_plan.Plan.{Plan, yellow_change, red_clear, red_revert, rests_in_walk}
-use Rattle.tsb_step.specs.tsb_phase.Phase.{Phase, Given}
-use Rattle.tsb_step.specs.tsb_phase.Green.{initial}
-use Rattle.tsb_step.specs.tsb_phase.Pedestrian.{ended_by, walk_time, clearance_time, is_resting_in_walk, walk_has_ended, clearance_has_ended, may_walk_again, pedestrian_after, pedestrian_now, pedestrian_timer_in}
-use Rattle.tsb_step.specs.tsb_phase.Ready.{yellow_is_done, is_ready, red_revert_passed}
+use Rattle.tsb_step.specs.tsb_plan.Plan.{yellow_change, red_clear, red_revert}
+use Rattle.tsb_step.specs.tsb_phase.Phase.{Phase}
+use Rattle.tsb_step.specs.tsb_phase.Ready.{yellow_is_done, red_revert_passed}
 use Rattle.tsb_step.specs.tsb_ring.Moves.{is_ended, is_cleared, is_started}
 use Rattle.tsb_step.specs.State.{State, interval}
-use Rattle.tsb_step.specs.Tick.{phases_given, phase_read, moves, over, reverted, ready, next}
+use Rattle.tsb_step.specs.Tick.{phase_read, moves, over, reverted, next}
 use Rattle.tsb_step.proofs.WaitedLemmas.{cleared_was_over}
 use Rattle.tsb_laws.proofs.safety.DueLemmas.{not_over_in_yellow, not_over_in_red_clear, not_lasted, not_reached}
 use Rattle.tsb_laws.proofs.safety.IntergreenLemmas.{over_in_yellow}
@@ -240,184 +236,3 @@ not_yet_reverted s p y r most e h = go (s.phases p).red_revert refl
         let soon : n + 1 < red_revert s.plan p = not_reached (n + 1) (red_revert s.plan p) (rw (e, k) at h) in
         let was : revert_left y r (s.phases p) ≡ past r (On n) = rw (e, k) refl in
         omega (arith, soon, was, most)
-
--- ## A green that a preempt ends
-
--- the preempt that ends a phase is in service
-served : (given : Given) (p n : ℕ) → ended_by given p ≡ Some n → given.service ≡ Some n
-served given p n ends = go (given.must_end p) ends
-  where
-    go : (b : Bool) → (if b then given.service else None) ≡ Some n → given.service ≡ Some n
-    go true h = h
-    go false h = absurd cc
-
-module _ (plan : Plan) (given : Given) (p n : ℕ) (w : Phase) (ends : ended_by given p ≡ Some n) where
-  does_not_rest : is_resting_in_walk plan given p ≡ false
-  does_not_rest = rw ends (go (rests_in_walk plan p) (not (given.conflict p)))
-    where
-      go : (a b : Bool) → (a && (b && false)) ≡ false
-      go true true = refl
-      go true false = refl
-      go false b = refl
-
-  -- while a preempt is in service no walk begins within a green
-  no_walk : may_walk_again given p w ≡ false
-  no_walk = rw (served given p n ends) (go (is_green w.interval) (given.recycle p) (given.pedestrian_call p) (not (w.forced && given.conflict p)))
-    where
-      go : (a b c d : Bool) → (a && (b && ((c && false) && d))) ≡ false
-      go false b c d = refl
-      go true false c d = refl
-      go true true false d = refl
-      go true true true d = refl
-
-  -- what a tick makes of the pedestrians, and how long they take then
-  walks_down : (a b : ℕ) → walk_time plan p (Some n) ≤ a → clearance_time plan p (Some n) ≤ b → (t : Timer) → w.pedestrian_timer ≡ advanced t →
-      (w.pedestrian ≡ Walk → Runs t) → (w.pedestrian ≡ PedestrianClear → Runs t) →
-      walking_in a b (pedestrian_timer_in w.pedestrian (pedestrian_now plan given p w) w.pedestrian_timer) (pedestrian_now plan given p w)
-      ≤ walking_in a b t w.pedestrian - 1
-  unfolding pedestrian_now
-  walks_down a b most_a most_b t read on_walk on_clear = go w.pedestrian refl
-    where
-      at : (x : PedestrianInterval) → w.pedestrian ≡ x → pedestrian_after plan given p w x ≡ pedestrian_after plan given p w w.pedestrian
-      at x e = ap (λ (y : PedestrianInterval). pedestrian_after plan given p w y) (sym e)
-
-      in_walk : w.pedestrian ≡ Walk → (h c : Bool) → walk_has_ended plan given p w ≡ h →
-          walking_in a b (pedestrian_timer_in Walk (if h then (if c then DontWalk else PedestrianClear) else Walk) w.pedestrian_timer)
-          (if h then (if c then DontWalk else PedestrianClear) else Walk) ≤ walking_in a b t Walk - 1
-      in_walk e true true k = omega arith
-      in_walk e true false k =
-          let run : Runs t = on_walk e in
-          let was : left a t ≡ left a (On run.count) = ap (λ (u : Timer). left a u) run.is in
-          omega (arith, was)
-      in_walk e false c k =
-          let run : Runs t = on_walk e in
-          let now : w.pedestrian_timer ≡ On (run.count + 1) = read ∙ ap advanced run.is in
-          let was : left a t ≡ left a (On run.count) = ap (λ (u : Timer). left a u) run.is in
-          let late : nat_le (walk_time plan p (Some n)) (run.count + 1) ≡ false =
-          not_both (nat_le (walk_time plan p (Some n)) (run.count + 1)) (rw (does_not_rest, now, ends) at k) in
-          let soon : run.count + 1 < walk_time plan p (Some n) = not_reached (run.count + 1) (walk_time plan p (Some n)) late in
-          rw now (omega (arith, was, soon, most_a))
-        where
-          not_both : (x : Bool) → (x && true) ≡ false → x ≡ false
-          not_both true z = absurd (true≢false z)
-          not_both false z = refl
-
-      in_clear : w.pedestrian ≡ PedestrianClear → (h : Bool) → clearance_has_ended plan given p w ≡ h →
-          walking_in a b (pedestrian_timer_in PedestrianClear (if h then DontWalk else PedestrianClear) w.pedestrian_timer)
-          (if h then DontWalk else PedestrianClear) ≤ walking_in a b t PedestrianClear - 1
-      in_clear e true k = omega arith
-      in_clear e false k =
-          let run : Runs t = on_clear e in
-          let now : w.pedestrian_timer ≡ On (run.count + 1) = read ∙ ap advanced run.is in
-          let was : left b t ≡ left b (On run.count) = ap (λ (u : Timer). left b u) run.is in
-          rw now (omega (arith, was))
-
-      go : (x : PedestrianInterval) → w.pedestrian ≡ x →
-          walking_in a b (pedestrian_timer_in w.pedestrian (pedestrian_after plan given p w w.pedestrian) w.pedestrian_timer)
-          (pedestrian_after plan given p w w.pedestrian) ≤ walking_in a b t w.pedestrian - 1
-      go DontWalk e = rw (e, no_walk) (omega arith)
-      go Walk e = rw e (in_walk e (walk_has_ended plan given p w) (clearance_time plan p (ended_by given p) == 0) refl)
-      go PedestrianClear e = rw e (in_clear e (clearance_has_ended plan given p w) refl)
-
-  -- where none is left, the pedestrians are in DontWalk now, and the green has lasted
-  walks_no_more : (a b : ℕ) → walk_time plan p (Some n) ≤ a → clearance_time plan p (Some n) ≤ b → (t : Timer) → w.pedestrian_timer ≡ advanced t →
-      (w.pedestrian ≡ Walk → Runs t) → (w.pedestrian ≡ PedestrianClear → Runs t) → walking_in a b t w.pedestrian ≡ 0 →
-      pedestrian_now plan given p w ≡ DontWalk
-  unfolding pedestrian_now
-  walks_no_more a b most_a most_b t read on_walk on_clear none = go w.pedestrian refl
-    where
-      in_walk : w.pedestrian ≡ Walk → pedestrian_after plan given p w Walk ≡ DontWalk
-      in_walk e =
-          let run : Runs t = on_walk e in
-          let now : w.pedestrian_timer ≡ On (run.count + 1) = read ∙ ap advanced run.is in
-          let zero : left a (On run.count) + b ≡ 0 = sym (ap (λ (u : Timer). left a u + b) run.is) ∙ (rw e at none) in
-          let ended : nat_le (walk_time plan p (Some n)) (run.count + 1) ≡ true = grind (arith, nat_tests, zero, most_a) in
-          let clear : (clearance_time plan p (Some n) == 0) ≡ true = grind (arith, nat_tests, zero, most_b) in
-          rw (does_not_rest, now, ends, ended, clear) refl
-
-      in_clear : w.pedestrian ≡ PedestrianClear → pedestrian_after plan given p w PedestrianClear ≡ DontWalk
-      in_clear e =
-          let run : Runs t = on_clear e in
-          let now : w.pedestrian_timer ≡ On (run.count + 1) = read ∙ ap advanced run.is in
-          let zero : left b (On run.count) ≡ 0 = sym (ap (λ (u : Timer). left b u) run.is) ∙ (rw e at none) in
-          let ended : nat_le (clearance_time plan p (Some n)) (run.count + 1) ≡ true = grind (arith, nat_tests, zero, most_b) in
-          rw (now, ends, ended) refl
-
-      go : (x : PedestrianInterval) → w.pedestrian ≡ x → pedestrian_after plan given p w w.pedestrian ≡ DontWalk
-      go DontWalk e = rw (e, no_walk) refl
-      go Walk e = rw e (in_walk e)
-      go PedestrianClear e = rw e (in_clear e)
-
-  lasted_enough : (g : ℕ) → preempt_minimum_green plan n ≤ g → (t : Timer) → w.timer ≡ advanced t → Runs t → left g t ≡ 0 →
-      has_reached w.timer (min (initial plan p (given.count p)) (preempt_minimum_green plan n)) ≡ true
-  lasted_enough g most t read run none =
-      let now : w.timer ≡ On (run.count + 1) = read ∙ ap advanced run.is in
-      let zero : left g (On run.count) ≡ 0 = sym (ap (λ (u : Timer). left g u) run.is) ∙ none in
-      let ended : nat_le (min (initial plan p (given.count p)) (preempt_minimum_green plan n)) (run.count + 1) ≡ true = grind (arith, nat_tests, zero, most) in
-      rw now ended
-
-  pub is_ready_then : (g a b : ℕ) → preempt_minimum_green plan n ≤ g → walk_time plan p (Some n) ≤ a → clearance_time plan p (Some n) ≤ b →
-      (t u : Timer) → w.timer ≡ advanced t → w.pedestrian_timer ≡ advanced u → Runs t → (w.pedestrian ≡ Walk → Runs u) → (w.pedestrian ≡ PedestrianClear → Runs u) →
-      is_green w.interval ≡ true → max (left g t) (walking_in a b u w.pedestrian) ≡ 0 → is_ready plan given p w ≡ true
-  unfolding is_ready
-  is_ready_then g a b most_g most_a most_b t u read_t read_u run on_walk on_clear green none =
-      let first : left g t ≡ 0 = omega (arith, none) in
-      let second : walking_in a b u w.pedestrian ≡ 0 = omega (arith, none) in
-      let still : pedestrian_now plan given p w ≡ DontWalk = walks_no_more a b most_a most_b u read_u on_walk on_clear second in
-      let long = lasted_enough g most_g t read_t run first in
-      rw (green, still, ends, long) refl
-
--- ## As the controller has it
-
--- a green that a preempt ends, and that does not end yet
-pub greens_down : (s : State) (row : Row) (p n g a b : ℕ) → ended_by (phases_given s row) p ≡ Some n → walk_time s.plan p (Some n) ≤ a →
-    clearance_time s.plan p (Some n) ≤ b → IsTimed (s.phases p) → interval s p ≡ Green → is_ended (moves s row) p ≡ false → is_started (moves s row) p ≡ false →
-    green_left g a b ((next s row).phases p) ≤ green_left g a b (s.phases p) - 1
-greens_down s row p n g a b ends most_a most_b timed e no_end no_start =
-    let run : Runs (s.phases p).timer = timed.green e in
-    let runs : ((next s row).phases p).timer ≡ On (run.count + 1) = rw (no_start, e, no_end, run.is) refl in
-    let first : left g ((next s row).phases p).timer ≡ left g (On (run.count + 1)) = ap (λ (t : Timer). left g t) runs in
-    let was : left g (s.phases p).timer ≡ left g (On run.count) = ap (λ (t : Timer). left g t) run.is in
-    let part : ((next s row).phases p).pedestrian ≡ pedestrian_now s.plan (phases_given s row) p (phase_read s p) = rw (no_start, e, no_end) refl in
-    let timer : ((next s row).phases p).pedestrian_timer
-    ≡ pedestrian_timer_in (s.phases p).pedestrian (pedestrian_now s.plan (phases_given s row) p (phase_read s p)) (phase_read s p).pedestrian_timer =
-    rw (no_start, e, no_end) refl in
-    let same : walking_in a b ((next s row).phases p).pedestrian_timer ((next s row).phases p).pedestrian
-    ≡ walking_in a b (pedestrian_timer_in (s.phases p).pedestrian (pedestrian_now s.plan (phases_given s row) p (phase_read s p)) (phase_read s p).pedestrian_timer)
-    (pedestrian_now s.plan (phases_given s row) p (phase_read s p)) =
-    ap (λ (t : Timer). walking_in a b t ((next s row).phases p).pedestrian) timer
-    ∙ ap (λ (x : PedestrianInterval). walking_in a b (pedestrian_timer_in (s.phases p).pedestrian (pedestrian_now s.plan (phases_given s row) p (phase_read s p)) (phase_read s p).pedestrian_timer) x) part in
-    let down = walks_down s.plan (phases_given s row) p n (phase_read s p) ends a b most_a most_b (s.phases p).pedestrian_timer refl timed.walk timed.clearance in
-    at_most (left g ((next s row).phases p).timer) (left g (s.phases p).timer)
-    (walking_in a b ((next s row).phases p).pedestrian_timer ((next s row).phases p).pedestrian)
-    (walking_in a b (s.phases p).pedestrian_timer (s.phases p).pedestrian) (omega (arith, first, was)) (omega (arith, same, down))
-  where
-    at_most : (i j k l : ℕ) → i ≤ j - 1 → k ≤ l - 1 → max i k ≤ max j l - 1
-    at_most i j k l h m = omega (arith, h, m)
-
--- one that is not ready has a tick left
-pub not_yet_ready : (s : State) (row : Row) (p n g a b : ℕ) → ended_by (phases_given s row) p ≡ Some n → preempt_minimum_green s.plan n ≤ g →
-    walk_time s.plan p (Some n) ≤ a → clearance_time s.plan p (Some n) ≤ b → IsTimed (s.phases p) → interval s p ≡ Green → ready s row p ≡ false →
-    1 ≤ green_left g a b (s.phases p)
-not_yet_ready s row p n g a b ends most_g most_a most_b timed e h = go (green_left g a b (s.phases p) == 0) refl
-  where
-    go : (z : Bool) → (green_left g a b (s.phases p) == 0) ≡ z → 1 ≤ green_left g a b (s.phases p)
-    go false k = grind (arith, nat_tests, k)
-    go true k =
-        let none : green_left g a b (s.phases p) ≡ 0 = eqb-true (green_left g a b (s.phases p)) 0 k in
-        absurd (true≢false (sym (is_ready_then s.plan (phases_given s row) p n (phase_read s p) ends g a b most_g most_a most_b (s.phases p).timer
-        (s.phases p).pedestrian_timer refl refl (timed.green e) timed.walk timed.clearance (ap is_green e) none) ∙ h))
-
--- a green that has just begun, without a walk
-pub begun_left : (x : Phase) (g a b : ℕ) → x.timer ≡ On 0 → x.pedestrian ≡ DontWalk → green_left g a b x ≤ g - 1
-begun_left x g a b e f = rw (e, f) (few (g - (0 + 1)) g refl)
-  where
-    few : (m k : ℕ) → m ≡ k - (0 + 1) → max m 0 ≤ k - 1
-    few m k h = omega (arith, h)
-
--- a clearance that has just begun
-pub cleared_left : (x : Phase) (y z : ℕ) → x.timer ≡ On 0 → x.interval ≡ Yellow → clearing_left y z x ≡ y - 1 + z
-cleared_left x y z e f = rw (f, e) (same y z)
-  where
-    same : (k l : ℕ) → k - (0 + 1) + l ≡ k - 1 + l
-    same k l = omega arith

@@ -1,20 +1,18 @@
--- Under a preempt only what it wants enters, and what rings were committed to before.
+-- Under a preempt only what it wants enters, and what rings were committed to before. Proves
+-- `preempts_let_in_their_own`.
 use Rattle.std.proofs.Common.{◌≡◌, ℕ, Bool, true, false, not, List, Option, Some, None, option_map, refl, sym, ap, subst, ◌∙◌, inl, inr, ◌⊎◌}
-use Rattle.std.proofs.lemmas.Bool.{and_parts, or_cases}
+use Rattle.std.proofs.lemmas.Bool.{and_parts}
 use Rattle.tsb_step.specs.tsb_types.declared.row.Row.{Row}
 use Rattle.tsb_step.specs.tsb_types.Lists.{is}
 use Rattle.tsb_step.specs.tsb_plan.Plan.{Plan, is_enabled}
 use Rattle.tsb_step.specs.tsb_preempt.Service.{Service, stage_phases}
 use Rattle.tsb_step.specs.tsb_preempt.Preempts as preempts
 use Rattle.tsb_step.specs.tsb_ring.Rings as rings
-use Rattle.tsb_step.specs.tsb_ring.Rings.{Ring, Ring1, Ring2, serving}
+use Rattle.tsb_step.specs.tsb_ring.Rings.{Ring}
 use Rattle.tsb_step.specs.tsb_ring.Wants.{is_targeted, pick}
-use Rattle.tsb_step.specs.tsb_ring.Next.{idle_pick, starting, new_commitment, next as rings_next}
-use Rattle.tsb_step.specs.tsb_ring.Moves as moving
+use Rattle.tsb_step.specs.tsb_ring.Next.{new_commitment, next as rings_next}
 use Rattle.tsb_step.specs.tsb_ring.Moves.{is_started}
 use Rattle.tsb_step.specs.tsb_ring.Laws.{IsSymmetric, IsPairwiseConcurrent}
-use Rattle.tsb_step.proofs.tsb_ring.ActLemmas.{starts_alone}
-use Rattle.tsb_step.proofs.tsb_ring.MoveLemmas.{is-Some}
 use Rattle.tsb_step.proofs.tsb_ring.SoundLemmas.{Commits, enters, stands, makes, commits, new_commits}
 use Rattle.tsb_step.specs.declared.inputs.Input.{Input}
 use Rattle.tsb_step.specs.declared.inputs.Input.TheVariants.{Tick}
@@ -30,6 +28,7 @@ use Rattle.tsb_step.proofs.GoodLemmas.{good_run}
 use Rattle.tsb_step.proofs.StandLemmas.{rings_then}
 use Rattle.tsb_laws.specs.PreemptEntries.{EntersByPreempt}
 use Rattle.tsb_laws.proofs.safety.IntergreenLemmas.{started_now}
+use Rattle.tsb_laws.proofs.operation.StartLemmas.{picked_or_bound}
 use Rattle.tsb_laws.proofs.operation.TargetLemmas.{picks_wanted, enters_wanted}
 
 -- the list of the preempt in service, in this tick
@@ -64,30 +63,8 @@ module _ (s : State) (row : Row) (good : IsGood s) (it : Asks s row) where
   picked : (r : Ring) (q : ℕ) → pick s.plan s.rings (rings_given s row) r ≡ Some q → must_end s row q ≡ false
   picked r q h = in_list q (picks_wanted s.plan s.rings (rings_given s row) it.list told r q h)
 
-  picks_in : (r : Ring) (q : ℕ) → s.rings.commitment r ≡ None → starting s.plan s.rings (rings_given s row) r ≡ Some q →
-      pick s.plan s.rings (rings_given s row) r ≡ Some q
-  unfolding starting
-  picks_in r q none h = go (serving s.plan (rings_given s row) r) (rw none at h)
-    where
-      go : (o : Option ℕ) → idle_pick o (pick s.plan s.rings (rings_given s row) r) ≡ Some q → pick s.plan s.rings (rings_given s row) r ≡ Some q
-      go None k = k
-      go (Some p) k = absurd cc
-
-  ring_starts : (r : Ring) (q : ℕ) → starting s.plan s.rings (rings_given s row) r ≡ Some q →
-      (must_end s row q ≡ false) ⊎ ((x : Ring) × (s.rings.commitment x ≡ Some q))
-  ring_starts r q h = go (s.rings.commitment r) refl
-    where
-      go : (o : Option ℕ) → s.rings.commitment r ≡ o → (must_end s row q ≡ false) ⊎ ((x : Ring) × (s.rings.commitment x ≡ Some q))
-      go None e = inl (picked r q (picks_in r q e h))
-      go (Some c) e = let same : q ≡ c = starts_alone s.plan s.rings (rings_given s row) r c q e h in inr (r, e ∙ ap Some (sym same))
-
   pub starts_own : (q : ℕ) → is_started (moves s row) q ≡ true → (must_end s row q ≡ false) ⊎ ((x : Ring) × (s.rings.commitment x ≡ Some q))
-  unfolding moves moving.moves
-  starts_own q h =
-      elim (or_cases (is q (starting s.plan s.rings (rings_given s row) Ring1)) (is q (starting s.plan s.rings (rings_given s row) Ring2)) h) [
-        | inl k ↦ ring_starts Ring1 q (is-Some q (starting s.plan s.rings (rings_given s row) Ring1) k)
-        | inr k ↦ ring_starts Ring2 q (is-Some q (starting s.plan s.rings (rings_given s row) Ring2) k)
-      ]
+  starts_own q h = picked_or_bound s row (λ x. must_end s row x ≡ false) picked q h
 
   even : IsSymmetric s.plan
   even = symmetric s.plan good.plan.rules

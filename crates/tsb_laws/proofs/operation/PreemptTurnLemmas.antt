@@ -1,4 +1,5 @@
--- A preempt in service goes on through its stages, or gives way to a lower one or to its own new request.
+-- A preempt in service goes on through its stages, or gives way to a lower one or to its own new request. Proves
+-- `preempts_give_way`.
 use Rattle.std.proofs.Common.{◌≡◌, ℕ, ◌+◌, ◌<◌, ◌≤◌, ◌==◌, nat_lt, Bool, true, false, ◌&&◌, if◌then◌else◌, Option, Some, None, is_some, refl, sym, ap, arith, ◌∙◌, inl, inr, ◌⊎◌}
 use Rattle.std.proofs.lemmas.Bool.{and_parts, or_cases, eqb-true, true≢false, false≢true}
 use Rattle.std.proofs.lemmas.Bool.Decides.{nat_tests}

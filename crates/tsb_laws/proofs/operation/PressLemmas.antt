@@ -1,5 +1,5 @@
--- What one tick makes of a green that a preempt does not want: once it is ready it ends, or waits for a crossing; and what
--- keeps the crossing from beginning.
+-- What one tick makes of a green that a preempt does not want: once it is ready it ends, or waits for a crossing; and
+-- what keeps the crossing from beginning. For `unwanted_greens_end`.
 use Rattle.std.proofs.Common.{◌≡◌, ℕ, Bool, true, false, not, ◌&&◌, ◌||◌, if◌then◌else◌, Option, Some, None, is_none, refl, sym, ap, ◌∙◌, inl, inr, ◌⊎◌}
 use Rattle.std.proofs.lemmas.Bool.{and_parts, eq-eqb, eqb-true, true≢false, false≢true, false_from_ne_true, or_right}
 use Rattle.tsb_step.specs.tsb_types.declared.interval.Interval.{Interval}

@@ -1,13 +1,13 @@
 -- How many ticks more a green takes until it may end, in free operation and with no preempt in service, where it has a
--- conflict in each tick: found of the phase as it stands, and one less after each tick.
-use Rattle.std.proofs.Common.{◌≡◌, ℕ, ◌+◌, ◌-◌, ◌*◌, ◌<◌, ◌≤◌, ◌==◌, nat_le, Bool, true, false, not, ◌&&◌, ◌||◌, if◌then◌else◌, min, max, Option, Some, None, is_none, refl, sym, ap, arith, ◌∙◌}
+-- conflict in each tick: found of the phase as it stands, and one less after each tick. For `pressed_greens_may_end`,
+-- `called_phases_are_served` and the laws of greens in patterns.
+use Rattle.std.proofs.Common.{◌≡◌, ℕ, ◌+◌, ◌-◌, ◌*◌, ◌≤◌, ◌==◌, nat_le, Bool, true, false, not, ◌&&◌, ◌||◌, if◌then◌else◌, min, max, Option, Some, None, is_none, refl, sym, ap, arith, ◌∙◌}
 use Rattle.std.proofs.lemmas.Bool.{and_parts, eqb-true, true≢false, false≢true}
 use Rattle.std.proofs.lemmas.Bool.Decides.{nat_tests}
 use Rattle.tsb_step.specs.tsb_cells.declared.timer.Timer.{Timer}
 use Rattle.tsb_step.specs.tsb_cells.declared.timer.Timer.TheVariants.{Off, On}
 use Rattle.tsb_step.specs.tsb_cells.Timer.{advanced, started, has_reached}
 use Rattle.tsb_step.specs.tsb_types.declared.interval.Interval.TheVariants.{Green}
-use Rattle.tsb_step.specs.tsb_types.declared.interval.PedestrianInterval.{PedestrianInterval}
 use Rattle.tsb_step.specs.tsb_types.declared.interval.PedestrianInterval.TheVariants.{DontWalk, Walk, PedestrianClear}
 use Rattle.tsb_step.specs.tsb_types.declared.row.Row.{Row}
 use Rattle.tsb_step.specs.tsb_types.Intervals.{is_green, is_dont_walk}
@@ -17,14 +17,14 @@ use Rattle.tsb_step.specs.tsb_plan.Plan.{Plan, maximum, has_variable_initial, mi
 use Rattle.tsb_step.specs.tsb_phase.DynamicMaximum.{is_dynamic, highest_maximum, effective_maximum, maximum_in_use}
 use Rattle.tsb_step.specs.tsb_phase.Phase.{Phase, Given, held_of}
 use Rattle.tsb_step.specs.tsb_phase.Green.{initial, has_maxed_out, is_gapped, is_by_gap, forced_latch}
-use Rattle.tsb_step.specs.tsb_phase.Pedestrian.{ended_by, clearance_time, is_resting_in_walk, walk_has_ended, clearance_has_ended, may_walk_again, pedestrian_after, pedestrian_now, walks_again, pedestrian_timer_in}
+use Rattle.tsb_step.specs.tsb_phase.Pedestrian.{ended_by, is_resting_in_walk, pedestrian_now, walks_again}
 use Rattle.tsb_step.specs.tsb_phase.Ready.{has_timed_out, is_ready}
 use Rattle.tsb_step.specs.tsb_ring.Moves.{is_ended, is_started}
 use Rattle.tsb_step.specs.State.{State, interval}
 use Rattle.tsb_step.specs.Tick.{service, runs, recycle, conflict, phases_given, phase_read, moves, ready, next}
 use Rattle.tsb_laws.specs.ServedCalls.{is_free, longest_maximum, longest_initial}
-use Rattle.tsb_laws.proofs.safety.DueLemmas.{not_reached}
 use Rattle.tsb_laws.proofs.operation.PhaseTimeLemmas.{left, walking_in, Runs, IsTimed}
+use Rattle.tsb_laws.proofs.operation.WalkTimeLemmas.{stays_dark, walks_down, walks_no_more, walk_then}
 use Rattle.tsb_step.proofs.EventLemmas.{none-of}
 
 -- the ticks in which a green will not be ready: m and i are its longest maximum and initial, a and b its walk and its
@@ -73,86 +73,6 @@ rests_not plan given p busy = rw busy (go (rests_in_walk plan p))
     go true = refl
     go false = refl
 
--- a phase in DontWalk of which no walk begins within its green stays so
-pub stays_dark : (given : Given) (p : ℕ) (w : Phase) → walks_again given p w ≡ false → w.pedestrian ≡ DontWalk → may_walk_again given p w ≡ false
-stays_dark given p w again e = rw e at again
-
-module _ (plan : Plan) (given : Given) (p : ℕ) (w : Phase) (ends : ended_by given p ≡ None) (does_not_rest : is_resting_in_walk plan given p ≡ false)
-    (again : walks_again given p w ≡ false) where
-  -- what a tick makes of the pedestrians, and how long they take then
-  pub walks_down : (a b : ℕ) → walk plan p ≤ a → pedestrian_clear plan p ≤ b → (t : Timer) → w.pedestrian_timer ≡ advanced t →
-      (w.pedestrian ≡ Walk → Runs t) → (w.pedestrian ≡ PedestrianClear → Runs t) →
-      walking_in a b (pedestrian_timer_in w.pedestrian (pedestrian_now plan given p w) w.pedestrian_timer) (pedestrian_now plan given p w)
-      ≤ walking_in a b t w.pedestrian - 1
-  unfolding pedestrian_now
-  walks_down a b most_a most_b t read on_walk on_clear = go w.pedestrian refl
-    where
-      in_walk : w.pedestrian ≡ Walk → (h c : Bool) → walk_has_ended plan given p w ≡ h →
-          walking_in a b (pedestrian_timer_in Walk (if h then (if c then DontWalk else PedestrianClear) else Walk) w.pedestrian_timer)
-          (if h then (if c then DontWalk else PedestrianClear) else Walk) ≤ walking_in a b t Walk - 1
-      in_walk e true true k = omega arith
-      in_walk e true false k =
-          let run : Runs t = on_walk e in
-          let was : left a t ≡ left a (On run.count) = ap (λ (u : Timer). left a u) run.is in
-          omega (arith, was)
-      in_walk e false c k =
-          let run : Runs t = on_walk e in
-          let now : w.pedestrian_timer ≡ On (run.count + 1) = read ∙ ap advanced run.is in
-          let was : left a t ≡ left a (On run.count) = ap (λ (u : Timer). left a u) run.is in
-          let late : nat_le (walk plan p) (run.count + 1) ≡ false = not_both (nat_le (walk plan p) (run.count + 1)) (rw (does_not_rest, now, ends) at k) in
-          let soon : run.count + 1 < walk plan p = not_reached (run.count + 1) (walk plan p) late in
-          rw now (omega (arith, was, soon, most_a))
-        where
-          not_both : (x : Bool) → (x && true) ≡ false → x ≡ false
-          not_both true z = absurd (true≢false z)
-          not_both false z = refl
-
-      in_clear : w.pedestrian ≡ PedestrianClear → (h : Bool) → clearance_has_ended plan given p w ≡ h →
-          walking_in a b (pedestrian_timer_in PedestrianClear (if h then DontWalk else PedestrianClear) w.pedestrian_timer)
-          (if h then DontWalk else PedestrianClear) ≤ walking_in a b t PedestrianClear - 1
-      in_clear e true k = omega arith
-      in_clear e false k =
-          let run : Runs t = on_clear e in
-          let now : w.pedestrian_timer ≡ On (run.count + 1) = read ∙ ap advanced run.is in
-          let was : left b t ≡ left b (On run.count) = ap (λ (u : Timer). left b u) run.is in
-          rw now (omega (arith, was))
-
-      go : (x : PedestrianInterval) → w.pedestrian ≡ x →
-          walking_in a b (pedestrian_timer_in w.pedestrian (pedestrian_after plan given p w w.pedestrian) w.pedestrian_timer)
-          (pedestrian_after plan given p w w.pedestrian) ≤ walking_in a b t w.pedestrian - 1
-      go DontWalk e = let dark = stays_dark given p w again e in rw (e, dark) (omega arith)
-      go Walk e = rw e (in_walk e (walk_has_ended plan given p w) (clearance_time plan p (ended_by given p) == 0) refl)
-      go PedestrianClear e = rw e (in_clear e (clearance_has_ended plan given p w) refl)
-
-  -- where none is left, the pedestrians are in DontWalk now
-  pub walks_no_more : (a b : ℕ) → walk plan p ≤ a → pedestrian_clear plan p ≤ b → (t : Timer) → w.pedestrian_timer ≡ advanced t →
-      (w.pedestrian ≡ Walk → Runs t) → (w.pedestrian ≡ PedestrianClear → Runs t) → walking_in a b t w.pedestrian ≡ 0 →
-      pedestrian_now plan given p w ≡ DontWalk
-  unfolding pedestrian_now
-  walks_no_more a b most_a most_b t read on_walk on_clear none = go w.pedestrian refl
-    where
-      in_walk : w.pedestrian ≡ Walk → pedestrian_after plan given p w Walk ≡ DontWalk
-      in_walk e =
-          let run : Runs t = on_walk e in
-          let now : w.pedestrian_timer ≡ On (run.count + 1) = read ∙ ap advanced run.is in
-          let zero : left a (On run.count) + b ≡ 0 = sym (ap (λ (u : Timer). left a u + b) run.is) ∙ (rw e at none) in
-          let ended : nat_le (walk plan p) (run.count + 1) ≡ true = grind (arith, nat_tests, zero, most_a) in
-          let clear : (pedestrian_clear plan p == 0) ≡ true = grind (arith, nat_tests, zero, most_b) in
-          rw (does_not_rest, now, ends, ended, clear) refl
-
-      in_clear : w.pedestrian ≡ PedestrianClear → pedestrian_after plan given p w PedestrianClear ≡ DontWalk
-      in_clear e =
-          let run : Runs t = on_clear e in
-          let now : w.pedestrian_timer ≡ On (run.count + 1) = read ∙ ap advanced run.is in
-          let zero : left b (On run.count) ≡ 0 = sym (ap (λ (u : Timer). left b u) run.is) ∙ (rw e at none) in
-          let ended : nat_le (pedestrian_clear plan p) (run.count + 1) ≡ true = grind (arith, nat_tests, zero, most_b) in
-          rw (now, ends, ended) refl
-
-      go : (x : PedestrianInterval) → w.pedestrian ≡ x → pedestrian_after plan given p w w.pedestrian ≡ DontWalk
-      go DontWalk e = let dark = stays_dark given p w again e in rw (e, dark) refl
-      go Walk e = rw e (in_walk e)
-      go PedestrianClear e = rw e (in_clear e)
-
 -- ## Its green
 
 module _ (plan : Plan) (given : Given) (p : ℕ) (w : Phase) (ends : ended_by given p ≡ None) (busy : given.conflict p ≡ true)
@@ -185,7 +105,7 @@ module _ (plan : Plan) (given : Given) (p : ℕ) (w : Phase) (ends : ended_by gi
       let second : left i t ≡ 0 = omega (arith, none) in
       let third : walking_in a b u w.pedestrian ≡ 0 = omega (arith, none) in
       let still : pedestrian_now plan given p w ≡ DontWalk =
-      walks_no_more plan given p w ends (rests_not plan given p busy) again a b most_a most_b u read_u on_walk on_clear third in
+      walks_no_more plan given p w None ends (rests_not plan given p busy) (stays_dark given p w again) a b most_a most_b u read_u on_walk on_clear third in
       let out : has_maxed_out plan given p (held_of w) w.running_maximum ≡ true = maxed_out m most_m free s read_s first in
       let now : w.timer ≡ On (run.count + 1) = read_t ∙ ap advanced run.is in
       let zero : left i (On run.count) ≡ 0 = sym (ap (λ (x : Timer). left i x) run.is) ∙ second in
@@ -239,16 +159,9 @@ module _ (s : State) (row : Row) (p : ℕ) (on : is_phase p ≡ true) (pressed :
       let ticks : ((next s row).phases p).timer ≡ On (run.count + 1) = rw (no_start, e, no_end, run.is) refl in
       let first : left i ((next s row).phases p).timer ≡ left i (On (run.count + 1)) = ap (λ (t : Timer). left i t) ticks in
       let was : left i (s.phases p).timer ≡ left i (On run.count) = ap (λ (t : Timer). left i t) run.is in
-      let part : ((next s row).phases p).pedestrian ≡ pedestrian_now s.plan (phases_given s row) p (phase_read s p) = rw (no_start, e, no_end) refl in
-      let timer : ((next s row).phases p).pedestrian_timer
-      ≡ pedestrian_timer_in (s.phases p).pedestrian (pedestrian_now s.plan (phases_given s row) p (phase_read s p)) (phase_read s p).pedestrian_timer =
-      rw (no_start, e, no_end) refl in
-      let same : walking_in a b ((next s row).phases p).pedestrian_timer ((next s row).phases p).pedestrian
-      ≡ walking_in a b (pedestrian_timer_in (s.phases p).pedestrian (pedestrian_now s.plan (phases_given s row) p (phase_read s p)) (phase_read s p).pedestrian_timer)
-      (pedestrian_now s.plan (phases_given s row) p (phase_read s p)) =
-      ap (λ (t : Timer). walking_in a b t ((next s row).phases p).pedestrian) timer
-      ∙ ap (λ (x : PedestrianInterval). walking_in a b (pedestrian_timer_in (s.phases p).pedestrian (pedestrian_now s.plan (phases_given s row) p (phase_read s p)) (phase_read s p).pedestrian_timer) x) part in
-      let down = walks_down s.plan (phases_given s row) p (phase_read s p) ends_by_none (rests_not s.plan (phases_given s row) p busy_told) again a b most_a most_b (s.phases p).pedestrian_timer refl
+      let same = walk_then s row p e no_end no_start a b in
+      let down = walks_down s.plan (phases_given s row) p (phase_read s p) None ends_by_none (rests_not s.plan (phases_given s row) p busy_told)
+      (stays_dark (phases_given s row) p (phase_read s p) again) a b most_a most_b (s.phases p).pedestrian_timer refl
       timed.walk timed.clearance in
       at_most (left m ((next s row).phases p).conflict) (left m (s.phases p).conflict)
       (left i ((next s row).phases p).timer) (left i (s.phases p).timer)

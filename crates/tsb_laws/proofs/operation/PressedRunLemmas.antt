@@ -1,4 +1,5 @@
--- A green that has had a conflict for long enough may end: along a run, over inputs of every kind.
+-- A green that has had a conflict for long enough may end: along a run, over inputs of every kind. Proves
+-- `pressed_greens_may_end`.
 use Rattle.std.proofs.Common.{◌≡◌, ℕ, ◌+◌, ◌-◌, ◌≤◌, Bool, true, false, ◌&&◌, if◌then◌else◌, List, [], ◌∷◌, ◌++◌, None, is_some, refl, sym, ap, arith, ◌∙◌, inl, inr}
 use Rattle.std.proofs.lemmas.Bool.{cases_Bool, and_parts, true≢false}
 use Rattle.std.proofs.lemmas.Bool.Decides.{nat_tests}

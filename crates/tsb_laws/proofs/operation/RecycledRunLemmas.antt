@@ -1,5 +1,6 @@
 -- When a phase walks again within its green; and such a walk in a run: until its phase is forced off it stays Green,
--- and its walk and its pedestrian clearance are over by then.
+-- and its walk and its pedestrian clearance are over by then. Proves `recycled_calls_walk` and
+-- `recycled_walks_end_in_time`.
 use Rattle.std.proofs.Common.{◌≡◌, ℕ, ◌+◌, ◌-◌, ◌<◌, ◌≤◌, Bool, true, false, not, ◌&&◌, ◌||◌, if◌then◌else◌, List, [], ◌∷◌, ◌++◌, Option, Some, None, is_some, is_none, refl, sym, ap, arith, ◌∙◌, inl, inr}
 use Rattle.std.proofs.lemmas.Bool.{and_parts, and_from, cases_Bool, true≢false, false≢true}
 use Rattle.tsb_step.specs.tsb_cells.declared.timer.Timer.{Timer}
@@ -45,7 +46,7 @@ use Rattle.tsb_laws.proofs.safety.DueLemmas.{count_run}
 use Rattle.tsb_laws.proofs.safety.CoordinationLemmas.{ended_by_none}
 use Rattle.tsb_laws.proofs.operation.TickLemmas.{memories_then, phases_rest}
 use Rattle.tsb_laws.proofs.operation.PhaseTimeLemmas.{walking_in, IsTimed}
-use Rattle.tsb_laws.proofs.operation.PressedGreenLemmas.{walks_down, walks_no_more}
+use Rattle.tsb_laws.proofs.operation.WalkTimeLemmas.{stays_dark, walks_down, walks_no_more}
 use Rattle.tsb_laws.proofs.operation.PressedRunLemmas.{timed_run, is_one}
 use Rattle.tsb_laws.proofs.operation.CoordinatedCallLemmas.{held_runs}
 use Rattle.tsb_laws.proofs.operation.InStepLemmas.{same_forces}
@@ -323,8 +324,8 @@ module _ (s : State) (row : Row) (p : ℕ) (good : IsGood s) (few : s.plan.phase
           go true again =
               begun_takes s row p good few dark it.green it.held free.quiet (still_unforced it) not_now (again_parts s row p again) f (omega (arith, later)) comes
           go false again =
-              let less = walks_down s.plan (phases_given s row) p (phase_read s p) (ends_by_none s row p good few dark it.green it.held free.quiet (still_unforced it) not_now)
-              (awake_told s row p (green_on s row p good few it.green) free.awake) again (walk s.plan p) (pedestrian_clear s.plan p) (omega arith) (omega arith)
+              let less = walks_down s.plan (phases_given s row) p (phase_read s p) None (ends_by_none s row p good few dark it.green it.held free.quiet (still_unforced it) not_now)
+              (awake_told s row p (green_on s row p good few it.green) free.awake) (stays_dark (phases_given s row) p (phase_read s p) again) (walk s.plan p) (pedestrian_clear s.plan p) (omega arith) (omega arith)
               (s.phases p).pedestrian_timer refl timed.walk timed.clearance in
               let was = it.over f (omega (arith, later)) comes in
               omega (arith, less, was)
@@ -355,7 +356,7 @@ module _ (s : State) (row : Row) (p : ℕ) (good : IsGood s) (few : s.plan.phase
 
       still : pedestrian_now s.plan (phases_given s row) p (phase_read s p) ≡ DontWalk
       still =
-          walks_no_more s.plan (phases_given s row) p (phase_read s p) ends (awake_told s row p on free.awake) none_again (walk s.plan p) (pedestrian_clear s.plan p)
+          walks_no_more s.plan (phases_given s row) p (phase_read s p) None ends (awake_told s row p on free.awake) (stays_dark (phases_given s row) p (phase_read s p) none_again) (walk s.plan p) (pedestrian_clear s.plan p)
           (omega arith) (omega arith) (s.phases p).pedestrian_timer refl timed.walk timed.clearance
           (let was = it.over (s.now + 1) (omega arith) comes in omega (arith, was))
 

@@ -1,5 +1,5 @@
 -- A tick in which a walk begins within a green, by pedestrian recycle: what it has found, and what it makes of the
--- phase.
+-- phase. For `recycled_calls_walk` and `recycled_walks_end_in_time`.
 use Rattle.std.proofs.Common.{◌≡◌, ℕ, ◌≤◌, nat_le, Bool, true, false, not, ◌&&◌, ◌||◌, None, is_none, refl, sym, ap, arith, ◌∙◌, inl, inr}
 use Rattle.std.proofs.lemmas.Bool.{and_parts, cases_Bool, true≢false}
 use Rattle.std.proofs.lemmas.Bool.Decides.{nat_tests}

@@ -1,29 +1,30 @@
--- The place to which a ring has come in its order, and how many ticks more it takes there until it may go on: in a pattern
--- and in free operation, by whatever bounds a green.
-use Rattle.std.proofs.Common.{◌≡◌, ◌≢◌, ℕ, ◌+◌, ◌*◌, ◌≤◌, ◌==◌, Bool, true, false, ◌&&◌, ◌||◌, if◌then◌else◌, List, [], ◌∷◌, Option, Some, None, refl, inl, inr, ◌⊎◌, arith}
+-- The place to which a ring has come in its order, and how many ticks more it takes there until it may go on, by
+-- whatever bounds a green. For the laws that called phases are served, in free operation and in patterns.
+use Rattle.std.proofs.Common.{◌≡◌, ◌≢◌, ℕ, ◌+◌, ◌*◌, ◌≤◌, ◌==◌, Bool, true, false, ◌&&◌, if◌then◌else◌, List, [], ◌∷◌, Option, Some, None, refl, inl, inr, ◌⊎◌, arith}
 use Rattle.std.proofs.lemmas.Bool.{cases_Bool, and_parts, eqb-true, false≢true}
 use Rattle.tsb_step.specs.tsb_types.declared.interval.Interval.TheVariants.{Green}
 use Rattle.tsb_step.specs.tsb_types.Intervals.{is_green, in_service}
-use Rattle.tsb_step.specs.tsb_types.Lists.{first, among, after, up_to, later, not_later}
+use Rattle.tsb_step.specs.tsb_types.Lists.{first, among, after, up_to, later, not_later, or_else}
 use Rattle.tsb_step.specs.tsb_plan.Plan.{Plan, phases, yellow_change, red_clear, red_revert}
 use Rattle.tsb_step.specs.tsb_rules.SequenceRules.{lists_once}
 use Rattle.tsb_step.specs.tsb_coord.declared.correction.Correction.{Correction}
+use Rattle.tsb_step.specs.tsb_coord.Correction.{in_step}
 use Rattle.tsb_step.specs.tsb_coord.Coordinated.{serving_order}
 use Rattle.tsb_step.specs.tsb_phase.Phase.{Phase}
 use Rattle.tsb_step.specs.tsb_ring.Rings as rings
 use Rattle.tsb_step.specs.tsb_ring.Rings.{Ring, number, in_ring}
 use Rattle.tsb_step.specs.tsb_ring.Wants.{is_on_side}
 use Rattle.tsb_step.proofs.tsb_ring.WaitLemmas.{first-passes}
+use Rattle.tsb_step.proofs.tsb_ring.WantLemmas.{up_to-among}
 use Rattle.tsb_step.proofs.TellLemmas.{is_in_green}
 use Rattle.tsb_step.proofs.tsb_phase.ReadLemmas.{is-red}
 use Rattle.tsb_step.specs.State.{State, interval}
 use Rattle.tsb_step.specs.Good.{IsGood}
 use Rattle.tsb_laws.specs.CrossingGreens.{IsCalm}
-use Rattle.tsb_laws.specs.CoordinatedGreens.{times_on}
+use Rattle.tsb_laws.specs.ServedCalls.{times_on, place}
 use Rattle.tsb_laws.proofs.safety.SideSoughtLemmas.{none_first}
 use Rattle.tsb_laws.proofs.operation.TurnListLemmas.{after_later, first_before}
-use Rattle.tsb_laws.proofs.operation.TurnStepLemmas.{clear_left, back_left, clear_most, back_most}
-use Rattle.tsb_laws.proofs.operation.BarrierLemmas.{back_all}
+use Rattle.tsb_laws.proofs.operation.PhaseLeftLemmas.{clear_left, back_left, clear_most, back_most, back_all}
 
 -- ## What is seen of a state
 
@@ -36,8 +37,16 @@ pub record View : Type 0 where
   pub pattern : Option ℕ
   pub correction : Correction
 
-abbrev pub view : State → View
-view s = record { plan = s.plan; rings = s.rings; phases = s.phases; now = s.now; pattern = s.pattern; correction = s.correction }
+-- in free operation it is without what patterns leave: forced latches, the pattern that is selected, and its local counter
+abbrev pub view : Bool → State → View
+view free s = record {
+  plan = s.plan;
+  rings = s.rings;
+  phases = λ p. record (s.phases p) { forced = if free then false else (s.phases p).forced };
+  now = if free then 0 else s.now;
+  pattern = if free then None else s.pattern;
+  correction = if free then in_step else s.correction;
+}
 
 -- the order of a ring by the sequence in effect
 abbrev pub order_of : View → Ring → List ℕ
@@ -97,39 +106,52 @@ module _ (longest : ℕ → ℕ) (Lasts : View → ℕ → ℕ → Type 0) where
         is_green (v.phases p).interval ≡ false → ((x : ℕ) → in_ring v.plan r x ≡ true → clear_left v.plan x (v.phases x) + 1 ≤ m) →
         ((x : ℕ) → in_ring v.plan r x ≡ true → back_left v.plan x (v.phases x) ≤ m) → m ≤ u → IsNear v r o u
 
+  -- what may go on in so long may go on in longer
+  longer : (v : View) (r : Ring) (o : Option ℕ) (u w : ℕ) → u ≤ w → IsAt v r o u → IsAt v r o w
+  longer v r o u w more (bound_to c m e same clears reverts all) = bound_to c m e same clears reverts (omega (arith, more, all))
+  longer v r o u w more (in_green p n e same own green lasts all) = in_green p n e same own green lasts (omega (arith, more, all))
+  longer v r o u w more (at_rest m e same dark reverts all) = at_rest m e same dark reverts (omega (arith, more, all))
+
   -- ## As it is at any moment outside a crossing
 
-  module _ (s : State) (r : Ring) (k h : ℕ) (good : IsGood s) (calm : IsCalm s.plan (interval s) s.rings) (clears : (p : ℕ) → yellow_change s.plan p + red_clear s.plan p ≤ k)
-      (reverts : (p : ℕ) → red_revert s.plan p ≤ k) (most : (p : ℕ) → longest p ≤ h) (greens : (p : ℕ) → interval s p ≡ Green → Lasts (view s) p (longest p))
+  module _ (free : Bool) (s : State) (r : Ring) (k h : ℕ) (good : IsGood s) (calm : IsCalm s.plan (interval s) s.rings) (clears : (p : ℕ) → yellow_change s.plan p + red_clear s.plan p ≤ k)
+      (reverts : (p : ℕ) → red_revert s.plan p ≤ k) (most : (p : ℕ) → longest p ≤ h) (greens : (p : ℕ) → interval s p ≡ Green → Lasts (view free s) p (longest p))
       (outside : s.rings.crossing ≡ None) where
+    -- it is at its place, or clears with no commitment
+    pub data Stands (o : Option ℕ) : Type 0 where
+      stands_at : IsAt (view free s) r o (h + k + 1) → Stands o
+      stands_clearing : (p : ℕ) → s.rings.commitment r ≡ None → in_ring s.plan r p ≡ true → in_service (interval s p) ≡ true → is_green (interval s p) ≡ false →
+          IsNear (view free s) r o (h + 2 * k + 1) → Stands o
+
     clear_now : (p : ℕ) → clear_left s.plan p (s.phases p) ≤ k
     clear_now p = let at_most = clear_most s.plan p (s.phases p) in let limit = clears p in omega (arith, at_most, limit)
 
     back_now : (p : ℕ) → in_service (interval s p) ≡ false → back_left s.plan p (s.phases p) ≤ k
     back_now p dark = let at_most = back_most s.plan p (s.phases p) (is-red (interval s p) dark) in let limit = reverts p in omega (arith, at_most, limit)
 
-    at_promise : (c : ℕ) → s.rings.commitment r ≡ Some c → IsNear (view s) r (Some c) (h + 2 * k + 1)
-    at_promise c e = settled (bound_to c k e refl (λ p own. clear_now p) (back_now c (calm.fresh outside r c e)) (let limit = most c in omega (arith, limit)))
+    at_promise : (c : ℕ) → s.rings.commitment r ≡ Some c → Stands (Some c)
+    at_promise c e = stands_at (bound_to c k e refl (λ p own. clear_now p) (back_now c (calm.fresh outside r c e)) (let limit = most c in omega (arith, limit)))
 
     by_interval : (p : ℕ) → s.rings.commitment r ≡ None → in_ring s.plan r p ≡ true → in_service (interval s p) ≡ true → (b : Bool) → is_green (interval s p) ≡ b →
-        IsNear (view s) r (s.rings.last r) (h + 2 * k + 1)
+        Stands (s.rings.last r)
     by_interval p e own serves true g =
         let green : interval s p ≡ Green = is_in_green (interval s p) g in
-        settled (in_green p (longest p) e refl own green (greens p green) (let limit = most p in omega (arith, limit)))
+        stands_at (in_green p (longest p) e refl own green (greens p green) (let limit = most p in omega (arith, limit)))
     by_interval p e own serves false g =
-        clearing_out p (2 * k + 1) e refl own serves g
+        stands_clearing p e own serves g
+        (clearing_out p (2 * k + 1) e refl own serves g
         (λ x own_x. (let at_most = clear_now x in omega (arith, at_most)))
         (λ x own_x. (let at_most = back_all s.plan x k (s.phases x) (clears x) (reverts x) in omega (arith, at_most)))
-        (omega arith)
+        (omega arith))
 
-    at_last : s.rings.commitment r ≡ None → IsNear (view s) r (s.rings.last r) (h + 2 * k + 1)
+    at_last : s.rings.commitment r ≡ None → Stands (s.rings.last r)
     at_last e = go (first test (phases s.plan)) refl
       where
         test : ℕ → Bool
         test = λ p. in_ring s.plan r p && in_service (interval s p)
 
-        go : (o : Option ℕ) → first test (phases s.plan) ≡ o → IsNear (view s) r (s.rings.last r) (h + 2 * k + 1)
-        go None f = settled (at_rest k e refl none (λ p own. back_now p (none p own)) (omega arith))
+        go : (o : Option ℕ) → first test (phases s.plan) ≡ o → Stands (s.rings.last r)
+        go None f = stands_at (at_rest k e refl none (λ p own. back_now p (none p own)) (omega arith))
           where
             none : (p : ℕ) → in_ring s.plan r p ≡ true → in_service (interval s p) ≡ false
             none p own =
@@ -141,28 +163,26 @@ module _ (longest : ℕ → ℕ) (Lasts : View → ℕ → ℕ → Type 0) where
             let both = and_parts (in_ring s.plan r p) (in_service (interval s p)) (first-passes test (phases s.plan) p f) in
             by_interval p e both.0 both.1 (is_green (interval s p)) refl
 
-    -- it has come to some place, and may go on in that time
-    pub at_some_place : (o : Option ℕ) × IsNear (view s) r o (h + 2 * k + 1)
-    at_some_place = go (s.rings.commitment r) refl
+    pub stands_now : Stands (place s r)
+    stands_now = go (s.rings.commitment r) refl
       where
-        go : (o : Option ℕ) → s.rings.commitment r ≡ o → (o : Option ℕ) × IsNear (view s) r o (h + 2 * k + 1)
-        go None e = (s.rings.last r, at_last e)
-        go (Some c) e = (Some c, at_promise c e)
+        go : (o : Option ℕ) → s.rings.commitment r ≡ o → Stands (or_else o (s.rings.last r))
+        go None e = at_last e
+        go (Some c) e = at_promise c e
+
+    -- so it may go on from its place in that time
+    pub at_its_place : IsNear (view free s) r (place s r) (h + 2 * k + 1)
+    at_its_place = go stands_now
+      where
+        go : Stands (place s r) → IsNear (view free s) r (place s r) (h + 2 * k + 1)
+        go (stands_at it) = settled (longer (view free s) r (place s r) (h + k + 1) (h + 2 * k + 1) (omega arith) it)
+        go (stands_clearing p e own serves dark it) = it
 
 -- ## A phase in an order
-
-or_tail : (a b c : Bool) → (b ≡ true → c ≡ true) → (a || b) ≡ true → (a || c) ≡ true
-or_tail true b c f h = refl
-or_tail false b c f h = f h
 
 unless_cut : (q : ℕ) (xs : List ℕ) (C : Type 0) (b : Bool) → (among q xs ≡ true → C) → among q (if b then [] else xs) ≡ true → C
 unless_cut q xs C true f h = absurd (false≢true h)
 unless_cut q xs C false f h = f h
-
-in_front : (l q : ℕ) (ps : List ℕ) → among q (up_to l ps) ≡ true → among q ps ≡ true
-in_front l q [] h = h
-in_front l q (y ∷ ys) h =
-    or_tail (y == q) (among q (if y == l then [] else up_to l ys)) (among q ys) (unless_cut q (up_to l ys) (among q ys ≡ true) (y == l) (in_front l q ys)) h
 
 unless_cut_after : (x q : ℕ) (xs : List ℕ) (C : Type 0) (b : Bool) → (among q (after x xs) ≡ true → C) → among q (after x (if b then [] else xs)) ≡ true → C
 unless_cut_after x q xs C true f h = absurd (false≢true h)
@@ -173,7 +193,7 @@ after_up_to : (l x q : ℕ) (ps : List ℕ) → among q (after x (up_to l ps)) �
 after_up_to l x q [] h = h
 after_up_to l x q (y ∷ ys) h =
     elim (cases_Bool (y == x)) [
-      | inl e ↦ rw e (unless_cut q (up_to l ys) (among q ys ≡ true) (y == l) (in_front l q ys) (rw e at h))
+      | inl e ↦ rw e (unless_cut q (up_to l ys) (among q ys ≡ true) (y == l) (up_to-among l q ys) (rw e at h))
       | inr e ↦ rw e (unless_cut_after x q (up_to l ys) (among q (after x ys) ≡ true) (y == l) (after_up_to l x q ys) (rw e at h))
     ]
 

@@ -1,6 +1,6 @@
 -- What one tick makes of the place of a ring in its order, where no crossing begins and the greens of the ring have a
--- conflict: it goes on to a phase that comes later, goes home to one that does not, waits at the barrier, has a tick less
--- to wait, or rests.
+-- conflict: it goes on to a phase that comes later, goes home to one that does not, waits at the barrier, has a tick
+-- less to wait, or rests. For the laws that called phases are served, in free operation and in patterns.
 use Rattle.std.proofs.Common.{◌≡◌, ℕ, ◌+◌, ◌-◌, ◌≤◌, Bool, true, false, List, Option, Some, None, refl, sym, ap, subst, ◌∙◌, inl, inr, ◌⊎◌, arith}
 use Rattle.std.proofs.lemmas.Bool.{cases_Bool, true≢false, false_from_ne_true}
 use Rattle.tsb_step.specs.tsb_types.declared.interval.Interval.TheVariants.{Red, Green}
@@ -24,12 +24,11 @@ use Rattle.tsb_laws.proofs.safety.AllRedRingLemmas.{started_by}
 use Rattle.tsb_laws.proofs.safety.EnabledLemmas.{callable_no_green}
 use Rattle.tsb_laws.proofs.operation.PhaseTimeLemmas.{clears_down, not_yet_over, reverts_down, not_yet_reverted}
 use Rattle.tsb_laws.proofs.operation.TurnRingLemmas.{Candidate, candidate_is, want_is, starts_none, starts_picked, Delays, clearing, reverting, starts_or_waits, picks_idle, picks_green, last_started, last_stays, promise_kept, promise_stays, promise_made, none_promised}
-use Rattle.tsb_laws.proofs.operation.TurnStepLemmas.{clear_left, back_left, clear_most, back_most}
-use Rattle.tsb_laws.proofs.operation.BarrierStepLemmas.{ended_none, cleared_over, still_clearing, clear_none}
+use Rattle.tsb_laws.proofs.operation.PhaseLeftLemmas.{clear_left, back_left, clear_most, back_most, clear_none}
 use Rattle.tsb_laws.proofs.operation.RingPlaceLemmas.{View, view, order_of, IsAt, bound_to, in_green, at_rest, IsNear, settled, clearing_out}
-use Rattle.tsb_laws.proofs.operation.OpenTickLemmas.{IsOpenTick, fair, in_sequence, told_ready, told_over, told_reverted, listed, serves_it, serves_none, served_is, given_green, ended_ready, starts_nothing, starts_it, ends_none}
+use Rattle.tsb_laws.proofs.operation.OpenTickLemmas.{IsOpenTick, fair, told_ready, told_over, told_reverted, listed, serves_it, serves_none, served_is, given_green, ended_ready, starts_nothing, starts_it, ends_none}
 use Rattle.tsb_laws.proofs.operation.TickLemmas.{dark_is}
-use Rattle.tsb_laws.proofs.operation.BarrierWishLemmas.{picks_cross, joins_green, joins_idle, cross_keeps, picks_clearing, clears_over_one, cleared_is, cleared_red}
+use Rattle.tsb_laws.proofs.operation.BarrierWishLemmas.{picks_cross, joins_green, joins_idle, cross_keeps, picks_clearing, clears_over_one, cleared_is, cleared_red, ended_none, cleared_over, still_clearing}
 use Rattle.tsb_step.proofs.WaitLackLemmas.{interval-as-told}
 
 -- a green that is not ready takes nothing
@@ -37,17 +36,14 @@ picks_unready : (plan : Plan) (s : rings.State) (given : Given) (r : Ring) (p : 
 unfolding pick
 picks_unready plan s given r p e h = rw e (taken-none given p (want_of plan s given r) h)
 
-picks_rest : (plan : Plan) (s : rings.State) (given : Given) (r : Ring) → want_of plan s given r ≡ Some Rest → pick plan s given r ≡ None
-unfolding pick
-picks_rest plan s given r w = rw w refl
-
-module _ (longest : ℕ → ℕ) (Lasts : View → ℕ → ℕ → Type 0) where
-  -- what bounds the greens does so in the tick
+module _ (free : Bool) (longest : ℕ → ℕ) (Lasts : View → ℕ → ℕ → Type 0) where
+  -- in the tick the rings go by their orders, and what bounds their greens does so
   pub record BoundsGreens (s : State) (row : Row) : Type 0 where
-    pub begins_green : (p : ℕ) → is_started (moves s row) p ≡ true → Lasts (view (after_moves s row)) p (longest p)
+    pub sequenced : (r : Ring) → (rings_given s row).sequence r ≡ order_of (view free s) r
+    pub begins_green : (p : ℕ) → is_started (moves s row) p ≡ true → Lasts (view free (after_moves s row)) p (longest p)
     pub goes_down : (p n : ℕ) → interval s p ≡ Green → conflict s row p ≡ true → is_ended (moves s row) p ≡ false → is_started (moves s row) p ≡ false →
-        Lasts (view s) p n → Lasts (view (after_moves s row)) p (n - 1)
-    pub not_yet : (p n : ℕ) → interval s p ≡ Green → conflict s row p ≡ true → ready s row p ≡ false → Lasts (view s) p n → 1 ≤ n
+        Lasts (view free s) p n → Lasts (view free (after_moves s row)) p (n - 1)
+    pub not_yet : (p n : ℕ) → interval s p ≡ Green → conflict s row p ≡ true → ready s row p ≡ false → Lasts (view free s) p n → 1 ≤ n
 
   module _ (s : State) (row : Row) (tick : IsOpenTick s row) (bounds : BoundsGreens s row) (none : begins s.plan s.rings (rings_given s row) ≡ false) (k : ℕ)
       (clears : (p : ℕ) → yellow_change s.plan p + red_clear s.plan p ≤ k) (reverts : (p : ℕ) → red_revert s.plan p ≤ k) (r : Ring)
@@ -59,7 +55,7 @@ module _ (longest : ℕ → ℕ) (Lasts : View → ℕ → ℕ → Type 0) where
     away = is_called_elsewhere s.plan s.rings (rings_given s row)
 
     abbrev At : Option ℕ → ℕ → Type 0
-    At o u = IsAt longest Lasts (view (after_moves s row)) r o u
+    At o u = IsAt longest Lasts (view free (after_moves s row)) r o u
 
     -- what it goes to starts, or the ring is committed to it
     abbrev IsTaken : ℕ → Type 0
@@ -67,45 +63,45 @@ module _ (longest : ℕ → ℕ) (Lasts : View → ℕ → ℕ → Type 0) where
 
     -- from place o, where it had u ticks to go; `Then` says how it stands there with a number of ticks
     pub data Goes_on (Then : Option ℕ → ℕ → Type 0) (o : Option ℕ) (u : ℕ) : Type 0 where
-      on_to : (x w : ℕ) → s.rings.commitment r ≡ None → first test (later o (order_of (view s) r)) ≡ Some x → IsTaken x →
-          IsAt longest Lasts (view (after_moves s row)) r (Some x) w → w ≤ longest x + k + 1 → Goes_on Then o u
-      home_to : (x w : ℕ) → s.rings.commitment r ≡ None → first test (later o (order_of (view s) r)) ≡ None → away ≡ false →
-          first test (not_later o (order_of (view s) r)) ≡ Some x → IsTaken x → IsAt longest Lasts (view (after_moves s row)) r (Some x) w → w ≤ longest x + k + 1 →
+      on_to : (x w : ℕ) → s.rings.commitment r ≡ None → first test (later o (order_of (view free s) r)) ≡ Some x → IsTaken x →
+          IsAt longest Lasts (view free (after_moves s row)) r (Some x) w → w ≤ longest x + k + 1 → Goes_on Then o u
+      home_to : (x w : ℕ) → s.rings.commitment r ≡ None → first test (later o (order_of (view free s) r)) ≡ None → away ≡ false →
+          first test (not_later o (order_of (view free s) r)) ≡ Some x → IsTaken x → IsAt longest Lasts (view free (after_moves s row)) r (Some x) w → w ≤ longest x + k + 1 →
           Goes_on Then o u
       starts_it_now : (c : ℕ) → s.rings.commitment r ≡ Some c → interval (after_moves s row) c ≡ Green → 1 ≤ u → Then o (u - 1) → Goes_on Then o u
       waits : 1 ≤ u → (after_moves s row).rings.commitment r ≡ s.rings.commitment r → Then o (u - 1) → Goes_on Then o u
-      at_barrier : s.rings.commitment r ≡ None → first test (later o (order_of (view s) r)) ≡ None → away ≡ true → Then o (u - 1) →
+      at_barrier : s.rings.commitment r ≡ None → first test (later o (order_of (view free s) r)) ≡ None → away ≡ true → Then o (u - 1) →
           ring_joins s.plan s.rings (rings_given s row) r ≡ true → want_of s.plan s.rings (rings_given s row) r ≡ Some Cross → Goes_on Then o u
-      rests : s.rings.commitment r ≡ None → first test (later o (order_of (view s) r)) ≡ None → away ≡ false →
-          first test (not_later o (order_of (view s) r)) ≡ None → Goes_on Then o u
+      rests : s.rings.commitment r ≡ None → first test (later o (order_of (view free s) r)) ≡ None → away ≡ false →
+          first test (not_later o (order_of (view free s) r)) ≡ None → Goes_on Then o u
 
     -- ## What it wants
 
     data Wants : Type 0 where
-      wants_on : (x : ℕ) → first test (later (s.rings.last r) (order_of (view s) r)) ≡ Some x → want_of s.plan s.rings (rings_given s row) r ≡ Some (Go x) → Wants
-      wants_home : (x : ℕ) → first test (later (s.rings.last r) (order_of (view s) r)) ≡ None → away ≡ false → first test (not_later (s.rings.last r) (order_of (view s) r)) ≡ Some x →
+      wants_on : (x : ℕ) → first test (later (s.rings.last r) (order_of (view free s) r)) ≡ Some x → want_of s.plan s.rings (rings_given s row) r ≡ Some (Go x) → Wants
+      wants_home : (x : ℕ) → first test (later (s.rings.last r) (order_of (view free s) r)) ≡ None → away ≡ false → first test (not_later (s.rings.last r) (order_of (view free s) r)) ≡ Some x →
           want_of s.plan s.rings (rings_given s row) r ≡ Some (Go x) → Wants
-      wants_across : first test (later (s.rings.last r) (order_of (view s) r)) ≡ None → away ≡ true → want_of s.plan s.rings (rings_given s row) r ≡ Some Cross → Wants
-      wants_rest : first test (later (s.rings.last r) (order_of (view s) r)) ≡ None → away ≡ false → first test (not_later (s.rings.last r) (order_of (view s) r)) ≡ None →
+      wants_across : first test (later (s.rings.last r) (order_of (view free s) r)) ≡ None → away ≡ true → want_of s.plan s.rings (rings_given s row) r ≡ Some Cross → Wants
+      wants_rest : first test (later (s.rings.last r) (order_of (view free s) r)) ≡ None → away ≡ false → first test (not_later (s.rings.last r) (order_of (view free s) r)) ≡ None →
           want_of s.plan s.rings (rings_given s row) r ≡ Some Rest → Wants
 
     wants : s.rings.commitment r ≡ None → is_idle_or_green (rings_given s row) (serving s.plan (rings_given s row) r) ≡ true → Wants
-    wants free idle = go (first test (later (s.rings.last r) ((rings_given s row).sequence r))) away (first test (not_later (s.rings.last r) ((rings_given s row).sequence r))) refl refl refl
+    wants e idle = go (first test (later (s.rings.last r) ((rings_given s row).sequence r))) away (first test (not_later (s.rings.last r) ((rings_given s row).sequence r))) refl refl refl
       where
-        found_later : (o : Option ℕ) → first test (later (s.rings.last r) ((rings_given s row).sequence r)) ≡ o → first test (later (s.rings.last r) (order_of (view s) r)) ≡ o
-        found_later o e = ap (λ (l : List ℕ). first test (later (s.rings.last r) l)) (sym (in_sequence s row tick r)) ∙ e
+        found_later : (o : Option ℕ) → first test (later (s.rings.last r) ((rings_given s row).sequence r)) ≡ o → first test (later (s.rings.last r) (order_of (view free s) r)) ≡ o
+        found_later o e = ap (λ (l : List ℕ). first test (later (s.rings.last r) l)) (sym (bounds.sequenced r)) ∙ e
 
-        found_again : (o : Option ℕ) → first test (not_later (s.rings.last r) ((rings_given s row).sequence r)) ≡ o → first test (not_later (s.rings.last r) (order_of (view s) r)) ≡ o
-        found_again o e = ap (λ (l : List ℕ). first test (not_later (s.rings.last r) l)) (sym (in_sequence s row tick r)) ∙ e
+        found_again : (o : Option ℕ) → first test (not_later (s.rings.last r) ((rings_given s row).sequence r)) ≡ o → first test (not_later (s.rings.last r) (order_of (view free s) r)) ≡ o
+        found_again o e = ap (λ (l : List ℕ). first test (not_later (s.rings.last r) l)) (sym (bounds.sequenced r)) ∙ e
 
         go : (o : Option ℕ) (b : Bool) (a : Option ℕ) → first test (later (s.rings.last r) ((rings_given s row).sequence r)) ≡ o → away ≡ b →
             first test (not_later (s.rings.last r) ((rings_given s row).sequence r)) ≡ a → Wants
-        go (Some x) b a e f g = wants_on x (found_later (Some x) e) (want_is s.plan s.rings (rings_given s row) (fair s row tick) r free idle ∙ rw e refl)
-        go None true a e f g = wants_across (found_later None e) f (want_is s.plan s.rings (rings_given s row) (fair s row tick) r free idle ∙ rw (e, f) refl)
-        go None false (Some x) e f g =
-            wants_home x (found_later None e) f (found_again (Some x) g) (want_is s.plan s.rings (rings_given s row) (fair s row tick) r free idle ∙ rw (e, f, g) refl)
-        go None false None e f g =
-            wants_rest (found_later None e) f (found_again None g) (want_is s.plan s.rings (rings_given s row) (fair s row tick) r free idle ∙ rw (e, f, g) refl)
+        go (Some x) b a d f g = wants_on x (found_later (Some x) d) (want_is s.plan s.rings (rings_given s row) (fair s row tick) r e idle ∙ rw d refl)
+        go None true a d f g = wants_across (found_later None d) f (want_is s.plan s.rings (rings_given s row) (fair s row tick) r e idle ∙ rw (d, f) refl)
+        go None false (Some x) d f g =
+            wants_home x (found_later None d) f (found_again (Some x) g) (want_is s.plan s.rings (rings_given s row) (fair s row tick) r e idle ∙ rw (d, f, g) refl)
+        go None false None d f g =
+            wants_rest (found_later None d) f (found_again None g) (want_is s.plan s.rings (rings_given s row) (fair s row tick) r e idle ∙ rw (d, f, g) refl)
 
     -- what it goes to
     pub head : (list : List ℕ) (x : ℕ) → first test list ≡ Some x → Candidate s.plan s.rings (rings_given s row) (fair s row tick) r x
@@ -178,7 +174,7 @@ module _ (longest : ℕ → ℕ) (Lasts : View → ℕ → ℕ → Type 0) where
 
     -- ## A ring that serves a green
 
-    green_moves : (p n u : ℕ) → s.rings.commitment r ≡ None → in_ring s.plan r p ≡ true → interval s p ≡ Green → Lasts (view s) p n → n ≤ u → Goes_on At (s.rings.last r) u
+    green_moves : (p n u : ℕ) → s.rings.commitment r ≡ None → in_ring s.plan r p ≡ true → interval s p ≡ Green → Lasts (view free s) p n → n ≤ u → Goes_on At (s.rings.last r) u
     green_moves p n u e own green lasts all = go (wants e idle_or_green) (ready s row p) refl
       where
         serves_p : in_service (interval s p) ≡ true
@@ -243,9 +239,9 @@ module _ (longest : ℕ → ℕ) (Lasts : View → ℕ → ℕ → Type 0) where
 
         go : Wants → (b : Bool) → ready s row p ≡ b → Goes_on At (s.rings.last r) u
         go (wants_on x g w) true f =
-            on_to x (longest x + k + 1) e g (inl (promise_to x w f)) (leaves_for x w (head (later (s.rings.last r) (order_of (view s) r)) x g) f) (omega arith)
+            on_to x (longest x + k + 1) e g (inl (promise_to x w f)) (leaves_for x w (head (later (s.rings.last r) (order_of (view free s) r)) x g) f) (omega arith)
         go (wants_home x l a g w) true f =
-            home_to x (longest x + k + 1) e l a g (inl (promise_to x w f)) (leaves_for x w (head (not_later (s.rings.last r) (order_of (view s) r)) x g) f) (omega arith)
+            home_to x (longest x + k + 1) e l a g (inl (promise_to x w f)) (leaves_for x w (head (not_later (s.rings.last r) (order_of (view free s) r)) x g) f) (omega arith)
         go (wants_across l a w) true f =
             at_barrier e l a (on_then (ended_none s row p (cross_keeps s.plan s.rings (rings_given s row) r p own w none)) (picks_cross s.plan s.rings (rings_given s row) r w))
             (joins_green s.plan s.rings (rings_given s row) r p at_it (interval-as-told s row p ∙ green) (ready_is true f) w) w
@@ -293,20 +289,20 @@ module _ (longest : ℕ → ℕ) (Lasts : View → ℕ → ℕ → Type 0) where
             start_is ∙ picks_idle s.plan s.rings (rings_given s row) (fair s row tick) r x false at_none w (told x false to f) in
             waits (omega (arith, left_x, was, all)) (none_promised s.plan s.rings (rings_given s row) (fair s row tick) none r start e at_none ∙ sym e) (on_then start)
 
-        to_on : (x : ℕ) → first test (later (s.rings.last r) (order_of (view s) r)) ≡ Some x → want_of s.plan s.rings (rings_given s row) r ≡ Some (Go x) →
+        to_on : (x : ℕ) → first test (later (s.rings.last r) (order_of (view free s) r)) ≡ Some x → want_of s.plan s.rings (rings_given s row) r ≡ Some (Go x) →
             Candidate s.plan s.rings (rings_given s row) (fair s row tick) r x → (b : Bool) → reverted s x ≡ b → Goes_on At (s.rings.last r) u
         to_on x l w to true f = on_to x (longest x) e l (inr (starts_it s row tick r x (start_of x w to f))) (starts x w to f) (omega arith)
         to_on x l w to false f = not_reverted x w to f
 
-        to_home : (x : ℕ) → first test (later (s.rings.last r) (order_of (view s) r)) ≡ None → away ≡ false → first test (not_later (s.rings.last r) (order_of (view s) r)) ≡ Some x →
+        to_home : (x : ℕ) → first test (later (s.rings.last r) (order_of (view free s) r)) ≡ None → away ≡ false → first test (not_later (s.rings.last r) (order_of (view free s) r)) ≡ Some x →
             want_of s.plan s.rings (rings_given s row) r ≡ Some (Go x) → Candidate s.plan s.rings (rings_given s row) (fair s row tick) r x → (b : Bool) → reverted s x ≡ b →
             Goes_on At (s.rings.last r) u
         to_home x l a g w to true f = home_to x (longest x) e l a g (inr (starts_it s row tick r x (start_of x w to f))) (starts x w to f) (omega arith)
         to_home x l a g w to false f = not_reverted x w to f
 
         go : Wants → Goes_on At (s.rings.last r) u
-        go (wants_on x l w) = to_on x l w (head (later (s.rings.last r) (order_of (view s) r)) x l) (reverted s x) refl
-        go (wants_home x l a g w) = to_home x l a g w (head (not_later (s.rings.last r) (order_of (view s) r)) x g) (reverted s x) refl
+        go (wants_on x l w) = to_on x l w (head (later (s.rings.last r) (order_of (view free s) r)) x l) (reverted s x) refl
+        go (wants_home x l a g w) = to_home x l a g w (head (not_later (s.rings.last r) (order_of (view free s) r)) x g) (reverted s x) refl
         go (wants_across l a w) =
             at_barrier e l a (on_then (start_is ∙ picks_cross s.plan s.rings (rings_given s row) r w)) (joins_idle s.plan s.rings (rings_given s row) r at_none w) w
         go (wants_rest l a g w) = rests e l a g
@@ -314,7 +310,7 @@ module _ (longest : ℕ → ℕ) (Lasts : View → ℕ → ℕ → Type 0) where
     -- ## A ring that clears with no commitment
 
     abbrev Near : Option ℕ → ℕ → Type 0
-    Near o u = IsNear longest Lasts (view (after_moves s row)) r o u
+    Near o u = IsNear longest Lasts (view free (after_moves s row)) r o u
 
     clearing_moves : (p m u : ℕ) → s.rings.commitment r ≡ None → in_ring s.plan r p ≡ true → in_service (interval s p) ≡ true → is_green (interval s p) ≡ false →
         ((x : ℕ) → in_ring s.plan r x ≡ true → clear_left s.plan x (s.phases x) + 1 ≤ m) →
@@ -407,7 +403,7 @@ module _ (longest : ℕ → ℕ) (Lasts : View → ℕ → ℕ → Type 0) where
 
     -- ## Whatever the ring does
 
-    pub goes_on : (o : Option ℕ) (u : ℕ) → IsAt longest Lasts (view s) r o u → Goes_on At o u
+    pub goes_on : (o : Option ℕ) (u : ℕ) → IsAt longest Lasts (view free s) r o u → Goes_on At o u
     goes_on o u (bound_to c m e same clears_in reverts_in all) = subst (λ (x : Option ℕ). Goes_on At x u) (sym same) (bound_moves c m u e clears_in reverts_in all)
     goes_on o u (in_green p n e same own green lasts all) = subst (λ (x : Option ℕ). Goes_on At x u) same (green_moves p n u e own green lasts all)
     goes_on o u (at_rest m e same dark reverts_in all) = subst (λ (x : Option ℕ). Goes_on At x u) same (rest_moves m u e dark reverts_in all)
@@ -420,7 +416,7 @@ module _ (longest : ℕ → ℕ) (Lasts : View → ℕ → ℕ → Type 0) where
     as_near o u (at_barrier e l a it j w) = at_barrier e l a (settled it) j w
     as_near o u (rests e l a g) = rests e l a g
 
-    pub goes_near : (o : Option ℕ) (u : ℕ) → IsNear longest Lasts (view s) r o u → Goes_on Near o u
+    pub goes_near : (o : Option ℕ) (u : ℕ) → IsNear longest Lasts (view free s) r o u → Goes_on Near o u
     goes_near o u (settled it) = as_near o u (goes_on o u it)
     goes_near o u (clearing_out p m e same own serves dark clears_in reverts_in all) =
         subst (λ (x : Option ℕ). Goes_on Near x u) same (clearing_moves p m u e own serves dark clears_in reverts_in all)

@@ -1,4 +1,5 @@
--- The maximum in use stays between maximum and limit, and a green that ends moves it by a step at most.
+-- The maximum in use stays between maximum and limit, and a green that ends moves it by a step at most. Proves
+-- `maximums_move_by_steps`.
 use Rattle.std.proofs.Common.{◌≡◌, ◌≢◌, ℕ, ◌+◌, ◌-◌, ◌≤◌, Bool, true, false, ◌&&◌, if◌then◌else◌, min, max, Option, Some, None, is_some, is_none, refl, sym, ap, subst, arith, ◌∙◌}
 use Rattle.std.proofs.lemmas.Bool.{and_parts, true≢false, false_from_ne_true}
 use Rattle.tsb_step.specs.tsb_types.declared.interval.Interval.TheVariants.{Green, Yellow}

@@ -1,5 +1,6 @@
 -- A pattern that is selected in free operation or with correction mode 0 is in step, and stays so; with another mode it
--- goes on from the local counter of the pattern that ran.
+-- goes on from the local counter of the pattern that ran. Proves `selections_go_on`; for `counters_are_in_step` as
+-- well.
 use Rattle.std.proofs.Common.{◌≡◌, ◌≢◌, ℕ, ◌≤◌, ◌==◌, Bool, true, false, if◌then◌else◌, List, [], ◌∷◌, ◌++◌, Option, Some, None, is_some, refl, ap, arith, ◌∙◌, inl, inr}
 use Rattle.std.proofs.lemmas.Bool.{eqb-true, false≢true}
 use Rattle.tsb_step.specs.tsb_types.declared.lamp.Lamp.{Lamp}

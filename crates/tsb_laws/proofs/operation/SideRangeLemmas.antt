@@ -1,5 +1,6 @@
--- The side that is served is one of the plan's, and so is the one that a crossing goes to, after every run. By calls a crossing
--- goes to the next side that is called, so to no later one than a side that is.
+-- The side that is served is one of the plan's, and so is the one that a crossing goes to, after every run. By calls a
+-- crossing goes to the next side that is called, so to no later one than a side that is. For the laws that called
+-- phases are served, in free operation and in patterns.
 use Rattle.std.proofs.Common.{zero, suc, ◌≡◌, ◌≢◌, ℕ, ◌+◌, ◌-◌, ◌<◌, ◌≤◌, Bool, true, false, if◌then◌else◌, List, [], ◌∷◌, ◌++◌, Option, Some, None, is_some, refl, sym, ap, subst, inl, inr, ◌⊎◌, arith, ◌∙◌}
 use Rattle.std.proofs.lemmas.Bool.{cases_Bool, cases_eq, and_parts, true≢false}
 use Rattle.tsb_step.specs.tsb_types.declared.row.Row.{Row}

@@ -1,19 +1,11 @@
--- Turns summed by sides: what the phases of a side take, and those of the sides that are crossed to before another one. Sides
--- are crossed to in cyclic order.
-use Rattle.std.proofs.Common.{◌≡◌, ◌≢◌, ℕ, nat_le, ◌+◌, ◌-◌, ◌*◌, ◌≤◌, ◌==◌, Bool, true, false, not, ◌&&◌, if◌then◌else◌, List, [], ◌∷◌, refl, sym, ap, inl, inr, ◌⊎◌, arith, ◌∙◌}
-use Rattle.std.proofs.lemmas.Bool.{and_parts, or_cases, eqb-true, eq-eqb, leb-true, leb-false, lt-leb, true≢false, false≢true, false_from_ne_true, and_from}
-use Rattle.std.proofs.lemmas.Nat.{mul-le, row_fits}
+-- Sums over the phases of a list that pass a test, and sides in cyclic order: how many crossings lead from one to another. For
+-- the laws that called phases are served, in free operation and in patterns.
+use Rattle.std.proofs.Common.{◌≡◌, ◌≢◌, ℕ, nat_le, ◌+◌, ◌-◌, ◌≤◌, ◌==◌, Bool, true, false, not, ◌&&◌, if◌then◌else◌, List, [], ◌∷◌, refl, sym, ap, inl, inr, ◌⊎◌, arith, ◌∙◌}
+use Rattle.std.proofs.lemmas.Bool.{and_parts, or_cases, eqb-true, eq-eqb, leb-true, leb-false, lt-leb, true≢false, false≢true, and_from}
 use Rattle.tsb_step.specs.tsb_types.Lists.{among}
-use Rattle.tsb_step.specs.tsb_plan.declared.object.Object.TheVariants.{PhaseSide}
-use Rattle.tsb_step.specs.tsb_plan.Plan.{Plan, phases, is_enabled, ring_of, side_of}
-use Rattle.tsb_step.specs.tsb_rules.Consistent.{IsPlaced, ListsRing}
+use Rattle.tsb_step.specs.tsb_plan.Plan.{Plan, is_enabled, side_of}
 use Rattle.tsb_step.specs.tsb_rules.SequenceRules.{lists_once}
-use Rattle.tsb_step.proofs.tsb_rules.ConsistentLemmas.{placed, first_lists}
-use Rattle.tsb_step.specs.tsb_ring.Rings.{Ring, Ring1, Ring2, number}
 use Rattle.tsb_step.specs.tsb_ring.Wants.{is_on_side}
-use Rattle.tsb_step.specs.Laws.{IsConsistent}
-use Rattle.tsb_step.proofs.GivenLemmas.{listed_is_phase, enabled_is_listed, lists_ring}
-use Rattle.tsb_laws.specs.ServedCalls.{turn, turns, order, all_turns}
 use Rattle.tsb_laws.proofs.operation.TurnListLemmas.{head_once, tail_once, among_tail}
 
 -- ## What passes a test
@@ -81,64 +73,6 @@ sum_within test f base (y ∷ ys) zero_out once there =
         (λ p k h. wider p h)
         (λ p h g. true≢false (sym (and_parts (among p ys) (test p) g).0 ∙ ap (λ (x : ℕ). among x ys) (sym (eqb-true y p h)) ∙ head_once y ys some once)) in
         rw e (omega (arith, rest, one, both))
-
--- ## Turns
-
-turns_are : (plan : Plan) (k d : ℕ) (ps : List ℕ) → turns plan k d ps ≡ sum_of (is_on_side plan d) (turn plan k) ps
-turns_are plan k d [] = refl
-turns_are plan k d (p ∷ ps) = ap (λ (n : ℕ). (if is_on_side plan d p then turn plan k p else 0) + n) (turns_are plan k d ps)
-
-pub all_are : (plan : Plan) (k : ℕ) (ps : List ℕ) → all_turns plan k ps ≡ sum_of (is_enabled plan) (turn plan k) ps
-all_are plan k [] = refl
-all_are plan k (p ∷ ps) = ap (λ (n : ℕ). (if is_enabled plan p then turn plan k p else 0) + n) (all_are plan k ps)
-
--- the turns of the enabled phases of a side
-abbrev pub is_here : Plan → ℕ → ℕ → Bool
-is_here plan d p = is_enabled plan p && is_on_side plan d p
-
-abbrev pub here : Plan → ℕ → ℕ → ℕ
-here plan k d = sum_of (is_here plan d) (turn plan k) (phases plan)
-
--- both rings have them in their orders
-pub both_orders : (plan : Plan) (k d : ℕ) → IsConsistent plan → 1 ≤ d →
-    turns plan k d (order plan Ring1) + turns plan k d (order plan Ring2) ≤ here plan k d
-both_orders plan k d ok some =
-    let first = one Ring1 in let second = one Ring2 in
-    let both = sum_apart (within Ring1) (within Ring2) (is_here plan d) (turn plan k) (phases plan) (λ p k h. placed_here Ring1 p h) (λ p k h. placed_here Ring2 p h) apart in
-    omega (arith, first, second, both)
-  where
-    lists : (r : Ring) → ListsRing plan (number r) (order plan r)
-    lists r = lists_ring plan 1 r (first_lists plan ok.rules)
-
-    zero_out : is_on_side plan d 0 ≡ false
-    zero_out =
-        false_from_ne_true _ (λ h. (let same : side_of plan 0 ≡ d = eqb-true (side_of plan 0) d h in let none : side_of plan 0 ≡ 0 = ok.placed PhaseSide 0 refl in omega (arith, same, none, some)))
-
-    within : Ring → ℕ → Bool
-    within r p = among p (order plan r) && is_on_side plan d p
-
-    one : (r : Ring) → turns plan k d (order plan r) ≤ sum_of (within r) (turn plan k) (phases plan)
-    one r =
-        let sums = turns_are plan k d (order plan r) in
-        let most = sum_within (is_on_side plan d) (turn plan k) (phases plan) (order plan r) zero_out ((lists r).once)
-        (λ p there some. enabled_is_listed plan ok p ((lists r).only_enabled p there some)) in
-        omega (arith, sums, most)
-
-    some_phase : (p : ℕ) → is_on_side plan d p ≡ true → p ≢ 0
-    some_phase p h zero_is = true≢false (sym h ∙ ap (λ (x : ℕ). is_on_side plan d x) zero_is ∙ zero_out)
-
-    placed_here : (r : Ring) (p : ℕ) → within r p ≡ true → is_here plan d p ≡ true
-    placed_here r p h =
-        let both = and_parts (among p (order plan r)) (is_on_side plan d p) h in
-        and_from (is_enabled plan p) (is_on_side plan d p) ((lists r).only_enabled p both.0 (some_phase p both.1)) both.1
-
-    apart : (p : ℕ) → within Ring1 p ≡ true → within Ring2 p ≡ true → ⊥
-    apart p h g =
-        let first = and_parts (among p (order plan Ring1)) (is_on_side plan d p) h in
-        let second = and_parts (among p (order plan Ring2)) (is_on_side plan d p) g in
-        let one_is : ring_of plan p ≡ 1 = (lists Ring1).only_ring p first.0 (some_phase p first.1) in
-        let two_is : ring_of plan p ≡ 2 = (lists Ring2).only_ring p second.0 (some_phase p first.1) in
-        omega (arith, one_is, two_is)
 
 -- ## Sides in cyclic order
 
@@ -289,86 +223,11 @@ pub goes_by : (n d e t x : ℕ) → IsSide n d → IsSide n e → IsSide n t →
 goes_by n d e t x one two three four other sooner later =
     let whole = way_on n d e t one two three other sooner in let most = way_by n d e x one two four in omega (arith, whole, most, later)
 
--- ## What is crossed before side t
+-- ## Phases by sides
+
+-- the enabled phases of a side, and those of the sides that are crossed from d before t
+abbrev pub is_here : Plan → ℕ → ℕ → Bool
+is_here plan d p = is_enabled plan p && is_on_side plan d p
 
 abbrev pub is_between : Plan → ℕ → ℕ → ℕ → Bool
 is_between plan d t p = is_enabled plan p && is_before plan.side_count d t (side_of plan p)
-
-abbrev pub between : Plan → ℕ → ℕ → ℕ → ℕ
-between plan k d t = sum_of (is_between plan d t) (turn plan k) (phases plan)
-
--- the turns of all sides that are crossed before t, and for each crossing what it takes
-abbrev pub far : Plan → ℕ → ℕ → ℕ → ℕ
-far plan k d t = between plan k d t + away plan.side_count d t * (3 * k + 3)
-
-module _ (plan : Plan) (k d t : ℕ) (ok : IsConsistent plan) (from : IsSide plan.side_count d) (to : IsSide plan.side_count t) where
-  side_is : (p : ℕ) → among p (phases plan) ≡ true → is_enabled plan p ≡ true → IsSide plan.side_count (side_of plan p)
-  side_is p listed on =
-      let it : IsPlaced plan p = placed plan ok.rules p (listed_is_phase plan p listed) on in
-      record { from_one = it.side_from; within = it.side_to }
-
-  -- none of it is on the side itself
-  pub here_and_between : here plan k d + between plan k d t ≤ all_turns plan k (phases plan)
-  here_and_between =
-      let all = all_are plan k (phases plan) in
-      let both = sum_apart (is_here plan d) (is_between plan d t) (is_enabled plan) (turn plan k) (phases plan)
-      (λ p l h. (and_parts (is_enabled plan p) (is_on_side plan d p) h).0)
-      (λ p l h. (and_parts (is_enabled plan p) (is_before plan.side_count d t (side_of plan p)) h).0) apart in
-      omega (arith, all, both)
-    where
-      apart : (p : ℕ) → is_here plan d p ≡ true → is_between plan d t p ≡ true → ⊥
-      apart p h g =
-          let same : side_of plan p ≡ d = eqb-true (side_of plan p) d (and_parts (is_enabled plan p) (is_on_side plan d p) h).1 in
-          let sooner = before_is plan.side_count d t (side_of plan p) (and_parts (is_enabled plan p) (is_before plan.side_count d t (side_of plan p)) g).1 in
-          let itself : away plan.side_count d (side_of plan p) ≡ plan.side_count = ap (λ (x : ℕ). away plan.side_count d x) same ∙ away_itself plan.side_count d in
-          let most = away_most plan.side_count d t from to in
-          omega (arith, sooner, itself, most)
-
-  pub far_most : far plan k d t ≤ between plan k d t + plan.side_count * (3 * k + 3)
-  far_most =
-      let most = away_most plan.side_count d t from to in
-      let product : away plan.side_count d t * (3 * k + 3) ≤ plan.side_count * (3 * k + 3) =
-      mul-le (away plan.side_count d t) (3 * k + 3) plan.side_count (3 * k + 3) most (omega arith) in
-      omega (arith, product)
-
-  pub far_some : 3 * k + 3 ≤ far plan k d t
-  far_some =
-      let some = away_some plan.side_count d t from to in
-      let product : 1 * (3 * k + 3) ≤ away plan.side_count d t * (3 * k + 3) = mul-le 1 (3 * k + 3) (away plan.side_count d t) (3 * k + 3) some (omega arith) in
-      omega (arith, product)
-
-  -- a crossing to a side before t
-  pub nearer : (e : ℕ) → IsSide plan.side_count e → e ≢ t → away plan.side_count d e + 1 ≤ away plan.side_count d t →
-      here plan k e + far plan k e t + (3 * k + 3) ≤ far plan k d t
-  nearer e on other sooner =
-      let whole = way_on plan.side_count d e t from on to other sooner in
-      let some = away_some plan.side_count d e from on in
-      let product : away plan.side_count e t * (3 * k + 3) + (3 * k + 3) ≤ away plan.side_count d t * (3 * k + 3) =
-      row_fits (away plan.side_count e t) (3 * k + 3) (away plan.side_count d t) (3 * k + 3) (omega (arith, whole, some)) (omega arith) in
-      let both : here plan k e + between plan k e t ≤ between plan k d t =
-      sum_apart (is_here plan e) (is_between plan e t) (is_between plan d t) (turn plan k) (phases plan) here_too later_too apart in
-      omega (arith, product, both)
-    where
-      here_too : (p : ℕ) → among p (phases plan) ≡ true → is_here plan e p ≡ true → is_between plan d t p ≡ true
-      here_too p listed h =
-          let parts = and_parts (is_enabled plan p) (is_on_side plan e p) h in
-          let same : side_of plan p ≡ e = eqb-true (side_of plan p) e parts.1 in
-          let moved : away plan.side_count d (side_of plan p) ≡ away plan.side_count d e = ap (λ (x : ℕ). away plan.side_count d x) same in
-          and_from (is_enabled plan p) (is_before plan.side_count d t (side_of plan p)) parts.0
-          (to_before plan.side_count d t (side_of plan p) (omega (arith, moved, sooner)))
-
-      later_too : (p : ℕ) → among p (phases plan) ≡ true → is_between plan e t p ≡ true → is_between plan d t p ≡ true
-      later_too p listed h =
-          let parts = and_parts (is_enabled plan p) (is_before plan.side_count e t (side_of plan p)) h in
-          and_from (is_enabled plan p) (is_before plan.side_count d t (side_of plan p)) parts.0
-          (to_before plan.side_count d t (side_of plan p)
-          (goes_by plan.side_count d e t (side_of plan p) from on to (side_is p listed parts.0) other sooner
-          (before_is plan.side_count e t (side_of plan p) parts.1)))
-
-      apart : (p : ℕ) → is_here plan e p ≡ true → is_between plan e t p ≡ true → ⊥
-      apart p h g =
-          let same : side_of plan p ≡ e = eqb-true (side_of plan p) e (and_parts (is_enabled plan p) (is_on_side plan e p) h).1 in
-          let later = before_is plan.side_count e t (side_of plan p) (and_parts (is_enabled plan p) (is_before plan.side_count e t (side_of plan p)) g).1 in
-          let itself : away plan.side_count e (side_of plan p) ≡ plan.side_count = ap (λ (x : ℕ). away plan.side_count e x) same ∙ away_itself plan.side_count e in
-          let most = away_most plan.side_count e t on to in
-          omega (arith, later, itself, most)

@@ -1,5 +1,5 @@
--- Once nothing is left, at most three ticks more: what clears goes Red, or a crossing is completed; a crossing begins; and all
--- phases of the stage are Green.
+-- Once nothing is left, at most three ticks more: what clears goes Red, or a crossing is completed; a crossing begins;
+-- and all phases of the stage are Green. For the laws that preempts reach their stages and dwell.
 use Rattle.std.proofs.Common.{◌≡◌, ℕ, zero, suc, ◌+◌, ◌-◌, ◌≤◌, ◌==◌, Bool, true, false, not, ◌||◌, List, [], ◌∷◌, Option, Some, None, refl, sym, ap, ◌∙◌, inl, inr, ◌⊎◌, arith}
 use Rattle.std.specs.List.{list_all}
 use Rattle.std.proofs.lemmas.Bool.{cases_Bool, and_parts, eq-eqb, or_right, or_left}

@@ -1,5 +1,5 @@
--- Under a preempt what it does not want ends, and commitments of before start: in each tick less is left, and then all greens are
--- wanted.
+-- Under a preempt what it does not want ends, and commitments of before start: in each tick less is left, and then all
+-- greens are wanted. For the laws that preempts reach their stages and dwell.
 use Rattle.std.proofs.Common.{◌≡◌, ℕ, ◌+◌, ◌-◌, ◌≤◌, Bool, true, false, max, Option, Some, None, refl, sym, ap, ◌∙◌, inl, inr, ◌⊎◌, arith}
 use Rattle.std.proofs.lemmas.Bool.{cases_Bool, and_parts, true≢false, false_from_ne_true}
 use Rattle.tsb_step.specs.tsb_types.declared.interval.Interval.{Interval}
@@ -29,7 +29,8 @@ use Rattle.tsb_laws.proofs.safety.CrossingRingLemmas.{begins_ending, starts_all,
 use Rattle.tsb_laws.proofs.safety.DueLemmas.{clipped_at}
 use Rattle.tsb_laws.proofs.safety.RingLemmas.{stays_outside, starts_not}
 use Rattle.tsb_laws.proofs.operation.AcrossLemmas.{GoesAcross, promised_red}
-use Rattle.tsb_laws.proofs.operation.PhaseTimeLemmas.{not_yet_over, not_yet_reverted, not_yet_ready, reverts_down}
+use Rattle.tsb_laws.proofs.operation.PhaseTimeLemmas.{not_yet_over, not_yet_reverted, reverts_down}
+use Rattle.tsb_laws.proofs.operation.PreemptGreenLemmas.{not_yet_ready}
 use Rattle.tsb_laws.proofs.operation.PressLemmas.{Bars, committed_to, green_of as barred_by, serving_is, leaves_or_crosses, not_wanted_here, barred}
 use Rattle.tsb_laws.proofs.operation.StageFactLemmas.{Limits, Within, clear_of, revert_of, green_of, green_most, clear_most, revert_most, revert_dark, Stays, green_after, told_list, pairs_list, ends_it, enters, binds, dark_no_end}
 use Rattle.tsb_laws.proofs.operation.StageRingLemmas.{outside_waits}

@@ -1,5 +1,5 @@
--- The times of a preempt that is in a stage, what the controller has in a tick of it, and what such a tick does to phases and
--- commitments.
+-- The times of a preempt that is in a stage, what the controller has in a tick of it, and what such a tick does to
+-- phases and commitments. For the laws that preempts reach their stages and dwell.
 use Rattle.std.proofs.Common.{◌≡◌, ℕ, ◌+◌, ◌≤◌, Bool, true, false, not, max, Option, Some, None, refl, sym, ap, ◌∙◌, inl, inr, ◌⊎◌, arith}
 use Rattle.std.proofs.lemmas.Bool.{true≢false, false≢true, false_from_ne_true}
 use Rattle.tsb_step.specs.tsb_cells.declared.timer.Timer.{Timer}

@@ -1,5 +1,6 @@
--- What the rings do in a tick of a stage once all that clears is over, and what is wanted has reverted: commitments start, over
--- phases clear, a crossing begins or is completed, and what is wanted starts.
+-- What the rings do in a tick of a stage once all that clears is over, and what is wanted has reverted: commitments
+-- start, over phases clear, a crossing begins or is completed, and what is wanted starts. For the laws that preempts
+-- reach their stages and dwell.
 use Rattle.std.proofs.Common.{◌≡◌, ℕ, Bool, true, false, not, ◌&&◌, Option, Some, None, is_none, refl, sym, ap, ◌∙◌, inl, inr, ◌⊎◌}
 use Rattle.std.proofs.lemmas.Bool.{cases_Bool, eqb-true, true≢false, or_right}
 use Rattle.tsb_step.specs.tsb_types.Intervals.{is_green, in_service}

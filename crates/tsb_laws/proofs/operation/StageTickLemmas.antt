@@ -1,5 +1,6 @@
--- What is left goes down in a tick of a stage: while only what the preempt wants is Green or committed to, and before that,
--- while other greens and commitments of before are ending.
+-- What is left goes down in a tick of a stage: while only what the preempt wants is Green or committed to, and before
+-- that, while other greens and commitments of before are ending. For the laws that preempts reach their stages and
+-- dwell.
 use Rattle.std.proofs.Common.{◌≡◌, ℕ, ◌+◌, ◌-◌, ◌≤◌, Bool, true, false, Some, refl, ap, inl, inr, ◌⊎◌, arith}
 use Rattle.std.proofs.Math.Bool.{and-false}
 use Rattle.tsb_step.specs.tsb_types.declared.interval.Interval.TheVariants.{Green}
@@ -14,7 +15,8 @@ use Rattle.tsb_step.specs.tsb_ring.Moves.{is_ended, is_started}
 use Rattle.tsb_step.specs.State.{State, interval}
 use Rattle.tsb_step.specs.Tick.{phases_given, moves, after_moves}
 use Rattle.tsb_step.proofs.TellLemmas.{is_in_green}
-use Rattle.tsb_laws.proofs.operation.PhaseTimeLemmas.{clears_at, reverts_at, clears_down, reverts_down, greens_down, begun_left}
+use Rattle.tsb_laws.proofs.operation.PhaseTimeLemmas.{clears_at, reverts_at, clears_down, reverts_down}
+use Rattle.tsb_laws.proofs.operation.PreemptGreenLemmas.{greens_down, begun_left}
 use Rattle.tsb_laws.proofs.operation.StageFactLemmas.{Limits, Within, clear_of, revert_of, green_of, Stays, green_after, started_green, still_green, wanted_stays, enters, binds, green_no_start, ends_it}
 
 pub less : (a b m : ℕ) → a ≤ b - 1 → b ≤ m → a ≤ m - 1

@@ -1,4 +1,5 @@
--- What a ring picks, and what it enters a crossing for, while a list of phases is wanted: phases of that list.
+-- What a ring picks, and what it enters a crossing for, while a list of phases is wanted: phases of that list. For the
+-- laws of what preempts let in.
 use Rattle.std.proofs.Common.{◌≡◌, ℕ, Bool, true, ◌&&◌, Option, Some, is_none, sym, ap, ◌∙◌}
 use Rattle.std.proofs.lemmas.Bool.{and_parts}
 use Rattle.std.proofs.lemmas.Option.{cond_some}

@@ -1,11 +1,10 @@
--- What comes after a phase in the order of a ring, where none is listed twice, and the turns of that.
-use Rattle.std.proofs.Common.{◌≡◌, ◌≢◌, ℕ, ◌+◌, ◌≤◌, ◌==◌, Bool, true, false, not, ◌||◌, if◌then◌else◌, List, [], ◌∷◌, Option, Some, None, refl, sym, ap, inl, inr, ◌⊎◌, arith, ◌∙◌}
+-- What comes after a phase in the order of a ring, where none is listed twice. For the laws that called phases are
+-- served, in free operation and in patterns.
+use Rattle.std.proofs.Common.{◌≡◌, ◌≢◌, ℕ, ◌==◌, Bool, true, false, not, ◌||◌, List, [], ◌∷◌, Option, Some, None, refl, sym, ap, inl, inr, ◌⊎◌, ◌∙◌}
 use Rattle.std.proofs.lemmas.Bool.{cases_Bool, and_parts, or_cases, eqb-true, eq-eqb, true≢false, false≢true}
 use Rattle.tsb_step.specs.tsb_types.Lists.{first, among, after, later}
-use Rattle.tsb_step.specs.tsb_plan.Plan.{Plan}
 use Rattle.tsb_step.specs.tsb_rules.SequenceRules.{lists_once}
-use Rattle.tsb_step.specs.tsb_ring.Wants.{is_on_side}
-use Rattle.tsb_laws.specs.ServedCalls.{turn, turns}
+use Rattle.tsb_step.proofs.tsb_ring.WantLemmas.{after-among}
 
 -- ## Lists without repeats
 
@@ -41,14 +40,6 @@ among_tail y x xs h = go (y == x)
     go true = refl
     go false = h
 
-pub after_among : (l x : ℕ) (xs : List ℕ) → among x (after l xs) ≡ true → among x xs ≡ true
-after_among l x [] h = h
-after_among l x (y ∷ ys) h =
-    elim (cases_Bool (y == l)) [
-      | inl e ↦ among_tail y x ys (rw e at h)
-      | inr e ↦ among_tail y x ys (after_among l x ys (rw e at h))
-    ]
-
 -- ## What is still to come once a phase has its turn
 
 after_within : (l x : ℕ) (xs : List ℕ) → x ≢ 0 → lists_once xs ≡ true → among x (after l xs) ≡ true → after x xs ≡ after x (after l xs)
@@ -56,7 +47,7 @@ after_within l x [] some o k = refl
 after_within l x (y ∷ ys) some o k =
     elim (cases_Bool (y == l)) [
       | inl e ↦ rw e (after_tail y x ys (not_head y x ys some o (rw e at k)))
-      | inr e ↦ rw e (after_tail y x ys (not_head y x ys some o (after_among l x ys (rw e at k)))
+      | inr e ↦ rw e (after_tail y x ys (not_head y x ys some o (after-among l x ys (rw e at k)))
           ∙ after_within l x ys some (tail_once y ys o) (rw e at k))
     ]
 
@@ -76,7 +67,7 @@ before_head c q y ys same there =
 before_tail : (c q y : ℕ) (ys : List ℕ) → (c ≡ q) ⊎ (among q (after c ys) ≡ true) → (c ≡ q) ⊎ (among q (after c (y ∷ ys)) ≡ true)
 before_tail c q y ys (inl k) = inl k
 before_tail c q y ys (inr k) =
-    elim (cases_Bool (y == c)) [ inl e ↦ inr (rw e (after_among c q ys k)) | inr e ↦ inr (rw e k) ]
+    elim (cases_Bool (y == c)) [ inl e ↦ inr (rw e (after-among c q ys k)) | inr e ↦ inr (rw e k) ]
 
 -- the first that passes a test comes no later than any that does
 pub first_before : (test : ℕ → Bool) (c q : ℕ) (ps : List ℕ) → first test ps ≡ Some c → among q ps ≡ true → test q ≡ true →
@@ -90,29 +81,6 @@ first_before test c q (y ∷ ys) h there passes =
         | inr k ↦ before_tail c q y ys (first_before test c q ys (rw e at h) k passes)
       ]
     ]
-
--- ## Turns
-
-module _ (plan : Plan) (k d : ℕ) where
-  head_counts : (x y : ℕ) (ys : List ℕ) → is_on_side plan d x ≡ true → y ≡ x →
-      turn plan k x + turns plan k d ys ≤ (if is_on_side plan d y then turn plan k y else 0) + turns plan k d ys
-  head_counts x y ys on same =
-      let mine : (if is_on_side plan d y then turn plan k y else 0) ≡ turn plan k x = rw same (rw on refl) in omega (arith, mine)
-
-  -- the turn of a phase of a list, and those that come after it there, are among its turns
-  turns_after : (x : ℕ) (ps : List ℕ) → is_on_side plan d x ≡ true → among x ps ≡ true →
-      turn plan k x + turns plan k d (after x ps) ≤ turns plan k d ps
-  turns_after x [] on h = absurd (false≢true h)
-  turns_after x (y ∷ ys) on h =
-      elim (cases_Bool (y == x)) [
-        | inl e ↦ rw e (head_counts x y ys on (eqb-true y x e))
-        | inr e ↦ rw e (let rest = turns_after x ys on (rw e at h) in omega (arith, rest))
-      ]
-
-  -- so those that come later than a phase that has its turn
-  pub turns_later : (last : Option ℕ) (x : ℕ) (ps : List ℕ) → x ≢ 0 → lists_once ps ≡ true → is_on_side plan d x ≡ true →
-      among x (later last ps) ≡ true → turn plan k x + turns plan k d (later (Some x) ps) ≤ turns plan k d (later last ps)
-  turns_later last x ps some once on h = rw (after_later last x ps some once h) (turns_after x (later last ps) on h)
 
 -- and what is still to come then: q, unless it is the first that passes the test
 pub still_later : (test : ℕ → Bool) (last : Option ℕ) (c q : ℕ) (ps : List ℕ) → c ≢ 0 → lists_once ps ≡ true →

@@ -1,5 +1,6 @@
--- The rings in a tick by calls, where all phases of one side go together and no crossing is under way: what a ring wants, what
--- it starts and commits to, and where it stays.
+-- The rings in a tick by calls, where all phases of one side go together and no crossing is under way: what a ring
+-- wants, what it starts and commits to, and where it stays. For the laws that called phases are served, in free
+-- operation and in patterns, and `coordination_goes_on`.
 use Rattle.std.proofs.Common.{◌≡◌, ℕ, Bool, true, false, ◌&&◌, ◌||◌, if◌then◌else◌, Option, Some, None, is_none, refl, sym, ap, ◌∙◌, inl, inr, ◌⊎◌}
 use Rattle.std.proofs.lemmas.Bool.{eqb-true, eq-eqb, true≢false, false≢true, false_from_ne_true, or_right, and_right}
 use Rattle.std.proofs.lemmas.Option.{cond_some}

@@ -1,4 +1,5 @@
--- Under a preempt a green that it does not want and that is ready ends, or waits for the barrier.
+-- Under a preempt a green that it does not want and that is ready ends, or waits for the barrier. Proves
+-- `unwanted_greens_end`.
 use Rattle.std.proofs.Common.{◌≡◌, ℕ, ◌≤◌, Bool, true, false, not, ◌&&◌, List, ◌∷◌, Option, Some, None, refl, sym, ap, ◌∙◌, inl, inr, arith}
 use Rattle.std.proofs.lemmas.Bool.{true≢false, false≢true}
 use Rattle.tsb_step.specs.tsb_types.declared.interval.Interval.{Interval}

@@ -1,4 +1,5 @@
 -- A phase that the preempt in service wants, and that may start, starts, or is kept by another phase or by a ring.
+-- Proves `wanted_phases_start`.
 use Rattle.std.proofs.Common.{◌≡◌, ℕ, ◌≤◌, Bool, true, false, not, ◌&&◌, List, ◌∷◌, Option, Some, None, refl, sym, ap, ◌∙◌, inl, inr, ◌⊎◌, arith}
 use Rattle.std.proofs.lemmas.Bool.{true≢false, eq-eqb, or_right, or_left}
 use Rattle.tsb_step.specs.tsb_types.declared.interval.Interval.TheVariants.{Green}

@@ -1,4 +1,5 @@
--- Of a phase that a preempt wants, whose ring is idle: it starts, or the other ring stands in its way.
+-- Of a phase that a preempt wants, whose ring is idle: it starts, or the other ring stands in its way. For
+-- `wanted_phases_start`.
 use Rattle.std.proofs.Common.{◌≡◌, ℕ, Bool, true, false, ◌&&◌, if◌then◌else◌, Option, Some, None, refl, sym, ap, ◌∙◌, inl, inr, ◌⊎◌}
 use Rattle.std.proofs.lemmas.Bool.{cases_Bool, and_parts, eq-eqb, eqb-true, true≢false}
 use Rattle.tsb_step.specs.tsb_types.Lists.{first}

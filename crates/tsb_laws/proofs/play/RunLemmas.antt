@@ -27,7 +27,6 @@ use Rattle.tsb_laws.specs.PlayRecords.{KeepsRecords}
 use Rattle.tsb_laws.specs.Runs.{IsHeld, IsRun, AreTyped}
 use Rattle.tsb_laws.proofs.heads.ClearLemmas.{phase_clears, overlap_clears}
 use Rattle.tsb_laws.proofs.heads.LitLemmas.{keeps_lit_heads}
-use Rattle.tsb_laws.proofs.operation.BarrierLemmas.{begins_in_time}
 use Rattle.tsb_laws.proofs.operation.CalmLemmas.{calm_run}
 use Rattle.tsb_laws.proofs.operation.GreenEndLemmas.{ends_for_a_reason}
 use Rattle.tsb_laws.proofs.operation.KeptCallLemmas.{remembers, vehicles_stand, pedestrians_stand}
@@ -37,11 +36,10 @@ use Rattle.tsb_laws.proofs.operation.PreemptEntryLemmas.{lets_in_its_own}
 use Rattle.tsb_laws.proofs.operation.PreemptTurnLemmas.{gives_way, ends_from}
 use Rattle.tsb_laws.proofs.operation.PressedRunLemmas.{pressed_may_end}
 use Rattle.tsb_laws.proofs.operation.RunningMaximumLemmas.{bounded, moves_by_a_step, others_leave_it}
-use Rattle.tsb_laws.proofs.operation.ServedRunLemmas.{served_in_time}
+use Rattle.tsb_laws.proofs.operation.FreeRunLemmas.{comes_in_time, begins_in_time, served_in_time}
 use Rattle.tsb_laws.proofs.operation.ChosenStageLemmas.{chosen_stages, chosen_dwells}
 use Rattle.tsb_laws.proofs.operation.StageRunLemmas.{stages_reached, exits_end}
 use Rattle.tsb_laws.proofs.operation.StageServiceLemmas.{dwells_reached}
-use Rattle.tsb_laws.proofs.operation.TurnLemmas.{comes_in_time}
 use Rattle.tsb_laws.proofs.operation.UnwantedGreenLemmas.{waits_or_ends}
 use Rattle.tsb_laws.proofs.operation.WantedPhaseLemmas.{wanted_starts}
 use Rattle.tsb_laws.proofs.operation.CoordinatedCallLemmas.{awaited}
