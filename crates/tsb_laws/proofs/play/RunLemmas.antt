@@ -27,31 +27,31 @@ use Rattle.tsb_laws.specs.PlayRecords.{KeepsRecords}
 use Rattle.tsb_laws.specs.Runs.{IsHeld, IsRun, AreTyped}
 use Rattle.tsb_laws.proofs.heads.ClearLemmas.{phase_clears, overlap_clears}
 use Rattle.tsb_laws.proofs.heads.LitLemmas.{keeps_lit_heads}
-use Rattle.tsb_laws.proofs.operation.CalmLemmas.{calm_run}
-use Rattle.tsb_laws.proofs.operation.GreenEndLemmas.{ends_for_a_reason}
-use Rattle.tsb_laws.proofs.operation.KeptCallLemmas.{remembers, vehicles_stand, pedestrians_stand}
-use Rattle.tsb_laws.proofs.operation.OverlapPhaseLemmas.{goes_with_phases}
-use Rattle.tsb_laws.proofs.operation.CalledStartLemmas.{enters_by_call}
-use Rattle.tsb_laws.proofs.operation.PreemptEntryLemmas.{lets_in_its_own}
-use Rattle.tsb_laws.proofs.operation.PreemptTurnLemmas.{gives_way, ends_from}
-use Rattle.tsb_laws.proofs.operation.PressedRunLemmas.{pressed_may_end}
-use Rattle.tsb_laws.proofs.operation.RunningMaximumLemmas.{bounded, moves_by_a_step, others_leave_it}
-use Rattle.tsb_laws.proofs.operation.FreeRunLemmas.{comes_in_time, begins_in_time, served_in_time}
-use Rattle.tsb_laws.proofs.operation.ChosenStageLemmas.{chosen_stages, chosen_dwells}
-use Rattle.tsb_laws.proofs.operation.StageRunLemmas.{stages_reached, exits_end}
-use Rattle.tsb_laws.proofs.operation.StageServiceLemmas.{dwells_reached}
-use Rattle.tsb_laws.proofs.operation.UnwantedGreenLemmas.{waits_or_ends}
-use Rattle.tsb_laws.proofs.operation.WantedPhaseLemmas.{wanted_starts}
-use Rattle.tsb_laws.proofs.operation.CoordinatedCallLemmas.{awaited}
-use Rattle.tsb_laws.proofs.operation.CoordinatedInstantLemmas.{instants_come}
-use Rattle.tsb_laws.proofs.operation.CoordinatedRunLemmas.{forced_may_end}
-use Rattle.tsb_laws.proofs.operation.SelectionLemmas.{selected_in_step, once_so, selections_go_on}
-use Rattle.tsb_laws.proofs.operation.ComingLemmas.{come_into_step}
-use Rattle.tsb_laws.proofs.operation.CoordinatedBarrierLemmas.{makes_way_or_kept}
-use Rattle.tsb_laws.proofs.operation.LateGreenLemmas.{late_is_ready, late_may_end}
-use Rattle.tsb_laws.proofs.operation.PatternEndLemmas.{floating_is_ready, floating_may_end, maximum_is_ready, maximum_may_end, permitted_is_ready, permitted_may_end}
-use Rattle.tsb_laws.proofs.operation.RecycledRunLemmas.{calls_are_recycled, walk_is_over}
-use Rattle.tsb_laws.proofs.operation.ReturnRunLemmas.{served_in_pattern, coordinated_in_time}
+use Rattle.tsb_laws.proofs.operation.step.CalmLemmas.{calm_run}
+use Rattle.tsb_laws.proofs.operation.green.GreenEndLemmas.{ends_for_a_reason}
+use Rattle.tsb_laws.proofs.operation.calls.KeptCallLemmas.{remembers, vehicles_stand, pedestrians_stand}
+use Rattle.tsb_laws.proofs.operation.overlap.OverlapPhaseLemmas.{goes_with_phases}
+use Rattle.tsb_laws.proofs.operation.calls.CalledStartLemmas.{enters_by_call}
+use Rattle.tsb_laws.proofs.operation.preempt.PreemptEntryLemmas.{lets_in_its_own}
+use Rattle.tsb_laws.proofs.operation.preempt.PreemptTurnLemmas.{gives_way, ends_from}
+use Rattle.tsb_laws.proofs.operation.green.PressedRunLemmas.{pressed_may_end}
+use Rattle.tsb_laws.proofs.operation.green.RunningMaximumLemmas.{bounded, moves_by_a_step, others_leave_it}
+use Rattle.tsb_laws.proofs.operation.calls.FreeRunLemmas.{comes_in_time, begins_in_time, served_in_time}
+use Rattle.tsb_laws.proofs.operation.preempt.ChosenStageLemmas.{chosen_stages, chosen_dwells}
+use Rattle.tsb_laws.proofs.operation.preempt.StageRunLemmas.{stages_reached, exits_end}
+use Rattle.tsb_laws.proofs.operation.preempt.StageServiceLemmas.{dwells_reached}
+use Rattle.tsb_laws.proofs.operation.preempt.UnwantedGreenLemmas.{waits_or_ends}
+use Rattle.tsb_laws.proofs.operation.preempt.WantedPhaseLemmas.{wanted_starts}
+use Rattle.tsb_laws.proofs.operation.pattern.CoordinatedCallLemmas.{awaited}
+use Rattle.tsb_laws.proofs.operation.pattern.CoordinatedInstantLemmas.{instants_come}
+use Rattle.tsb_laws.proofs.operation.pattern.CoordinatedRunLemmas.{forced_may_end}
+use Rattle.tsb_laws.proofs.operation.pattern.SelectionLemmas.{selected_in_step, once_so, selections_go_on}
+use Rattle.tsb_laws.proofs.operation.pattern.ComingLemmas.{come_into_step}
+use Rattle.tsb_laws.proofs.operation.barrier.CoordinatedBarrierLemmas.{makes_way_or_kept}
+use Rattle.tsb_laws.proofs.operation.pattern.LateGreenLemmas.{late_is_ready, late_may_end}
+use Rattle.tsb_laws.proofs.operation.pattern.PatternEndLemmas.{floating_is_ready, floating_may_end, maximum_is_ready, maximum_may_end, permitted_is_ready, permitted_may_end}
+use Rattle.tsb_laws.proofs.operation.recycle.RecycledRunLemmas.{calls_are_recycled, walk_is_over}
+use Rattle.tsb_laws.proofs.operation.pattern.PatternRunLemmas.{served_in_pattern, coordinated_in_time}
 use Rattle.tsb_laws.proofs.safety.AllRedLemmas.{all_red_ends}
 use Rattle.tsb_laws.proofs.safety.CoordinationLemmas.{ends_by_force_off, omits_hold}
 use Rattle.tsb_laws.proofs.safety.CrossingLemmas.{completes_in_time}

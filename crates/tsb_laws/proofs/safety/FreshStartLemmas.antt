@@ -25,8 +25,8 @@ use Rattle.tsb_step.proofs.GivenLemmas.{symmetric, given}
 use Rattle.tsb_step.proofs.GoodLemmas.{good_run}
 use Rattle.tsb_step.proofs.SideRunLemmas.{sided_run}
 use Rattle.tsb_laws.specs.CrossingGreens.{IsCalm}
-use Rattle.tsb_laws.proofs.operation.CalmLemmas.{calm_run}
-use Rattle.tsb_laws.proofs.operation.AcrossLemmas.{GoesAcross, across_run, promised_red}
+use Rattle.tsb_laws.proofs.operation.step.CalmLemmas.{calm_run}
+use Rattle.tsb_laws.proofs.operation.step.AcrossLemmas.{GoesAcross, across_run, promised_red}
 
 module _ (s : State) (row : Row) (good : IsGood s) (calm : IsCalm s.plan (interval s) s.rings) (sided : IsSided s.plan (interval s) s.rings) (across : GoesAcross s.plan (interval s) s.rings) where
   -- a ring that is not committed starts a phase only while it serves none

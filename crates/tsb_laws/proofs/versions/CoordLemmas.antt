@@ -14,7 +14,7 @@ use Rattle.tsb_step.specs.tsb_coord.Correction.{is_in_step, local_now, forces, l
 use Rattle.tsb_step.proofs.tsb_coord.CorrectionLemmas.{forces_in_step, local_in_step, in_step_at_once}
 use Rattle.tsb_step.proofs.tsb_coord.LocalLemmas.{options_off}
 use Rattle.tsb_laws.specs.Widened.{IsNarrow, widened}
-use Rattle.tsb_laws.proofs.operation.OptionLemmas.{never_recycles, begins_at_once}
+use Rattle.tsb_laws.proofs.operation.pattern.OptionLemmas.{never_recycles, begins_at_once}
 use Rattle.tsb_laws.proofs.versions.ListLemmas.{is_narrow, is_beyond, sum-up_to}
 use Rattle.tsb_laws.proofs.versions.PlanLemmas.{first-same, any-same, sum-same, beyond-narrow, not-enabled, enabled-narrow, split_time-same, split_mode-same, is_coordinated-same, not-coordinated, not-late, at-once, no-permissive_time, no-second_walk, zeros, sequence-same}
 

@@ -21,7 +21,7 @@ use Rattle.tsb_step.specs.tsb_phase.Next.{interval_after, held_now, ending_now, 
 use Rattle.tsb_laws.specs.Widened.{IsNarrow, widened}
 use Rattle.tsb_laws.proofs.versions.ListLemmas.{is_narrow, IsSameOnNarrow, IsBeyondNarrow}
 use Rattle.tsb_laws.proofs.versions.PlanLemmas.{sum-same, not-floating, no-maximum_mode}
-use Rattle.tsb_laws.proofs.operation.OptionLemmas.{never_floats, latched_by_instant, never_in_patterns}
+use Rattle.tsb_laws.proofs.operation.pattern.OptionLemmas.{never_floats, latched_by_instant, never_in_patterns}
 use Rattle.tsb_laws.proofs.versions.CoordLemmas.{maximum_recall-same}
 
 -- what phase timing is given on the wide plan: other phases may be held, beyond the eighth

@@ -13,7 +13,7 @@ use Rattle.tsb_laws.specs.Widened.{IsNarrow, widened}
 use Rattle.tsb_laws.proofs.versions.PlanLemmas.{any-same, all-same, beyond-narrow, not-enabled, names-none, not-concurrent}
 use Rattle.tsb_laws.proofs.versions.SequenceLemmas.{each_phase-same, first_sequence-same, other_sequences-same}
 use Rattle.tsb_laws.proofs.versions.PatternLemmas.{whole-same, holding-same, filling-same, coordinating-same, permissive-same}
-use Rattle.tsb_laws.proofs.operation.OptionLemmas.{all_hold}
+use Rattle.tsb_laws.proofs.operation.pattern.OptionLemmas.{all_hold}
 
 -- ## Rings, sides and concurrency
 

@@ -39,9 +39,9 @@ use Rattle.tsb_step.proofs.TripLemmas.{faults_alone_trip}
 use Rattle.tsb_laws.specs.Stretches.{IsUntripped}
 use Rattle.tsb_laws.specs.CoordinatedGreens.{HasGoneOn}
 use Rattle.tsb_laws.specs.RecycledWalks.{WalksAgain, MayWalkAgain, is_unheld, is_unforced}
-use Rattle.tsb_laws.proofs.operation.InStepLemmas.{forces_as}
-use Rattle.tsb_laws.proofs.operation.RecycleTimeLemmas.{IsRecycled, recycled_so}
-use Rattle.tsb_laws.proofs.operation.RecycledRunLemmas.{calls_are_recycled}
+use Rattle.tsb_laws.proofs.operation.pattern.InStepLemmas.{forces_as}
+use Rattle.tsb_laws.proofs.operation.recycle.RecycleTimeLemmas.{IsRecycled, recycled_so}
+use Rattle.tsb_laws.proofs.operation.recycle.RecycledRunLemmas.{calls_are_recycled}
 use Rattle.tsb_laws.proofs.safety.Examples.PlanFits.{Fits, values_fit, quad_fits, consistent}
 use Rattle.tsb_laws.proofs.safety.Examples.TickRuns.{tick_taken}
 

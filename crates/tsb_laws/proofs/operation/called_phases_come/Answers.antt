@@ -1,4 +1,4 @@
-use Rattle.tsb_laws.proofs.operation.FreeRunLemmas.{comes_in_time}
+use Rattle.tsb_laws.proofs.operation.calls.FreeRunLemmas.{comes_in_time}
 use Rattle.tsb_laws.proofs.operation.called_phases_come.Goals as goal
 
 pub returns : goal.returns

@@ -1,6 +1,6 @@
 use Rattle.tsb_step.proofs.GoodLemmas.{good_run}
 use Rattle.tsb_step.specs.Runs.{replay}
-use Rattle.tsb_laws.proofs.operation.KeptCallLemmas.{remembers, vehicles_stand, pedestrians_stand}
+use Rattle.tsb_laws.proofs.operation.calls.KeptCallLemmas.{remembers, vehicles_stand, pedestrians_stand}
 use Rattle.tsb_laws.proofs.operation.calls_are_kept.Goals as goal
 
 pub returns-clause-remembered : goal.returns-clause-remembered

@@ -1,7 +1,7 @@
-use Rattle.tsb_laws.proofs.operation.CoordinatedCallLemmas.{awaited}
-use Rattle.tsb_laws.proofs.operation.CoordinatedInstantLemmas.{instants_come}
-use Rattle.tsb_laws.proofs.operation.CoordinatedRunLemmas.{forced_may_end}
-use Rattle.tsb_laws.proofs.operation.CoordinatedBarrierLemmas.{makes_way_or_kept}
+use Rattle.tsb_laws.proofs.operation.pattern.CoordinatedCallLemmas.{awaited}
+use Rattle.tsb_laws.proofs.operation.pattern.CoordinatedInstantLemmas.{instants_come}
+use Rattle.tsb_laws.proofs.operation.pattern.CoordinatedRunLemmas.{forced_may_end}
+use Rattle.tsb_laws.proofs.operation.barrier.CoordinatedBarrierLemmas.{makes_way_or_kept}
 use Rattle.tsb_laws.proofs.operation.coordination_goes_on.Goals as goal
 
 pub returns-clause-awaited : goal.returns-clause-awaited

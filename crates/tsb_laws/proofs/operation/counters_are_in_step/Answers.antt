@@ -1,6 +1,6 @@
 use Rattle.tsb_step.specs.Runs.{replay}
-use Rattle.tsb_laws.proofs.operation.ComingLemmas.{come_into_step}
-use Rattle.tsb_laws.proofs.operation.SelectionLemmas.{selected_in_step, once_so}
+use Rattle.tsb_laws.proofs.operation.pattern.ComingLemmas.{come_into_step}
+use Rattle.tsb_laws.proofs.operation.pattern.SelectionLemmas.{selected_in_step, once_so}
 use Rattle.tsb_laws.proofs.operation.counters_are_in_step.Goals as goal
 
 pub returns-clause-selected : goal.returns-clause-selected

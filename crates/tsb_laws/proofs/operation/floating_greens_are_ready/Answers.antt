@@ -1,4 +1,4 @@
-use Rattle.tsb_laws.proofs.operation.PatternEndLemmas.{floating_is_ready, floating_may_end}
+use Rattle.tsb_laws.proofs.operation.pattern.PatternEndLemmas.{floating_is_ready, floating_may_end}
 use Rattle.tsb_laws.proofs.operation.floating_greens_are_ready.Goals as goal
 
 pub returns-clause-ready : goal.returns-clause-ready

@@ -1,4 +1,4 @@
-use Rattle.tsb_laws.proofs.operation.GreenEndLemmas.{ends_for_a_reason}
+use Rattle.tsb_laws.proofs.operation.green.GreenEndLemmas.{ends_for_a_reason}
 use Rattle.tsb_laws.proofs.operation.greens_end_for_a_reason.Goals as goal
 
 pub returns : goal.returns

@@ -1,4 +1,4 @@
-use Rattle.tsb_laws.proofs.operation.LateGreenLemmas.{late_is_ready, late_may_end}
+use Rattle.tsb_laws.proofs.operation.pattern.LateGreenLemmas.{late_is_ready, late_may_end}
 use Rattle.tsb_laws.proofs.operation.late_greens_are_ready.Goals as goal
 
 pub returns-clause-ready : goal.returns-clause-ready

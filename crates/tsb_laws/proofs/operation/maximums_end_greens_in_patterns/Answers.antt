@@ -1,4 +1,4 @@
-use Rattle.tsb_laws.proofs.operation.PatternEndLemmas.{maximum_is_ready, maximum_may_end}
+use Rattle.tsb_laws.proofs.operation.pattern.PatternEndLemmas.{maximum_is_ready, maximum_may_end}
 use Rattle.tsb_laws.proofs.operation.maximums_end_greens_in_patterns.Goals as goal
 
 pub returns-clause-ready : goal.returns-clause-ready

@@ -1,6 +1,6 @@
 use Rattle.tsb_step.proofs.GoodLemmas.{good_run}
 use Rattle.tsb_step.specs.Runs.{replay}
-use Rattle.tsb_laws.proofs.operation.RunningMaximumLemmas.{bounded, moves_by_a_step, others_leave_it}
+use Rattle.tsb_laws.proofs.operation.green.RunningMaximumLemmas.{bounded, moves_by_a_step, others_leave_it}
 use Rattle.tsb_laws.proofs.operation.maximums_move_by_steps.Goals as goal
 
 pub returns-clause-bounded : goal.returns-clause-bounded

@@ -1,6 +1,6 @@
 use Rattle.tsb_step.proofs.GoodLemmas.{good_run}
 use Rattle.tsb_step.specs.Runs.{replay}
-use Rattle.tsb_laws.proofs.operation.OverlapPhaseLemmas.{goes_with_phases}
+use Rattle.tsb_laws.proofs.operation.overlap.OverlapPhaseLemmas.{goes_with_phases}
 use Rattle.tsb_laws.proofs.operation.overlaps_go_with_phases.Goals as goal
 
 pub returns : goal.returns

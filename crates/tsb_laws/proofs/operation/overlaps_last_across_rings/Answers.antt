@@ -1,7 +1,7 @@
 use Rattle.tsb_step.proofs.GoodLemmas.{good_run}
 use Rattle.tsb_step.specs.Runs.{replay}
-use Rattle.tsb_laws.proofs.operation.CalmLemmas.{calm_run}
-use Rattle.tsb_laws.proofs.operation.OverlapGreenLemmas.{ends_with_a_green, lasts_across}
+use Rattle.tsb_laws.proofs.operation.step.CalmLemmas.{calm_run}
+use Rattle.tsb_laws.proofs.operation.overlap.OverlapGreenLemmas.{ends_with_a_green, lasts_across}
 use Rattle.tsb_laws.proofs.operation.overlaps_last_across_rings.Goals as goal
 
 pub returns-clause-ends : goal.returns-clause-ends

@@ -1,4 +1,4 @@
-use Rattle.tsb_laws.proofs.operation.PatternEndLemmas.{permitted_is_ready, permitted_may_end}
+use Rattle.tsb_laws.proofs.operation.pattern.PatternEndLemmas.{permitted_is_ready, permitted_may_end}
 use Rattle.tsb_laws.proofs.operation.permissive_times_let_calls_in.Goals as goal
 
 pub returns-clause-ready : goal.returns-clause-ready

@@ -1,4 +1,4 @@
-use Rattle.tsb_laws.proofs.operation.ReturnRunLemmas.{served_in_pattern, coordinated_in_time}
+use Rattle.tsb_laws.proofs.operation.pattern.PatternRunLemmas.{served_in_pattern, coordinated_in_time}
 use Rattle.tsb_laws.proofs.operation.phases_are_served_in_patterns.Goals as goal
 
 pub returns-clause-called : goal.returns-clause-called

@@ -1,5 +1,5 @@
 use Rattle.tsb_step.specs.Runs.{replay}
-use Rattle.tsb_laws.proofs.operation.PreemptTurnLemmas.{gives_way, ends_from}
+use Rattle.tsb_laws.proofs.operation.preempt.PreemptTurnLemmas.{gives_way, ends_from}
 use Rattle.tsb_laws.proofs.operation.preempts_give_way.Goals as goal
 
 pub returns-clause-turns : goal.returns-clause-turns

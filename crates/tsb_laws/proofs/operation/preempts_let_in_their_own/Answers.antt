@@ -1,4 +1,4 @@
-use Rattle.tsb_laws.proofs.operation.PreemptEntryLemmas.{lets_in_its_own}
+use Rattle.tsb_laws.proofs.operation.preempt.PreemptEntryLemmas.{lets_in_its_own}
 use Rattle.tsb_laws.proofs.operation.preempts_let_in_their_own.Goals as goal
 
 pub returns : goal.returns

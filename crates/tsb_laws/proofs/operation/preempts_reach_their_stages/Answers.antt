@@ -1,4 +1,4 @@
-use Rattle.tsb_laws.proofs.operation.StageRunLemmas.{stages_reached, exits_end}
+use Rattle.tsb_laws.proofs.operation.preempt.StageRunLemmas.{stages_reached, exits_end}
 use Rattle.tsb_laws.proofs.operation.preempts_reach_their_stages.Goals as goal
 
 pub returns-clause-stages : goal.returns-clause-stages

@@ -1,4 +1,4 @@
-use Rattle.tsb_laws.proofs.operation.ChosenStageLemmas.{chosen_stages, chosen_dwells}
+use Rattle.tsb_laws.proofs.operation.preempt.ChosenStageLemmas.{chosen_stages, chosen_dwells}
 use Rattle.tsb_laws.proofs.operation.preempts_that_choose_come_sooner.Goals as goal
 
 pub returns-clause-stages : goal.returns-clause-stages

@@ -1,4 +1,4 @@
-use Rattle.tsb_laws.proofs.operation.PressedRunLemmas.{pressed_may_end}
+use Rattle.tsb_laws.proofs.operation.green.PressedRunLemmas.{pressed_may_end}
 use Rattle.tsb_laws.proofs.operation.pressed_greens_may_end.Goals as goal
 
 pub returns : goal.returns

@@ -1,5 +1,5 @@
 use Rattle.tsb_step.proofs.GoodLemmas.{good_run}
-use Rattle.tsb_laws.proofs.operation.RecycledRunLemmas.{recycles_calls}
+use Rattle.tsb_laws.proofs.operation.recycle.RecycledRunLemmas.{recycles_calls}
 use Rattle.tsb_laws.proofs.operation.recycled_calls_walk.Goals as goal
 
 pub returns : goal.returns

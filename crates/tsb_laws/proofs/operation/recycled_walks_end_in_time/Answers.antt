@@ -1,4 +1,4 @@
-use Rattle.tsb_laws.proofs.operation.RecycledRunLemmas.{walk_is_over}
+use Rattle.tsb_laws.proofs.operation.recycle.RecycledRunLemmas.{walk_is_over}
 use Rattle.tsb_laws.proofs.operation.recycled_walks_end_in_time.Goals as goal
 
 pub returns : goal.returns

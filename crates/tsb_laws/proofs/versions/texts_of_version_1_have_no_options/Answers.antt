@@ -1,5 +1,5 @@
 use Rattle.tsb_laws.specs.Texts.{named_plan}
-use Rattle.tsb_laws.proofs.operation.OptionsOffLemmas.{options-off}
+use Rattle.tsb_laws.proofs.operation.pattern.OptionsOffLemmas.{options-off}
 use Rattle.tsb_laws.proofs.versions.OptionLemmas.{no-options}
 use Rattle.tsb_laws.proofs.versions.TextLemmas.{named-said}
 use Rattle.tsb_laws.proofs.versions.texts_of_version_1_have_no_options.Goals as goal

@@ -1,0 +1,3 @@
+-- Overlaps and the phases that they include.
+pub mod OverlapPhaseLemmas
+pub mod OverlapGreenLemmas

@@ -1,0 +1,20 @@
+-- What preempts do: what they let in, their stages, and when they come to their dwell.
+pub mod PreemptEntryLemmas
+pub mod PreemptTurnLemmas
+pub mod PreemptGreenLemmas
+pub mod PressLemmas
+pub mod UnwantedGreenLemmas
+pub mod WantedPhaseLemmas
+pub mod WantedStartLemmas
+pub mod TargetLemmas
+pub mod StageFactLemmas
+pub mod StageTickLemmas
+pub mod StageRingLemmas
+pub mod StageDirtyLemmas
+pub mod StageArrivalLemmas
+pub mod StageChoiceLemmas
+pub mod StageInputLemmas
+pub mod StageRunLemmas
+pub mod StageTrackLemmas
+pub mod StageServiceLemmas
+pub mod ChosenStageLemmas
