@@ -21,10 +21,6 @@ VALUES = {"ℕ", "Bool", "List", "Option", "State", "Status", "Rule", "Type"}
 
 # Statements that are proved twice and wait for a change of their files: the lemmas, each with its crate.
 WAITING = [
-    {"tsb_laws or_tail", "tsb_ring or_kept"},
-    {"tsb_laws after_among", "tsb_ring after-among"},
-    {"tsb_laws in_front", "tsb_ring up_to-among"},
-    {"tsb_laws quiet", "tsb_rules is-off"},
     {"tsb_coord never_late", "tsb_laws never_late"},
     {"tsb_controller goes_to_6", "tsb_laws goes_to_6"},
     {"tsb_breaches same-when", "tsb_objects same-tests"},
@@ -33,7 +29,6 @@ WAITING = [
     {"tsb_field_diagram first-line", "tsb_log_text first-line"},
     {"tsb_field_display is_usual", "tsb_field_display named"},
     {"tsb_field_display line-behind", "tsb_field_streams line-behind"},
-    {"tsb_laws begun_crosses", "tsb_laws begun_way"},
     {"tsb_laws free_of", "tsb_laws unserved"},
     {"tsb_laws equal-is", "tsb_status_text equal_is"},
     {"tsb_plan_notes some-is", "tsb_plan_text some_is"},
