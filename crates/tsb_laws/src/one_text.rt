@@ -18,7 +18,7 @@ pub fn texts_are_equal_but_for_memory()
     ensures some { SomeTextIsUntold }
 {}
 
-/// Two sessions over the same plan, log and bytes write one text. It is so where both answer Ok and neither says
+/// Two sessions over the same plan, log and bytes write one text. This holds where both answer Ok and neither says
 /// `refused E1 Memory`, however far each has read after a line `quit`.
 ///
 /// Not said: anything of sessions that end with a fault. `session` says that these have written the beginning of a

@@ -90,7 +90,7 @@ pub fn overlaps_go_with_phases()
 /// `across`: With `overlapAcrossRings` an overlap does not leave green between two phases of the two rings. Included
 /// phase 1, say, is in yellow change or red clearance, its ring is committed, and the other ring to included phase 8,
 /// with which phase 1 is not concurrent. So both rings cross the barrier. Then the head of a normal overlap is green,
-/// and it is green after the next tick too. It is so in each tick until phase 8 is Green, as commitments stand.
+/// and it is green after the next tick too. This holds in each tick until phase 8 is Green, as commitments stand.
 ///
 /// Needs: a tick that does not trip the monitor.
 /// Not said: anything where the ring of phase 1 is committed to no phase; it may be Red before phase 8 is Green.
@@ -315,7 +315,7 @@ pub fn called_phases_are_served()
 ///
 /// `forced`: A green that is forced off may end, whatever calls it. Where it has a conflict in each tick, and has been
 /// forced off, at its instant, late or in its permissive time, it is ready as soon as its initial time, its walk and
-/// its pedestrian clearance have passed. That is so of coordinated phases and all others, also where a green began
+/// its pedestrian clearance have passed. This holds of coordinated phases and all others, also where a green began
 /// behind its instant, and while the local counter comes into step.
 ///
 /// Needs: a pattern that runs, and no preempt in service; no pattern selected and nothing committed meanwhile; an untripped
@@ -370,7 +370,7 @@ pub fn phases_are_served_in_patterns()
 /// instant, and in no other tick; and no green is forced off for its length. Where `coordMaximumMode` is 0, maximums
 /// end greens in free operation alone. Where no pattern leads and lags, K20 asks that coordinated splits end at one
 /// time, and instants are as counted from the first coordinated phase. Where no phase has pedestrian recycle, none may
-/// walk again within its green. Where `coordCorrectionMode` is 0, the local counter is in step at once. It is so behind
+/// walk again within its green. Where `coordCorrectionMode` is 0, the local counter is in step at once, also after
 /// each selection, and it alone says what is forced off. Where no pattern has a permissive time, K23 asks for nothing.
 /// Where no overlap has `overlapAcrossRings`, overlaps last through a clearance by the ring of its phase alone. Where
 /// no preempt has `preemptChoosesAnew`, no ring gives up what it is committed to. So it is in every tick, for each
@@ -437,7 +437,7 @@ pub fn selections_go_on()
 
 /// `ready`: A green that is late may end. With `coordForceMode` 1 or 2, a phase that is not coordinated is ready in
 /// each tick from its force-off instant up to that of the coordinated phase that it yields to. So it is also past the
-/// end of the cycle, and while the local counter comes into step. That is so wherever it is Green with a conflict, its
+/// end of the cycle, and while the local counter comes into step. This holds wherever it is Green with a conflict, its
 /// initial time has passed and its pedestrian part is DontWalk; so it needs no gap and no next cycle.
 ///
 /// Needs: no preempt in service; at most 16 phases.
@@ -446,7 +446,7 @@ pub fn selections_go_on()
 /// `would_not_be_ready`).
 /// Witness: `a_late_green` of LateGreenRuns.
 ///
-/// `in_time`: A green that begins behind its instant may end in time. Where it is so late in one tick, it is ready as soon
+/// `in_time`: A green that begins after its instant may end in time. Where it is so late in one tick, it is ready as soon
 /// as it has had a conflict in each tick for its initial time, and for its walk and pedestrian clearance, whatever calls
 /// it. The green may also have begun before its instant.
 ///
@@ -462,7 +462,7 @@ pub fn late_greens_are_ready()
 
 /// `ready`: A green that has lasted its split may end, with floating force-off. With `coordForceMode` 2, a phase that
 /// is not coordinated is ready in each tick in which its green has lasted its split less yellow change and red
-/// clearance. That is so wherever it is Green with a conflict, its initial time has passed and its pedestrian part is
+/// clearance. This holds wherever it is Green with a conflict, its initial time has passed and its pedestrian part is
 /// DontWalk; so it needs neither a gap nor its instant.
 ///
 /// Needs: no preempt in service; an untripped run; at most 16 phases.
@@ -487,7 +487,7 @@ pub fn floating_greens_are_ready()
 
 /// `ready`: A maximum ends greens in a pattern, where the plan says so. With `coordMaximumMode` 1 or 2, a phase that is
 /// not coordinated is ready in each tick in which a conflict has stood for its `phaseMaximum1` or `phaseMaximum2`. That
-/// is so wherever it is Green, its initial time has passed and its pedestrian part is DontWalk.
+/// holds wherever it is Green, its initial time has passed and its pedestrian part is DontWalk.
 ///
 /// Needs: no preempt in service; at most 16 phases.
 /// Not said: that it ends then, as it may wait for the other ring at the barrier (`coordination_goes_on`). Of a dynamic
@@ -512,7 +512,7 @@ pub fn maximums_end_greens_in_patterns()
 
 /// `ready`: A call within the permissive time is served as one before the instant. A coordinated phase is ready in each
 /// tick in which the local counter is at most `patternPermissiveTime` behind its force-off instant. So it is also past
-/// the end of the cycle, and while the counter comes into step. That is so wherever it is Green with a conflict, its
+/// the end of the cycle, and while the counter comes into step. This holds wherever it is Green with a conflict, its
 /// initial time has passed and its pedestrian part is DontWalk.
 ///
 /// Needs: a permissive time that is not 0; no preempt in service; at most 16 phases.
@@ -536,7 +536,7 @@ pub fn permissive_times_let_calls_in()
 
 /// A pedestrian call begins a walk within a green, where there is time for it. The phase is a coordinated one of the
 /// pattern that runs, with `phasePedestrianRecycle`, was Green in DontWalk and has a pedestrian call. It is in Walk
-/// after the tick, and its button is forgotten. That is so while the local counter is in step, where it is forced off
+/// after the tick, and its button is forgotten. This holds while the local counter is in step, where it is forced off
 /// in none of the ticks that its walk and its pedestrian clearance take. Nor may a force-off stand for a conflict that
 /// it still has. No other walk begins within a green.
 ///

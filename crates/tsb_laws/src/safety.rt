@@ -15,7 +15,7 @@ ghost use Rattle.tsb_laws.specs.Coordination.{CoordinatedEndByForceOff, OmittedA
 /// Witness: `an_intergreen` of CommitmentRuns.
 ///
 /// `walks`: Pedestrians have cleared before a conflicting green. From the beginning of a walk to the end of its green
-/// there are at least its walk and its pedestrian clearance, and then comes the intergreen. That is so of each walk,
+/// there are at least its walk and its pedestrian clearance, and then comes the intergreen. This holds of each walk,
 /// whether it begins with the green or within it. Under a preempt that ends the phase these are the smaller times.
 ///
 /// Needs: an untripped stretch.
@@ -95,7 +95,7 @@ pub fn omitted_are_not_served()
     ensures { OmittedAreNotServed }
 {}
 
-/// All red ends while a phase is callable or a preempt is in service. While that is so in each tick, be it by one
+/// All red ends while a phase is callable or a preempt is in service. While this holds in each tick, be it by one
 /// phase or by another, all red lasts for at most the largest red revert and two ticks, whatever inputs come.
 ///
 /// Needs: as `commitments_are_served`, and that no value of the plan is over the greatest of its object.
