@@ -1,10 +1,10 @@
 -- What is said of a line of a live run.
-use Rattle.std.proofs.Common.{◌≡◌, ℕ, List, [], ◌∷◌, ◌++◌, Bool, true, false, None, Some, refl, sym, ap, ◌∙◌, Ok, Err, subst, inl, inr}
+use Rattle.std.proofs.Common.{◌≡◌, ℕ, List, [], ◌∷◌, ◌++◌, Bool, true, false, None, Some, refl, sym, ap, ◌∙◌, IfOk, Ok, Err, subst, inl, inr}
 use Rattle.std.specs.declared.option.Option.{Option}
 use Rattle.std.specs.declared.result.Result.{Result}
 use Rattle.tsb_bench.specs.Held.{Held, state_of, whole}
 use Rattle.tsb_command_text.specs.declared.command.Command.{Command}
-use Rattle.tsb_text.specs.kept.Kept.{Keeping, kept_of, nothing_kept}
+use Rattle.tsb_text.specs.kept.Kept.{Keeping, Stock, kept_of, nothing_kept}
 use Rattle.tsb_lines.specs.declared.writes.WriteError.{WriteError}
 use Rattle.tsb_status_text.specs.PlanLine.{plan_text}
 use Rattle.tsb_step.specs.declared.inputs.Input.{Input}
@@ -41,7 +41,7 @@ use Rattle.tsb_command_text.specs.LiveReadings.{live_reading}
 use Rattle.tsb_text.specs.Stops.{Stopped, flow_after, stop_in, stopped_at}
 use Rattle.tsb_live_text.specs.Changes.{Changes}
 use Rattle.tsb_live_text.specs.Live.{AsksLive, Leaves, Live, Reads, Says, Tells, besides, echo_of, fault_by, present, begun, quits, setup, with_echo, with_events, with_inputs, with_row, with_stop}
-use Rattle.tsb_live_text.specs.Standing.{Does, StandsLive, TellsOnce, TellsPlan}
+use Rattle.tsb_live_text.specs.Standing.{Does, StandsLive, TellsMade, TellsOnce, TellsPlan}
 use Rattle.tsb_live_text.specs.declared.run.LiveRun.{LiveRun}
 
 -- ## Where a run stands
@@ -49,8 +49,8 @@ use Rattle.tsb_live_text.specs.declared.run.LiveRun.{LiveRun}
 pub present-state : (run : LiveRun) (s : Live) → StandsLive run s → state_of run.course.bench ≡ present s
 present-state run s stands = follows-state s.plan (whole run.course.bench) s.inputs stands.stands.follows
 
-pub present-kept : (run : LiveRun) (s : Live) → StandsLive run s → run.course.kept ≡ kept_of s.plan s.inputs
-present-kept run s stands = is-kept run.course.mode run.course.kept s.plan s.inputs stands.keeps stands.stands.keeps
+pub present-kept : (run : LiveRun) (s : Live) → StandsLive run s → run.course.kept.kept ≡ kept_of s.plan s.inputs
+present-kept run s stands = is-kept run.course.mode run.course.kept.kept s.plan s.inputs stands.keeps stands.stands.keeps
 
 -- what is said besides
 pub same-besides : (run : LiveRun) (s : Live) (line echo : List ℕ) → StandsLive run s → echo ≡ echo_of run.echoes line → besides_of run.course echo ≡ besides s line
@@ -121,8 +121,8 @@ events-stands run new s on stands mode bench rows kept echoes on_fault stop = re
     same = stands.stands.same;
     rows = rows ∙ stands.stands.rows;
     follows = subst (λ (b : Held). Follows s.plan (whole b) s.inputs) (sym bench) stands.stands.follows;
-    keeps = subst (λ (m : Mode). IsKept m new.course.kept s.plan s.inputs) (sym mode)
-        (subst (λ (k : Keeping). IsKept (mode_with on run.course.mode) k s.plan s.inputs) (sym kept) (mode-kept on run.course.mode run.course.kept s.plan s.inputs stands.keeps stands.stands.keeps));
+    keeps = subst (λ (m : Mode). IsKept m new.course.kept.kept s.plan s.inputs) (sym mode)
+        (subst (λ (k : Keeping). IsKept (mode_with on run.course.mode) k s.plan s.inputs) (sym (ap (λ (k : Stock). k.kept) kept)) (mode-kept on run.course.mode run.course.kept.kept s.plan s.inputs stands.keeps stands.stands.keeps));
     tells = not-recorded new.course.mode new.course.told.told (setup s) s.inputs (subst Keeps (sym mode) (mode-keeps on run.course.mode stands.keeps));
   };
   keeps = subst Keeps (sym mode) (mode-keeps on run.course.mode stands.keeps);
@@ -144,7 +144,7 @@ echo-stands run new s on stands course echoes on_fault stop = record {
 }
 
 -- at power-up
-pub run-begins : (on_fault : OnFault) (plan : Plan) (run : LiveRun) → run.course.mode ≡ KeepsInputs → run.on_fault ≡ on_fault → Follows plan (whole run.course.bench) [] → run.course.rows ≡ rows_in (HeldRow all_off) → run.course.kept ≡ nothing_kept → run.course.told.told ≡ nothing_told
+pub run-begins : (on_fault : OnFault) (plan : Plan) (run : LiveRun) → run.course.mode ≡ KeepsInputs → run.on_fault ≡ on_fault → Follows plan (whole run.course.bench) [] → run.course.rows ≡ rows_in (HeldRow all_off) → run.course.kept.kept ≡ nothing_kept → run.course.told.told ≡ nothing_told
     → run.echoes ≡ false → run.stop ≡ None → StandsLive run (begun on_fault plan)
 run-begins on_fault plan run mode strict follows rows kept told echoes stop = record {
   stands = course-begins (setup (begun on_fault plan)) (rows_in (HeldRow all_off)) run.course refl rows follows kept told;
@@ -239,6 +239,12 @@ does-plan r new s line echo a b p q stands is (inr t) =
         → Does r new (AsksLive s line asks.Plan) a b p q
     second (Ok fault) d = (d.0, d.1, record { text = d.2.text; said = d.2.said; so = inr d.2.so })
     second (Err e) d = record { text = d.text; said = d.said; so = (d.so.0, d.so.1, d.so.2, inr d.so.3) }
+
+-- of the line that was made of it
+pub made-plan : {A E : Type 0} (text_of : A → List ℕ) (made : Result A E) (r : Result (Option LineFault) WriteError) (plan : Plan) (echo : List ℕ) (a b : Option (List ℕ)) (p q : List ℕ)
+    → IfOk made (λ line. text_of line ≡ plan_text plan) → TellsMade text_of made r echo a b p q → TellsPlan r plan echo a b p q
+made-plan text_of (Ok line) r plan echo a b p q is t = inl (subst (λ (x : List ℕ). TellsOnce r None (echo ++ with_feed x) a b p q) is t)
+made-plan text_of (Err e) r plan echo a b p q is t = inr t
 
 -- what was read is this
 pub does-read : (r : Result (Option LineFault) WriteError) (s : Live) (new : LiveRun) (line : List ℕ) (asked c : LiveReading) (a b : Option (List ℕ)) (p q : List ℕ) → asked ≡ c

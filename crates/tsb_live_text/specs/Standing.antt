@@ -34,6 +34,11 @@ abbrev pub TellsOnce : Result (Option LineFault) WriteError → Option LineFault
 TellsOnce (Ok fault) why text old new waited waits = (fault ≡ why) × Said old new waited waits text
 TellsOnce (Err e) why text old new waited waits = IsCutShort old new waited waits text
 
+-- the line that was made of a plan was said; or that there was no memory to make it
+abbrev pub TellsMade : {A E : Type 0} → (A → List ℕ) → Result A E → Result (Option LineFault) WriteError → List ℕ → Option (List ℕ) → Option (List ℕ) → List ℕ → List ℕ → Type 0
+TellsMade text_of (Ok line) result echo old new waited waits = TellsOnce result None (echo ++ with_feed (text_of line)) old new waited waits
+TellsMade text_of (Err e) result echo old new waited waits = TellsOnce result (Some (Refused Memory)) (echo ++ with_feed (refused_line Memory)) old new waited waits
+
 -- the line of a plan was said; or that there is no memory for it
 abbrev pub TellsPlan : Result (Option LineFault) WriteError → Plan → List ℕ → Option (List ℕ) → Option (List ℕ) → List ℕ → List ℕ → Type 0
 TellsPlan result plan echo old new waited waits =

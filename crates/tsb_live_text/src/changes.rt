@@ -11,6 +11,8 @@ ghost use Rattle.tsb_text.specs.declared.rows.Rows.TheVariants.{Held};
 ghost use Rattle.tsb_text.specs.Rows.{rows_in};
 ghost use Rattle.tsb_text.specs.Answers.{Setup, display_line, refused_line};
 ghost use Rattle.tsb_text.specs.Obeyed.{Done, Stands, besides_of, news_in};
+ghost use Rattle.tsb_text.specs.Wanting.{IsWanting, tick_of};
+ghost use Rattle.tsb_types.specs.declared.refusal.Refusal.TheVariants.{Memory};
 
 use std::io::Write;
 use tsb_dialog::{Pending, Watched, WriteError};
@@ -25,7 +27,8 @@ const SHOWN: usize = 8;
 const SHOWN_END: usize = 48;
 
 /// So many ticks with the row that is held, up to one that is refused, and why it was. It says what each tick tells, each
-/// display line that shows another head or preempt than the line before, and the last; and a refusal, behind `echo`.
+/// display line that shows another head or preempt than the line before, and the last; and a refusal, behind `echo`. A
+/// tick is refused with E1 only where there is no room for it.
 pub(crate) fn changes<W: Write>(
     course: &mut Course,
     lines: &mut LineMaker,
@@ -36,6 +39,7 @@ pub(crate) fn changes<W: Write>(
 ) -> Result<Option<Refusal>, WriteError>
     ensures done { (given : Setup) (log : List LogRow) (row : RowValue) (inputs : List InputValue) → Stands given log course.old inputs → log ≡ rows_in (Held row)
         → Done result given log course.new (Changes given.plan (besides_of course.old echo.now) row inputs (display_line (state_of course.old.bench)) false ticks) (W.contents writer.old.device) (W.contents writer.new.device) pending.old pending.new }
+    ensures wanting { result ≡ Ok (Some Memory) → IsWanting course.new (tick_of course.new) }
     ensures mode { course.new.mode ≡ course.old.mode }
     ensures blame { writer.old.failed ≡ false → AfterCalls result writer.new.failed }
 {

@@ -1,6 +1,5 @@
 //! A live run, line by line.
-ghost use Rattle.std.specs.Prelude.{◌≡◌, ◌++◌, None, Some, false, true};
-ghost use Rattle.tsb_bench.specs.Held.{state_of};
+ghost use Rattle.std.specs.Prelude.{◌≡◌, ◌++◌, None, Some, false, true, vec_items};
 ghost use Rattle.tsb_dialog.specs.Blame.{AfterCalls};
 ghost use Rattle.tsb_dialog.specs.Said.{with_feed};
 ghost use Rattle.tsb_objects.specs.Checked.{checked_plan};
@@ -10,12 +9,12 @@ ghost use Rattle.tsb_text.specs.Faults.{fault_words};
 ghost use Rattle.tsb_live_text.specs.saved.Saved.{saved_text};
 ghost use Rattle.tsb_live_text.specs.Live.{AsksLive, Live as LiveState, Obeys, Reads, echo_of, fault_by, quits};
 ghost use Rattle.tsb_live_text.specs.LiveEnded.{LiveEnded, ended_with};
-ghost use Rattle.tsb_live_text.specs.Standing.{Does, StandsLive, TellsOnce, TellsPlan};
+ghost use Rattle.tsb_live_text.specs.Standing.{Does, StandsLive, TellsMade, TellsOnce};
 
 use crate::changes::changes;
 use crate::say_saved;
 use arrayvec::ArrayVec;
-use std::alloc::Global;
+use std::alloc::{AllocError, Global};
 use std::io::{Read, Write};
 use tsb_bench::Bench;
 use tsb_command_text::{Command, LiveCommand, LiveReading, live_reading_of};
@@ -158,7 +157,10 @@ impl LiveRun<'_> {
         match command {
             LiveCommand::Session(command) => self.obey(command, line, pending, writer),
             LiveCommand::Changes(ticks) => self.changes(ticks, line, pending, writer),
-            LiveCommand::Plan => self.tell_plan(&echo, pending, writer),
+            LiveCommand::Plan => {
+                let plan = plan_line(self.alloc, self.course.bench().plan());
+                tell_plan(plan, &echo, pending, writer)
+            }
             LiveCommand::Status => {
                 let status = status_line(&self.course.bench().status());
                 tell(&echo, status.as_bytes(), None, pending, writer)
@@ -208,25 +210,6 @@ impl LiveRun<'_> {
         Ok(fault_by(refusal))
     }
 
-    /// Tells the plan in effect. Where there is no memory for its line, that is told.
-    fn tell_plan<W: Write>(
-        &self,
-        echo: &[u8],
-        pending: &mut Pending,
-        writer: &mut Watched<W>,
-    ) -> Result<Option<LineFault>, WriteError>
-        ensures told { TellsPlan result (state_of self.now.course.bench).plan echo.now (W.contents writer.old.device) (W.contents writer.new.device) pending.old pending.new }
-        ensures blame { writer.old.failed ≡ false → AfterCalls result writer.new.failed }
-    {
-        match plan_line(self.alloc, self.course.bench().plan()) {
-            Ok(plan) => tell(echo, &plan, None, pending, writer),
-            Err(_) => {
-                let fault = LineFault::Refused(Refusal::Memory);
-                tell_fault(echo, &fault, pending, writer)
-            }
-        }
-    }
-
     /// Tells the log and the commands by which `tsb run` comes to the present state.
     fn tell_saved<W: Write>(
         &self,
@@ -234,7 +217,7 @@ impl LiveRun<'_> {
         pending: &mut Pending,
         writer: &mut Watched<W>,
     ) -> Result<Option<LineFault>, WriteError>
-        ensures told { TellsOnce result None (echo.now ++ with_feed (saved_text self.now.course.kept self.now.course.bench.tick)) (W.contents writer.old.device) (W.contents writer.new.device) pending.old pending.new }
+        ensures told { TellsOnce result None (echo.now ++ with_feed (saved_text self.now.course.kept.kept self.now.course.bench.tick)) (W.contents writer.old.device) (W.contents writer.new.device) pending.old pending.new }
         ensures blame { writer.old.failed ≡ false → AfterCalls result writer.new.failed }
     {
         pending.add(writer, echo)?;
@@ -245,6 +228,25 @@ impl LiveRun<'_> {
             writer,
         )?;
         Ok(None)
+    }
+}
+
+/// Says the line of a plan, behind `echo`; or that there was no memory for it, exactly where there was none.
+fn tell_plan<W: Write>(
+    line: Result<Vec<u8>, AllocError>,
+    echo: &[u8],
+    pending: &mut Pending,
+    writer: &mut Watched<W>,
+) -> Result<Option<LineFault>, WriteError>
+    ensures told { TellsMade vec_items line result echo.now (W.contents writer.old.device) (W.contents writer.new.device) pending.old pending.new }
+    ensures blame { writer.old.failed ≡ false → AfterCalls result writer.new.failed }
+{
+    match line {
+        Ok(line) => tell(echo, &line, None, pending, writer),
+        Err(_) => {
+            let fault = LineFault::Refused(Refusal::Memory);
+            tell_fault(echo, &fault, pending, writer)
+        }
     }
 }
 

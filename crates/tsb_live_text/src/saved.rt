@@ -32,7 +32,7 @@ pub fn say_saved<W: Write>(
     pending: &mut Pending,
     writer: &mut Watched<W>,
 ) -> Result<(), WriteError>
-    ensures told { SaysLine result (saved_text kept.now now) (W.contents writer.old.device) (W.contents writer.new.device) pending.old pending.new }
+    ensures told { SaysLine result (saved_text kept.now.kept now) (W.contents writer.old.device) (W.contents writer.new.device) pending.old pending.new }
     ensures blame { writer.old.failed ≡ false → AfterCalls result writer.new.failed }
 {
     pending.add(writer, b"{\"log\":\"")?;

@@ -1,12 +1,15 @@
 -- A bench, what is kept of its inputs and their events go on and back together.
-use Rattle.std.proofs.Common.{◌≡◌, ℕ, ◌+◌, ◌-◌, ◌≤◌, List, [], ◌∷◌, Bool, true, false, None, Ok, Err, refl, sym, ap, subst, arith, ◌∙◌, OnOk, OnErr, IfErr, inr}
+use Rattle.std.proofs.Common.{◌≡◌, ℕ, ◌+◌, ◌-◌, ◌≤◌, List, [], ◌∷◌, ◌<◌, Bool, true, false, None, Some, Ok, Err, refl, sym, ap, subst, arith, ◌∙◌, OnOk, OnErr, IfErr, inr}
+use Rattle.std.specs.declared.option.Option.{Option}
 use Rattle.std.specs.declared.result.Result.{Result}
+use Rattle.tsb_lines.specs.declared.writes.WriteError.{WriteError}
+use Rattle.tsb_bench.specs.Cabinet.{most_cells}
 use Rattle.tsb_objects.specs.tsb_plan.Plan.{Plan}
 use Rattle.tsb_objects.specs.tsb_types.declared.event.Event.{Event}
 use Rattle.tsb_objects.specs.tsb_types.declared.refusal.Refusal.{Refusal}
 use Rattle.tsb_objects.specs.tsb_types.declared.refusal.Refusal.TheVariants.{Memory}
 use Rattle.tsb_objects.specs.tsb_types.declared.row.Row.{Row}
-use Rattle.tsb_bench.specs.tsb_history.History.{Change}
+use Rattle.tsb_bench.specs.tsb_history.History.{Change, record_size}
 use Rattle.tsb_bench.specs.tsb_history.declared.kinds.Kind.{Kind}
 use Rattle.tsb_bench.specs.tsb_machine.declared.commands.Command.TheVariants.{Apply, Undo, Back, Seek, When}
 use Rattle.tsb_bench.specs.tsb_machine.declared.commands.Answer.{Answer}
@@ -27,9 +30,10 @@ use Rattle.tsb_bench.specs.tsb_step.Watches.{watched}
 use Rattle.tsb_bench.specs.Held.{Held, state_of, whole}
 use Rattle.tsb_bench.specs.tsb_step.declared.log_form.LogForm.{LogForm}
 use Rattle.tsb_bench.specs.tsb_step.declared.log_form.Noted.{Noted}
-use Rattle.tsb_text.specs.kept.Kept.{DropsOther, IsNoTick, Keeping, gone_back as kept_back, kept_of, last_row, nothing_kept, row_kept, with_input}
+use Rattle.tsb_text.specs.kept.Kept.{DropsOther, IsNoTick, Keeping, LacksRoom, Stock, gone_back as kept_back, kept_of, last_row, nothing_kept, row_kept, with_input}
 use Rattle.tsb_text.specs.recording.Along.{Wants, noted_after, telling, with_input as with_told}
-use Rattle.tsb_text.specs.recording.Recording.{IsWanting, noted_at}
+use Rattle.tsb_text.specs.recording.Recording.{noted_at}
+use Rattle.tsb_text.specs.Wanting.{IsWanting, LacksBeside, tick_of}
 use Rattle.tsb_text.specs.recording.Told.{DropsMark, Telling, gone_back as told_back, nothing_told}
 use Rattle.tsb_text.specs.Rows.{row_in_force}
 use Rattle.tsb_text.proofs.recording.AlongLemmas as told
@@ -42,7 +46,7 @@ use Rattle.tsb_text.specs.declared.course.Mode.TheVariants.{Plain, Keeping as Ke
 use Rattle.tsb_log_text.specs.Logs.{row_at}
 use Rattle.tsb_text.specs.Answers.{Setup, next_tick}
 use Rattle.tsb_text.specs.Obeyed.{Answered, AreOfLog, Forgets, ForgetsNewest, HasRow, IsKept, IsNext, IsTold, Keeps, OnCourse, Stands, Took, tells_in}
-use Rattle.tsb_text.specs.Obeys.{events_text, if_told}
+use Rattle.tsb_text.specs.Obeys.{events_text, if_told, refusal_in}
 
 pub follows-state : (plan : Plan) (w : Whole) (is : List Input) → Follows plan w is → w.state ≡ replay plan is
 follows-state plan w is f = past.follows-state controller (start plan) w is f
@@ -76,8 +80,8 @@ nothing-told m told given is plain = subst (λ (x : Mode). IsTold x told given i
 pub plain-took : (r : Result (Unit {0}) Refusal) (given : Setup) (log : List LogRow) (is : List Input) (old new : OnCourse) (i : Input) → Stands given log old is → new.mode ≡ Plain → new.rows ≡ old.rows
     → BenchTook r given.plan new.bench is i → Took r given log new is i
 plain-took (Ok u) given log is old new i s plain rows took =
-    (took.0, record { same = s.same; rows = rows ∙ s.rows; follows = took.1; keeps = nothing-kept new.mode new.kept given.plan (i ∷ is) plain; tells = nothing-told new.mode new.told.told given (i ∷ is) plain }, λ tells. absurd (no-news new.mode plain tells))
-plain-took (Err e) given log is old new i s plain rows took = (took.0, record { same = s.same; rows = rows ∙ s.rows; follows = took.1; keeps = nothing-kept new.mode new.kept given.plan is plain; tells = nothing-told new.mode new.told.told given is plain })
+    (took.0, record { same = s.same; rows = rows ∙ s.rows; follows = took.1; keeps = nothing-kept new.mode new.kept.kept given.plan (i ∷ is) plain; tells = nothing-told new.mode new.told.told given (i ∷ is) plain }, λ tells. absurd (no-news new.mode plain tells))
+plain-took (Err e) given log is old new i s plain rows took = (took.0, record { same = s.same; rows = rows ∙ s.rows; follows = took.1; keeps = nothing-kept new.mode new.kept.kept given.plan is plain; tells = nothing-told new.mode new.told.told given is plain })
 
 pub keeps-inputs : (m : Mode) → m ≡ KeepsInputs → Keeps m
 keeps-inputs m is = subst Keeps (sym is) tt
@@ -110,15 +114,15 @@ tick-there plan is bench f = ap (λ (s : State). s.now) (follows-state plan (who
 
 -- an input was taken and kept; it has told its events, where they are told
 pub kept-took : (given : Setup) (log : List LogRow) (is : List Input) (old new : OnCourse) (tick : ℕ) (i : Input) → Stands given log old is → Keeps old.mode → new.mode ≡ old.mode → new.rows ≡ old.rows → tick ≡ old.bench.tick
-    → BenchTook (Ok tt) given.plan new.bench is i → new.kept ≡ with_input i tick old.kept
+    → BenchTook (Ok tt) given.plan new.bench is i → new.kept.kept ≡ with_input i tick old.kept.kept
     → (tells_in new.mode ≡ true → new.news ≡ events_of (usual_after (last_row is)) (replay given.plan is) i) → Took (Ok tt) given log new is i
 kept-took given log is old new tick i s keeps mode rows at took kept told =
-    let was : old.kept ≡ kept_of given.plan is = is-kept old.mode old.kept given.plan is keeps s.keeps in
+    let was : old.kept.kept ≡ kept_of given.plan is = is-kept old.mode old.kept.kept given.plan is keeps s.keeps in
     let there : tick ≡ (replay given.plan is).now = at ∙ tick-there given.plan is old.bench s.follows in
-    (took.0, record { same = s.same; rows = rows ∙ s.rows; follows = took.1; keeps = as-kept new.mode new.kept given.plan (i ∷ is) (kept ∙ (λ j. with_input i (there j) (was j))); tells = not-recorded new.mode new.told.told given (i ∷ is) (subst Keeps (sym mode) keeps) }, told)
+    (took.0, record { same = s.same; rows = rows ∙ s.rows; follows = took.1; keeps = as-kept new.mode new.kept.kept given.plan (i ∷ is) (kept ∙ (λ j. with_input i (there j) (was j))); tells = not-recorded new.mode new.told.told given (i ∷ is) (subst Keeps (sym mode) keeps) }, told)
 
 -- it was refused, and nothing has changed
-pub kept-refused : (e : Refusal) (given : Setup) (log : List LogRow) (is : List Input) (old new : OnCourse) (i : Input) → Stands given log old is → new.mode ≡ old.mode → new.rows ≡ old.rows → new.kept ≡ old.kept → new.told.told ≡ old.told.told
+pub kept-refused : (e : Refusal) (given : Setup) (log : List LogRow) (is : List Input) (old new : OnCourse) (i : Input) → Stands given log old is → new.mode ≡ old.mode → new.rows ≡ old.rows → new.kept.kept ≡ old.kept.kept → new.told.told ≡ old.told.told
     → BenchTook (Err e) given.plan new.bench is i → Took (Err e) given log new is i
 kept-refused e given log is old new i s mode rows kept told took = (
   took.0,
@@ -126,16 +130,16 @@ kept-refused e given log is old new i s mode rows kept told took = (
     same = s.same;
     rows = rows ∙ s.rows;
     follows = took.1;
-    keeps = subst (λ (m : Mode). IsKept m new.kept given.plan is) (sym mode) (subst (λ (k : Keeping). IsKept old.mode k given.plan is) (sym kept) s.keeps);
+    keeps = subst (λ (m : Mode). IsKept m new.kept.kept given.plan is) (sym mode) (subst (λ (k : Keeping). IsKept old.mode k given.plan is) (sym kept) s.keeps);
     tells = subst (λ (m : Mode). IsTold m new.told.told given is) (sym mode) (subst (λ (x : Telling). IsTold old.mode x given is) (sym told) s.tells);
   },
 )
 
 -- the events that an input told, told from the row that is kept
-pub kept-news : (given : Setup) (log : List LogRow) (is : List Input) (old : OnCourse) (i : Input) (last : Row) (news : List Event) → Stands given log old is → Keeps old.mode → last ≡ row_kept old.kept
+pub kept-news : (given : Setup) (log : List LogRow) (is : List Input) (old : OnCourse) (i : Input) (last : Row) (news : List Event) → Stands given log old is → Keeps old.mode → last ≡ row_kept old.kept.kept
     → news ≡ events_of (usual_after last) (state_of old.bench) i → news ≡ events_of (usual_after (last_row is)) (replay given.plan is) i
 kept-news given log is old i last news s keeps row tells =
-    let was : old.kept ≡ kept_of given.plan is = is-kept old.mode old.kept given.plan is keeps s.keeps in
+    let was : old.kept.kept ≡ kept_of given.plan is = is-kept old.mode old.kept.kept given.plan is keeps s.keeps in
     let there : last ≡ last_row is = row ∙ ap row_kept was ∙ kept-row given.plan is in
     let state : state_of old.bench ≡ replay given.plan is = follows-state given.plan (whole old.bench) is s.follows in
     tells ∙ (λ j. events_of (usual_after (there j)) (state j) i)
@@ -152,7 +156,7 @@ undone-took plan is old mid new i f allowed records back undone =
 pub kept-so : (r : Result (Unit {0}) Refusal) (given : Setup) (log : List LogRow) (is : List Input) (old new : OnCourse) (mid : Held) (tick : ℕ) (i : Input) → Stands given log old is → Keeps old.mode → new.mode ≡ old.mode → new.rows ≡ old.rows → new.told.told ≡ old.told.told
     → tick ≡ old.bench.tick → verdict (state_of old.bench) i ≡ None → state_of mid ≡ step (state_of old.bench) i → mid.records ≡ record_of i (state_of old.bench) (state_of mid) ∷ old.bench.records
     → earlier (whole mid) 1 ≡ whole old.bench → (tells_in new.mode ≡ true → new.news ≡ events_of (usual_after (last_row is)) (replay given.plan is) i)
-    → OnOk r (new.bench ≡ mid) → OnOk r (new.kept ≡ with_input i tick old.kept)
+    → OnOk r (new.bench ≡ mid) → OnOk r (new.kept.kept ≡ with_input i tick old.kept.kept)
     → OnErr r ((newest : Change) (others : List Change) → mid.records ≡ newest ∷ others → whole new.bench ≡ earlier (whole mid) 1) → OnErr r (new.kept ≡ old.kept) → IfErr r (λ e. e ≡ Memory)
     → Took r given log new is i
 kept-so (Ok u) given log is old new mid tick i s keeps mode rows same at allowed steps records back told bench kept undone still memory =
@@ -160,7 +164,7 @@ kept-so (Ok u) given log is old new mid tick i s keeps mode rows same at allowed
     (subst (λ (b : Held). BenchTook (Ok tt) given.plan b is i) (sym bench) (bench-took (Ok tt) given.plan is old.bench mid i s.follows allowed steps records back tt tt)) kept told
 kept-so (Err e) given log is old new mid tick i s keeps mode rows same at allowed steps records back told bench kept undone still memory =
     subst (λ (x : Refusal). Took (Err x) given log new is i) (sym memory)
-    (kept-refused Memory given log is old new i s mode rows still same (undone-took given.plan is old.bench mid new.bench i s.follows allowed records back undone))
+    (kept-refused Memory given log is old new i s mode rows (ap (λ (k : Stock). k.kept) still) same (undone-took given.plan is old.bench mid new.bench i s.follows allowed records back undone))
 
 -- ## Events that are recorded
 
@@ -192,7 +196,7 @@ recorded-took form given log is old new row tick news i s next recording mode ro
         same = s.same;
         rows = rows ∙ s.rows;
         follows = took.1;
-        keeps = none-kept new.mode form new.kept given.plan (i ∷ is) (mode ∙ recording);
+        keeps = none-kept new.mode form new.kept.kept given.plan (i ∷ is) (mode ∙ recording);
         tells = subst (λ (m : Mode). IsTold m new.told.told given (i ∷ is)) (sym (mode ∙ recording)) (all, (there_next, was.1));
       },
       λ says. absurd (none-said new.mode form (mode ∙ recording) says),
@@ -210,19 +214,83 @@ recorded-so (Ok u) form given log is old new mid row tick news i s next recordin
     (subst (λ (b : Held). BenchTook (Ok tt) given.plan b is i) (sym bench) (bench-took (Ok tt) given.plan is old.bench mid i s.follows allowed steps records back tt tt)) tells told
 recorded-so (Err e) form given log is old new mid row tick news i s next recording mode rows kept at there allowed steps records back tells bench told undone still memory =
     subst (λ (x : Refusal). Took (Err x) given log new is i) (sym memory)
-    (kept-refused Memory given log is old new i s mode rows kept still (undone-took given.plan is old.bench mid new.bench i s.follows allowed records back undone))
+    (kept-refused Memory given log is old new i s mode rows (ap (λ (k : Stock). k.kept) kept) still (undone-took given.plan is old.bench mid new.bench i s.follows allowed records back undone))
 
--- there was no room for the events of an input
-pub wants-so : (r : Result (Unit {0}) Refusal) (form : LogForm) (course : OnCourse) (row : Row) (tick : ℕ) (news : List Event) (i : Input) → tick ≡ course.bench.tick → row ≡ row_in_force course.rows tick
-    → news ≡ events_of (record { form = form; row = row }) (state_of course.bench) i → OnErr r (Wants i news course.told) → r ≡ Err Memory → IsWanting form course i
-wants-so (Ok u) form course row tick news i at there tells wants is = absurd (cc)
-wants-so (Err e) form course row tick news i at there tells wants is = inr (subst (λ (es : List Event). Wants i es course.told) (tells ∙ (λ j. events_of (noted j) (state_of course.bench) i)) wants)
+-- ## Memory
+
+-- an input that is undone leaves the bench as it was
+pub still-there : (r : Result (Unit {0}) Refusal) (old mid new : Held) (change : Change) → mid.records ≡ change ∷ old.records → earlier (whole mid) 1 ≡ whole old
+    → OnErr r ((newest : Change) (others : List Change) → mid.records ≡ newest ∷ others → whole new ≡ earlier (whole mid) 1) → OnErr r (whole new ≡ whole old)
+still-there (Ok u) old mid new change records back undone = tt
+still-there (Err e) old mid new change records back undone = undone change old.records records ∙ back
+
+pub same-whole : (r : Result (Unit {0}) Refusal) (old new : Held) → OnErr r (new ≡ old) → OnErr r (whole new ≡ whole old)
+same-whole (Ok u) old new same = tt
+same-whole (Err e) old new same = ap whole same
+
+-- the bench had no room, and has none
+pub bench-wants : (r : Result (Unit {0}) Refusal) (old new : Held) (i : Input) → OnErr r (new ≡ old) → (r ≡ Err Memory → old.room < record_size (most_cells (kind_of i)))
+    → r ≡ Err Memory → new.room < record_size (most_cells (kind_of i))
+bench-wants (Ok u) old new i same wants is = absurd (cc)
+bench-wants (Err e) old new i same wants is = subst (λ (b : Held). b.room < record_size (most_cells (kind_of i))) (sym same) (wants is)
+
+-- there is no room to keep an input
+pub keep-wants : (r : Result (Unit {0}) Refusal) (course : OnCourse) (i : Input) → Keeps course.mode → OnErr r (LacksRoom i course.kept) → r ≡ Err Memory → IsWanting course i
+keep-wants (Ok u) course i keeps lacks is = absurd (cc)
+keep-wants (Err e) course i keeps lacks is = inr (beside course.mode keeps lacks)
   where
-    last : row ≡ row_in_force course.rows course.bench.tick
-    last = there ∙ ap (row_in_force course.rows) at
+    beside : (m : Mode) → Keeps m → LacksRoom i course.kept → LacksBeside m course i
+    beside Plain k l = absurd k
+    beside KeepsInputs k l = l
+    beside TellsEvents k l = l
+    beside (Recording form) k l = absurd k
 
-    noted : (let n : Noted = record { form = form; row = row } in n) ≡ noted_at form course.rows course.bench.tick
+-- or for its events
+pub wants-so : (r : Result (Unit {0}) Refusal) (form : LogForm) (old new : OnCourse) (row : Row) (tick : ℕ) (news : List Event) (i : Input) → new.mode ≡ Recording form → new.rows ≡ old.rows → OnErr r (whole new.bench ≡ whole old.bench)
+    → tick ≡ old.bench.tick → row ≡ row_in_force old.rows tick → news ≡ events_of (record { form = form; row = row }) (state_of old.bench) i → OnErr r (Wants i news new.told) → r ≡ Err Memory → IsWanting new i
+wants-so (Ok u) form old new row tick news i mode rows same at there tells wants is = absurd (cc)
+wants-so (Err e) form old new row tick news i mode rows same at there tells wants is =
+    inr (subst (λ (m : Mode). LacksBeside m new i) (sym mode) (subst (λ (es : List Event). Wants i es new.told) (tells ∙ (λ j. events_of (noted j) (state j) i)) wants))
+  where
+    state : state_of old.bench ≡ state_of new.bench
+    state = sym (ap (λ (w : Whole). w.state) same)
+
+    now : tick ≡ new.bench.tick
+    now = at ∙ ap (λ (s : State). s.now) state
+
+    last : row ≡ row_in_force new.rows new.bench.tick
+    last = there ∙ (λ j. row_in_force (sym rows j) (now j))
+
+    noted : (let n : Noted = record { form = form; row = row } in n) ≡ noted_at form new.rows new.bench.tick
     noted = λ j. record { form = form; row = last j }
+
+-- the tick that was refused is still the next one
+pub tick-wants : (r : Result (Unit {0}) Refusal) (old new : OnCourse) (row : Row) → new.rows ≡ old.rows → OnErr r (whole new.bench ≡ whole old.bench) → row ≡ row_at old.rows (old.bench.tick + 1)
+    → (r ≡ Err Memory → IsWanting new (inputs.Tick row)) → r ≡ Err Memory → IsWanting new (tick_of new)
+tick-wants (Ok u) old new row rows same is wants memory = absurd (cc)
+tick-wants (Err e) old new row rows same is wants memory =
+    let now : old.bench.tick ≡ new.bench.tick = sym (ap (λ (w : Whole). w.state.now) same) in
+    subst (λ (i : Input). IsWanting new i) (ap inputs.Tick (is ∙ (λ j. row_at (sym rows j) (now j + 1)))) (wants memory)
+
+-- what is no input is not refused
+pub not-refused : (old new : Whole) (cmd : Cmd) (a : Answer) → ((i : Input) → cmd ≡ Apply i → ⊥) → play.Does controller watched old cmd a new → a ≡ Refused Memory → ⊥
+not-refused old new (Apply i) a none does is = none i refl
+not-refused old new cmd (Refused e) none does is = does
+not-refused old new cmd a none does is = cc
+
+-- why an input was refused that was answered so
+pub refusal-memory : (a : Answer) → refusal_in a ≡ Some Memory → a ≡ Refused Memory
+refusal-memory (Refused e) is = ap Refused (grind (arith, is))
+refusal-memory a is = absurd (cc)
+
+-- a write fault is no refusal
+pub no-refusal : (r : Result (Option Refusal) WriteError) (e : WriteError) → r ≡ Err e → r ≡ Ok (Some Memory) → ⊥
+no-refusal r e broke is = let clash : Err e ≡ Ok (Some Memory) = sym broke ∙ is in absurd (cc)
+
+-- what a refusal that was said is
+pub told-memory : (r : Result (Option Refusal) WriteError) (e : Refusal) → OnOk r (r ≡ Ok (Some e)) → r ≡ Ok (Some Memory) → e ≡ Memory
+told-memory (Ok o) e told is = grind (arith, told, is)
+told-memory (Err w) e told is = absurd (cc)
 
 -- ## Ticks
 
@@ -307,7 +375,7 @@ not-taken plan is cmd a none right taken = cc
 
 -- the answer to a command that is none input
 pub answered-other : (given : Setup) (log : List LogRow) (is : List Input) (old new : OnCourse) (cmd : Cmd) (a : Answer) → Stands given log old is → ((i : Input) → cmd ≡ Apply i → ⊥) → new.mode ≡ old.mode → new.rows ≡ old.rows
-    → ((plan : Plan) → play.Answers controller (start plan) watched (whole old.bench) cmd a (whole new.bench)) → Forgets kept_back DropsOther a new.bench.tick old.kept new.kept → Forgets told_back DropsMark a new.bench.tick old.told.told new.told.told → Answered given log new is cmd a
+    → ((plan : Plan) → play.Answers controller (start plan) watched (whole old.bench) cmd a (whole new.bench)) → Forgets kept_back DropsOther a new.bench.tick old.kept.kept new.kept.kept → Forgets told_back DropsMark a new.bench.tick old.told.told new.told.told → Answered given log new is cmd a
 answered-other given log is old new cmd a s none mode rows answers forgets untold =
     let both : IsRight given.plan is cmd a × Follows given.plan (whole new.bench) (remaining_after given.plan is cmd a) = answers given.plan is s.follows in
     let at : new.bench.tick ≡ (replay given.plan (remaining_after given.plan is cmd a)).now = tick-there given.plan (remaining_after given.plan is cmd a) new.bench both.1 in
@@ -317,8 +385,8 @@ answered-other given log is old new cmd a s none mode rows answers forgets untol
         same = s.same;
         rows = rows ∙ s.rows;
         follows = both.1;
-        keeps = subst (λ (m : Mode). IsKept m new.kept given.plan (remaining_after given.plan is cmd a)) (sym mode)
-            (still-kept given is cmd a new.bench.tick none both.0 at old.mode old.kept new.kept s.keeps forgets);
+        keeps = subst (λ (m : Mode). IsKept m new.kept.kept given.plan (remaining_after given.plan is cmd a)) (sym mode)
+            (still-kept given is cmd a new.bench.tick none both.0 at old.mode old.kept.kept new.kept.kept s.keeps forgets);
         tells = subst (λ (m : Mode). IsTold m new.told.told given (remaining_after given.plan is cmd a)) (sym mode)
             (still-told given is cmd a new.bench.tick none both.0 at old.mode old.told.told new.told.told s.tells untold);
       };
@@ -327,19 +395,19 @@ answered-other given log is old new cmd a s none mode rows answers forgets untol
 
 -- so where the bench was asked first, and then less was kept
 pub answered-there : (given : Setup) (log : List LogRow) (is : List Input) (old new : OnCourse) (mid : Held) (cmd : Cmd) (a : Answer) → Stands given log old is → ((i : Input) → cmd ≡ Apply i → ⊥) → new.mode ≡ old.mode → new.rows ≡ old.rows → new.bench ≡ mid
-    → ((plan : Plan) → play.Answers controller (start plan) watched (whole old.bench) cmd a (whole mid)) → Forgets kept_back DropsOther a mid.tick old.kept new.kept → Forgets told_back DropsMark a mid.tick old.told.told new.told.told → Answered given log new is cmd a
+    → ((plan : Plan) → play.Answers controller (start plan) watched (whole old.bench) cmd a (whole mid)) → Forgets kept_back DropsOther a mid.tick old.kept.kept new.kept.kept → Forgets told_back DropsMark a mid.tick old.told.told new.told.told → Answered given log new is cmd a
 answered-there given log is old new mid cmd a s none mode rows bench answers forgets untold =
     answered-other given log is old new cmd a s none mode rows
     (λ plan. subst (λ (b : Held). play.Answers controller (start plan) watched (whole old.bench) cmd a (whole b)) (sym bench) (answers plan))
-    (subst (λ (b : Held). Forgets kept_back DropsOther a b.tick old.kept new.kept) (sym bench) forgets)
+    (subst (λ (b : Held). Forgets kept_back DropsOther a b.tick old.kept.kept new.kept.kept) (sym bench) forgets)
     (subst (λ (b : Held). Forgets told_back DropsMark a b.tick old.told.told new.told.told) (sym bench) untold)
 
 -- ## At power-up
 
-pub course-begins : (given : Setup) (log : List LogRow) (course : OnCourse) → given.log ≡ log → course.rows ≡ log → Follows given.plan (whole course.bench) [] → course.kept ≡ nothing_kept → course.told.told ≡ nothing_told
+pub course-begins : (given : Setup) (log : List LogRow) (course : OnCourse) → given.log ≡ log → course.rows ≡ log → Follows given.plan (whole course.bench) [] → course.kept.kept ≡ nothing_kept → course.told.told ≡ nothing_told
     → Stands given log course []
 course-begins given log course same rows follows kept told =
-    record { same = same; rows = rows; follows = follows; keeps = as-kept course.mode course.kept given.plan [] kept; tells = told-none course.mode course.told.told given told }
+    record { same = same; rows = rows; follows = follows; keeps = as-kept course.mode course.kept.kept given.plan [] kept; tells = told-none course.mode course.told.told given told }
   where
     told-none : (m : Mode) (x : Telling) (given : Setup) → x ≡ nothing_told → IsTold m x given []
     told-none Plain x given none = tt

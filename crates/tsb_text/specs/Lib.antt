@@ -16,6 +16,8 @@ pub mod Tasks
 pub mod Obeys
 -- what has become of a bench and of a writer once a command was carried out
 pub mod Obeyed
+-- when there is no memory for an input
+pub mod Wanting
 -- what a session says to a line
 pub mod Replies
 -- what is answered to all lines of a session

@@ -11,7 +11,7 @@ use Rattle.tsb_bench.specs.tsb_step.Runs.{replay}
 use Rattle.tsb_dialog.specs.Said.{Wrote}
 use Rattle.tsb_bench.specs.tsb_history.declared.kinds.Kind.{Kind}
 use Rattle.tsb_bench.specs.tsb_history.declared.kinds.Kind.TheVariants as kinds
-use Rattle.tsb_text.specs.kept.Kept.{Keeping, kept_of, last_row}
+use Rattle.tsb_text.specs.kept.Kept.{Keeping, Stock, kept_of, last_row}
 use Rattle.tsb_text.specs.recording.Along.{telling}
 use Rattle.tsb_text.specs.recording.Told.{Stored, Telling}
 use Rattle.tsb_log_text.specs.Logs.{row_at}
@@ -34,7 +34,7 @@ use Rattle.tsb_text.specs.Obeys.{Besides, if_told, news_of}
 pub record OnCourse : Type 0 where
   pub bench : Held
   pub rows : List LogRow
-  pub kept : Keeping
+  pub kept : Stock
   pub told : Stored
   pub mode : Mode
   pub news : List Event
@@ -105,7 +105,7 @@ pub record Stands (given : Setup) (log : List LogRow) (course : OnCourse) (input
   pub same : given.log ≡ log
   pub rows : course.rows ≡ log
   pub follows : Follows given.plan (whole course.bench) inputs
-  pub keeps : IsKept course.mode course.kept given.plan inputs
+  pub keeps : IsKept course.mode course.kept.kept given.plan inputs
   pub tells : IsTold course.mode course.told.told given inputs
 
 -- so of a bench whose inputs are not kept, as in a session

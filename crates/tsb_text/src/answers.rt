@@ -8,6 +8,8 @@ ghost use Rattle.tsb_text.specs.Answers.{Setup, display_line, refused_line, told
 ghost use Rattle.tsb_text.specs.Obeyed.{AsksNext, Done, Stands, besides_of, news_in};
 ghost use Rattle.tsb_text.specs.Obeys.{AsksOnce, Obeys, TakesTicks, before_line, refusal_in};
 ghost use Rattle.tsb_text.specs.Tasks.{task_of};
+ghost use Rattle.tsb_text.specs.Wanting.{IsWanting, WantsFor, WantsTo, tick_of};
+ghost use Rattle.tsb_objects.specs.tsb_types.declared.refusal.Refusal.TheVariants.{Memory};
 ghost use Rattle.tsb_dialog.specs.Blame.{AfterCalls};
 ghost use Rattle.tsb_dialog.specs.Said.{SaidUntilFault, with_feed};
 
@@ -23,7 +25,8 @@ use tsb_objects::Refusal;
 
 /// Carries out a command, says its answer, and tells why it was refused, if it was. Its `lines`
 /// makes display lines; `echo` is said before an answer that is no display line. At an error the
-/// command may have been carried out, and a first part of its answer was said.
+/// command may have been carried out, and a first part of its answer was said. It is refused with E1
+/// only where there is no room for an input.
 pub fn obey<W: Write>(
     course: &mut Course,
     lines: &mut LineMaker,
@@ -34,6 +37,7 @@ pub fn obey<W: Write>(
 ) -> Result<Option<Refusal>, WriteError>
     ensures done { (given : Setup) (log : List LogRow) (inputs : List InputValue) → Stands given log course.old inputs
         → Done result given log course.new (Obeys given (besides_of course.old echo.now) inputs (task_of command)) (W.contents writer.old.device) (W.contents writer.new.device) pending.old pending.new }
+    ensures wanting { result ≡ Ok (Some Memory) → WantsFor course.new (task_of command) }
     ensures rows { course.new.rows ≡ course.old.rows }
     ensures mode { course.new.mode ≡ course.old.mode }
     ensures blame { writer.old.failed ≡ false → AfterCalls result writer.new.failed }
@@ -61,6 +65,7 @@ fn step<W: Write>(
 ) -> Result<Option<Refusal>, WriteError>
     ensures done { (given : Setup) (log : List LogRow) (inputs : List InputValue) → Stands given log course.old inputs
         → Done result given log course.new (TakesTicks given (besides_of course.old echo.now) inputs ticks) (W.contents writer.old.device) (W.contents writer.new.device) pending.old pending.new }
+    ensures wanting { result ≡ Ok (Some Memory) → IsWanting course.new (tick_of course.new) }
     ensures rows { course.new.rows ≡ course.old.rows }
     ensures mode { course.new.mode ≡ course.old.mode }
     ensures blame { writer.old.failed ≡ false → AfterCalls result writer.new.failed }
@@ -117,6 +122,7 @@ fn ask<W: Write>(
 ) -> Result<Option<Refusal>, WriteError>
     ensures done { (given : Setup) (log : List LogRow) (inputs : List InputValue) → Stands given log course.old inputs → AsksNext course.old.mode given inputs command
         → Done result given log course.new (AsksOnce given (besides_of course.old echo.now) inputs command) (W.contents writer.old.device) (W.contents writer.new.device) pending.old pending.new }
+    ensures wanting { result ≡ Ok (Some Memory) → WantsTo course.new command }
     ensures mode { course.new.mode ≡ course.old.mode }
     ensures rows { course.new.rows ≡ course.old.rows }
     ensures blame { writer.old.failed ≡ false → AfterCalls result writer.new.failed }

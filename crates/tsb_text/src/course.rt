@@ -6,12 +6,12 @@ ghost use Rattle.tsb_bench.specs.tsb_step.Past.{earlier};
 ghost use Rattle.tsb_bench.specs.tsb_step.Step.{last_tick};
 ghost use Rattle.tsb_text.specs.kept.Kept.{with_input};
 ghost use Rattle.tsb_objects.specs.tsb_types.declared.refusal.Refusal.TheVariants.{Memory};
+ghost use Rattle.tsb_bench.specs.tsb_machine.declared.commands.Answer.TheVariants.{Refused};
 ghost use Rattle.tsb_bench.specs.tsb_step.declared.inputs.Input.{Input as InputValue};
 ghost use Rattle.tsb_dialog.specs.Blame.{AfterCalls};
 ghost use Rattle.tsb_dialog.specs.Said.{SaidUntilFault};
-ghost use Rattle.tsb_text.specs.kept.Kept.{DropsOther, gone_back as kept_back, nothing_kept};
+ghost use Rattle.tsb_text.specs.kept.Kept.{DropsOther, LacksRoom, gone_back as kept_back, nothing_kept};
 ghost use Rattle.tsb_text.specs.recording.Along.{Wants, with_input as with_told};
-ghost use Rattle.tsb_text.specs.recording.Recording.{IsWanting};
 ghost use Rattle.tsb_text.specs.recording.Told.{DropsMark, gone_back as told_back, nothing_told};
 ghost use Rattle.tsb_log_text.specs.declared.log.LogRow.{LogRow};
 ghost use Rattle.tsb_text.specs.declared.course.Mode.TheVariants as modes;
@@ -19,6 +19,7 @@ ghost use Rattle.tsb_text.specs.Answers.{Setup, display_line, next_tick};
 ghost use Rattle.tsb_text.specs.Rows.{rows_in};
 ghost use Rattle.tsb_log_text.specs.Logs.{row_at};
 ghost use Rattle.tsb_text.specs.Obeyed.{Answered, AsksNext, Forgets, ForgetsNewest, IsNext, Stands, Took, holding, mode_with, news_in};
+ghost use Rattle.tsb_text.specs.Wanting.{IsWanting, WantsTo, tick_of};
 
 use crate::Kept;
 use crate::events::say_events;
@@ -75,7 +76,7 @@ impl<'a> Course<'a> {
     pub fn new(alloc: Global, bench: Bench, rows: Rows<'a>, mode: Mode) -> Course<'a>
         ensures bench { result.bench ≡ bench }
         ensures rows { result.rows ≡ rows_in rows.entry }
-        ensures kept { result.kept ≡ nothing_kept }
+        ensures kept { result.kept.kept ≡ nothing_kept }
         ensures told { result.told.told ≡ nothing_told }
         ensures mode { result.mode ≡ mode }
     {
@@ -158,10 +159,11 @@ impl<'a> Course<'a> {
         self.rows.row(tick)
     }
 
-    /// Takes the next tick, with its row.
+    /// Takes the next tick, with its row. It is refused with E1 only where there is no room for it.
     #[inline(always)]
     pub fn tick(&mut self) -> Result<(), Refusal>
         ensures took { (given : Setup) (log : List LogRow) (inputs : List InputValue) → Stands given log self.old inputs → Took result given log self.new inputs (next_tick given inputs) }
+        ensures wanting { result ≡ Err Memory → IsWanting self.new (tick_of self.new) }
         ensures mode { self.new.mode ≡ self.old.mode }
         ensures rows { self.new.rows ≡ self.old.rows }
     {
@@ -170,10 +172,13 @@ impl<'a> Course<'a> {
     }
 
     /// Takes an input, keeps it, and has it tell its events. Where there is no memory to keep it, it is refused, and
-    /// nothing has changed.
+    /// nothing has changed. It is refused with E1 only where there is no room: none in the bench for its record, or none
+    /// to keep it.
     #[inline(always)]
     pub fn take(&mut self, input: Input) -> Result<(), Refusal>
         ensures took { (given : Setup) (log : List LogRow) (inputs : List InputValue) → Stands given log self.old inputs → IsNext self.old.mode given inputs input → Took result given log self.new inputs input }
+        ensures wanting { result ≡ Err Memory → IsWanting self.new input }
+        ensures still { OnErr result (whole self.new.bench ≡ whole self.old.bench) }
         ensures mode { self.new.mode ≡ self.old.mode }
         ensures rows { self.new.rows ≡ self.old.rows }
     {
@@ -191,12 +196,16 @@ impl<'a> Course<'a> {
     fn take_keeping(&mut self, input: Input) -> Result<(), Refusal>
         requires keeping { self.old.mode ≡ modes.Keeping }
         ensures took { (given : Setup) (log : List LogRow) (inputs : List InputValue) → Stands given log self.old inputs → IsNext self.old.mode given inputs input → Took result given log self.new inputs input }
+        ensures wanting { result ≡ Err Memory → IsWanting self.new input }
+        ensures still { OnErr result (whole self.new.bench ≡ whole self.old.bench) }
         ensures mode { self.new.mode ≡ self.old.mode }
         ensures rows { self.new.rows ≡ self.old.rows }
     {
         let tick = self.bench.now();
-        self.bench.apply(input)?;
-        self.keep(&input, tick)
+        match self.bench.apply(input) {
+            Ok(()) => self.keep(&input, tick),
+            Err(refusal) => Err(refusal),
+        }
     }
 
     /// Takes an input, keeps it, and has it tell its events. It is a function of its own for the same reason.
@@ -204,14 +213,18 @@ impl<'a> Course<'a> {
     fn take_telling(&mut self, input: Input) -> Result<(), Refusal>
         requires telling { self.old.mode ≡ modes.Telling }
         ensures took { (given : Setup) (log : List LogRow) (inputs : List InputValue) → Stands given log self.old inputs → IsNext self.old.mode given inputs input → Took result given log self.new inputs input }
+        ensures wanting { result ≡ Err Memory → IsWanting self.new input }
+        ensures still { OnErr result (whole self.new.bench ≡ whole self.old.bench) }
         ensures mode { self.new.mode ≡ self.old.mode }
         ensures rows { self.new.rows ≡ self.old.rows }
     {
         let tick = self.bench.now();
         let last = self.kept.last_row();
         let noted = Noted::usual_after(last);
-        self.bench.apply_telling(input, &noted, &mut self.news)?;
-        self.keep(&input, tick)
+        match self.bench.apply_telling(input, &noted, &mut self.news) {
+            Ok(()) => self.keep(&input, tick),
+            Err(refusal) => Err(refusal),
+        }
     }
 
     /// Takes an input, and records its events, as a log of this form has them. Where there is no memory for them it is
@@ -220,7 +233,8 @@ impl<'a> Course<'a> {
     fn take_recording(&mut self, input: Input, form: LogForm) -> Result<(), Refusal>
         requires recording { self.old.mode ≡ modes.Recording form }
         ensures took { (given : Setup) (log : List LogRow) (inputs : List InputValue) → Stands given log self.old inputs → IsNext self.old.mode given inputs input → Took result given log self.new inputs input }
-        ensures wanting { result ≡ Err Memory → IsWanting form self.old input }
+        ensures wanting { result ≡ Err Memory → IsWanting self.new input }
+        ensures still { OnErr result (whole self.new.bench ≡ whole self.old.bench) }
         ensures mode { self.new.mode ≡ self.old.mode }
         ensures rows { self.new.rows ≡ self.old.rows }
     {
@@ -242,7 +256,7 @@ impl<'a> Course<'a> {
             → whole self.new.bench ≡ earlier (whole self.old.bench) 1) }
         ensures still { OnErr result (self.new.told.told ≡ self.old.told.told) }
         ensures memory { IfErr result (λ e. e ≡ Memory) }
-        ensures wanting { OnErr result (Wants input.now self.old.news self.old.told) }
+        ensures wanting { OnErr result (Wants input.now self.old.news self.new.told) }
         ensures kept { self.new.kept ≡ self.old.kept }
         ensures mode { self.new.mode ≡ self.old.mode }
         ensures rows { self.new.rows ≡ self.old.rows }
@@ -259,11 +273,12 @@ impl<'a> Course<'a> {
     fn keep(&mut self, input: &Input, tick: u32) -> Result<(), Refusal>
         requires in_time { tick ≤ last_tick }
         ensures bench { OnOk result (self.new.bench ≡ self.old.bench) }
-        ensures kept { OnOk result (self.new.kept ≡ with_input input.now tick self.old.kept) }
+        ensures kept { OnOk result (self.new.kept.kept ≡ with_input input.now tick self.old.kept.kept) }
         ensures undone { OnErr result ((newest : Change) (others : List Change) → self.old.bench.records ≡ newest ∷ others
             → whole self.new.bench ≡ earlier (whole self.old.bench) 1) }
         ensures still { OnErr result (self.new.kept ≡ self.old.kept) }
         ensures memory { IfErr result (λ e. e ≡ Memory) }
+        ensures wanting { OnErr result (LacksRoom input.now self.new.kept) }
         ensures told { self.new.told ≡ self.old.told }
         ensures mode { self.new.mode ≡ self.old.mode }
         ensures rows { self.new.rows ≡ self.old.rows }
@@ -276,9 +291,11 @@ impl<'a> Course<'a> {
         Ok(())
     }
 
-    /// Asks the bench, and keeps the inputs that remain then.
+    /// Asks the bench, and keeps the inputs that remain then. An input is refused with E1 only where there is no room for
+    /// it.
     pub fn answer(&mut self, command: Cmd) -> Answer
         ensures right { (given : Setup) (log : List LogRow) (inputs : List InputValue) → Stands given log self.old inputs → AsksNext self.old.mode given inputs command → Answered given log self.new inputs command result }
+        ensures wanting { result ≡ Refused Memory → WantsTo self.new command }
         ensures mode { self.new.mode ≡ self.old.mode }
         ensures rows { self.new.rows ≡ self.old.rows }
     {
@@ -297,7 +314,7 @@ impl<'a> Course<'a> {
 
     /// Keeps and records no more of the inputs than remain after this answer of the bench.
     fn forget(&mut self, answer: &Answer)
-        ensures kept { Forgets kept_back DropsOther answer.now self.old.bench.tick self.old.kept self.new.kept }
+        ensures kept { Forgets kept_back DropsOther answer.now self.old.bench.tick self.old.kept.kept self.new.kept.kept }
         ensures told { Forgets told_back DropsMark answer.now self.old.bench.tick self.old.told.told self.new.told.told }
         ensures bench { self.new.bench ≡ self.old.bench }
         ensures mode { self.new.mode ≡ self.old.mode }
@@ -336,7 +353,7 @@ impl<'a> Course<'a> {
 
 /// Keeps the newest input no more, which was of this kind. Without it, this tick is in force.
 fn forget_newest(kept: &mut Kept, tick: u32, kind: Kind)
-    ensures { ForgetsNewest kept_back DropsOther kind tick kept.old kept.new }
+    ensures { ForgetsNewest kept_back DropsOther kind tick kept.old.kept kept.new.kept }
 {
     match kind {
         Kind::Tick => kept.go_back(tick),

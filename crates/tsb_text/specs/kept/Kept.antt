@@ -1,6 +1,6 @@
 -- The inputs of a run that remain, kept so that they can be given again: the rows of its ticks as a log has them, and the
 -- other inputs, each with the tick in force. Inputs are piled up, the newest first; what is kept stands the oldest first.
-use Rattle.std.specs.Prelude.{◌≡◌, ℕ, ◌+◌, ◌==◌, ◌&&◌, Bool, List, [], ◌∷◌, ◌++◌, if◌then◌else◌}
+use Rattle.std.specs.Prelude.{◌≡◌, ℕ, ◌+◌, ◌==◌, ◌&&◌, Bool, false, List, [], ◌∷◌, ◌++◌, if◌then◌else◌}
 use Rattle.tsb_types.specs.Sets.{all_off}
 use Rattle.tsb_types.specs.declared.number_set.NumberSet.{NumberSet}
 use Rattle.tsb_types.specs.declared.row.Row.{Row}
@@ -78,6 +78,19 @@ with_input i tick kept = with_other tick i kept
 abbrev pub kept_of : Plan → List Input → Keeping
 kept_of plan [] = nothing_kept
 kept_of plan (i ∷ is) = with_input i (replay plan is).now (kept_of plan is)
+
+-- ## Room
+
+-- what is kept, and for how many more rows and other inputs there is memory
+pub record Stock : Type 0 where
+  pub kept : Keeping
+  pub row_room : ℕ
+  pub other_room : ℕ
+
+-- there is no room to keep an input: none for the row of a tick that differs from the last, or none for another input
+abbrev pub LacksRoom : Input → Stock → Type 0
+LacksRoom (Tick row) stock = (is_same_row row (row_kept stock.kept) ≡ false) × (stock.row_room ≡ 0)
+LacksRoom i stock = stock.other_room ≡ 0
 
 -- ## Back to a tick
 

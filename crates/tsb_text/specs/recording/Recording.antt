@@ -1,14 +1,9 @@
 -- How far a record has come: what its own calls tell one another.
-use Rattle.std.specs.Prelude.{◌≡◌, ◌⊎◌, ◌<◌, ℕ, List, Option, Some, None}
+use Rattle.std.specs.Prelude.{◌≡◌, ℕ, List, Option, Some, None}
 use Rattle.tsb_types.specs.declared.event.Event.{Event}
-use Rattle.tsb_bench.specs.Held.{state_of}
-use Rattle.tsb_bench.specs.Cabinet.{most_cells}
-use Rattle.tsb_step.specs.tsb_history.History.{record_size}
 use Rattle.tsb_step.specs.declared.inputs.Input.{Input}
 use Rattle.tsb_step.specs.declared.log_form.LogForm.{LogForm}
 use Rattle.tsb_step.specs.declared.log_form.Noted.{Noted}
-use Rattle.tsb_step.specs.Events.{events_of}
-use Rattle.tsb_step.specs.Step.{kind_of}
 use Rattle.tsb_log_text.specs.declared.log.LogRow.{LogRow}
 use Rattle.tsb_text.specs.Answers.{Setup}
 use Rattle.tsb_text.specs.Obeyed.{OnCourse, Stands}
@@ -16,16 +11,10 @@ use Rattle.tsb_text.specs.Rows.{row_in_force}
 use Rattle.tsb_text.specs.Stops.{Stopped as StoppedLine, stop_in}
 use Rattle.tsb_text.specs.declared.recording.Outcome.{Outcome}
 use Rattle.tsb_text.specs.declared.recording.Outcome.TheVariants.{Events, Stopped}
-use Rattle.tsb_text.specs.recording.Along.{Wants}
 
 -- what a log of this form has noted before the tick after this one
 abbrev pub noted_at : LogForm → List LogRow → ℕ → Noted
 noted_at form rows tick = record { form = form; row = row_in_force rows tick }
-
--- there is no memory for an input: the bench has no room for its record, or there is none for what it tells
-abbrev pub IsWanting : LogForm → OnCourse → Input → Type 0
-IsWanting form course i = (course.bench.room < record_size (most_cells (kind_of i)))
-    ⊎ Wants i (events_of (noted_at form course.rows course.bench.tick) (state_of course.bench) i) course.told
 
 -- a command or a line was carried out, which leaves these inputs; and this is wrong with it, if anything
 abbrev pub Left : {F : Type 0} → F → Setup → List LogRow → OnCourse → (F → List Input → Type 0) → Type 0

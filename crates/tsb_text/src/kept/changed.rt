@@ -15,7 +15,7 @@ impl Kept {
     /// The number of the newest tick, among the inputs that remain, at which an input of rows is on and was off before,
     /// or the other way round; `None` where there is none. All inputs are off before the first tick.
     pub fn last_change(&self, which: RowInput) -> Option<u32>
-        ensures { (plan : Plan) (inputs : List InputValue) → self.now ≡ kept_of plan inputs → result ≡ last_change (value_of which) plan inputs }
+        ensures { (plan : Plan) (inputs : List InputValue) → self.now.kept ≡ kept_of plan inputs → result ≡ last_change (value_of which) plan inputs }
     {
         change_in(self.rows(), &which)
     }

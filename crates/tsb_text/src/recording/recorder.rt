@@ -1,5 +1,5 @@
 //! The commands of a record: what they ask is done as in a session, and not answered.
-ghost use Rattle.std.specs.Prelude.{◌≡◌, List};
+ghost use Rattle.std.specs.Prelude.{◌≡◌, List, Some};
 ghost use Rattle.tsb_step.specs.declared.inputs.Input.{Input as InputValue};
 ghost use Rattle.tsb_log_text.specs.declared.log.LogRow.{LogRow};
 ghost use Rattle.tsb_text.specs.Answers.{Setup};
@@ -7,6 +7,9 @@ ghost use Rattle.tsb_text.specs.Obeyed.{AsksNext, Stands};
 ghost use Rattle.tsb_text.specs.declared.task.Task.TheVariants as tasks;
 ghost use Rattle.tsb_text.specs.recording.Leaves.{Does, Leaves, LeavesOf};
 ghost use Rattle.tsb_text.specs.recording.Recording.{Left};
+ghost use Rattle.tsb_text.specs.Tasks.{task_of};
+ghost use Rattle.tsb_text.specs.Wanting.{IsWanting, WantsFor, WantsTo, tick_of};
+ghost use Rattle.tsb_types.specs.declared.refusal.Refusal.TheVariants.{Memory};
 
 use crate::answers::refusal_in;
 use crate::task::{Task, task_of};
@@ -30,9 +33,10 @@ pub(crate) fn carry_out(course: &mut Course, reading: Reading) -> Option<LineFau
     }
 }
 
-/// Carries out a command, and says why it was refused, where it was.
+/// Carries out a command, and says why it was refused, where it was: with E1 only where there is no room for an input.
 fn obey(course: &mut Course, command: Command) -> Option<Refusal>
     ensures done { (given : Setup) (log : List LogRow) (inputs : List InputValue) → Stands given log course.old inputs → Left result given log course.new (Leaves given inputs command) }
+    ensures wanting { result ≡ Some Memory → WantsFor course.new (task_of command) }
     ensures mode { course.new.mode ≡ course.old.mode }
 {
     match task_of(command) {
@@ -46,6 +50,7 @@ fn obey(course: &mut Course, command: Command) -> Option<Refusal>
 /// So many ticks, up to one that is refused.
 fn step(course: &mut Course, ticks: u32) -> Option<Refusal>
     ensures done { (given : Setup) (log : List LogRow) (inputs : List InputValue) → Stands given log course.old inputs → Left result given log course.new (LeavesOf given inputs (tasks.Ticks ticks)) }
+    ensures wanting { result ≡ Some Memory → IsWanting course.new (tick_of course.new) }
     ensures mode { course.new.mode ≡ course.old.mode }
 {
     for _i in 0..ticks {
@@ -61,6 +66,7 @@ fn step(course: &mut Course, ticks: u32) -> Option<Refusal>
 fn ask(course: &mut Course, command: Cmd) -> Option<Refusal>
     ensures done { (given : Setup) (log : List LogRow) (inputs : List InputValue) → Stands given log course.old inputs → AsksNext course.old.mode given inputs command
         → Left result given log course.new (LeavesOf given inputs (tasks.Ask command)) }
+    ensures wanting { result ≡ Some Memory → WantsTo course.new command }
     ensures mode { course.new.mode ≡ course.old.mode }
 {
     match command {

@@ -69,12 +69,12 @@ impl Told {
         events
     }
 
-    /// Adds the events of an input, where this tick was in force before it. The error is that memory ran out, which
-    /// comes only where there was no room for them, and leaves all as it was.
+    /// Adds the events of an input, where this tick was in force before it. The error is that memory ran out. It comes
+    /// only where there is no room for them, and takes nothing away.
     pub fn add(&mut self, input: &Input, tick: u32, news: &[Event]) -> Result<(), AllocError>
         ensures ok { OnOk result (self.new.told ≡ with_input input.now tick news.now self.old.told) }
         ensures err { OnErr result (self.new.told ≡ self.old.told) }
-        ensures wanting { OnErr result (Wants input.now news.now self.old) }
+        ensures wanting { OnErr result (Wants input.now news.now self.new) }
     {
         match input {
             Input::Tick(_) => self.add_tick(news),
@@ -86,9 +86,11 @@ impl Told {
     fn add_tick(&mut self, news: &[Event]) -> Result<(), AllocError>
         ensures ok { OnOk result (self.new.told ≡ with_events news.now self.old.told) }
         ensures err { OnErr result (self.new.told ≡ self.old.told) }
-        ensures wanting { OnErr result (self.old.event_room < length news.now) }
+        ensures wanting { OnErr result (self.new.event_room < length news.now) }
     {
-        self.events.extend_from_slice(news)
+        self.events.reserve(news.len())?;
+        let _ = self.events.extend_from_slice(news);
+        Ok(())
     }
 
     /// Adds the events of an input that is no tick, where this tick is in force. The error is that memory ran out, and
@@ -96,11 +98,12 @@ impl Told {
     fn add_input(&mut self, tick: u32, news: &[Event]) -> Result<(), AllocError>
         ensures ok { OnOk result (self.new.told ≡ with_mark tick news.now self.old.told) }
         ensures err { OnErr result (self.new.told ≡ self.old.told) }
-        ensures wanting { OnErr result ((self.old.event_room < length news.now) ⊎ (self.old.mark_room ≡ 0)) }
+        ensures wanting { OnErr result ((self.new.event_room < length news.now) ⊎ (self.new.mark_room ≡ 0)) }
     {
         let events = self.events.len();
         self.marks.reserve(1)?;
-        self.events.extend_from_slice(news)?;
+        self.events.reserve(news.len())?;
+        let _ = self.events.extend_from_slice(news);
         let _ = self.marks.push(Mark { tick, events });
         Ok(())
     }

@@ -1,8 +1,10 @@
-use Rattle.std.proofs.Common.{◌+◌, ◌-◌, ◌∙◌, Err, Ok, ap, arith, refl}
+use Rattle.std.proofs.Common.{◌≡◌, ◌+◌, ◌-◌, ◌∙◌, Err, Ok, ap, arith, refl}
 use Rattle.std.proofs.lemmas.Result.{err_from_is_err_and}
 use Rattle.tsb_bench.specs.Held.{Held, state_of}
 use Rattle.tsb_text.specs.Answers.{display_line}
 use Rattle.tsb_text.specs.Obeyed.{besides_of, tells_in}
+use Rattle.tsb_text.proofs.CourseLemmas.{no-refusal, told-memory}
+use Rattle.tsb_types.specs.declared.refusal.Refusal.TheVariants.{Memory}
 use Rattle.tsb_live_text.proofs.ChangeLemmas.{changes-end, changes-end-fault, changes-fault, changes-more, changes-started, changes-stop, held-took}
 use Rattle.tsb_live_text.proofs.changes.changes.Goals as goal
 
@@ -29,6 +31,22 @@ pub returns-in-Err-clause-done : goal.returns-in-Err-clause-done
 returns-in-Err-clause-done g c given log row is s held =
     changes-stop c.say_stop.result given log (besides_of c.args.course.now c.args.echo.now) row is (display_line (state_of c.args.course.now.bench)) c.args.ticks c.loop-i.course c.tick.new.self c.loop-i.before c.loop-i.is_owed (c.args.ticks - c.loop-i._i) (c.args.ticks - (c.loop-i._i + 1)) _ _ _ _ _ _ c.in-Err.refusal (c.loop-i.invariant.changing given log row is s held) (omega arith)
     (λ inputs stands. held-took (Err c.in-Err.refusal) given log c.loop-i.course c.tick.new.self inputs row stands held (c.in-Err.ensures.took given log inputs stands)) c.say_stop.ensures.told c.say_stop.ensures.said
+
+pub returns-in-Err-clause-wanting : goal.returns-in-Err-clause-wanting
+returns-in-Err-clause-wanting g c is =
+    let same : c.in-Err.refusal ≡ Memory = told-memory c.say_stop.result c.in-Err.refusal c.say_stop.ensures.told is in
+    c.in-Err.ensures.wanting (λ j. Err (same j))
+
+pub returns-in_err-say_tick-clause-wanting : goal.returns-in_err-say_tick-clause-wanting
+returns-in_err-say_tick-clause-wanting g c is = let p = err_from_is_err_and c.from_residual.result c.from_residual.ensures.1 in
+    absurd (no-refusal c.from_residual.result p.0 p.1 is)
+
+pub returns-in_err-say_owed-clause-wanting : goal.returns-in_err-say_owed-clause-wanting
+returns-in_err-say_owed-clause-wanting g c is = let p = err_from_is_err_and c.from_residual-in_err-say_owed.result c.from_residual-in_err-say_owed.ensures.1 in
+    absurd (no-refusal c.from_residual-in_err-say_owed.result p.0 p.1 is)
+
+pub returns-clause-wanting : goal.returns-clause-wanting
+returns-clause-wanting g c is = absurd (grind (arith, is))
 
 pub returns-in_err-say_tick-clause-done : goal.returns-in_err-say_tick-clause-done
 returns-in_err-say_tick-clause-done g c given log row is s held = let p = err_from_is_err_and c.from_residual.result c.from_residual.ensures.1 in

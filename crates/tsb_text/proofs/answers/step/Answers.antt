@@ -1,6 +1,8 @@
-use Rattle.std.proofs.Common.{◌+◌, ◌-◌, ◌∙◌, ap, arith, refl}
+use Rattle.std.proofs.Common.{◌≡◌, ◌+◌, ◌-◌, ◌∙◌, Err, ap, arith, refl}
 use Rattle.std.proofs.lemmas.Result.{err_from_is_err_and}
 use Rattle.tsb_text.specs.Obeyed.{OnCourse, besides_of, tells_in}
+use Rattle.tsb_objects.specs.tsb_types.declared.refusal.Refusal.TheVariants.{Memory}
+use Rattle.tsb_text.proofs.CourseLemmas.{no-refusal, told-memory}
 use Rattle.tsb_text.proofs.AnswerLemmas.{steps-start, steps-more, steps-fault, steps-stop, steps-end}
 use Rattle.tsb_text.proofs.answers.step.Goals as goal
 
@@ -32,5 +34,17 @@ returns-in-Err-clause-done g c given log is s =
     steps-stop c.say_refusal.result given log (besides_of c.args.course.now c.args.echo.now) is c.args.ticks c.loop-i.course c.tick.new.self _ (c.args.ticks - (c.loop-i._i + 1)) _ _ _ _ _ _ c.in-Err.refusal
     (c.loop-i.invariant.steps given log is s) (omega arith) (λ given log inputs stands. c.in-Err.ensures.took given log inputs stands) c.say_refusal.ensures.told c.say_refusal.ensures.said
 
+pub returns-in-Err-clause-wanting : goal.returns-in-Err-clause-wanting
+returns-in-Err-clause-wanting g c is =
+    let same : c.in-Err.refusal ≡ Memory = told-memory c.say_refusal.result c.in-Err.refusal c.say_refusal.ensures.told is in
+    c.in-Err.ensures.wanting (λ j. Err (same j))
+
 pub returns-clause-done : goal.returns-clause-done
 returns-clause-done g c given log is s = steps-end given log (besides_of c.args.course.now c.args.echo.now) is c.args.ticks c.loop-i.course _ _ _ _ _ (c.loop-i.invariant.steps given log is s) (omega arith)
+
+pub returns-in_err-say_tick-in-Ok-clause-wanting : goal.returns-in_err-say_tick-in-Ok-clause-wanting
+returns-in_err-say_tick-in-Ok-clause-wanting g c is = let p = err_from_is_err_and c.from_residual.result c.from_residual.ensures.1 in
+    absurd (no-refusal c.from_residual.result p.0 p.1 is)
+
+pub returns-clause-wanting : goal.returns-clause-wanting
+returns-clause-wanting g c is = absurd (grind (arith, is))

@@ -1,10 +1,13 @@
-use Rattle.std.proofs.Common.{◌∙◌, ap, refl, subst, codes, None}
-use Rattle.tsb_bench.specs.Held.{state_of}
+use Rattle.std.proofs.Common.{◌≡◌, ◌∙◌, ap, refl, subst, codes, None}
+use Rattle.std.specs.Prelude.{IfOk, vec_items}
+use Rattle.tsb_bench.specs.Held.{Held, state_of}
 use Rattle.tsb_text.specs.kept.Changed.{last_change}
 use Rattle.tsb_log_text.specs.RowInputs.{value_of}
-use Rattle.tsb_text.specs.kept.Kept.{kept_of}
+use Rattle.tsb_text.specs.kept.Kept.{Stock, kept_of}
 use Rattle.tsb_status_text.specs.EditsLine.{edits_text}
 use Rattle.tsb_live_text.specs.saved.Saved.{saved_text}
+use Rattle.tsb_status_text.specs.PlanLine.{plan_text}
+use Rattle.tsb_step.specs.tsb_plan.Plan.{Plan}
 use Rattle.tsb_step.specs.State.{State}
 use Rattle.tsb_step.specs.Status.{status}
 use Rattle.tsb_status.specs.Alike.{Alike}
@@ -13,7 +16,7 @@ use Rattle.tsb_status_text.specs.StatusText.{status_text}
 use Rattle.tsb_text.specs.Answers.{when_line}
 use Rattle.tsb_command_text.specs.declared.live_command.LiveCommand.TheVariants as asks
 use Rattle.tsb_live_text.specs.Live.{present, with_echo, with_events}
-use Rattle.tsb_live_text.proofs.LiveLemmas.{does-as, does-plan, does-tell, echo-stands, events-stands, present-kept, present-state, same-echo}
+use Rattle.tsb_live_text.proofs.LiveLemmas.{does-as, does-plan, does-tell, echo-stands, events-stands, made-plan, present-kept, present-state, same-echo}
 use Rattle.tsb_live_text.proofs.run.LiveRun.ask.Goals as goal
 
 pub returns-in-Session-clause-done : goal.returns-in-Session-clause-done
@@ -25,13 +28,16 @@ returns-in-Changes-clause-done g c s stands = does-as c.changes.result s _ c.arg
 pub returns-in-Plan-clause-done : goal.returns-in-Plan-clause-done
 returns-in-Plan-clause-done g c s stands =
     does-as c.tell_plan.result s _ c.args.line.now c.args.command asks.Plan _ _ _ _ c.in-Plan.is
-    (does-plan c.tell_plan.result _ s c.args.line.now c.deref.result.now _ _ _ _ stands (same-echo c.args.self.now s c.args.line.now c.deref.result.now stands (c.deref.ensures.0 ∙ c.echo-echo.ensures)) c.tell_plan.ensures.told)
+    (does-plan c.tell_plan.result _ s c.args.line.now c.deref.result.now _ _ _ _ stands (same-echo c.args.self.now s c.args.line.now c.deref.result.now stands (c.deref.ensures.0 ∙ c.echo-echo.ensures))
+    (made-plan vec_items c.plan_line-plan.result c.tell_plan.result (state_of c.args.self.now.course.bench).plan c.deref.result.now _ _ _ _
+    (subst (λ (p : Plan). IfOk c.plan_line-plan.result (λ line. vec_items line ≡ plan_text p)) (c.plan.ensures ∙ ap (λ (b : Held). (state_of b).plan) c.bench.ensures) c.plan_line-plan.ensures.line)
+    c.tell_plan.ensures.told))
 
 pub returns-in-Status-clause-done : goal.returns-in-Status-clause-done
 returns-in-Status-clause-done g c s stands =
     does-as c.tell.result s _ c.args.line.now c.args.command asks.Status _ _ _ _ c.in-Status.is
     (does-tell c.tell.result None _ s s c.args.line.now c.deref-in-Status.result.now c.as_bytes.result.now (status_text (status (present s))) _ _ _ _ stands
-    (same-echo c.args.self.now s c.args.line.now c.deref-in-Status.result.now stands (c.deref-in-Status.ensures.0 ∙ c.echo-echo.ensures)) (c.as_bytes.ensures.bytes ∙ c.status_line-status.ensures.alike (status (present s)) (subst (λ (v : State). Alike (status_of c.status.result) (status v)) (ap state_of c.bench.ensures ∙ present-state c.args.self.now s stands) c.status.ensures)) c.tell.ensures.told)
+    (same-echo c.args.self.now s c.args.line.now c.deref-in-Status.result.now stands (c.deref-in-Status.ensures.0 ∙ c.echo-echo.ensures)) (c.as_bytes.ensures.bytes ∙ c.status_line-status.ensures.alike (status (present s)) (subst (λ (v : State). Alike (status_of c.status.result) (status v)) (ap state_of c.bench-in-Status.ensures ∙ present-state c.args.self.now s stands) c.status.ensures)) c.tell.ensures.told)
 
 pub returns-in-Edits-clause-done : goal.returns-in-Edits-clause-done
 returns-in-Edits-clause-done g c s stands =
@@ -43,7 +49,7 @@ pub returns-in-When-clause-done : goal.returns-in-When-clause-done
 returns-in-When-clause-done g c s stands =
     does-as c.tell-in-When.result s _ c.args.line.now c.args.command (asks.When c.in-When.which) _ _ _ _ c.in-When.is
     (does-tell c.tell-in-When.result None _ s s c.args.line.now c.deref-in-When.result.now c.as_bytes-in-When.result.now (when_line (last_change (value_of c.in-When.which) s.plan s.inputs)) _ _ _ _ stands
-    (same-echo c.args.self.now s c.args.line.now c.deref-in-When.result.now stands (c.deref-in-When.ensures.0 ∙ c.echo-echo.ensures)) (c.as_bytes-in-When.ensures.bytes ∙ c.when_line-change.ensures.line ∙ ap when_line (c.last_change.ensures s.plan s.inputs (c.kept.ensures ∙ present-kept c.args.self.now s stands))) c.tell-in-When.ensures.told)
+    (same-echo c.args.self.now s c.args.line.now c.deref-in-When.result.now stands (c.deref-in-When.ensures.0 ∙ c.echo-echo.ensures)) (c.as_bytes-in-When.ensures.bytes ∙ c.when_line-change.ensures.line ∙ ap when_line (c.last_change.ensures s.plan s.inputs (ap (λ (k : Stock). k.kept) c.kept.ensures ∙ present-kept c.args.self.now s stands))) c.tell-in-When.ensures.told)
 
 pub returns-in-Events-clause-done : goal.returns-in-Events-clause-done
 returns-in-Events-clause-done g c s stands =
@@ -60,5 +66,5 @@ returns-in-Echo-clause-done g c s stands =
 pub returns-in-Save-clause-done : goal.returns-in-Save-clause-done
 returns-in-Save-clause-done g c s stands =
     does-as c.tell_saved.result s _ c.args.line.now c.args.command asks.Save _ _ _ _ c.in-Save.is
-    (does-tell c.tell_saved.result None _ s s c.args.line.now c.deref-in-Save.result.now (saved_text c.args.self.now.course.kept c.args.self.now.course.bench.tick) (saved_text (kept_of s.plan s.inputs) (present s).now) _ _ _ _ stands
+    (does-tell c.tell_saved.result None _ s s c.args.line.now c.deref-in-Save.result.now (saved_text c.args.self.now.course.kept.kept c.args.self.now.course.bench.tick) (saved_text (kept_of s.plan s.inputs) (present s).now) _ _ _ _ stands
     (same-echo c.args.self.now s c.args.line.now c.deref-in-Save.result.now stands (c.deref-in-Save.ensures.0 ∙ c.echo-echo.ensures)) (λ j. saved_text (present-kept c.args.self.now s stands j) (ap (λ (v : State). v.now) (present-state c.args.self.now s stands) j)) c.tell_saved.ensures.told)

@@ -1,10 +1,12 @@
-use Rattle.std.proofs.Common.{◌∙◌, List, ap, subst, sym}
+use Rattle.std.proofs.Common.{◌∙◌, List, ap, arith, subst, sym}
+use Rattle.tsb_bench.specs.Held.{whole}
 use Rattle.tsb_bench.specs.tsb_step.declared.inputs.Input.{Input}
 use Rattle.tsb_log_text.specs.declared.log.LogRow.{LogRow}
 use Rattle.tsb_text.specs.Answers.{Setup}
 use Rattle.tsb_text.specs.Rows.{rows_in}
 use Rattle.tsb_text.specs.Obeyed.{Answered, AsksNext, OnCourse, Stands}
-use Rattle.tsb_text.proofs.CourseLemmas.{answered-refused, answered-there, answered-took}
+use Rattle.tsb_text.specs.Wanting.{WantsTo}
+use Rattle.tsb_text.proofs.CourseLemmas.{answered-refused, answered-there, answered-took, not-refused}
 use Rattle.tsb_text.proofs.course.Course.answer.Goals as goal
 
 pub returns-in-Ok-clause-right : goal.returns-in-Ok-clause-right
@@ -15,8 +17,15 @@ pub returns-in-Err-clause-right : goal.returns-in-Err-clause-right
 returns-in-Err-clause-right c given log is s next =
     rw c.in-Apply.is (answered-refused given log _ is c.in-Apply.input c.in-Err.refusal (c.in-Err.ensures.took given log is s (subst (AsksNext c.args.self.now.mode given is) c.in-Apply.is next)))
 
+pub returns-in-Ok-clause-wanting : goal.returns-in-Ok-clause-wanting
+returns-in-Ok-clause-wanting c is = absurd (cc)
+
+pub returns-in-Err-clause-wanting : goal.returns-in-Err-clause-wanting
+returns-in-Err-clause-wanting c is = subst (WantsTo c.take.new.self) (sym c.in-Apply.is) (c.in-Err.ensures.wanting (grind (arith, is)))
+
 pub returns-in_default : goal.returns-in_default
 returns-in_default c = record {
+  wanting = λ is. absurd (not-refused (whole c.self.inside.bench) (whole c.answer-given.new.bench) c.args.command c.answer-given.result c.in_default.not-Apply c.answer-given.ensures.does is);
   right = λ given log is s next. right given log is (subst (λ (v : OnCourse). Stands given log v is) (sym c.self.view_is) s);
   mode = c.forget.ensures.mode ∙ ap (λ (v : OnCourse). v.mode) c.self.view_is;
   rows = c.forget.ensures.rows ∙ ap (λ (v : OnCourse). v.rows) c.self.view_is;

@@ -1,7 +1,8 @@
-use Rattle.std.proofs.Common.{refl, subst, sym}
+use Rattle.std.proofs.Common.{◌≡◌, OnErr, inl, refl, subst, sym}
+use Rattle.tsb_bench.specs.Held.{whole}
 use Rattle.tsb_text.specs.Rows.{rows_in}
 use Rattle.tsb_text.specs.Obeyed.{OnCourse, Stands}
-use Rattle.tsb_text.proofs.CourseLemmas.{bench-took, plain-took}
+use Rattle.tsb_text.proofs.CourseLemmas.{bench-took, bench-wants, plain-took, same-whole}
 use Rattle.tsb_text.proofs.course.Course.take.Goals as goal
 
 pub returns-in-Plain-clause-took : goal.returns-in-Plain-clause-took
@@ -10,3 +11,10 @@ returns-in-Plain-clause-took c given log is s next =
     let here : Stands given log old is = subst (λ (v : OnCourse). Stands given log v is) (sym c.self.view_is) s in
     plain-took c.apply.result given log is old _ c.args.input here c.in-Plain.is refl
     (bench-took c.apply.result given.plan is c.self.inside.bench c.apply.new.self c.args.input here.follows c.apply.ensures.allowed c.apply.ensures.state c.apply.ensures.records c.apply.ensures.back c.apply.ensures.refused c.apply.ensures.err)
+
+pub returns-in-Plain-clause-wanting : goal.returns-in-Plain-clause-wanting
+returns-in-Plain-clause-wanting c memory = inl (bench-wants c.apply.result c.self.inside.bench c.apply.new.self c.args.input c.apply.ensures.err c.apply.ensures.wanting memory)
+
+pub returns-in-Plain-clause-still : goal.returns-in-Plain-clause-still
+returns-in-Plain-clause-still c =
+    subst (λ (v : OnCourse). OnErr c.apply.result (whole c.apply.new.self ≡ whole v.bench)) c.self.view_is (same-whole c.apply.result c.self.inside.bench c.apply.new.self c.apply.ensures.err)

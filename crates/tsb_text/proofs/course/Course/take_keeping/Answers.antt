@@ -1,22 +1,37 @@
-use Rattle.std.proofs.Common.{◌∙◌, Err, ap, refl, subst, sym}
-use Rattle.std.proofs.lemmas.Result.{err_from_is_err_and}
+use Rattle.std.proofs.Common.{◌≡◌, ◌∙◌, Err, OnErr, ap, inl, refl, subst, sym}
+use Rattle.tsb_bench.specs.Held.{whole}
 use Rattle.tsb_text.specs.Rows.{rows_in}
 use Rattle.tsb_text.specs.recording.Told.{Stored}
 use Rattle.tsb_text.specs.Obeyed.{OnCourse, Stands}
-use Rattle.tsb_text.proofs.CourseLemmas.{bench-took, keeps-inputs, kept-refused, kept-so, quiet-news}
+use Rattle.tsb_text.proofs.CourseLemmas.{bench-took, bench-wants, keep-wants, keeps-inputs, kept-refused, kept-so, quiet-news, still-there}
 use Rattle.tsb_text.proofs.course.Course.take_keeping.Goals as goal
 
-pub returns-in_err-apply-clause-took : goal.returns-in_err-apply-clause-took
-returns-in_err-apply-clause-took c given log is s next = let p = err_from_is_err_and c.from_residual.result c.from_residual.ensures.1 in
+pub returns-in-Err-clause-took : goal.returns-in-Err-clause-took
+returns-in-Err-clause-took c given log is s next =
     let old : OnCourse = record { bench = c.self.inside.bench; rows = rows_in c.self.inside.rows; kept = c.self.inside.kept; told = c.self.inside.told; mode = c.self.inside.mode; news = c.self.inside.news.items } in
     let here : Stands given log old is = subst (λ (v : OnCourse). Stands given log v is) (sym c.self.view_is) s in
-    rw (p.1, p.2) (kept-refused c.in_err-apply.field-0.0 given log is old _ c.args.input here refl refl refl refl
-    (bench-took (Err c.in_err-apply.field-0.0) given.plan is c.self.inside.bench c.apply.new.self c.args.input here.follows tt tt tt tt c.in_err-apply.ensures.refused c.in_err-apply.ensures.err))
+    kept-refused c.in-Err.refusal given log is old _ c.args.input here refl refl refl refl
+    (bench-took (Err c.in-Err.refusal) given.plan is c.self.inside.bench c.apply.new.self c.args.input here.follows tt tt tt tt c.in-Err.ensures.refused c.in-Err.ensures.err)
 
-pub returns-clause-took : goal.returns-clause-took
-returns-clause-took c given log is s next =
+pub returns-in-Err-clause-wanting : goal.returns-in-Err-clause-wanting
+returns-in-Err-clause-wanting c memory = inl (bench-wants (Err c.in-Err.refusal) c.self.inside.bench c.apply.new.self c.args.input c.in-Err.ensures.err c.in-Err.ensures.wanting memory)
+
+pub returns-in-Err-clause-still : goal.returns-in-Err-clause-still
+returns-in-Err-clause-still c = subst (λ (v : OnCourse). whole c.apply.new.self ≡ whole v.bench) c.self.view_is (ap whole c.in-Err.ensures.err)
+
+pub returns-in-Ok-clause-took : goal.returns-in-Ok-clause-took
+returns-in-Ok-clause-took c given log is s next =
     let old : OnCourse = record { bench = c.self.inside.bench; rows = rows_in c.self.inside.rows; kept = c.self.inside.kept; told = c.self.inside.told; mode = c.self.inside.mode; news = c.self.inside.news.items } in
     let here : Stands given log old is = subst (λ (v : OnCourse). Stands given log v is) (sym c.self.view_is) s in
     kept-so c.keep.result given log is old _ c.apply.new.self c.now-tick.result c.args.input here (keeps-inputs c.self.inside.mode (ap (λ (v : OnCourse). v.mode) c.self.view_is ∙ c.requires.keeping)) c.keep.ensures.mode c.keep.ensures.rows (ap (λ (x : Stored). x.told) c.keep.ensures.told) c.now-tick.ensures.now
-    c.in_ok-apply.ensures.allowed c.in_ok-apply.ensures.state c.in_ok-apply.ensures.records c.in_ok-apply.ensures.back
+    c.in-Ok.ensures.allowed c.in-Ok.ensures.state c.in-Ok.ensures.records c.in-Ok.ensures.back
     (quiet-news _ (c.keep.ensures.mode ∙ (ap (λ (v : OnCourse). v.mode) c.self.view_is ∙ c.requires.keeping))) c.keep.ensures.bench c.keep.ensures.kept c.keep.ensures.undone c.keep.ensures.still c.keep.ensures.memory
+
+pub returns-in-Ok-clause-wanting : goal.returns-in-Ok-clause-wanting
+returns-in-Ok-clause-wanting c memory =
+    keep-wants c.keep.result c.keep.new.self c.args.input (keeps-inputs c.keep.new.self.mode (c.keep.ensures.mode ∙ (ap (λ (v : OnCourse). v.mode) c.self.view_is ∙ c.requires.keeping))) c.keep.ensures.wanting memory
+
+pub returns-in-Ok-clause-still : goal.returns-in-Ok-clause-still
+returns-in-Ok-clause-still c =
+    subst (λ (v : OnCourse). OnErr c.keep.result (whole c.keep.new.self.bench ≡ whole v.bench)) c.self.view_is
+    (still-there c.keep.result c.self.inside.bench c.apply.new.self c.keep.new.self.bench _ c.in-Ok.ensures.records c.in-Ok.ensures.back c.keep.ensures.undone)

@@ -1,8 +1,8 @@
-use Rattle.std.proofs.Common.{◌∙◌, Err, ap, inl, refl, subst, sym}
+use Rattle.std.proofs.Common.{◌≡◌, ◌∙◌, Err, OnErr, ap, inl, refl, subst, sym}
+use Rattle.tsb_bench.specs.Held.{whole}
 use Rattle.tsb_text.specs.Obeyed.{IsNext, OnCourse, Stands}
-use Rattle.tsb_text.specs.recording.Recording.{IsWanting}
 use Rattle.tsb_text.specs.Rows.{rows_in}
-use Rattle.tsb_text.proofs.CourseLemmas.{bench-took, kept-refused, recorded-so, wants-so}
+use Rattle.tsb_text.proofs.CourseLemmas.{bench-took, bench-wants, kept-refused, recorded-so, still-there, wants-so}
 use Rattle.tsb_text.proofs.course.Course.take_recording.Goals as goal
 
 pub returns-in-Err-clause-took : goal.returns-in-Err-clause-took
@@ -22,10 +22,19 @@ returns-in-Ok-clause-took c given log is s next =
     c.note.ensures.bench c.note.ensures.told c.note.ensures.undone c.note.ensures.still c.note.ensures.memory
 
 pub returns-in-Err-clause-wanting : goal.returns-in-Err-clause-wanting
-returns-in-Err-clause-wanting c memory = subst (λ (v : OnCourse). IsWanting c.args.form v c.args.input) c.self.view_is (inl (c.in-Err.ensures.wanting memory))
+returns-in-Err-clause-wanting c memory = inl (bench-wants (Err c.in-Err.refusal) c.self.inside.bench c.apply_telling.new.self c.args.input c.in-Err.ensures.err c.in-Err.ensures.wanting memory)
+
+pub returns-in-Err-clause-still : goal.returns-in-Err-clause-still
+returns-in-Err-clause-still c = subst (λ (v : OnCourse). whole c.apply_telling.new.self ≡ whole v.bench) c.self.view_is (ap whole c.in-Err.ensures.err)
 
 pub returns-in-Ok-clause-wanting : goal.returns-in-Ok-clause-wanting
 returns-in-Ok-clause-wanting c memory =
     let old : OnCourse = record { bench = c.self.inside.bench; rows = rows_in c.self.inside.rows; kept = c.self.inside.kept; told = c.self.inside.told; mode = c.self.inside.mode; news = c.self.inside.news.items } in
-    subst (λ (v : OnCourse). IsWanting c.args.form v c.args.input) c.self.view_is
-    (wants-so c.note.result c.args.form old c.in_force-row.result c.now-tick.result _ c.args.input c.now-tick.ensures.now c.in_force-row.ensures.row c.in-Ok.ensures.told c.note.ensures.wanting memory)
+    wants-so c.note.result c.args.form old c.note.new.self c.in_force-row.result c.now-tick.result _ c.args.input (c.note.ensures.mode ∙ (ap (λ (v : OnCourse). v.mode) c.self.view_is ∙ c.requires.recording)) (c.note.ensures.rows ∙ c.in_force-row.ensures.same)
+    (still-there c.note.result c.self.inside.bench c.apply_telling.new.self c.note.new.self.bench _ c.in-Ok.ensures.records c.in-Ok.ensures.back c.note.ensures.undone)
+    c.now-tick.ensures.now c.in_force-row.ensures.row c.in-Ok.ensures.told c.note.ensures.wanting memory
+
+pub returns-in-Ok-clause-still : goal.returns-in-Ok-clause-still
+returns-in-Ok-clause-still c =
+    subst (λ (v : OnCourse). OnErr c.note.result (whole c.note.new.self.bench ≡ whole v.bench)) c.self.view_is
+    (still-there c.note.result c.self.inside.bench c.apply_telling.new.self c.note.new.self.bench _ c.in-Ok.ensures.records c.in-Ok.ensures.back c.note.ensures.undone)

@@ -16,3 +16,9 @@ returns-in-Show-clause-done c given log is s = rw (sym c.task_of.ensures.task �
 
 pub returns-in-Quit-clause-done : goal.returns-in-Quit-clause-done
 returns-in-Quit-clause-done c given log is s = rw (sym c.task_of.ensures.task ∙ c.in-Quit.is) (quit-left given log is c.args.course.now s)
+
+pub returns-in-Ticks-clause-wanting : goal.returns-in-Ticks-clause-wanting
+returns-in-Ticks-clause-wanting c is = rw (sym c.task_of.ensures.task ∙ c.in-Ticks.is) (c.step.ensures.wanting is)
+
+pub returns-in-Ask-clause-wanting : goal.returns-in-Ask-clause-wanting
+returns-in-Ask-clause-wanting c is = rw (sym c.task_of.ensures.task ∙ c.in-Ask.is) (c.ask.ensures.wanting is)

@@ -18,5 +18,8 @@ returns-in-Err-clause-done c given log is s =
     let before : Stepping given log is c.args.ticks c.loop-i.course (c.args.ticks - c.loop-i._i) = c.loop-i.invariant.0 given log is s in
     steps-refused given log is c.args.ticks c.loop-i.course c.tick.new.self (c.args.ticks - c.loop-i._i) (c.args.ticks - (c.loop-i._i + 1)) c.in-Err.refusal (omega arith) before (c.in-Err.ensures.took given log before.now before.stands)
 
+pub returns-in-Err-clause-wanting : goal.returns-in-Err-clause-wanting
+returns-in-Err-clause-wanting c is = c.in-Err.ensures.wanting (grind (arith, is))
+
 pub returns-clause-done : goal.returns-clause-done
 returns-clause-done c given log is s = steps-end given log is c.args.ticks c.loop-i.course (c.args.ticks - c.loop-i._i) (omega arith) (c.loop-i.invariant.0 given log is s)
