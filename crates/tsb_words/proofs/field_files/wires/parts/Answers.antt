@@ -1,6 +1,6 @@
 use Rattle.std.proofs.Common.{◌∙◌, List, ℕ, arith, ap, sym, eq-eqb, get_or, take, Some}
 use Rattle.std.proofs.lemmas.Bool.{eqb-true}
-use Rattle.tsb_event_text.proofs.FieldLemmas.{behind}
+use Rattle.tsb_lines.proofs.LineLemmas.{behind}
 use Rattle.tsb_words.proofs.WireLemmas.{parts-none, parts-some}
 use Rattle.tsb_words.proofs.field_files.wires.parts.Goals as goal
 
