@@ -2,14 +2,14 @@
 //! passed over. Expected values are worked by hand from the rules.
 
 use tsb_event_text::{
-    Column, Columns, EventRow, Moment, RowFault, Separator, TimeForm, WideRow, Zone, event_row,
-    form_of, header, is_ambiguous, is_passed, is_preface, moment_in, row_fault, time_form_named,
-    time_form_word, wide_row, zone_named,
+    Column, Columns, EventRow, Moment, RowFault, Separator, TimeForm, WideRow, event_row, form_of,
+    header, is_ambiguous, is_passed, is_preface, moment_in, row_fault, time_form_named,
+    time_form_word, wide_row,
 };
 
 /// The nanoseconds from -9999-01-01 to 1970-01-01, 4,371,587 days, and from there to 2026-11-22 00:00:00: 56 years of
 /// 365 days, 14 leap days and 325 days.
-const MIDNIGHT: u128 = 377_705_116_800_000_000_000 + 1_795_305_600_000_000_000;
+pub(crate) const MIDNIGHT: u128 = 377_705_116_800_000_000_000 + 1_795_305_600_000_000_000;
 
 /// Whether a text is the time so many milliseconds after 2026-11-22 began.
 fn is_time(form: TimeForm, text: &[u8], milliseconds: u32) -> bool {
@@ -343,131 +343,6 @@ fn separators_part_rows() -> bool {
 #[test]
 fn rows_are_parted_by_semicolons_and_tabs(rt: HostRuntime) {
     assert!(rt; separators_part_rows());
-}
-
-/// Words of zones, each with the minutes that its clock is ahead of that of UTC, and behind it.
-const ZONES: [(&[u8], u16, u16); 12] = [
-    (b"Z", 0, 0),
-    (b"z", 0, 0),
-    (b"UTC", 0, 0),
-    (b"utc", 0, 0),
-    (b"+01", 60, 0),
-    (b"+1", 60, 0),
-    (b"-07:00", 0, 420),
-    (b"-0700", 0, 420),
-    (b"+0530", 330, 0),
-    (b"+5:30", 330, 0),
-    (b"+530", 330, 0),
-    (b"-23:59", 0, 1439),
-];
-
-/// Whether the words name their zones.
-fn are_zones() -> bool {
-    for (word, east, west) in &ZONES {
-        if zone_named(word)
-            != Some(Zone {
-                east: *east,
-                west: *west,
-            })
-        {
-            return false;
-        }
-    }
-    true
-}
-
-/// Words that name no zone.
-const NO_ZONES: [&[u8]; 14] = [
-    b"",
-    b"+",
-    b"-",
-    b"07:00",
-    b"+24",
-    b"+24:00",
-    b"+07:60",
-    b"+07:0",
-    b"+007:00",
-    b"+07000",
-    b"-0x",
-    b"MST",
-    b"Z ",
-    b"+07:00:00",
-];
-
-/// Whether none of the words names one.
-fn are_no_zones() -> bool {
-    for word in &NO_ZONES {
-        if zone_named(word).is_some() {
-            return false;
-        }
-    }
-    true
-}
-
-#[test]
-fn zones_are_named(rt: HostRuntime) {
-    assert!(rt; are_zones() && are_no_zones());
-}
-
-/// Times, each with its form and the milliseconds after 2026-11-22 began by a clock seven hours behind that of UTC.
-const ZONED: [(TimeForm, &[u8], u32); 11] = [
-    (TimeForm::YearFirst, b"2026-11-22 14:00:03.2Z", 25_203_200),
-    (
-        TimeForm::YearFirst,
-        b"2026-11-22T14:00:03.2 UTC",
-        25_203_200,
-    ),
-    (
-        TimeForm::YearFirst,
-        b"2026-11-22 08:00:03.2-06:00",
-        25_203_200,
-    ),
-    (TimeForm::YearFirst, b"2026-11-22 07:00:03.2-07", 25_203_200),
-    (
-        TimeForm::YearFirst,
-        b"2026-11-22 19:30:03.2 +0530",
-        25_203_200,
-    ),
-    (TimeForm::YearFirst, b"2026-11-23 01:00:00+01", 61_200_000),
-    (TimeForm::YearFirst, b"2026-11-22 07:00:03.2", 25_203_200),
-    (
-        TimeForm::MonthFirst,
-        b"11/22/2026 2:00:03.2 PM-00:00",
-        25_203_200,
-    ),
-    (TimeForm::DayFirst, b"22.11.2026 14:00:03,2 UTC", 25_203_200),
-    (TimeForm::Seconds, b"1795330803.2", 3_200),
-    (TimeForm::Milliseconds, b"1795330803200", 3_200),
-];
-
-/// Whether all of the times are moved to that clock.
-fn times_are_moved() -> bool {
-    let zone = zone_named(b"-07:00");
-    for (form, text, milliseconds) in &ZONED {
-        let wanted = Moment {
-            nanos: MIDNIGHT + *milliseconds as u128 * 1_000_000,
-        };
-        if moment_in(*form, zone, text) != Some(wanted) {
-            return false;
-        }
-    }
-    zone.is_some()
-}
-
-/// Whether a time of the day before is found: 3:00 by UTC is 20:00 there.
-fn days_before_are_found() -> bool {
-    moment_in(
-        TimeForm::YearFirst,
-        zone_named(b"-0700"),
-        b"2026-11-22 03:00:00Z",
-    ) == Some(Moment {
-        nanos: MIDNIGHT - 14_400_000_000_000,
-    })
-}
-
-#[test]
-fn times_are_those_of_a_zone(rt: HostRuntime) {
-    assert!(rt; times_are_moved() && days_before_are_found());
 }
 
 /// Whether forms have their words, and no other word names one.

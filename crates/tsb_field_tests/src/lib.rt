@@ -20,6 +20,8 @@ mod events_text;
 #[cfg(test)]
 mod export_rows;
 #[cfg(test)]
+mod export_zones;
+#[cfg(test)]
 mod field_filter;
 #[cfg(test)]
 mod field_rows;
