@@ -376,6 +376,25 @@ def manner_runs():
     yield refused(HEADER, b"read: 0 rows\n" + NO_ROW, b"", "--count")
     yield logged(HEADER, b"", EMPTY, "--count", errors=b"read: 0 rows\n")
     yield refused(told("07:00:01 1 2"), read % (1, b"07:00:01.0", b"07:00:01.0", 0) + NO_EVENT, b"", "--count")
+    # A minute without a row that counts is a gap, whatever the codes; of two as long the first is the longest.
+    gaps = b"gaps: %d of a minute or more without a row that counts, the longest from 2026-11-22 %b to 2026-11-22 %b\n"
+    for text, errors in [
+        (CAR + told("07:01:02.999999999 1 1"), read % (3, b"07:00:01.0", b"07:01:02.999999999", 1)),
+        (CAR + told("07:01:03 1 1"), read % (3, b"07:00:01.0", b"07:01:03.0", 1) + gaps % (1, b"07:00:03.0", b"07:01:03.0")),
+        (CAR + told("07:01:03 1 1", "07:03:03.5 1 1", "07:05:04 1 1", "07:05:04 1 2"),
+         read % (6, b"07:00:01.0", b"07:05:04.0", 1) + gaps % (3, b"07:01:03.0", b"07:03:03.5")),
+        (told("06:00:00 1 1") + CAR, read % (3, b"06:00:00.0", b"07:00:03.0", 1) + gaps % (1, b"06:00:00.0", b"07:00:01.0")),
+    ]:
+        yield logged(text, CAR_LOG, "--count", errors=errors)
+        yield logged(text, CAR_LOG, "--count", "--sort", errors=errors)
+        yield logged(text, CAR_LOG)
+    other = CAR + b"8,2026-11-22 07:00:30,1,1\n" + told("07:01:04 1 1")
+    yield logged(other, CAR_LOG, "--count", errors=read % (4, b"07:00:01.0", b"07:01:04.0", 1))
+    yield logged(other, CAR_LOG, "--count", "--device=7",
+                 errors=LEFT % (1, 0, 0) + read % (3, b"07:00:01.0", b"07:01:04.0", 1) + gaps % (1, b"07:00:03.0", b"07:01:04.0"))
+    late = told("07:01:03 1 1") + CAR
+    yield logged(late, CAR_LOG, "--count", "--sort-within=62",
+                 errors=read % (3, b"07:00:01.0", b"07:01:03.0", 1) + gaps % (1, b"07:00:03.0", b"07:01:03.0"))
     wires = [*("--vehicle 9=1 --vehicle 9=2 --vehicle 8=1 --pedestrian 9=1".split()), "--count"]
     events = told("07:00:00 82 9", "07:00:00 82 8", "07:00:00 90 9", "07:00:00 81 9")
     yield logged(events, row(1, [1, 2], [1]) + row(2, [1], [1]), *wires, errors=read % (4, b"07:00:00.0", b"07:00:00.0", 3))
@@ -416,6 +435,12 @@ def sort_runs():
     far = b"Time,Device Id,Code,Param\n2026-11-23 00:00:00.001,7,1,1\n2026-11-22 23:58:59.9,7,1,1\n"
     yield refused(far, b"events line 3: time order: 23:58:59.9 after 00:00:00.001 of a later day: over 60 s late: "
                        b"give a larger --sort-within, or sort by column 1\n", b"", "--sort")
+    # The longest line of a fault: a line number of 7 digits, both times in nanoseconds, a later day, a window of an hour, and
+    # the times in column 300.
+    far = [b"," * 299 + at + b",1,1\n" for at in [b"2026-11-23 07:00:00.123456789", b"2026-11-22 05:59:59.987654321"]]
+    longest = b"," * 299 + b"Time,Code,Parameter\n" + far[0] + b"#\n" * 999_997 + far[1]
+    yield refused(longest, b"events line 1000000: time order: 05:59:59.987654321 after 07:00:00.123456789 of a later day: over "
+                           b"3600 s late: give a larger --sort-within, or sort by column 300\n", b"", "--sort-within=3600")
     yield logged((EXPORT_FOLDER / "a23_unsorted.csv").read_bytes(), ticked(BOTH), "--sort-within=1")
     for words in [["--sort=1"], ["--sort", "--sort"], ["--sort-within"], ["--sort-within=0"], ["--sort-within=3601"], ["--sort-within=1.5"],
                   ["--sort-within="], ["--sort-within=1", "--sort-within=1"], ["--sort-within=60s"], ["--sorted"]]:
@@ -454,7 +479,7 @@ def outputs_runs():
     yield refused(CAR + b"x\n", b"events line 3: " + ENDS % b"time" + b"\n", CAR_KNOWN, *twice)
     yield Run([*LOG, *twice], 3, b"", INPUT, stdin=TORN)
     yield Run([*LOG, *twice], 3, b"", WRITE, CAR, stdout=FULL)
-    yield Run([*LOG, *twice], 0, CAR_LOG, b"", CAR, stderr=FULL)
+    yield Run([*LOG, *twice], 3, CAR_LOG, b"", CAR, stderr=FULL)
     # Without a plan nothing is read or written.
     for path, status, line in plan_faults():
         yield Run([*LOG, "--as-outputs", path], status, b"", line, stdin=TORN)
@@ -1010,7 +1035,11 @@ def stream_runs():
     yield Run(LOG, 1, b"", b"events line 1: " + ENDS % b"parameter" + b"\n", b"7,x,82\n" + CAR, stdout=FULL)
     yield Run(LOG, 1, stderr=FULL, commands=b"x\n")
     yield Run([*LOG, "--device", "8"], 1, stderr=FULL, commands=CAR)
-    yield Run([*LOG, "--device", "8", EMPTY], 0, stderr=FULL, commands=CAR)
+    # A line of what was read well that is not written fails the program; without one nothing fails.
+    yield Run([*LOG, "--device", "8", EMPTY], 3, stderr=FULL, commands=CAR)
+    yield Run([*LOG, "--count"], 3, CAR_LOG, stderr=FULL, commands=CAR)
+    yield Run(LOG, 3, CAR_LOG, stderr=FULL, commands=CAR + told("07:00:04 82 40"))
+    yield Run(LOG, 0, CAR_LOG, stderr=FULL, commands=CAR)
     yield Run(LOG, 1, b"", b"events: too large\n", stdin=ENDLESS)
     for path, status, line in green_end_faults():
         yield Run(["diagram", *FROM, "--events", path], status, b"", line, ALL_LINES)

@@ -51,6 +51,7 @@ MOST_HELD = 1_000_000
 TOO_MANY = b" line %d: over 1000000 rows to sort: give a smaller --sort-within, or a --device"
 
 # What is told where no row counts, and where no input has an event from tick 1 on.
+GAPS = b"gaps: %d of a minute or more without a row that counts, the longest from %b to %b\n"
 NO_ROW = b"events: no row counts (give --allow-empty where that is right)\n"
 NO_EVENT = b"events: no event of an input from --from on (give --allow-empty where that is right)\n"
 
@@ -464,12 +465,17 @@ def taken(lines, begin, device, wires, form=None, zone=None, window=None, is_all
 
 
 def counted(read):
-    """The line of how much was read."""
+    """The lines of how much was read, and of the gaps in it."""
     if not read.moments:
         return b"read: 0 rows\n"
     channels = {(kind, channel) for _, kind, channel, _ in read.events}
     span = time_text(read.moments[0]), time_text(read.moments[-1])
-    return b"read: %d rows from %b to %b, events of %d channels\n" % (len(read.moments), *span, len(channels))
+    told = b"read: %d rows from %b to %b, events of %d channels\n" % (len(read.moments), *span, len(channels))
+    gaps = [pair for pair in itertools.pairwise(read.moments) if pair[1] - pair[0] >= 60 * SECOND]
+    if gaps:
+        longest = max(gaps, key=lambda pair: pair[1] - pair[0])
+        told += GAPS % (len(gaps), *map(time_text, longest))
+    return told
 
 
 def log(text, begin, device=None, mapped=(), form=None, zone=None, is_counted=False, may_be_empty=False, window=None):

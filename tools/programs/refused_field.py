@@ -116,13 +116,15 @@ def reads(program, wrong):
 
 
 def writes(program, wrong):
-    """Fails each write; one that is interrupted is not tried again. Only the status shows that of errors."""
+    """Fails each write; one that is interrupted may be tried again. Only the status shows that of errors: a line of
+    what was read well that is not written ends with 3."""
     for words, text in RUNS:
         whole = program.run(words, text)[:3]
         for error in [errno.EIO, errno.EINTR, 0]:
+            again = [whole] if error == errno.EINTR else []
             for number, ended in program.sweep(words, text, kind="write", error=error, piece=1000):
-                told = [(whole[0], whole[1], front) for front in fronts(whole[2])]
-                wrong.compare(f"{words}, write {number}, error {error}", ended, *told,
+                told = [(whole[0] or 3, whole[1], front) for front in fronts(whole[2])]
+                wrong.compare(f"{words}, write {number}, error {error}", ended, *again, *told,
                               *((3, front, WRITE) for front in fronts(whole[1])),
                               *((whole[0], front, whole[2]) for front in fronts(whole[1]) if whole[0] == 1))
 

@@ -1,12 +1,12 @@
 -- How the program ends.
-use Rattle.std.proofs.Common.{◌≡◌, ◌==◌, ◌&&◌, not, ℕ, Bool, Global, List, [], ◌∷◌, arith, length, OnErr, OnOk, Ok, true, refl, subst, sym, inl, inr}
+use Rattle.std.proofs.Common.{◌≡◌, ℕ, Bool, Global, List, [], ◌∷◌, ◌++◌, arith, length, OnErr, OnOk, Ok, true, refl, subst, sym, inl, inr}
 use Rattle.std.specs.declared.result.Result.{Result}
 use Rattle.std.proofs.lemmas.Bool.{true≢false}
 use Rattle.std.specs.Prelude.{Err, None, Some, Vec}
 use Rattle.std.specs.declared.option.Option.{Option}
 use Rattle.tsb_program.specs.Failures.{Fails}
 use Rattle.tsb_program.specs.declared.failure.Failure.{Failure}
-use Rattle.tsb_program.specs.tsb_lines.Seen.{Seen}
+use Rattle.tsb_program.specs.tsb_lines.Seen.{Seen, Tells}
 use Rattle.tsb_program.specs.Read.{HasNoPlan, HasPlan, IsFront, LogRead}
 use Rattle.tsb_program.specs.Told.{FailsFile, TellsNoLog, TellsNoPlan, TellsWhy}
 use Rattle.tsb_program.specs.declared.files.FileError.TheVariants as causes
@@ -38,14 +38,13 @@ use Rattle.tsb_text.specs.tsb_types.declared.event.Event.{Event}
 use Rattle.tsb_field_streams.specs.declared.error.FilterError.{FilterError}
 use Rattle.tsb_field_streams.specs.declared.error.FilterError.TheVariants as filters
 use Rattle.tsb_field_streams.specs.FaultLines.{filter_fault}
-use Rattle.tsb_field.specs.Lines.{Refuses}
 use Rattle.tsb_field_log.specs.Mapping.{wires_of}
 use Rattle.tsb_field_log.specs.declared.inputs.Wire.{Wire}
 use Rattle.tsb_field_streams.specs.Standing.{given_of}
 use Rattle.tsb_field_streams.specs.Streaming.{Ended}
 use Rattle.tsb_field_streams.specs.declared.filter.Reading.{Reading}
 use Rattle.tsb_field_streams.specs.declared.filter.Summary.{Summary}
-use Rattle.tsb_field.specs.LogEnds.{IsPassedOn, Logged, LoggedBeside, LoggedTelling, LoggedWith, NoPlan, TellsFault, TellsWhere}
+use Rattle.tsb_field.specs.LogEnds.{IsPassedOn, LoggedBeside, LoggedWith, NoPlan, TellsFault}
 use Rattle.tsb_words.specs.FieldWords.{LogWish}
 use Rattle.tsb_field.specs.Ends.{Drawn, Draws, IsDiagram, LogNamed, NamesLog, NoRun, NotDrawn, Pictured, Recorded, RecordedOn, Stops, Told, ToldOn, Writes, WritesMade, failure_by, name_of}
 
@@ -161,11 +160,11 @@ not-drawn replays.Read failure failed left bytes status told tells is so fails =
 
 -- a fault of a filter that is none of a device, nor of memory, is that of what was read
 pub told-fault : (fault : FilterError) (status : ℕ) (told tells : Seen) → (fault ≡ filters.Memory → ⊥) → (fault ≡ filters.Read → ⊥) → (fault ≡ filters.Write → ⊥)
-    → Refuses 1 (Some (filter_fault fault)) status told tells → TellsFault fault status told tells
-told-fault filters.Memory status told tells memory read write refuses = absurd (memory refl)
-told-fault filters.Read status told tells memory read write refuses = absurd (read refl)
-told-fault filters.Write status told tells memory read write refuses = absurd (write refl)
-told-fault fault status told tells memory read write refuses = refuses
+    → (status ≡ 1) × Tells told tells (filter_fault fault ++ 10 ∷ []) → TellsFault fault status told tells
+told-fault filters.Memory status told tells memory read write line = absurd (memory refl)
+told-fault filters.Read status told tells memory read write line = absurd (read refl)
+told-fault filters.Write status told tells memory read write line = absurd (write refl)
+told-fault fault status told tells memory read write line = line
 
 -- a filter ended so with what it was given
 pub ended-as : (result : Result Summary FilterError) (reading : Reading) (device other : Option (List ℕ)) (wires more : List Wire) (input left old new : Option (List ℕ)) → other ≡ device → more ≡ wires
@@ -180,15 +179,6 @@ passed-on (Ok t) s blame flushed = inr flushed
 passed-on (Err e) s blame flushed = inl blame
 
 -- ## Events of outputs of detectors
-
--- what was told of a log, and then of its detectors
-pub told-more : (text : List ℕ) (wrote status : ℕ) (wish : LogWish) (input left old new told mid tells : Seen) → status ≡ wrote → Logged wrote wish input left old new told mid
-    → TellsWhere (wrote == 0 && not mid.failed) text mid tells → LoggedTelling text status wish input left old new told tells
-told-more text wrote status wish input left old new told mid tells same logged more = (
-  mid,
-  subst (λ (s : ℕ). Logged s wish input left old new told mid) (sym same) logged,
-  subst (λ (s : ℕ). TellsWhere (s == 0 && not mid.failed) text mid tells) (sym same) more,
-)
 
 -- a log was made beside a plan that was found
 pub logged-beside : (plan : Plan) (path : List ℕ) (status : ℕ) (wish : LogWish) (files : List ℕ → Option (List ℕ)) (input left old new told tells : Seen) → HasPlan (files path) plan

@@ -1,5 +1,5 @@
 -- The lines that the program writes of faults, each with its end.
-use Rattle.std.specs.Prelude.{◌≡◌, ◌⊎◌, ℕ, Bool, true, false, List, [], ◌∷◌, ◌++◌, IfSome, Option, Some, None, codes}
+use Rattle.std.specs.Prelude.{◌≡◌, ℕ, Bool, true, false, List, Option, Some, None, codes}
 use Rattle.tsb_program.specs.tsb_lines.Seen.{Seen, Tells}
 use Rattle.tsb_words.specs.declared.error.WordsError.{WordsError}
 use Rattle.tsb_words.specs.declared.error.WordsError.TheVariants as words
@@ -27,11 +27,6 @@ TellsBad near bad_from status told tells = (status ≡ 2) × Tells told tells (b
 abbrev pub TellsWords : Option (List ℕ) → Bool → WordsError → ℕ → Seen → Seen → Type 0
 TellsWords near bad_from words.Memory status told tells = Fails Memory status told tells
 TellsWords near bad_from words.Bad status told tells = TellsBad near bad_from status told tells
-
--- what was refused is shown in its own words, with this status, where there is memory for the line
-abbrev pub Refuses : ℕ → Option (List ℕ) → ℕ → Seen → Seen → Type 0
-Refuses wanted shown status told tells =
-    ((status ≡ wanted) × IfSome shown (λ line. Tells told tells (line ++ 10 ∷ []))) ⊎ Fails Memory status told tells
 
 -- a tick that has no time is reported, as a fault of the words: with 2
 abbrev pub TellsLate : ℕ → Seen → Seen → Type 0

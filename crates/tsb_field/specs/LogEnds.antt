@@ -1,7 +1,7 @@
 -- How `log` ends, and what it has then written on its output and of faults.
 --
 -- Of each stream there is what is seen before and after: `input` and `left`, `old` and `new`, `told` and `tells`.
-use Rattle.std.specs.Prelude.{◌≡◌, ◌⊎◌, ℕ, ◌==◌, Bool, true, false, not, ◌&&◌, List, Option, Some, None, Result, Ok, Err, codes}
+use Rattle.std.specs.Prelude.{◌≡◌, ◌⊎◌, ℕ, ◌==◌, Bool, true, false, not, ◌&&◌, if◌then◌else◌, List, [], ◌∷◌, ◌++◌, Option, Some, None, Result, Ok, Err, codes}
 use Rattle.std.specs.Io.KnownBytes.{Keeps}
 use Rattle.tsb_program.specs.tsb_lines.Seen.{Seen, Tells}
 use Rattle.tsb_program.specs.Failures.{Fails}
@@ -13,6 +13,7 @@ use Rattle.tsb_program.specs.tsb_plan_notes.declared.place.JsonPlace.{JsonPlace}
 use Rattle.tsb_text.specs.tsb_plan.Plan.{Plan}
 use Rattle.tsb_text.specs.tsb_plan_text.declared.error.PlanError.{PlanError}
 use Rattle.tsb_field_log.specs.Mapping.{wires_of}
+use Rattle.tsb_field_streams.specs.Blame.{Blames, OnMemory}
 use Rattle.tsb_field_streams.specs.FaultLines.{filter_fault}
 use Rattle.tsb_field_streams.specs.Filtering.{Given}
 use Rattle.tsb_field_streams.specs.Streaming.{Ended}
@@ -21,7 +22,6 @@ use Rattle.tsb_field_streams.specs.declared.error.FilterError.TheVariants as end
 use Rattle.tsb_field_streams.specs.declared.filter.Summary.{Summary}
 use Rattle.tsb_words.specs.FieldWords.{LogWish}
 use Rattle.tsb_words.specs.declared.field_files.Manner.{Manner}
-use Rattle.tsb_field.specs.Lines.{Refuses}
 use Rattle.tsb_field.specs.LogLines.{IsReport, is_lost, status_of}
 use Rattle.tsb_field.specs.Twice.{twice_text}
 
@@ -31,17 +31,21 @@ failed_device true write_failed = Some Input
 failed_device false true = Some Write
 failed_device false false = None
 
--- what ended a filter where no device has failed is told: out of memory, or with 1 the fault of what was read
+-- what ended a filter is told: memory or a device, or with 1 the fault of what was read, for which there always is memory
 abbrev pub TellsFault : FilterError → ℕ → Seen → Seen → Type 0
 TellsFault ends.Memory status told tells = Fails Memory status told tells
-TellsFault ends.Read status told tells = Fails Memory status told tells
-TellsFault ends.Write status told tells = Fails Memory status told tells
-TellsFault fault status told tells = Refuses 1 (Some (filter_fault fault)) status told tells
+TellsFault ends.Read status told tells = Fails Input status told tells
+TellsFault ends.Write status told tells = Fails Write status told tells
+TellsFault fault status told tells = (status ≡ 1) × Tells told tells (filter_fault fault ++ 10 ∷ [])
+
+-- what a program ends with that was to end with this status: with 3, where all was well but a line was not written
+abbrev pub status_told : ℕ → Bool → ℕ
+status_told status failed = if status == 0 && failed then 3 else status
 
 -- what was read is told, where there is memory for that
 abbrev pub TellsReport : Manner → Summary → ℕ → Seen → Seen → Type 0
 TellsReport manner summary status told tells =
-    ((text : List ℕ) × IsReport manner summary text × (status ≡ status_of manner summary) × Tells told tells text) ⊎ Fails Memory status told tells
+    ((text : List ℕ) × IsReport manner summary text × (status ≡ status_told (status_of manner summary) tells.failed) × Tells told tells text) ⊎ Fails Memory status told tells
 
 -- a text without a header and a row is refused; of another it is told what was read
 abbrev pub TellsFound : Bool → Manner → Summary → ℕ → Seen → Seen → Type 0
@@ -81,10 +85,11 @@ given_by wish = record {
 }
 
 -- the log of what was read is written, or after a fault a prefix of it, and passed on before anything is told: a device by
--- which the filter ended, exactly where one has failed
+-- which the filter ended, exactly where one has failed. Memory ends it only before anything is read.
 abbrev pub Logged : ℕ → LogWish → (input left old new told tells : Seen) → Type 0
 Logged status wish input left old new told tells =
     (result : Result Summary FilterError) × (mid : Seen) × Ended result (given_by wish) input.bytes left.bytes old.bytes mid.bytes × Keeps mid.bytes new.bytes
+    × (input.failed ≡ false → old.failed ≡ false → Blames result left.failed mid.failed) × OnMemory result input left old mid
     × IsPassedOn new × TellsLogEnd wish.manner result (failed_device left.failed mid.failed) new.failed status told tells
 
 -- ## Events of outputs of detectors
@@ -94,10 +99,11 @@ abbrev pub TellsWhere : Bool → List ℕ → Seen → Seen → Type 0
 TellsWhere true text told tells = Tells told tells text
 TellsWhere false text told tells = tells ≡ told
 
--- a log was made as without a plan, and where it ended well and all was told, this was told behind it
+-- a log was made as without a plan, and where it ended well and all was told, this was told behind it, or not written
 abbrev pub LoggedTelling : List ℕ → ℕ → LogWish → (input left old new told tells : Seen) → Type 0
 LoggedTelling text status wish input left old new told tells =
-    (mid : Seen) × Logged status wish input left old new told mid × TellsWhere (status == 0 && not mid.failed) text mid tells
+    (wrote : ℕ) × (mid : Seen) × Logged wrote wish input left old new told mid × TellsWhere (wrote == 0 && not mid.failed) text mid tells
+    × (status ≡ status_told wrote tells.failed)
 
 -- why there is no plan is told: it is refused with 1, or its file or memory failed
 abbrev pub NoPlan : List ℕ → (List ℕ → Option (List ℕ)) → ℕ → Seen → Seen → Type 0

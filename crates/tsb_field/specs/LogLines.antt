@@ -5,6 +5,7 @@ use Rattle.tsb_event_text.specs.Times.{moment_of}
 use Rattle.tsb_event_text.specs.Written.{IsWritten}
 use Rattle.tsb_event_text.specs.declared.time_forms.TimeForm.{TimeForm}
 use Rattle.tsb_event_text.specs.declared.time_forms.TimeForm.TheVariants.{YearFirst}
+use Rattle.tsb_field_streams.specs.declared.filter.gaps.Gaps.{Gaps}
 use Rattle.tsb_field_streams.specs.declared.filter.LeftOut.{LeftOut}
 use Rattle.tsb_field_streams.specs.declared.filter.Summary.{Summary}
 use Rattle.tsb_words.specs.declared.field_files.Manner.{Manner}
@@ -73,6 +74,29 @@ abbrev pub IsCounted : Bool → Summary → List ℕ → Type 0
 IsCounted false summary text = text ≡ []
 IsCounted true summary text = IsCount (summary.rows == 0) summary text
 
+-- ## Gaps
+
+-- in how many gaps no row counted
+abbrev pub gaps_begin : ℕ → List ℕ
+gaps_begin count = codes "gaps: " ++ (decimal count ++ codes " of a minute or more without a row that counts, the longest from ")
+
+-- the line of so many gaps, the longest between these times
+abbrev pub gaps_line : ℕ → List ℕ → List ℕ → List ℕ
+gaps_line count begin end = gaps_begin count ++ (begin ++ (codes " to " ++ (end ++ codes "\n")))
+
+-- that line, with the times of the rows before and after the longest
+abbrev pub IsGapsLine : Gaps → List ℕ → Type 0
+IsGapsLine gaps text = (begin : List ℕ) × (end : List ℕ) × IsTime gaps.begin begin × IsTime gaps.end end × (text ≡ gaps_line gaps.count begin end)
+
+-- the line of gaps, or none
+abbrev pub HasGapsLine : Bool → Gaps → List ℕ → Type 0
+HasGapsLine false gaps text = text ≡ []
+HasGapsLine true gaps text = IsGapsLine gaps text
+
+-- gaps have a line where it is asked for how much was read, and there are any
+abbrev pub AreGaps : Bool → Gaps → List ℕ → Type 0
+AreGaps counts gaps text = HasGapsLine (counts && nat_lt 0 gaps.count) gaps text
+
 -- ## What is missing
 
 -- no row counted, or no input had an event from tick 1 on: this is told, unless it may be so
@@ -91,5 +115,5 @@ status_of manner summary = if manner.may_be_empty || summary.heard then 0 else 1
 -- the lines that tell what was read
 abbrev pub IsReport : Manner → Summary → List ℕ → Type 0
 IsReport manner summary text =
-    (counted : List ℕ) × IsCounted manner.counts summary counted
-    × (text ≡ form_line manner.times summary.times ++ (left_out_text summary.left_out ++ (counted ++ verdict_line manner summary)))
+    (counted : List ℕ) × (gaps : List ℕ) × IsCounted manner.counts summary counted × AreGaps manner.counts summary.gaps gaps
+    × (text ≡ form_line manner.times summary.times ++ (left_out_text summary.left_out ++ (counted ++ (gaps ++ verdict_line manner summary))))

@@ -44,7 +44,6 @@ fn ends_in(alloc: Global, from: Moment, text: &[u8]) -> Result<Vec<GreenEnd>, Re
 /// Says why an event log has no ends of greens, in a second line which file was not read, and gives the status that the
 /// program ends with.
 pub(crate) fn refuse_ends<E: Write>(
-    alloc: Global,
     errors: &mut Watched<E>,
     path: &str,
     fault: ReadError<EndsError>,
@@ -53,7 +52,7 @@ pub(crate) fn refuse_ends<E: Write>(
 {
     match fault {
         ReadError::Failed(why) => fail_file(errors, path, why),
-        ReadError::Refused(why) => tell_fault(alloc, errors, as_filter(why)),
+        ReadError::Refused(why) => tell_fault(errors, as_filter(why)),
     }
 }
 

@@ -1,14 +1,16 @@
 //! `log`: a controller's event log in, a log of inputs out.
-ghost use Rattle.std.specs.Prelude.{◌≡◌, ◌⊎◌, option_map, false, true};
-ghost use Rattle.tsb_program.specs.tsb_lines.Seen.{seen};
+ghost use Rattle.std.specs.Prelude.{◌≡◌, ◌⊎◌, ◌∷◌, ◌++◌, [], option_map, false, true};
+ghost use Rattle.tsb_field_streams.specs.FaultLines.{filter_fault};
+ghost use Rattle.tsb_program.specs.Statuses.{number};
+ghost use Rattle.tsb_program.specs.tsb_lines.Seen.{Tells, seen};
 ghost use Rattle.tsb_words.specs.FieldWords.{seen_log};
-ghost use Rattle.tsb_field.specs.LogEnds.{Logged, TellsFault, TellsLogEnd, TellsRead, TellsReport, TellsSummary, failed_device};
+ghost use Rattle.tsb_field.specs.LogEnds.{Logged, TellsFault, TellsLogEnd, TellsRead, TellsReport, TellsSummary, failed_device, status_told};
 
 use crate::report::{is_lost, report, status_of};
 use std::alloc::Global;
 use std::io::{Read, Write};
 use tsb_field_streams::{FilterError, Reading, Summary, log};
-use tsb_program::{Failure, Status, Watched, fail, line_of, tell};
+use tsb_program::{Failure, Status, Watched, fail, tell};
 use tsb_words::field_files::{LogAsked, Manner};
 
 /// What is told of a text of events without a header and without a row.
@@ -71,7 +73,7 @@ fn tell_end<W, E: Write>(
     }
     match ended {
         Ok(summary) => tell_read(alloc, manner, summary, output.has_failed(), errors),
-        Err(fault) => tell_fault(alloc, errors, fault),
+        Err(fault) => tell_fault(errors, fault),
     }
 }
 
@@ -102,20 +104,26 @@ fn bytes_of(name: Option<&str>) -> Option<&[u8]>
     }
 }
 
-/// Says what ended a filter, where no device has failed.
-pub(crate) fn tell_fault<E: Write>(alloc: Global, errors: &mut Watched<E>, fault: FilterError) -> u8
+/// Says what ended a filter. It takes no memory.
+pub(crate) fn tell_fault<E: Write>(errors: &mut Watched<E>, fault: FilterError) -> u8
     ensures { TellsFault fault result (seen E.contents errors.old) (seen E.contents errors.new) }
 {
     match fault {
-        // The filter answers the last two only where a device has failed, which its contract does not say.
-        FilterError::Memory | FilterError::Read | FilterError::Write => {
-            fail(errors, Failure::Memory)
-        }
-        _ => match line_of(alloc, fault.line()) {
-            Ok(line) => tell(errors, Status::Refused, line.as_bytes()),
-            Err(_) => fail(errors, Failure::Memory),
-        },
+        FilterError::Memory => fail(errors, Failure::Memory),
+        FilterError::Read => fail(errors, Failure::Input),
+        FilterError::Write => fail(errors, Failure::Write),
+        _ => tell_line(errors, fault),
     }
+}
+
+/// Says what a filter found wrong with what it read.
+fn tell_line<E: Write>(errors: &mut Watched<E>, fault: FilterError) -> u8
+    ensures status { result ≡ 1 }
+    ensures line { Tells (seen E.contents errors.old) (seen E.contents errors.new) (filter_fault fault ++ 10 ∷ []) }
+{
+    let mut line = fault.line();
+    line.push(b"\n");
+    tell(errors, Status::Refused, line.as_bytes())
 }
 
 /// Says what was read, as far as it has to be told, and gives the status that the program ends with.
@@ -143,7 +151,27 @@ fn tell_report<E: Write>(
     ensures { TellsReport manner summary result (seen E.contents errors.old) (seen E.contents errors.new) }
 {
     match report(alloc, manner, summary) {
-        Ok(text) => tell(errors, status_of(manner, summary), &text),
+        Ok(text) => tell_text(errors, status_of(manner, summary), &text),
         Err(_) => fail(errors, Failure::Memory),
+    }
+}
+
+/// Says this, and gives the status that the program ends with: where nothing but this failed, the program failed.
+pub(crate) fn tell_text<E: Write>(errors: &mut Watched<E>, status: Status, text: &[u8]) -> u8
+    ensures status { result ≡ status_told (number status) errors.new.failed }
+    ensures line { Tells (seen E.contents errors.old) (seen E.contents errors.new) text.now }
+{
+    let wanted = tell(errors, status, text);
+    status_told(wanted, errors.has_failed())
+}
+
+/// The status of a program that was to end with this one, where a line of what it read was not written, or was.
+pub(crate) fn status_told(status: u8, has_failed: bool) -> u8
+    ensures { result ≡ status_told status has_failed }
+{
+    if status == 0 && has_failed {
+        Status::Failed.number()
+    } else {
+        status
     }
 }

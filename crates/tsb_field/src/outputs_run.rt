@@ -4,13 +4,13 @@ ghost use Rattle.tsb_field_log.specs.Mapping.{wires_of};
 ghost use Rattle.tsb_program.specs.tsb_lines.Seen.{seen};
 ghost use Rattle.tsb_text.specs.tsb_plan.PlanOf.{plan_of};
 ghost use Rattle.tsb_words.specs.FieldWords.{seen_log};
-ghost use Rattle.tsb_field.specs.LogEnds.{LoggedBeside, LoggedOn, LoggedTelling, LoggedWith, TellsWhere};
+ghost use Rattle.tsb_field.specs.LogEnds.{LoggedBeside, LoggedOn, LoggedTelling, LoggedWith, TellsWhere, status_told};
 
-use crate::log_run::write_log;
+use crate::log_run::{status_told, tell_text, write_log};
 use crate::twice::twice_text;
 use std::alloc::Global;
 use std::io::{Read, Write};
-use tsb_program::{Failure, Files, Status, Watched, fail, plan_or_place, refuse_plan, tell};
+use tsb_program::{Failure, Files, Status, Watched, fail, plan_or_place, refuse_plan};
 use tsb_text::Plan;
 use tsb_words::field_files::LogAsked;
 
@@ -86,13 +86,13 @@ fn write_telling<R: Read, W: Write, E: Write>(
     tell_more(errors, status, text)
 }
 
-/// Says this of a log, where it ended well and all was told of it.
+/// Says this of a log, where it ended well and all was told of it, and gives the status that the program ends with.
 fn tell_more<E: Write>(errors: &mut Watched<E>, status: u8, text: &[u8]) -> u8
-    ensures status { result ≡ status }
+    ensures status { result ≡ status_told status errors.new.failed }
     ensures more { TellsWhere (status == 0 && not errors.old.failed) text.now (seen E.contents errors.old) (seen E.contents errors.new) }
 {
     if status == 0 && !errors.has_failed() {
-        return tell(errors, Status::Done, text);
+        return tell_text(errors, Status::Done, text);
     }
-    status
+    status_told(status, errors.has_failed())
 }

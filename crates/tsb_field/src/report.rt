@@ -1,11 +1,11 @@
 //! What `log` tells of what it read.
 ghost use Rattle.std.specs.Prelude.{◌≡◌, ◌==◌, ◌++◌, IfOk, OnOk, string_bytes};
 ghost use Rattle.tsb_program.specs.Statuses.{number};
-ghost use Rattle.tsb_field.specs.LogLines.{IsCount, IsCounted, IsReport, IsSpan, IsTime, form_line, is_lost, is_told, left_out_line, left_out_text, span_begin, span_end, span_line, status_of, verdict_line};
+ghost use Rattle.tsb_field.specs.LogLines.{AreGaps, IsCount, IsCounted, IsGapsLine, IsReport, IsSpan, IsTime, form_line, gaps_begin, gaps_line, is_lost, is_told, left_out_line, left_out_text, span_begin, span_end, span_line, status_of, verdict_line};
 
 use std::alloc::{AllocError, Global};
 use tsb_event_text::{Moment, TimeForm, time_form_word, time_text};
-use tsb_field_streams::{LeftOut, Summary};
+use tsb_field_streams::{Gaps, LeftOut, Summary};
 use tsb_program::Status;
 use tsb_words::field_files::Manner;
 
@@ -39,10 +39,12 @@ pub(crate) fn report(alloc: Global, manner: Manner, summary: Summary) -> Result<
     ensures { IfOk result (λ text. IsReport manner summary text.items) }
 {
     let counted = count_text(alloc, manner.counts, summary)?;
+    let gaps = gaps_text(alloc, manner.counts, summary.gaps)?;
     let mut text = Vec::new(alloc);
     append_form(&mut text, manner.times, summary.times)?;
     append_left_out(alloc, &mut text, summary.left_out)?;
     text.extend_from_slice(&counted)?;
+    text.extend_from_slice(&gaps)?;
     text.extend_from_slice(verdict_line(manner, summary))?;
     Ok(text)
 }
@@ -158,6 +160,49 @@ fn span_end(alloc: Global, channels: usize) -> Result<String, AllocError>
     ensures { IfOk result (λ text. string_bytes text ≡ span_end channels) }
 {
     format!(in alloc; ", events of {channels} channels\n")
+}
+
+/// In which gaps no row counted, where it is asked for and there are any.
+fn gaps_text(alloc: Global, counts: bool, gaps: Gaps) -> Result<Vec<u8>, AllocError>
+    ensures { IfOk result (λ text. AreGaps counts gaps text.items) }
+{
+    if counts && gaps.count > 0 {
+        gaps_shown(alloc, gaps)
+    } else {
+        Ok(Vec::new(alloc))
+    }
+}
+
+/// The line of gaps, with the times of the rows before and after the longest.
+fn gaps_shown(alloc: Global, gaps: Gaps) -> Result<Vec<u8>, AllocError>
+    ensures { IfOk result (λ text. IsGapsLine gaps text.items) }
+{
+    let begin = time_shown(alloc, gaps.begin)?;
+    let end = time_shown(alloc, gaps.end)?;
+    gaps_line(alloc, gaps.count, &begin, &end)
+}
+
+/// The line of so many gaps, the longest between these times.
+fn gaps_line(alloc: Global, count: u32, begin: &[u8], end: &[u8]) -> Result<Vec<u8>, AllocError>
+    ensures { IfOk result (λ text. text.items ≡ gaps_line count begin.now end.now) }
+{
+    let mut text = Vec::new(alloc);
+    let head = gaps_begin(alloc, count)?;
+    text.extend_from_slice(head.as_bytes())?;
+    text.extend_from_slice(begin)?;
+    text.extend_from_slice(b" to ")?;
+    text.extend_from_slice(end)?;
+    text.extend_from_slice(b"\n")?;
+    Ok(text)
+}
+
+/// In how many gaps no row counted.
+fn gaps_begin(alloc: Global, count: u32) -> Result<String, AllocError>
+    ensures { IfOk result (λ text. string_bytes text ≡ gaps_begin count) }
+{
+    format!(in alloc;
+        "gaps: {count} of a minute or more without a row that counts, the longest from "
+    )
 }
 
 /// The time of a moment, in nanoseconds as a `Moment` counts them, or a question mark where no year of four digits has

@@ -446,7 +446,7 @@ fn write_diagram_told<F: Files, R: Read, W: Write, E: Write>(
                 errors,
             )
         }
-        Err(fault) => refuse_ends(alloc, errors, path, fault),
+        Err(fault) => refuse_ends(errors, path, fault),
     }
 }
 

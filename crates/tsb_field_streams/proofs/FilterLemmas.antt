@@ -29,6 +29,7 @@ use Rattle.tsb_field_streams.specs.declared.held.Held.{Held}
 use Rattle.tsb_field_streams.specs.declared.error.FilterError.{FilterError}
 use Rattle.tsb_field_streams.specs.declared.error.FilterError.TheVariants.{TimeOrder, TooManyRows, PastEnd, LogTooLarge}
 use Rattle.tsb_field_streams.specs.declared.filter.Filter.{Filter}
+use Rattle.tsb_field_streams.specs.declared.filter.gaps.Gaps.{Gaps}
 use Rattle.tsb_field_streams.specs.declared.filter.TheConstants.{MOST_ROWS}
 use Rattle.tsb_field_streams.specs.Filtering.{Given, Stand, bound_of, disorder, lateness, most_held, with_count, with_due, with_event, with_first, with_given, with_held, with_in_order, with_late, with_passed, with_row_line, with_signal}
 use Rattle.tsb_field_streams.specs.Standing.{StandsAt, Takes}
@@ -55,9 +56,9 @@ ticks-follow from a b le = elim (leb_tells from a) [
 ]
 
 -- a row that is no earlier than the last counts, and moves the moment on
-pub stands_counted : (g : Given) (s : Stand) (f : Filter) (moment counted first : ℕ) → StandsAt g s f → s.last ≤ moment → counted ≡ (with_count s moment).counted → first ≡ (with_count s moment).first
-    → StandsAt g (with_count s moment) (record f { counted = counted; first = first; last = moment })
-stands_counted g s f moment counted first at le counts begins = record {
+pub stands_counted : (g : Given) (s : Stand) (f : Filter) (moment counted first : ℕ) (gaps : Gaps) → StandsAt g s f → s.last ≤ moment → counted ≡ (with_count s moment).counted → first ≡ (with_count s moment).first → gaps ≡ (with_count s moment).gaps
+    → StandsAt g (with_count s moment) (record f { counted = counted; first = first; last = moment; gaps = gaps })
+stands_counted g s f moment counted first gaps at le counts begins paused = record {
   reading = at.reading;
   device = at.device;
   wires = at.wires;
@@ -66,6 +67,7 @@ stands_counted g s f moment counted first at le counts begins = record {
   counted = counts;
   first = begins;
   last = refl;
+  gaps = paused;
   used = at.used;
   others = at.others;
   unwired = at.unwired;
@@ -93,6 +95,7 @@ stands_formed g s f form at = record {
   counted = at.counted;
   first = at.first;
   last = at.last;
+  gaps = at.gaps;
   used = at.used;
   others = at.others;
   unwired = at.unwired;
@@ -187,6 +190,7 @@ stands_given g s f held rows at is most = record {
   counted = at.counted;
   first = at.first;
   last = at.last;
+  gaps = at.gaps;
   used = at.used;
   others = at.others;
   unwired = at.unwired;
@@ -213,6 +217,7 @@ stands_held g s f held row latest at is most later = record {
   counted = at.counted;
   first = at.first;
   last = at.last;
+  gaps = at.gaps;
   used = at.used;
   others = at.others;
   unwired = at.unwired;

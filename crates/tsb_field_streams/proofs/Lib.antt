@@ -6,6 +6,12 @@ pub mod RowLemmas
 pub mod ReadLemmas
 -- what a stream has written, and how it ends
 pub mod StreamLemmas
+-- how a stream goes on from read to read
+pub mod GoingLemmas
+-- which device is blamed
+pub mod BlameLemmas
+-- room in the line of a fault
+pub mod RoomLemmas
 -- rows that are sorted within a window
 pub mod SortLemmas
 -- rows that are placed and sorted

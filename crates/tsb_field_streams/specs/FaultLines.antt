@@ -30,9 +30,13 @@ column_name Parameter = codes "parameter"
 abbrev pub safe : ℕ → ℕ
 safe byte = if nat_lt byte 32 || nat_lt 126 byte || byte == 34 then 63 else byte
 
+-- what a field has, as it can be shown
+abbrev pub shown_text : Shown → List ℕ
+shown_text field = map safe (take (min field.count 40) field.bytes)
+
 -- the name of a column, and what its field has
 abbrev pub field_text : Column → Shown → List ℕ
-field_text column field = column_name column ++ (codes ": \"" ++ (map safe (take (min field.count 40) field.bytes) ++ 34 ∷ []))
+field_text column field = column_name column ++ (codes ": \"" ++ (shown_text field ++ 34 ∷ []))
 
 -- a time in a form
 abbrev pub example : TimeForm → List ℕ

@@ -29,8 +29,10 @@ use Rattle.tsb_field_streams.specs.Order.{first_before, first_of, placed, rest_b
 use Rattle.tsb_field_streams.specs.declared.error.Disorder.{Disorder}
 use Rattle.tsb_field_streams.specs.declared.error.FilterError.{FilterError}
 use Rattle.tsb_field_streams.specs.declared.error.FilterError.TheVariants.{LongLine, Malformed, TimeOrder, TooManyRows, PastEnd, LogTooLarge}
+use Rattle.tsb_field_streams.specs.declared.filter.gaps.Gaps.{Gaps}
 use Rattle.tsb_field_streams.specs.declared.filter.Summary.{Summary}
 use Rattle.tsb_field_streams.specs.declared.filter.TheConstants.{LINE, MOST_ROWS}
+use Rattle.tsb_field_streams.specs.declared.filter.gaps.TheConstants.{GAP}
 use Rattle.tsb_field_streams.specs.declared.filter.late.TheConstants.{MOST_HELD}
 
 -- what a filter is asked for: the moment at which tick 1 begins, the device whose rows count, the form of times, the zone
@@ -45,8 +47,8 @@ pub record Given : Type 0 where
   pub wires : List Wire
 
 -- what is known after some lines: where the columns stand, the form of times, how many rows counted, the moments of the
--- first and the last of them, for each wire whether it is the first of its channel and had an event, how many rows were of
--- other devices, how many events had no wire and how many lines were passed over, and the events of inputs. Where rows are
+-- first and the last of them, the gaps between them, for each wire whether it is the first of its channel and had an event,
+-- how many rows were of other devices, how many events had no wire and how many lines were passed over, and the events of inputs. Where rows are
 -- sorted, all this is told of those that were taken: others are held, in the order of time, and the latest row was of this
 -- moment
 pub record Stand : Type 0 where
@@ -55,6 +57,7 @@ pub record Stand : Type 0 where
   pub counted : ℕ
   pub first : ℕ
   pub last : ℕ
+  pub gaps : Gaps
   pub used : List Bool
   pub others : ℕ
   pub unwired : ℕ
@@ -71,6 +74,7 @@ start g = record {
   counted = 0;
   first = 0;
   last = 0;
+  gaps = record { count = 0; begin = 0; end = 0 };
   used = replicate (length g.wires) false;
   others = 0;
   unwired = 0;
@@ -112,9 +116,25 @@ abbrev pub with_signal : Given → Stand → EventRow → Option Signal → Resu
 with_signal g s row None = Ok s
 with_signal g s row (Some signal) = with_wire g s row signal (wire_place g.wires signal.kind row.parameter)
 
+-- gaps, and a time without a row that counts, between these moments: it is a gap where it has a minute
+abbrev pub with_gap : Gaps → ℕ → ℕ → Gaps
+with_gap gaps begin end =
+    if nat_lt (end - begin) GAP then gaps
+    else if nat_lt (gaps.end - gaps.begin) (end - begin) then record { count = one_more gaps.count; begin = begin; end = end }
+    else record { count = one_more gaps.count; begin = gaps.begin; end = gaps.end }
+
+-- gaps up to a row of this moment, where so many counted, with these gaps, and the last of them was of that moment
+abbrev pub gaps_before : ℕ → Gaps → ℕ → ℕ → Gaps
+gaps_before counted gaps last moment = if counted == 0 then gaps else with_gap gaps last moment
+
 -- one more row counts, of this moment
 abbrev pub with_count : Stand → ℕ → Stand
-with_count s moment = record s { counted = one_more s.counted; first = if s.counted == 0 then moment else s.first; last = moment }
+with_count s moment = record s {
+  counted = one_more s.counted;
+  first = if s.counted == 0 then moment else s.first;
+  last = moment;
+  gaps = gaps_before s.counted s.gaps s.last moment;
+}
 
 -- the place of the column that has the times
 abbrev pub time_place : Option Columns → ℕ
@@ -299,7 +319,7 @@ abbrev pub is_heard : ℕ → List InputEvent → Bool
 is_heard from events = nat_lt 0 (last_tick from events)
 
 -- what was read by some lines: what was left out, the form of times, the rows that counted with the moments of the first and
--- the last of them, how many channels that lead to an input had an event, and whether an input had one from tick 1 on
+-- the last of them and the gaps between them, how many channels that lead to an input had an event, and whether an input had one from tick 1 on
 abbrev pub summary_at : Given → Stand → Summary
 summary_at g s = record {
   left_out = record { of_other_devices = s.others; without_input = s.unwired; passed = s.passed; found = is_there s.columns };
@@ -307,6 +327,7 @@ summary_at g s = record {
   rows = s.counted;
   first = s.first;
   last = s.last;
+  gaps = s.gaps;
   channels = how_many s.used;
   heard = is_heard g.from s.events;
 }

@@ -6,10 +6,14 @@ pub mod Standing
 pub mod Lines
 -- what a filter of a stream has read and written
 pub mod Streaming
+-- which device is blamed where a filter ends
+pub mod Blame
 -- times of day as faults show them
 pub mod Clocks
 -- what holds of rows that are sorted within a window
 pub mod SortLaws
+-- room in the line of a fault
+pub mod Room
 -- the line that tells what ended a filter
 pub mod FaultLines
 -- rows in the order of time

@@ -47,6 +47,7 @@ pub record StandsAt (g : Given) (s : Stand) (f : Filter) : Type 0 where
   pub counted : f.counted ≡ s.counted
   pub first : f.first ≡ s.first
   pub last : f.last ≡ s.last
+  pub gaps : f.gaps ≡ s.gaps
   pub used : f.used.items ≡ s.used
   pub others : f.left_out.of_other_devices ≡ s.others
   pub unwired : f.left_out.without_input ≡ s.unwired

@@ -1,9 +1,9 @@
 //! Times of day, as faults show them.
-ghost use Rattle.std.specs.Fmt.{WritesOnOk};
-ghost use Rattle.std.specs.Prelude.{◌≡◌, ◌<◌, All, Some};
+ghost use Rattle.std.specs.Prelude.{◌≡◌, ◌≤◌, length};
 ghost use Rattle.tsb_field_streams.specs.Clocks.{clock_head, clock_text, fraction_text, nine_digits};
+ghost use Rattle.tsb_field_streams.specs.Room.{AddsShort};
 
-use std::fmt;
+use crate::fault_lines::FaultLine;
 use tsb_lines::digit;
 
 /// The nanoseconds of a second.
@@ -15,18 +15,13 @@ const SECONDS: u128 = 86_400;
 /// The nanoseconds of a day.
 pub(crate) const DAY: u128 = 86_400_000_000_000;
 
-/// The time of day of a moment, in nanoseconds as a `Moment` counts them: `07:00:03.2`. Its second has one digit behind
-/// its point, three or nine: the fewest of these that tell it all.
-#[derive(Clone, Copy)]
-pub(crate) struct Clock(pub(crate) u128);
-
-impl fmt::Display for Clock {
-    ghost output = { λ clock. Some (clock_text clock.0) };
-
-    fn fmt<W: fmt::Write>(&self, f: &mut fmt::Formatter<W>) -> fmt::Result {
-        write_digits(f, &clock_head((self.0 / SECOND % SECONDS) as u32))?;
-        write_fraction(f, (self.0 % SECOND) as u32)
-    }
+/// Adds the time of day of a moment, in nanoseconds as a `Moment` counts them: `07:00:03.2`. Its second has one digit
+/// behind its point, three or nine: the fewest of these that tell it all.
+pub(crate) fn push_clock(line: &mut FaultLine, moment: u128)
+    ensures { AddsShort 18 line.old (clock_text moment) line.new }
+{
+    line.push(&clock_head((moment / SECOND % SECONDS) as u32));
+    push_fraction(line, (moment % SECOND) as u32);
 }
 
 /// A second of a day as text, up to its point.
@@ -49,29 +44,26 @@ fn clock_head(second: u32) -> [u8; 9]
     ]
 }
 
-/// Writes the digits of a part of a second, in nanoseconds.
-fn write_fraction<W: fmt::Write>(f: &mut fmt::Formatter<W>, nano: u32) -> fmt::Result
-    ensures { WritesOnOk W.write_str_gives f.old result (fraction_text nano) f.new }
+/// Adds the digits of a part of a second, in nanoseconds.
+fn push_fraction(line: &mut FaultLine, nano: u32)
+    ensures { AddsShort 9 line.old (fraction_text nano) line.new }
 {
     let digits = nine_digits(nano);
     if nano % 100_000_000 == 0 {
-        write_digits(f, &digits[..1])
+        push_digits(line, &digits[..1]);
     } else if nano % 1_000_000 == 0 {
-        write_digits(f, &digits[..3])
+        push_digits(line, &digits[..3]);
     } else {
-        write_digits(f, &digits)
+        push_digits(line, &digits);
     }
 }
 
-/// Writes bytes of ASCII.
-fn write_digits<W: fmt::Write>(f: &mut fmt::Formatter<W>, digits: &[u8]) -> fmt::Result
-    requires { All (λ digit. digit < 128) digits.now }
-    ensures { WritesOnOk W.write_str_gives f.old result digits.now f.new }
+/// Adds a few digits.
+fn push_digits(line: &mut FaultLine, digits: &[u8])
+    requires { length digits.now ≤ 9 }
+    ensures { AddsShort 9 line.old digits.now line.new }
 {
-    for digit in digits {
-        f.write_char(char::from(*digit))?;
-    }
-    Ok(())
+    line.push(digits);
 }
 
 /// A part of a second in nine digits.

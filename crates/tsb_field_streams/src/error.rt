@@ -1,7 +1,6 @@
 //! What ends a filter before its events do.
-ghost use Rattle.std.specs.Prelude.{◌≡◌};
 
-use crate::fault_lines::FilterLine;
+use crate::fault_lines::Printed;
 use thiserror::Error;
 use tsb_event_text::RowFault;
 
@@ -23,7 +22,7 @@ pub struct Disorder {
 /// What ends a filter before its events do. What was written until then is a prefix of the log. Each is printed as its
 /// line.
 #[derive(Clone, Copy, Debug, PartialEq, Eq, Error)]
-#[error("{}", self.line())]
+#[error("{}", Printed(self))]
 pub enum FilterError {
     /// There was no memory to begin with: nothing was read, and nothing was written.
     Memory,
@@ -45,13 +44,4 @@ pub enum FilterError {
     PastEnd,
     /// The log has more than 64 MiB, which no reader of logs takes.
     LogTooLarge,
-}
-
-impl FilterError {
-    /// The line that tells it, without its end.
-    pub fn line(&self) -> FilterLine<'_>
-        ensures { result.fault.now ≡ self.now }
-    {
-        FilterLine { fault: self }
-    }
 }

@@ -1,248 +1,333 @@
-//! The line that tells what ended a filter, part by part. Each part prints itself, and takes no memory for that.
-ghost use Rattle.std.specs.Prelude.{◌≡◌, ◌<◌, Some, map};
-ghost use Rattle.tsb_field_streams.specs.FaultLines.{column_name, cure_text, day_between, disorder_text, example, field_text, filter_fault, line_number, row_fault_text, safe, separator_name, sort_text, why_text};
+//! The line that tells what ended a filter, part by part. It takes no memory.
+ghost use Rattle.std.specs.Prelude.{◌≡◌, ◌≤◌, ◌++◌, Some, codes, decimal, length};
+ghost use Rattle.tsb_event_text.specs.TimeForms.{time_form_word};
+ghost use Rattle.tsb_field_streams.specs.FaultLines.{column_name, cure_text, day_between, disorder_text, example, field_text, filter_fault, late_text, line_number, no_time_text, other_form_text, parted_text, row_fault_text, safe, separator_name, shown_text, sort_text, why_text};
+ghost use Rattle.tsb_field_streams.specs.Room.{AddsShort};
 
-use crate::clocks::{Clock, DAY};
+use crate::clocks::{DAY, push_clock};
 use crate::error::{Disorder, FilterError};
-use std::fmt;
+use arrayvec::ArrayVec;
+use itoa::Buffer;
+use std::{fmt, str};
 use tsb_event_text::{Column, RowFault, SHOWN, Separator, Shown, TimeForm, time_form_word};
+use tsb_lines::ShortLine;
 
-/// The line that tells what ended a filter, without its end. Its `Display` says what it prints, which a derived one does
-/// not.
-#[derive(Clone, Copy)]
-pub struct FilterLine<'a> {
-    /// What ended it.
-    pub fault: &'a FilterError,
+/// How many bytes there is room for in the line of a fault: more than any has, and its end.
+pub const LONGEST: usize = 256;
+
+/// The line of a fault, or its first parts.
+pub type FaultLine = ShortLine<LONGEST>;
+
+impl FilterError {
+    /// The line that tells it, without its end. It takes no memory, and leaves room for the end.
+    pub fn line(&self) -> FaultLine
+        ensures line { result ≡ filter_fault self.now }
+        ensures room { length result ≤ 250 }
+    {
+        let mut line = FaultLine::new();
+        push_fault(&mut line, *self);
+        line
+    }
 }
 
-impl fmt::Display for FilterLine<'_> {
-    ghost output = { λ line. Some (filter_fault line.fault.now) };
+/// A fault as it is printed: as its line.
+#[derive(Clone, Copy)]
+pub(crate) struct Printed<'a>(pub(crate) &'a FilterError);
+
+impl fmt::Display for Printed<'_> {
+    ghost output = { λ printed. Some (filter_fault printed.0.now) };
 
     fn fmt<W: fmt::Write>(&self, f: &mut fmt::Formatter<W>) -> fmt::Result {
-        match *self.fault {
-            FilterError::Memory => f.write_str("memory"),
-            FilterError::Read => f.write_str("read fault"),
-            FilterError::Write => f.write_str("write fault"),
-            FilterError::TooLarge => f.write_str("events: too large"),
-            FilterError::LongLine(line) => write!(
-                f,
-                "{}: over 1000 bytes (is it a text with lines?)",
-                LineNumber(line)
-            ),
-            FilterError::Malformed(line, why) => write!(f, "{}", NoRow { line, why }),
-            FilterError::TimeOrder(disorder) => write!(f, "{disorder}"),
-            FilterError::TooManyRows(line) => write!(
-                f,
-                "{}: over 1000000 rows to sort: give a smaller --sort-within, or a --device",
-                LineNumber(line)
-            ),
-            FilterError::PastEnd => f.write_str("events: past tick 6000000"),
-            FilterError::LogTooLarge => f.write_str("log: too large"),
+        let line = self.0.line();
+        match str::from_utf8(line.as_bytes()) {
+            Ok(text) => f.write_str(text),
+            // Lines are ASCII.
+            Err(_) => Err(fmt::Error),
         }
     }
 }
 
-/// Which line of the events it is, counted from 1.
-#[derive(Clone, Copy)]
-struct LineNumber(u32);
-
-impl fmt::Display for LineNumber {
-    ghost output = { λ number. Some (line_number number.0) };
-
-    fn fmt<W: fmt::Write>(&self, f: &mut fmt::Formatter<W>) -> fmt::Result {
-        let line = self.0;
-        write!(f, "events line {line}")
+/// Adds what ended a filter.
+fn push_fault(line: &mut FaultLine, fault: FilterError)
+    ensures { AddsShort 250 line.old (filter_fault fault) line.new }
+{
+    match fault {
+        FilterError::Memory => push_words(line, b"memory"),
+        FilterError::Read => push_words(line, b"read fault"),
+        FilterError::Write => push_words(line, b"write fault"),
+        FilterError::TooLarge => push_words(line, b"events: too large"),
+        FilterError::LongLine(number) => push_of_line(
+            line,
+            number,
+            b": over 1000 bytes (is it a text with lines?)",
+        ),
+        FilterError::Malformed(number, why) => push_row_fault(line, number, why),
+        FilterError::TimeOrder(disorder) => push_disorder(line, disorder),
+        FilterError::TooManyRows(number) => push_of_line(
+            line,
+            number,
+            b": over 1000000 rows to sort: give a smaller --sort-within, or a --device",
+        ),
+        FilterError::PastEnd => push_words(line, b"events: past tick 6000000"),
+        FilterError::LogTooLarge => push_words(line, b"log: too large"),
     }
 }
 
-/// That a row is earlier than one before it, with both times, and what to do.
-impl fmt::Display for Disorder {
-    ghost output = { λ disorder. Some (disorder_text disorder) };
+/// Adds words.
+fn push_words(line: &mut FaultLine, words: &[u8])
+    requires { length words.now ≤ 85 }
+    ensures few { AddsShort 85 line.old words.now line.new }
+    ensures some { AddsShort 180 line.old words.now line.new }
+    ensures many { AddsShort 250 line.old words.now line.new }
+{
+    line.push(words);
+}
 
-    fn fmt<W: fmt::Write>(&self, f: &mut fmt::Formatter<W>) -> fmt::Result {
-        write!(
-            f,
-            "{}: time order: {} after {}{}{}",
-            LineNumber(self.line),
-            Clock(self.moment),
-            Clock(self.last),
-            day_between(*self),
-            Cure(*self)
-        )
-    }
+/// Adds which line of the events it is, and words.
+fn push_of_line(line: &mut FaultLine, number: u32, words: &[u8])
+    requires { length words.now ≤ 85 }
+    ensures { AddsShort 250 line.old (line_number number ++ words.now) line.new }
+{
+    push_number(line, number);
+    line.push(words);
+}
+
+/// Adds which line of the events it is, counted from 1.
+fn push_number(line: &mut FaultLine, number: u32)
+    ensures { AddsShort 22 line.old (line_number number) line.new }
+{
+    line.push(b"events line ");
+    line.push_number(number);
+}
+
+/// Adds that a row is earlier than one before it, with both times, and what to do.
+fn push_disorder(line: &mut FaultLine, disorder: Disorder)
+    ensures { AddsShort 250 line.old (disorder_text disorder) line.new }
+{
+    push_number(line, disorder.line);
+    line.push(b": time order: ");
+    push_clock(line, disorder.moment);
+    line.push(b" after ");
+    push_clock(line, disorder.last);
+    line.push(day_between(disorder));
+    push_cure(line, disorder);
 }
 
 /// What is said of a later day, where the time before it is of one.
-fn day_between(disorder: Disorder) -> &'static str
-    ensures { result.now ≡ day_between disorder }
+fn day_between(disorder: Disorder) -> &'static [u8]
+    ensures text { result.now ≡ day_between disorder }
+    ensures short { length result.now ≤ 15 }
 {
     if disorder.moment / DAY < disorder.last / DAY {
-        " of a later day"
+        b" of a later day"
     } else {
-        ""
+        b""
     }
 }
 
-/// What to do where a row is out of order: which column to sort by, and where rows are sorted, what else.
-#[derive(Clone, Copy)]
-struct Cure(Disorder);
+/// Adds what to do where a row is out of order: which column to sort by, and where rows are sorted, what else.
+fn push_cure(line: &mut FaultLine, disorder: Disorder)
+    ensures { AddsShort 130 line.old (cure_text disorder) line.new }
+{
+    push_sort(line, disorder.within);
+    push_column(line, disorder.column as u128 + 1);
+}
 
-impl fmt::Display for Cure {
-    ghost output = { λ cure. Some (cure_text cure.0) };
-
-    fn fmt<W: fmt::Write>(&self, f: &mut fmt::Formatter<W>) -> fmt::Result {
-        write!(f, "{}{}", Sort(self.0.within), self.0.column as u128 + 1)
+/// Adds what is said before the column to sort by, where rows have to be in order, or may be late by so many seconds.
+fn push_sort(line: &mut FaultLine, within: Option<u32>)
+    ensures { AddsShort 85 line.old (sort_text within) line.new }
+{
+    match within {
+        None => push_words(line, b": sort by column "),
+        Some(seconds) => push_late(line, seconds),
     }
 }
 
-/// What is said before the column to sort by, where rows have to be in order, or may be late by so many seconds.
-#[derive(Clone, Copy)]
-struct Sort(Option<u32>);
+/// Adds what is said where rows may be late by so many seconds.
+fn push_late(line: &mut FaultLine, seconds: u32)
+    ensures { AddsShort 85 line.old (late_text seconds) line.new }
+{
+    line.push(b": over ");
+    line.push_number(seconds);
+    line.push(b" s late: give a larger --sort-within, or sort by column ");
+}
 
-impl fmt::Display for Sort {
-    ghost output = { λ sort. Some (sort_text sort.0) };
+/// Adds the number of a column.
+fn push_column(line: &mut FaultLine, column: u128)
+    ensures { AddsShort 40 line.old (decimal column) line.new }
+{
+    let mut buffer = Buffer::new();
+    line.push(buffer.format(column).as_bytes());
+}
 
-    fn fmt<W: fmt::Write>(&self, f: &mut fmt::Formatter<W>) -> fmt::Result {
-        match self.0 {
-            None => f.write_str(": sort by column "),
-            Some(seconds) => write!(
-                f,
-                ": over {seconds} s late: give a larger --sort-within, or sort by column "
-            ),
-        }
+/// Adds why a line is no row. What is no text of lines at all is told without a line.
+fn push_row_fault(line: &mut FaultLine, number: u32, why: RowFault)
+    ensures { AddsShort 250 line.old (row_fault_text number why) line.new }
+{
+    match why {
+        RowFault::Utf16 => push_words(line, b"events: UTF-16: convert by iconv -f utf-16 -t utf-8"),
+        RowFault::Zip => push_words(line, b"events: packed: unpack by unzip or gunzip"),
+        RowFault::Xml => push_words(line, b"events: XML: export as CSV"),
+        RowFault::Binary => push_words(
+            line,
+            b"events: binary: convert by the controller's own program",
+        ),
+        _ => push_no_row(line, number, why),
     }
 }
 
-/// Why a line is no row. What is no text of lines at all is told without a line.
-#[derive(Clone, Copy)]
-struct NoRow {
-    line: u32,
-    why: RowFault,
+/// Adds which line is no row, and why.
+fn push_no_row(line: &mut FaultLine, number: u32, why: RowFault)
+    ensures { AddsShort 250 line.old (line_number number ++ (codes ": " ++ why_text why)) line.new }
+{
+    push_number(line, number);
+    line.push(b": ");
+    push_why(line, why);
 }
 
-impl fmt::Display for NoRow {
-    ghost output = { λ row. Some (row_fault_text row.line row.why) };
-
-    fn fmt<W: fmt::Write>(&self, f: &mut fmt::Formatter<W>) -> fmt::Result {
-        match self.why {
-            RowFault::Utf16 => f.write_str("events: UTF-16: convert by iconv -f utf-16 -t utf-8"),
-            RowFault::Zip => f.write_str("events: packed: unpack by unzip or gunzip"),
-            RowFault::Xml => f.write_str("events: XML: export as CSV"),
-            RowFault::Binary => {
-                f.write_str("events: binary: convert by the controller's own program")
-            }
-            _ => write!(f, "{}: {}", LineNumber(self.line), Why(self.why)),
-        }
+/// Adds what is wrong with a line of a text.
+fn push_why(line: &mut FaultLine, why: RowFault)
+    ensures { AddsShort 180 line.old (why_text why) line.new }
+{
+    match why {
+        RowFault::Lacks(column) => push_lacks(line, column),
+        RowFault::Missing(column) => push_missing(line, column),
+        RowFault::NoDay(time) => push_of_field(
+            line,
+            Column::Time,
+            time,
+            b" has no day (was it opened in a spreadsheet?)",
+        ),
+        RowFault::NoSeconds(time) => push_of_field(
+            line,
+            Column::Time,
+            time,
+            b" has no seconds (was it opened in a spreadsheet?)",
+        ),
+        RowFault::Ambiguous(time) => push_of_field(
+            line,
+            Column::Time,
+            time,
+            b" can be read in two ways: give --time-form month-first or --time-form day-first",
+        ),
+        RowFault::OtherForm(form, own, time) => push_other_form(line, form, own, time),
+        RowFault::NoTime(form, time) => push_no_time(line, form, time),
+        RowFault::NoNumber(column, field) => push_of_field(
+            line,
+            column,
+            field,
+            b" is no whole number up to 4294967295",
+        ),
+        RowFault::Quote => push_words(line, b"a quote is out of place"),
+        RowFault::Parted(all, own) => push_parted(line, all, own),
+        RowFault::Utf16 => push_words(line, b"UTF-16"),
+        RowFault::Zip => push_words(line, b"packed"),
+        RowFault::Xml => push_words(line, b"XML"),
+        RowFault::Binary => push_words(line, b"binary"),
     }
 }
 
-/// What is wrong with a line of a text.
-#[derive(Clone, Copy)]
-struct Why(RowFault);
+/// Adds that no column of a header is this one.
+fn push_lacks(line: &mut FaultLine, column: Column)
+    ensures { AddsShort 180 line.old (codes "header: no column is the " ++ column_name column) line.new }
+{
+    line.push(b"header: no column is the ");
+    line.push(column_name(column));
+}
 
-impl fmt::Display for Why {
-    ghost output = { λ why. Some (why_text why.0) };
+/// Adds that a line ends before this column.
+fn push_missing(line: &mut FaultLine, column: Column)
+    ensures { AddsShort 180 line.old (column_name column ++ codes ": the line ends before it") line.new }
+{
+    line.push(column_name(column));
+    line.push(b": the line ends before it");
+}
 
-    fn fmt<W: fmt::Write>(&self, f: &mut fmt::Formatter<W>) -> fmt::Result {
-        match self.0 {
-            RowFault::Lacks(column) => {
-                write!(f, "header: no column is the {}", column_name(column))
-            }
-            RowFault::Missing(column) => {
-                write!(f, "{}: the line ends before it", column_name(column))
-            }
-            RowFault::NoDay(time) => write!(
-                f,
-                "{} has no day (was it opened in a spreadsheet?)",
-                Field(Column::Time, time)
-            ),
-            RowFault::NoSeconds(time) => write!(
-                f,
-                "{} has no seconds (was it opened in a spreadsheet?)",
-                Field(Column::Time, time)
-            ),
-            RowFault::Ambiguous(time) => write!(
-                f,
-                "{} can be read in two ways: give --time-form month-first or --time-form day-first",
-                Field(Column::Time, time)
-            ),
-            RowFault::OtherForm(form, own, time) => write!(
-                f,
-                "{} is {}, not {}: one form a file, by the first row or --time-form",
-                Field(Column::Time, time),
-                time_form_word(own),
-                time_form_word(form)
-            ),
-            RowFault::NoTime(form, time) => write!(
-                f,
-                "{} is no time as {}",
-                Field(Column::Time, time),
-                example(form)
-            ),
-            RowFault::NoNumber(column, field) => write!(
-                f,
-                "{} is no whole number up to 4294967295",
-                Field(column, field)
-            ),
-            RowFault::Quote => f.write_str("a quote is out of place"),
-            RowFault::Parted(all, own) => write!(
-                f,
-                "{} part its fields, and {} those above: one separator a file",
-                separator_name(own),
-                separator_name(all)
-            ),
-            RowFault::Utf16 => f.write_str("UTF-16"),
-            RowFault::Zip => f.write_str("packed"),
-            RowFault::Xml => f.write_str("XML"),
-            RowFault::Binary => f.write_str("binary"),
-        }
-    }
+/// Adds what a field has, and words.
+fn push_of_field(line: &mut FaultLine, column: Column, field: Shown, words: &[u8])
+    requires { length words.now ≤ 85 }
+    ensures { AddsShort 180 line.old (field_text column field ++ words.now) line.new }
+{
+    push_field(line, column, field);
+    line.push(words);
+}
+
+/// Adds that a time has another form.
+fn push_other_form(line: &mut FaultLine, form: TimeForm, own: TimeForm, time: Shown)
+    ensures { AddsShort 180 line.old (other_form_text form own time) line.new }
+{
+    push_field(line, Column::Time, time);
+    line.push(b" is ");
+    push_form(line, own);
+    line.push(b", not ");
+    push_form(line, form);
+    line.push(b": one form a file, by the first row or --time-form");
+}
+
+/// Adds the word of a form.
+fn push_form(line: &mut FaultLine, form: TimeForm)
+    ensures { AddsShort 12 line.old (time_form_word form) line.new }
+{
+    line.push(time_form_word(form).as_bytes());
+}
+
+/// Adds that a time is none in its form.
+fn push_no_time(line: &mut FaultLine, form: TimeForm, time: Shown)
+    ensures { AddsShort 180 line.old (no_time_text form time) line.new }
+{
+    push_field(line, Column::Time, time);
+    line.push(b" is no time as ");
+    line.push(example(form));
+}
+
+/// Adds that a line has another separator than all.
+fn push_parted(line: &mut FaultLine, all: Separator, own: Separator)
+    ensures { AddsShort 180 line.old (parted_text all own) line.new }
+{
+    line.push(separator_name(own));
+    line.push(b" part its fields, and ");
+    line.push(separator_name(all));
+    line.push(b" those above: one separator a file");
 }
 
 /// The name of a separator.
-fn separator_name(separator: Separator) -> &'static str
-    ensures { result.now ≡ separator_name separator }
+fn separator_name(separator: Separator) -> &'static [u8]
+    ensures text { result.now ≡ separator_name separator }
+    ensures short { length result.now ≤ 10 }
 {
     match separator {
-        Separator::Comma => "commas",
-        Separator::Semicolon => "semicolons",
-        Separator::Tab => "tabs",
+        Separator::Comma => b"commas",
+        Separator::Semicolon => b"semicolons",
+        Separator::Tab => b"tabs",
     }
 }
 
-/// The name of a column, and what its field has.
-#[derive(Clone, Copy)]
-struct Field(Column, Shown);
-
-impl fmt::Display for Field {
-    ghost output = { λ field. Some (field_text field.0 field.1) };
-
-    fn fmt<W: fmt::Write>(&self, f: &mut fmt::Formatter<W>) -> fmt::Result {
-        let shown = &self.1.bytes[..self.1.count.min(SHOWN)];
-        write!(f, "{}: \"{}\"", column_name(self.0), Showable(shown))
-    }
+/// Adds the name of a column, and what its field has.
+fn push_field(line: &mut FaultLine, column: Column, field: Shown)
+    ensures { AddsShort 53 line.old (field_text column field) line.new }
+{
+    line.push(column_name(column));
+    line.push(b": \"");
+    line.push(&shown(field));
+    line.push(b"\"");
 }
 
-/// Bytes as they can be shown.
-#[derive(Clone, Copy)]
-pub(crate) struct Showable<'a>(pub(crate) &'a [u8]);
-
-impl fmt::Display for Showable<'_> {
-    ghost output = { λ text. Some (map safe text.0.now) };
-
-    fn fmt<W: fmt::Write>(&self, f: &mut fmt::Formatter<W>) -> fmt::Result {
-        let bytes = self.0;
-        for byte in bytes {
-            f.write_char(char::from(safe(*byte)))?;
-        }
-        Ok(())
+/// What a field has, as it can be shown.
+fn shown(field: Shown) -> ArrayVec<u8, SHOWN>
+    ensures text { result.items ≡ shown_text field }
+    ensures short { length result.items ≤ 40 }
+{
+    let front = &field.bytes[..field.count.min(SHOWN)];
+    let mut text = ArrayVec::new();
+    for byte in front {
+        text.push(safe(*byte));
     }
+    text
 }
 
 /// A byte as it can be shown: a question mark for a double quote and for all that is no printed character of ASCII.
 fn safe(byte: u8) -> u8
-    ensures shown { result ≡ safe byte }
-    ensures ascii { result < 128 }
+    ensures { result ≡ safe byte }
 {
     if byte < b' ' || byte > b'~' || byte == b'"' {
         b'?'
@@ -252,26 +337,28 @@ fn safe(byte: u8) -> u8
 }
 
 /// A time in a form.
-fn example(form: TimeForm) -> &'static str
-    ensures { result.now ≡ example form }
+fn example(form: TimeForm) -> &'static [u8]
+    ensures text { result.now ≡ example form }
+    ensures short { length result.now ≤ 21 }
 {
     match form {
-        TimeForm::YearFirst => "2026-11-22 07:00:00.1",
-        TimeForm::MonthFirst => "11/22/2026 07:00:00.1",
-        TimeForm::DayFirst => "22/11/2026 07:00:00.1",
-        TimeForm::Seconds => "1795330800.1",
-        TimeForm::Milliseconds => "1795330800100",
+        TimeForm::YearFirst => b"2026-11-22 07:00:00.1",
+        TimeForm::MonthFirst => b"11/22/2026 07:00:00.1",
+        TimeForm::DayFirst => b"22/11/2026 07:00:00.1",
+        TimeForm::Seconds => b"1795330800.1",
+        TimeForm::Milliseconds => b"1795330800100",
     }
 }
 
 /// The name of a column.
-fn column_name(column: Column) -> &'static str
-    ensures { result.now ≡ column_name column }
+fn column_name(column: Column) -> &'static [u8]
+    ensures text { result.now ≡ column_name column }
+    ensures short { length result.now ≤ 9 }
 {
     match column {
-        Column::Device => "device",
-        Column::Time => "time",
-        Column::Code => "code",
-        Column::Parameter => "parameter",
+        Column::Device => b"device",
+        Column::Time => b"time",
+        Column::Code => b"code",
+        Column::Parameter => b"parameter",
     }
 }

@@ -1,27 +1,31 @@
 //! Lines of events, one after another, and the rows of the log that they make known.
-ghost use Rattle.std.specs.Prelude.{◌≡◌, ◌<◌, ◌≤◌, ◌-◌, ◌==◌, ◌++◌, [], false, if◌then◌else◌, nat_le, Some, None, Ok, length, option_map, replicate, MatchResult, OnOk};
+ghost use Rattle.std.specs.Prelude.{◌≡◌, ◌<◌, ◌≤◌, ◌-◌, ◌++◌, [], false, nat_le, Some, None, Ok, length, option_map, replicate, IfErr, MatchResult, OnOk};
 ghost use Rattle.tsb_event_text.specs.Faults.{fault_of};
 ghost use Rattle.tsb_field_log.specs.Changes.{rows_of};
-ghost use Rattle.tsb_field_log.specs.Mapping.{leads_from};
 ghost use Rattle.tsb_field_log.specs.Streets.{rows_in};
 ghost use Rattle.tsb_field_log.specs.Pushed.{rows_before};
 ghost use Rattle.tsb_field_log.specs.Ticks.{row_in};
 ghost use Rattle.tsb_field_log.specs.Taken.{HasTaken};
 ghost use Rattle.tsb_field_streams.specs.Holding.{held_rows, most_rows};
-ghost use Rattle.tsb_field_streams.specs.Filtering.{Given, Stand, how_many, may_be_plain, most_held, parameter_of, start, summary_at, text_of, time_place, wire_place, with_count, with_counted, with_event, with_first, with_formed, with_header, with_in_order, with_line, with_other_line, with_passed, with_row, with_row_line, with_signal, with_text, with_used, with_wide, without_mark};
+ghost use Rattle.tsb_field_streams.specs.Filtering.{Given, Stand, how_many, may_be_plain, most_held, parameter_of, start, summary_at, text_of, time_place, with_count, with_counted, with_first, with_formed, with_header, with_in_order, with_line, with_other_line, with_passed, with_row, with_row_line, with_text, with_wide, without_mark};
+ghost use Rattle.tsb_field_streams.specs.Blame.{IsOfText};
 ghost use Rattle.tsb_field_streams.specs.declared.error.FilterError.TheVariants.{LogTooLarge};
 
+mod events;
+mod gaps;
 mod late;
 
 use crate::Held;
 use crate::error::{Disorder, FilterError};
+pub use gaps::Gaps;
+use gaps::{NO_GAPS, first_moment, gaps_before};
 pub use late::MOST_HELD;
 pub(crate) use late::most_held;
 use tsb_event_text::{
     Column, Columns, EventRow, Moment, RowFault, TimeForm, WideRow, Zone, event_row, header,
     is_passed, is_preface, row_fault, wide_row,
 };
-use tsb_field_log::{InputEvent, Kind, Rows, Signal, Street, Wire};
+use tsb_field_log::{Rows, Signal, Street, Wire};
 use tsb_lines::is_skipped;
 
 /// The greatest length of a line, in bytes.
@@ -69,6 +73,8 @@ pub struct Summary {
     pub first: u128,
     /// The moment of the last row that counted, likewise.
     pub last: u128,
+    /// In how many gaps no row counted.
+    pub gaps: Gaps,
     /// How many channels that lead to an input had an event, also before tick 1.
     pub channels: usize,
     /// Whether an input had an event from the moment on at which tick 1 begins.
@@ -93,6 +99,7 @@ pub struct Filter<'a> {
     first: u128,
     /// The moment of the last row that counted, in nanoseconds, and 0 before any.
     last: u128,
+    gaps: Gaps,
     /// For each wire whether it is the first of its channel and had an event.
     used: Vec<bool>,
     /// How many rows of the log are known.
@@ -138,6 +145,7 @@ impl<'a> Filter<'a> {
             counted: 0,
             first: 0,
             last: 0,
+            gaps: NO_GAPS,
             used,
             rows: 0,
             left_out: LeftOut {
@@ -164,6 +172,7 @@ impl<'a> Filter<'a> {
     #[tactic(auto, unfolding(crate::specs::Filtering::with_line))]
     pub fn take_line(&mut self, number: u32, line: &[u8]) -> Result<Rows, FilterError>
         ensures takes { (g : Given) (s : Stand) → StandsAt g s self.old → Takes g s (with_line g number s line.now) result self.new }
+        ensures own { IfErr result IsOfText }
     {
         if line.len() > LINE {
             return Err(FilterError::LongLine(number));
@@ -178,6 +187,7 @@ impl<'a> Filter<'a> {
     /// Takes a line that is not skipped.
     fn take_text(&mut self, number: u32, text: &[u8]) -> Result<Rows, FilterError>
         ensures takes { (g : Given) (s : Stand) → StandsAt g s self.old → Takes g s (with_text g number s text.now s.columns) result self.new }
+        ensures own { IfErr result IsOfText }
     {
         if let Some(columns) = self.columns {
             return self.take_row_line(number, columns, text);
@@ -191,6 +201,7 @@ impl<'a> Filter<'a> {
     /// Takes a header, which has a column of the device where one is asked for.
     fn take_header(&mut self, number: u32, columns: Columns) -> Result<Rows, FilterError>
         ensures takes { (g : Given) (s : Stand) → StandsAt g s self.old → Takes g s (with_header g number s columns) result self.new }
+        ensures own { IfErr result IsOfText }
     {
         if self.device.is_some() && columns.device.is_none() {
             return Err(FilterError::Malformed(number, RowFault::Lacks(Column::Device)));
@@ -210,6 +221,7 @@ impl<'a> Filter<'a> {
     /// Takes a line that is no header where none came: one that a maker writes before the header, or the first row.
     fn take_first(&mut self, number: u32, text: &[u8]) -> Result<Rows, FilterError>
         ensures takes { (g : Given) (s : Stand) → StandsAt g s self.old → Takes g s (with_first g number s text.now None) result self.new }
+        ensures own { IfErr result IsOfText }
     {
         if is_preface(text) {
             return Ok(self.pass());
@@ -226,6 +238,7 @@ impl<'a> Filter<'a> {
         text: &[u8],
     ) -> Result<Rows, FilterError>
         ensures takes { (g : Given) (s : Stand) → StandsAt g s self.old → Takes g s (with_row_line g number (record s { columns = Some columns }) columns text.now) result self.new }
+        ensures own { IfErr result IsOfText }
     {
         self.know(columns);
         self.take_row_line(number, columns, text)
@@ -248,6 +261,7 @@ impl<'a> Filter<'a> {
         text: &[u8],
     ) -> Result<Rows, FilterError>
         ensures takes { (g : Given) (s : Stand) → StandsAt g s self.old → Takes g s (with_row_line g number s columns text.now) result self.new }
+        ensures own { IfErr result IsOfText }
     {
         if !may_be_plain(self.times) {
             return self.take_other_line(number, columns, text);
@@ -266,6 +280,7 @@ impl<'a> Filter<'a> {
         text: &[u8],
     ) -> Result<Rows, FilterError>
         ensures takes { (g : Given) (s : Stand) → StandsAt g s self.old → Takes g s (with_other_line g number s columns text.now) result self.new }
+        ensures own { IfErr result IsOfText }
     {
         if is_passed(text) {
             return Ok(self.pass());
@@ -287,6 +302,7 @@ impl<'a> Filter<'a> {
         row: WideRow,
     ) -> Result<Rows, FilterError>
         ensures takes { (g : Given) (s : Stand) → StandsAt g s self.old → Takes g s (with_wide g number s (fault_of columns s.times text.now) (Some row)) result self.new }
+        ensures own { IfErr result IsOfText }
     {
         let Some(parameter) = parameter_of(row) else {
             let why = row_fault(text, columns, self.times);
@@ -313,6 +329,7 @@ impl<'a> Filter<'a> {
         row: EventRow,
     ) -> Result<Rows, FilterError>
         ensures takes { (g : Given) (s : Stand) → StandsAt g s self.old → Takes g s (with_formed g number s form row) result self.new }
+        ensures own { IfErr result IsOfText }
     {
         self.times = Some(form);
         self.take_row(number, row)
@@ -321,6 +338,7 @@ impl<'a> Filter<'a> {
     /// Takes a row.
     fn take_row(&mut self, number: u32, row: EventRow) -> Result<Rows, FilterError>
         ensures takes { (g : Given) (s : Stand) → StandsAt g s self.old → Takes g s (with_row g number s row) result self.new }
+        ensures own { IfErr result IsOfText }
     {
         if !row.ours {
             self.left_out.of_other_devices = self.left_out.of_other_devices.saturating_add(1);
@@ -332,6 +350,7 @@ impl<'a> Filter<'a> {
     /// Takes a row that counts, in order or sorted.
     fn take_counted(&mut self, number: u32, row: EventRow) -> Result<Rows, FilterError>
         ensures takes { (g : Given) (s : Stand) → StandsAt g s self.old → Takes g s (with_counted g number s row g.window) result self.new }
+        ensures own { IfErr result IsOfText }
     {
         match self.reading.window {
             None => self.take_in_order(number, row),
@@ -342,6 +361,7 @@ impl<'a> Filter<'a> {
     /// Takes a row that counts, and has to be no earlier than the one taken before it.
     fn take_in_order(&mut self, number: u32, row: EventRow) -> Result<Rows, FilterError>
         ensures takes { (g : Given) (s : Stand) → StandsAt g s self.old → Takes g s (with_in_order g number s row) result self.new }
+        ensures own { IfErr result IsOfText }
     {
         if row.moment.nanos < self.last {
             return Err(FilterError::TimeOrder(Disorder {
@@ -363,62 +383,10 @@ impl<'a> Filter<'a> {
     fn count(&mut self, moment: u128)
         ensures stands { (g : Given) (s : Stand) → StandsAt g s self.old → s.last ≤ moment → StandsAt g (with_count s moment) self.new }
     {
+        self.gaps = gaps_before(self.counted, self.gaps, self.last, moment);
         self.first = first_moment(self.counted, self.first, moment);
         self.counted = self.counted.saturating_add(1);
         self.last = moment;
-    }
-
-    /// Takes what a row says of an input.
-    fn take_signal(&mut self, row: EventRow, signal: Signal) -> Result<Rows, FilterError>
-        ensures takes { (g : Given) (s : Stand) → StandsAt g s self.old → s.last ≡ row.moment.nanos
-            → Takes g s (with_signal g s row (Some signal)) result self.new }
-    {
-        let event = InputEvent {
-            nanos: row.moment.nanos,
-            kind: signal.kind,
-            channel: row.parameter,
-            on: signal.on,
-        };
-        match wire_place(self.wires, signal.kind, row.parameter) {
-            Some(place) => self.take_wired(place, event),
-            None => {
-                self.left_out.without_input = self.left_out.without_input.saturating_add(1);
-                Ok(NO_ROWS)
-            }
-        }
-    }
-
-    /// Takes an event on the channel of the wire at this place; it is of the last moment.
-    fn take_wired(&mut self, place: usize, event: InputEvent) -> Result<Rows, FilterError>
-        ensures takes { (g : Given) (s : Stand) → StandsAt g s self.old → s.last ≡ event.nanos
-            → Takes g s (with_event g (with_used s place) event) result self.new }
-    {
-        self.use_wire(place);
-        self.take_event(event)
-    }
-
-    /// The channel of the wire at this place had an event.
-    fn use_wire(&mut self, place: usize)
-        ensures stands { (g : Given) (s : Stand) → StandsAt g s self.old → StandsAt g (with_used s place) self.new }
-    {
-        if place >= self.used.len() {
-            return;
-        }
-        self.used[place] = true;
-    }
-
-    /// Takes an event of an input, which is of the last moment.
-    fn take_event(&mut self, event: InputEvent) -> Result<Rows, FilterError>
-        ensures takes { (g : Given) (s : Stand) → StandsAt g s self.old → s.last ≡ event.nanos → Takes g s (with_event g s event) result self.new }
-    {
-        let Some(rows) = self.street.push(event) else {
-            return Err(FilterError::PastEnd);
-        };
-        if !self.has_room(rows) {
-            return Err(FilterError::LogTooLarge);
-        }
-        self.rows += count_of(rows);
-        Ok(rows)
     }
 
     /// The rows that become known at the end of all lines. What was left out stays. The error is `LogTooLarge`.
@@ -428,6 +396,7 @@ impl<'a> Filter<'a> {
             (λ e. (e ≡ LogTooLarge) × (MOST_ROWS < length (rows_of (row_in g.from g.wires s.events)))) }
         ensures fits { (g : Given) (s : Stand) → StandsAt g s self.old → OnOk result (length (rows_of (row_in g.from g.wires s.events)) ≤ MOST_ROWS) }
         ensures counts { left_out_of self.new ≡ left_out_of self.old }
+        ensures own { IfErr result IsOfText }
     {
         let rows = self.street.finish();
         if !self.has_room(rows) {
@@ -453,33 +422,11 @@ impl<'a> Filter<'a> {
             rows: self.counted,
             first: self.first,
             last: self.last,
+            gaps: self.gaps,
             channels: how_many(self.used.as_slice()),
             heard: self.street.has_begun(),
         }
     }
-}
-
-/// The moment of the first row that counts, where so many counted before one of this moment, and this was the first.
-fn first_moment(counted: u32, first: u128, moment: u128) -> u128
-    ensures { result ≡ (if counted == 0 then moment else first) }
-{
-    if counted == 0 { moment } else { first }
-}
-
-/// The place of the first wire of this kind and from this channel.
-fn wire_place(wires: &[Wire], kind: Kind, channel: u32) -> Option<usize>
-    ensures { result ≡ wire_place wires.now kind channel }
-{
-    wires
-        .iter()
-        .position(|wire| leads_from(*wire, kind, channel))
-}
-
-/// Whether the wire is of this kind, and from this channel.
-fn leads_from(wire: Wire, kind: Kind, channel: u32) -> bool
-    ensures { result ≡ leads_from kind channel wire }
-{
-    wire.kind == kind && wire.channel == channel
 }
 
 /// How many of these are true.

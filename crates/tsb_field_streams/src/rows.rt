@@ -1,38 +1,47 @@
 //! Rows of a log on their way out.
-ghost use Rattle.std.specs.Prelude.{◌≡◌, ◌+◌, ◌≤◌, ◌++◌, Err, OnErr, OnOk, length, option_to_list};
+ghost use Rattle.std.specs.Prelude.{◌≡◌, ◌+◌, ◌≤◌, ◌++◌, Err, OnErr, OnOk, false, length, option_to_list, true};
 ghost use Rattle.std.specs.Io.KnownBytes.{Appends, Keeps};
 ghost use Rattle.tsb_lines.specs.Writes.{AppendsFront};
 ghost use Rattle.tsb_field_log.specs.Streets.{rows_in};
 ghost use Rattle.tsb_log_text.specs.LogText.{log_text};
+ghost use Rattle.tsb_field_streams.specs.Blame.{BlamesWriter, HasMemory};
 ghost use Rattle.tsb_field_streams.specs.declared.error.FilterError.TheVariants.{Write as write};
 
 use crate::error::FilterError;
 use std::io::Write;
 use tsb_field_log::Rows;
-use tsb_lines::{ShortLine, pass_on, write_text};
+use tsb_lines::{ShortLine, Watched};
 use tsb_log_text::{LogRow, row_line};
 
 /// How many bytes the lines of two rows have.
 const ROWS: usize = 78;
 
 /// Writes rows. The error is `Write`: their first bytes may have gone out.
-pub(crate) fn write_rows<W: Write>(writer: &mut W, rows: Rows) -> Result<(), FilterError>
-    ensures whole { OnOk result (Appends (W.contents writer.old) (W.contents writer.new) (log_text (rows_in rows))) }
-    ensures front { AppendsFront (W.contents writer.old) (W.contents writer.new) (log_text (rows_in rows)) }
+pub(crate) fn write_rows<W: Write>(writer: &mut Watched<W>, rows: Rows) -> Result<(), FilterError>
+    ensures whole { OnOk result (Appends (W.contents writer.old.device) (W.contents writer.new.device) (log_text (rows_in rows))) }
+    ensures front { AppendsFront (W.contents writer.old.device) (W.contents writer.new.device) (log_text (rows_in rows)) }
     ensures fault { OnErr result (result ≡ Err write) }
+    ensures memory { HasMemory result }
+    ensures blame { writer.old.failed ≡ false → BlamesWriter result writer.new.failed }
 {
     let text = rows_text(rows);
-    match write_text(writer, text.as_bytes()) {
+    match writer.write_text(text.as_bytes()) {
         Ok(()) => Ok(()),
         Err(_) => Err(FilterError::Write),
     }
 }
 
 /// Writes rows, and has the writer pass on what it has taken. The error is `Write`: their first bytes may have gone out.
-pub(crate) fn write_last_rows<W: Write>(writer: &mut W, rows: Rows) -> Result<(), FilterError>
-    ensures whole { OnOk result (Appends (W.contents writer.old) (W.contents writer.new) (log_text (rows_in rows))) }
-    ensures front { AppendsFront (W.contents writer.old) (W.contents writer.new) (log_text (rows_in rows)) }
+pub(crate) fn write_last_rows<W: Write>(
+    writer: &mut Watched<W>,
+    rows: Rows,
+) -> Result<(), FilterError>
+    ensures whole { OnOk result (Appends (W.contents writer.old.device) (W.contents writer.new.device) (log_text (rows_in rows))) }
+    ensures front { AppendsFront (W.contents writer.old.device) (W.contents writer.new.device) (log_text (rows_in rows)) }
     ensures fault { OnErr result (result ≡ Err write) }
+    ensures flushed { OnOk result (writer.new.flushed ≡ true) }
+    ensures memory { HasMemory result }
+    ensures blame { writer.old.failed ≡ false → BlamesWriter result writer.new.failed }
 {
     match write_rows(writer, rows) {
         Ok(()) => pass_rows_on(writer),
@@ -41,11 +50,14 @@ pub(crate) fn write_last_rows<W: Write>(writer: &mut W, rows: Rows) -> Result<()
 }
 
 /// Has the writer pass on what it has taken.
-fn pass_rows_on<W: Write>(writer: &mut W) -> Result<(), FilterError>
-    ensures bytes { Keeps (W.contents writer.old) (W.contents writer.new) }
+fn pass_rows_on<W: Write>(writer: &mut Watched<W>) -> Result<(), FilterError>
+    ensures bytes { Keeps (W.contents writer.old.device) (W.contents writer.new.device) }
     ensures fault { OnErr result (result ≡ Err write) }
+    ensures flushed { OnOk result (writer.new.flushed ≡ true) }
+    ensures memory { HasMemory result }
+    ensures blame { writer.old.failed ≡ false → BlamesWriter result writer.new.failed }
 {
-    match pass_on(writer) {
+    match writer.pass_on() {
         Ok(()) => Ok(()),
         Err(_) => Err(FilterError::Write),
     }

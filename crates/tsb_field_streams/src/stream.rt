@@ -1,7 +1,8 @@
 //! Lines of events as a stream of bytes, and the log that they make known.
-ghost use Rattle.std.specs.Prelude.{◌≡◌, ◌∷◌, [], ◌++◌, false, ℕ, IfOk, List, Option, length, option_map, replicate};
+ghost use Rattle.std.specs.Prelude.{◌≡◌, ◌∷◌, [], ◌++◌, false, ℕ, IfOk, List, OnOk, Option, length, option_map, replicate, true};
 ghost use Rattle.tsb_lines.specs.Lines.{HasNoFeed};
 ghost use Rattle.tsb_field_log.specs.Mapping.{wires_of};
+ghost use Rattle.tsb_field_streams.specs.Blame.{Blames, BlamesWriter, HasMemory, OnMemory};
 ghost use Rattle.tsb_field_streams.specs.Filtering.{Given, Stand};
 ghost use Rattle.tsb_field_log.specs.Taken.{HasTaken};
 ghost use Rattle.tsb_field_streams.specs.Standing.{StandsAtStart, given_of};
@@ -14,7 +15,7 @@ use crate::rows::{write_last_rows, write_rows};
 use std::alloc::{AllocError, Global};
 use std::io::{Read, Write};
 use tsb_field_log::{Street, Wire, wires};
-use tsb_lines::{KeptLine, cut_at_feed};
+use tsb_lines::{KeptLine, Watched, cut_at_feed};
 
 /// The most events of a stream, in bytes: 1 GiB.
 pub const EVENTS: usize = 1_073_741_824;
@@ -36,9 +37,11 @@ struct Stream<'a> {
 
 impl Stream<'_> {
     /// Takes the line feed that ends a line.
-    fn end_line<W: Write>(&mut self, writer: &mut W) -> Result<(), FilterError>
-        ensures went { (g : Given) (bytes : List ℕ) (begun : Option (List ℕ)) → Follows g bytes self.old begun (W.contents writer.old)
-            → Went result g (bytes ++ 10 ∷ []) self.new begun (W.contents writer.new) }
+    fn end_line<W: Write>(&mut self, writer: &mut Watched<W>) -> Result<(), FilterError>
+        ensures went { (g : Given) (bytes : List ℕ) (begun : Option (List ℕ)) → Follows g bytes self.old begun (W.contents writer.old.device)
+            → Went result g (bytes ++ 10 ∷ []) self.new begun (W.contents writer.new.device) }
+        ensures blame { writer.old.failed ≡ false → BlamesWriter result writer.new.failed }
+        ensures memory { HasMemory result }
     {
         let rows = match self.filter.take_line(self.number, self.line.ended()) {
             Ok(rows) => rows,
@@ -50,19 +53,31 @@ impl Stream<'_> {
     }
 
     /// Takes the rest of a line, up to its line feed.
-    fn feed_line<W: Write>(&mut self, rest: &[u8], writer: &mut W) -> Result<(), FilterError>
+    fn feed_line<W: Write>(
+        &mut self,
+        rest: &[u8],
+        writer: &mut Watched<W>,
+    ) -> Result<(), FilterError>
         requires one { HasNoFeed rest.now }
-        ensures went { (g : Given) (bytes : List ℕ) (begun : Option (List ℕ)) → Follows g bytes self.old begun (W.contents writer.old)
-            → Went result g (bytes ++ (rest.now ++ 10 ∷ [])) self.new begun (W.contents writer.new) }
+        ensures went { (g : Given) (bytes : List ℕ) (begun : Option (List ℕ)) → Follows g bytes self.old begun (W.contents writer.old.device)
+            → Went result g (bytes ++ (rest.now ++ 10 ∷ [])) self.new begun (W.contents writer.new.device) }
+        ensures blame { writer.old.failed ≡ false → BlamesWriter result writer.new.failed }
+        ensures memory { HasMemory result }
     {
         self.line.extend(rest);
         self.end_line(writer)
     }
 
     /// Takes these bytes.
-    fn feed_all<W: Write>(&mut self, bytes: &[u8], writer: &mut W) -> Result<(), FilterError>
-        ensures went { (g : Given) (before : List ℕ) (begun : Option (List ℕ)) → Follows g before self.old begun (W.contents writer.old)
-            → Went result g (before ++ bytes.now) self.new begun (W.contents writer.new) }
+    fn feed_all<W: Write>(
+        &mut self,
+        bytes: &[u8],
+        writer: &mut Watched<W>,
+    ) -> Result<(), FilterError>
+        ensures went { (g : Given) (before : List ℕ) (begun : Option (List ℕ)) → Follows g before self.old begun (W.contents writer.old.device)
+            → Went result g (before ++ bytes.now) self.new begun (W.contents writer.new.device) }
+        ensures blame { writer.old.failed ≡ false → BlamesWriter result writer.new.failed }
+        ensures memory { HasMemory result }
     {
         let mut left = bytes;
         while let Some((rest, next)) = cut_at_feed(left) {
@@ -76,9 +91,12 @@ impl Stream<'_> {
     }
 
     /// Takes what follows the last line feed as the last line, and writes the rest of the log.
-    fn finish<W: Write>(&mut self, writer: &mut W) -> Result<Summary, FilterError>
-        ensures finished { (g : Given) (bytes : List ℕ) (begun : Option (List ℕ)) → Follows g bytes self.old begun (W.contents writer.old)
-            → Finished result g bytes begun (W.contents writer.new) }
+    fn finish<W: Write>(&mut self, writer: &mut Watched<W>) -> Result<Summary, FilterError>
+        ensures finished { (g : Given) (bytes : List ℕ) (begun : Option (List ℕ)) → Follows g bytes self.old begun (W.contents writer.old.device)
+            → Finished result g bytes begun (W.contents writer.new.device) }
+        ensures flushed { OnOk result (writer.new.flushed ≡ true) }
+        ensures blame { writer.old.failed ≡ false → BlamesWriter result writer.new.failed }
+        ensures memory { HasMemory result }
     {
         match self.take_last(writer) {
             Ok(()) => {}
@@ -91,9 +109,11 @@ impl Stream<'_> {
     }
 
     /// Takes what follows the last line feed as the last line, and writes what becomes known of the log by it.
-    fn take_last<W: Write>(&mut self, writer: &mut W) -> Result<(), FilterError>
-        ensures took { (g : Given) (bytes : List ℕ) (begun : Option (List ℕ)) → Follows g bytes self.old begun (W.contents writer.old)
-            → TookLast result g bytes self.new.filter begun (W.contents writer.new) }
+    fn take_last<W: Write>(&mut self, writer: &mut Watched<W>) -> Result<(), FilterError>
+        ensures took { (g : Given) (bytes : List ℕ) (begun : Option (List ℕ)) → Follows g bytes self.old begun (W.contents writer.old.device)
+            → TookLast result g bytes self.new.filter begun (W.contents writer.new.device) }
+        ensures blame { writer.old.failed ≡ false → BlamesWriter result writer.new.failed }
+        ensures memory { HasMemory result }
     {
         match self.filter.take_line(self.number, self.line.last()) {
             Ok(rows) => write_rows(writer, rows),
@@ -102,9 +122,12 @@ impl Stream<'_> {
     }
 
     /// Writes the rest of the log, where all rows are taken, and has the writer pass all on.
-    fn end_log<W: Write>(&mut self, writer: &mut W) -> Result<Summary, FilterError>
-        ensures finished { (g : Given) (bytes : List ℕ) (begun : Option (List ℕ)) (before : Stand) → Known g bytes before (length before.held) self.old.filter begun (W.contents writer.old)
-            → Finished result g bytes begun (W.contents writer.new) }
+    fn end_log<W: Write>(&mut self, writer: &mut Watched<W>) -> Result<Summary, FilterError>
+        ensures finished { (g : Given) (bytes : List ℕ) (begun : Option (List ℕ)) (before : Stand) → Known g bytes before (length before.held) self.old.filter begun (W.contents writer.old.device)
+            → Finished result g bytes begun (W.contents writer.new.device) }
+        ensures flushed { OnOk result (writer.new.flushed ≡ true) }
+        ensures blame { writer.old.failed ≡ false → BlamesWriter result writer.new.failed }
+        ensures memory { HasMemory result }
     {
         let summary = self.filter.summary();
         let rest = match self.filter.finish() {
@@ -118,9 +141,11 @@ impl Stream<'_> {
     }
 
     /// Takes the rows that are held, where no line follows, and writes what becomes known of the log.
-    fn take_held<W: Write>(&mut self, writer: &mut W) -> Result<(), FilterError>
-        ensures gave { (g : Given) (bytes : List ℕ) (begun : Option (List ℕ)) (before : Stand) → Known g bytes before 0 self.old.filter begun (W.contents writer.old)
-            → Gave result g bytes before self.new.filter begun (W.contents writer.new) }
+    fn take_held<W: Write>(&mut self, writer: &mut Watched<W>) -> Result<(), FilterError>
+        ensures gave { (g : Given) (bytes : List ℕ) (begun : Option (List ℕ)) (before : Stand) → Known g bytes before 0 self.old.filter begun (W.contents writer.old.device)
+            → Gave result g bytes before self.new.filter begun (W.contents writer.new.device) }
+        ensures blame { writer.old.failed ≡ false → BlamesWriter result writer.new.failed }
+        ensures memory { HasMemory result }
     {
         let count = self.filter.held_count();
         for _ in 0..count {
@@ -139,18 +164,21 @@ impl Stream<'_> {
     /// Reads events up to their end, and writes their log.
     fn run<R: Read, W: Write>(
         &mut self,
-        reader: &mut R,
-        writer: &mut W,
+        reader: &mut Watched<R>,
+        writer: &mut Watched<W>,
     ) -> Result<Summary, FilterError>
-        ensures ended { (g : Given) → Follows g [] self.old (W.contents writer.old) (W.contents writer.old)
-            → EndedBehind result g (R.remaining reader.old) (R.remaining reader.new) (W.contents writer.old) (W.contents writer.new) }
+        ensures ended { (g : Given) → Follows g [] self.old (W.contents writer.old.device) (W.contents writer.old.device)
+            → EndedBehind result g (R.remaining reader.old.device) (R.remaining reader.new.device) (W.contents writer.old.device) (W.contents writer.new.device) }
+        ensures flushed { OnOk result (writer.new.flushed ≡ true) }
+        ensures blame { reader.old.failed ≡ false → writer.old.failed ≡ false → Blames result reader.new.failed writer.new.failed }
+        ensures memory { HasMemory result }
     {
         let mut chunk = [0; CHUNK];
         let mut left = EVENTS;
         loop {
             let most = left.min(CHUNK).max(1);
             let room = &mut chunk[..most];
-            let count = match reader.read(room) {
+            let count = match reader.read_once(room) {
                 Ok(count) => count,
                 Err(_) => return Err(FilterError::Read),
             };
@@ -182,11 +210,14 @@ pub fn log<R: Read, W: Write>(
     reading: Reading,
     device: Option<&[u8]>,
     mapped: &[Wire],
-    reader: &mut R,
-    writer: &mut W,
+    reader: &mut Watched<R>,
+    writer: &mut Watched<W>,
 ) -> Result<Summary, FilterError>
-    ensures { Ended result (given_of reading (option_map (λ d. d.now) device.entry) (wires_of mapped.now))
-        (R.remaining reader.old) (R.remaining reader.new) (W.contents writer.old) (W.contents writer.new) }
+    ensures ended { Ended result (given_of reading (option_map (λ d. d.now) device.entry) (wires_of mapped.now))
+        (R.remaining reader.old.device) (R.remaining reader.new.device) (W.contents writer.old.device) (W.contents writer.new.device) }
+    ensures flushed { OnOk result (writer.new.flushed ≡ true) }
+    ensures blame { reader.old.failed ≡ false → writer.old.failed ≡ false → Blames result reader.new.failed writer.new.failed }
+    ensures memory { OnMemory result reader.old reader.new writer.old writer.new }
 {
     let Ok(all) = wires(alloc, mapped) else {
         return Err(FilterError::Memory);
@@ -242,11 +273,14 @@ fn filter_with<'a>(
 /// Reads events up to their end, and writes their log, by a filter before the first line.
 fn run_over<R: Read, W: Write>(
     filter: Filter<'_>,
-    reader: &mut R,
-    writer: &mut W,
+    reader: &mut Watched<R>,
+    writer: &mut Watched<W>,
 ) -> Result<Summary, FilterError>
     ensures ended { (g : Given) → StandsAtStart g filter.entry
-        → EndedBehind result g (R.remaining reader.old) (R.remaining reader.new) (W.contents writer.old) (W.contents writer.new) }
+        → EndedBehind result g (R.remaining reader.old.device) (R.remaining reader.new.device) (W.contents writer.old.device) (W.contents writer.new.device) }
+    ensures flushed { OnOk result (writer.new.flushed ≡ true) }
+    ensures blame { reader.old.failed ≡ false → writer.old.failed ≡ false → Blames result reader.new.failed writer.new.failed }
+    ensures memory { HasMemory result }
 {
     let mut stream = Stream {
         filter,

@@ -3,7 +3,7 @@
 use std::alloc::{AllocError, Global};
 use tsb_event_text::{Column, Moment, RowFault, TimeForm, read_moment};
 use tsb_field_log::{Kind, Rows, Street, Wire, wires};
-use tsb_field_streams::{Disorder, Filter, FilterError, Held, LeftOut, Reading, Summary};
+use tsb_field_streams::{Disorder, Filter, FilterError, Gaps, Held, LeftOut, Reading, Summary};
 use tsb_log_text::row_line;
 
 /// What a filter gives for lines from 07:00:00 on.
@@ -264,6 +264,11 @@ fn of_rows(times: Option<TimeForm>, rows: u32, first: u128, last: u128) -> Summa
         rows,
         first: begin().nanos + first * 1_000_000_000,
         last: begin().nanos + last * 1_000_000_000,
+        gaps: Gaps {
+            count: 0,
+            begin: 0,
+            end: 0,
+        },
         channels: 0,
         heard: false,
     }
@@ -284,6 +289,25 @@ fn rows_and_channels_count(alloc: Global) -> bool {
     reads(alloc, &rows, wanted)
 }
 
+/// Whether a minute between rows is a gap, and of two as long the first is the longest.
+fn gaps_have_a_minute(alloc: Global) -> bool {
+    let rows = [
+        b"7,2026-11-22 07:00:01,1,2".as_slice(),
+        b"7,2026-11-22 07:01:00.999999999,1,2",
+        b"7,2026-11-22 07:02:00.999999999,1,2",
+        b"7,2026-11-22 07:04:01,1,2",
+        b"7,2026-11-22 07:06:01.000000001,1,2",
+    ];
+    let mut wanted = of_rows(Some(TimeForm::YearFirst), 5, 1, 361);
+    wanted.last += 1;
+    wanted.gaps = Gaps {
+        count: 3,
+        begin: begin().nanos + 121_000_000_000 - 1,
+        end: begin().nanos + 241_000_000_000,
+    };
+    reads(alloc, &rows, wanted)
+}
+
 /// Whether an event before tick 1 is of a channel and is not heard, and one as tick 1 begins is.
 fn tick_1_begins_what_is_heard(alloc: Global) -> bool {
     let row = b"7,11/22/2026 07:00:00,1,2".as_slice();
@@ -299,7 +323,7 @@ fn tick_1_begins_what_is_heard(alloc: Global) -> bool {
 
 #[test]
 fn what_was_read_is_counted(rt: HostRuntime) {
-    assert!(rt; rows_and_channels_count(rt.alloc()));
+    assert!(rt; rows_and_channels_count(rt.alloc()) && gaps_have_a_minute(rt.alloc()));
     assert!(rt; tick_1_begins_what_is_heard(rt.alloc()));
     let mut nothing = of_rows(None, 0, 0, 0);
     nothing.first = 0;

@@ -3,8 +3,9 @@
 use std::alloc::Global;
 use std::io::{self, ErrorKind, Read, Write};
 use tsb_event_text::{Column, Moment, RowFault, SHOWN, Shown, read_moment};
+use tsb_field_display::Watched;
 use tsb_field_log::{Kind, Wire};
-use tsb_field_streams::{Disorder, FilterError, LeftOut, Reading, Summary, log};
+use tsb_field_streams::{Disorder, FilterError, LeftOut, Reading, Summary};
 
 /// Gives a text in pieces of this many bytes, and may fail after its last.
 #[derive(Drop)]
@@ -89,6 +90,20 @@ fn whole(text: &'static [u8]) -> Pieces {
         most: usize::MAX,
         end: None,
     }
+}
+
+/// Reads events up to their end, and writes their log, by devices that are watched.
+fn log<R: Read, W: Write>(
+    alloc: Global,
+    reading: Reading,
+    device: Option<&[u8]>,
+    mapped: &[Wire],
+    reader: &mut R,
+    writer: &mut W,
+) -> Result<Summary, FilterError> {
+    let mut input = Watched::new(reader);
+    let mut output = Watched::new(writer);
+    tsb_field_streams::log(alloc, reading, device, mapped, &mut input, &mut output)
 }
 
 /// What is written for a text, and how it ends.

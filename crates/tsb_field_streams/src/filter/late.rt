@@ -1,5 +1,6 @@
 //! Rows that come a little out of order: they are held until no other row may come before them.
-ghost use Rattle.std.specs.Prelude.{◌≡◌, ◌<◌, length};
+ghost use Rattle.std.specs.Prelude.{◌≡◌, ◌<◌, IfErr, length};
+ghost use Rattle.tsb_field_streams.specs.Blame.{IsOfText};
 ghost use Rattle.tsb_field_streams.specs.Holding.{held_rows, most_rows};
 ghost use Rattle.tsb_field_streams.specs.Filtering.{Given, Stand, bound_of, most_held, with_due, with_given, with_held, with_late, with_next};
 
@@ -25,6 +26,7 @@ impl Filter<'_> {
         seconds: u32,
     ) -> Result<Rows, FilterError>
         ensures takes { (g : Given) (s : Stand) → StandsAt g s self.old → Takes g s (with_late g number s row seconds) result self.new }
+        ensures own { IfErr result IsOfText }
     {
         if row.moment.nanos < bound_of(self.latest, seconds) {
             return Err(FilterError::TimeOrder(Disorder {
@@ -54,6 +56,7 @@ impl Filter<'_> {
     /// Takes the first row that is held, where no row that may still come is before it.
     fn take_due(&mut self, number: u32, seconds: u32) -> Result<Rows, FilterError>
         ensures takes { (g : Given) (s : Stand) → StandsAt g s self.old → Takes g s (with_due g number s seconds) result self.new }
+        ensures own { IfErr result IsOfText }
     {
         let given = self.held.give_before(bound_of(self.latest, seconds));
         self.take_given(number, given)
@@ -62,6 +65,7 @@ impl Filter<'_> {
     /// Takes a row that was held, where there is one.
     fn take_given(&mut self, number: u32, given: Option<EventRow>) -> Result<Rows, FilterError>
         ensures takes { (g : Given) (s : Stand) → StandsAt g s self.old → Takes g s (with_given g number s given) result self.new }
+        ensures own { IfErr result IsOfText }
     {
         match given {
             Some(row) => self.take_in_order(number, row),
@@ -80,6 +84,7 @@ impl Filter<'_> {
     /// and `LogTooLarge`: a row that is held is never out of order.
     pub fn take_next(&mut self) -> Result<Rows, FilterError>
         ensures takes { (g : Given) (s : Stand) → StandsAt g s self.old → Takes g s (with_next g s) result self.new }
+        ensures own { IfErr result IsOfText }
     {
         let given = self.held.give();
         self.take_given(0, given)

@@ -1,13 +1,14 @@
-use Rattle.std.proofs.Common.{[]}
+use Rattle.std.proofs.Common.{◌≡◌, [], false}
 use Rattle.tsb_field_streams.specs.Filtering.{Given}
 use Rattle.tsb_field_streams.specs.Streaming.{Follows}
-use Rattle.tsb_field_streams.proofs.StreamLemmas.{Going}
+use Rattle.tsb_field_streams.proofs.GoingLemmas.{Going}
 use Rattle.tsb_field_streams.proofs.stream.Stream.run.Given as goal
 
 abbrev pub invariant-loop-count : goal.invariant-loop-count
 invariant-loop-count g l = record {
-  going : (given : Given) → Follows given [] l.fn.self (g.W.Write.contents l.fn.writer) (g.W.Write.contents l.fn.writer)
-      → Going given l.self l.left (g.R.Read.remaining l.fn.reader) (g.R.Read.remaining l.reader) (g.W.Write.contents l.fn.writer) (g.W.Write.contents l.writer);
+  well : l.fn.reader.failed ≡ false → l.fn.writer.failed ≡ false → (l.reader.failed ≡ false) × (l.writer.failed ≡ false);
+  going : (given : Given) → Follows given [] l.fn.self (g.W.Write.contents l.fn.writer.device) (g.W.Write.contents l.fn.writer.device)
+      → Going given l.self l.left (g.R.Read.remaining l.fn.reader.device) (g.R.Read.remaining l.reader.device) (g.W.Write.contents l.fn.writer.device) (g.W.Write.contents l.writer.device);
 }
 
 abbrev pub decreases-loop-count : goal.decreases-loop-count

@@ -1,8 +1,0 @@
-use Rattle.std.proofs.Common.{take}
-use Rattle.std.specs.Fmt.{HasWritten, IsPlainFormatter}
-use Rattle.tsb_field_streams.proofs.clocks.write_digits.Given as goal
-
--- the digits so far are written
-abbrev pub invariant-loop-digit : goal.invariant-loop-digit
-invariant-loop-digit g l =
-    IsPlainFormatter l.initial.f → HasWritten g.W.Write.write_str_gives l.initial.f (take l.digit-index l.digits) l.f
