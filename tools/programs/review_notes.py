@@ -1,9 +1,11 @@
 """What is told of the text of a plan, read a second time: from docs/use/REVIEW.md, and from nothing of the crates.
 
-`notes(text)` gives the lines: a name or an index that comes again in its table, and a value that is no whole number.
+`notes(text)` gives the lines: a name or an index that comes again in its table, a value that is no whole number, and a
+name, an index or a value that no object has.
 `written(source, plan)` writes a plan as a text at random that has such.
 """
 import json
+import os
 import random
 from collections.abc import Iterator
 from typing import Any
@@ -16,6 +18,8 @@ MANUAL = json.loads((TOP / "python/tsb/manual.json").read_text())
 OBJECTS: dict[str, dict[str, Any]] = MANUAL["objects"]
 UNITS = ["seconds", "tenths of a second", "minutes"]
 MOST = 2**32 - 1
+# How many letters the right name and another may have in the one place where they differ, the nearest first.
+DIFFERENCES = [(1, 0), (0, 1), (1, 1), (2, 2), (2, 1), (1, 2), *(it for count in range(2, 8) for it in ((count, 0), (0, count)))]
 
 
 class Number(str):
@@ -74,6 +78,16 @@ def counting(text: str) -> dict[str, dict[str, int]]:
     return {name: table for name, table in plan.items() if name != "version"}
 
 
+def near(name: str) -> str | None:
+    """The right name that was perhaps meant: in one place alone, and there by few letters, the two differ."""
+    for lacks, extra in DIFFERENCES:
+        for right in sorted(OBJECTS, key=lambda it: OBJECTS[it]["since"]):
+            front = len(os.path.commonprefix([right, name]))
+            if right[front + lacks:] == name[front + extra:]:
+                return right
+    return None
+
+
 def again(path: str, at: int, pairs: Pairs) -> Iterator[str]:
     """That a name comes again, with its next value."""
     name, value = pairs[at]
@@ -87,11 +101,14 @@ def of_table(name: str, entries: Pairs) -> Iterator[str]:
     """What is told of the table of an object."""
     for at, (index, value) in enumerate(entries):
         if index not in map(str, range(1, OBJECTS[name]["count"] + 1)):
+            yield f"{name}.{index}: no such index, 1 to {OBJECTS[name]['count']}"
             continue
         yield from again(f"{name}.{index}", at, entries)
+        unit, most = unit_of(name), OBJECTS[name]["greatest"]
         if not is_whole(value):
-            unit = unit_of(name)
             yield f"{name}.{index}: {shown(value)} is no whole number" + (f": {unit}{meant(name, value)}" if unit else "")
+        elif int(value) > most:
+            yield f"{name}.{index}: {shown(value)} is out of range, 0 to {most}" + (f": {unit}" if unit else "")
 
 
 def notes(text: bytes) -> list[str]:
@@ -103,11 +120,17 @@ def notes(text: bytes) -> list[str]:
             found += again(name, at, value.pairs)
         if name in OBJECTS and isinstance(it, Table):
             found += of_table(name, it.pairs)
+        if name not in OBJECTS and name != "version":
+            right = near(name)
+            found.append(f"{name}: no such object" + (f", did you mean {right}?" if right else ""))
     return found
 
 
 OTHERS = ["3.2", "7.5", "0.5", "12.0", "3.25", "-1", "1e2", "32.0e0", "4294967295.9", "4294967296", "4294967295", "99999999999.5",
           '"32"', '"a\\nb\\u00e9"', "true", "null", "[1, 2.5]", '{"a": {}}', "0", "35", "1"]
+# Slips of the hand, short and long forms of names, and names that are near none.
+SLIPS = ["phaseMinGreen", "phaseYelowChange", "PhaseWalk", "phasePedClear", "phaseRedClearance", "phaseWlak", "phaseMaxGreen", "unknown",
+         "phase", "", "splitTimes", "pedDetectorCallPhase", "phaseMxRecall", "phaseMinimum Green", "patternOfset", "sequenceDat"]
 INDICES = ["0", "01", "1", "2", "8", "16", "17", "+1", "128", "129", ""]
 
 
@@ -122,7 +145,7 @@ def written(source: random.Random, plan: dict[str, dict[str, int]]) -> bytes:
             members.insert(source.randint(0, len(members)), (name, table if isinstance(table, str) else table[:source.randint(0, 3)]))
         elif kind < 0.3:
             # (a text of version 1 is none of those that tools/programs/review_rules.py reads)
-            members.append((source.choice(["phaseWalk", "unknown", name]), source.choice(OTHERS)) if name != "version" else ("version", "2"))
+            members.append((source.choice(["phaseWalk", name, *SLIPS]), source.choice(OTHERS)) if name != "version" else ("version", "2"))
         elif isinstance(table, list):
             known = [index for index, _ in table] or ["1"]
             index = source.choice(known) if source.random() < 0.8 else source.choice(INDICES)

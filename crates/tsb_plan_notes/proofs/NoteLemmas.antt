@@ -1,5 +1,5 @@
 -- The members of an object, one after another, and notes that are added.
-use Rattle.std.proofs.Common.{◌≡◌, ◌∙◌, ℕ, zero, suc, ◌+◌, ◌-◌, ◌<◌, Bool, true, false, if◌then◌else◌, List, [], ◌∷◌, ◌++◌, append_assoc, length, take, take_all, drop, drop-cons, get_or, ap, inl, inr, refl, subst, arith, OnOk, Some, None, bytes_eq}
+use Rattle.std.proofs.Common.{◌≡◌, ◌∙◌, ℕ, zero, suc, ◌+◌, ◌-◌, ◌<◌, Bool, true, false, if◌then◌else◌, List, [], ◌∷◌, ◌++◌, append_assoc, length, take, take_all, drop, drop-cons, get_or, ap, inl, inr, refl, subst, sym, arith, IfOk, MatchResult, OnOk, Some, None, bytes_eq}
 use Rattle.std.proofs.lemmas.Bool.{cases_Bool}
 use Rattle.std.proofs.lemmas.List.{length-drop}
 use Rattle.std.proofs.lemmas.Str.{IsUtf8-from_is_utf8, is_utf8-from_IsUtf8}
@@ -12,6 +12,8 @@ use Rattle.std.specs.Borrow.{Bor}
 use Rattle.json.specs.Json.{Json, Members, document, no_members, member}
 use Rattle.json.specs.Tree.{HasNumbers, MembersHaveNumbers}
 use Rattle.json.specs.Value.{members_view, value_view}
+use Rattle.json.specs.declared.error.Error.{Error}
+use Rattle.json.specs.declared.error.Error.TheVariants.{Invalid}
 use Rattle.json.specs.declared.value.Value.{Value}
 use Rattle.tsb_plan_notes.specs.Notes.{document_notes, next_of, notes_of, value_notes}
 
@@ -73,6 +75,13 @@ no-notes text none =
       | inl good ↦ rw good (ap document_notes (none (IsUtf8-from_is_utf8 text good)))
       | inr bad ↦ rw bad refl
     ]
+
+-- what is noted of a text that was read so
+pub read-is : {A : Type 0} (text items : List ℕ) (read : Result (Value A) Error) → IfOk read (λ v. IsUtf8 text × (document text ≡ Some (value_view v)))
+    → (read ≡ Err Invalid → IsUtf8 text → document text ≡ None)
+    → MatchResult read (λ v. items ≡ value_notes (value_view v)) (λ fault. (fault ≡ Invalid) × (items ≡ [])) → items ≡ notes_of text
+read-is text items (Ok v) ok invalid is = is ∙ sym (text-is text (value_view v) ok.0 ok.1)
+read-is text items (Err e) ok invalid is = is.1 ∙ sym (no-notes text (invalid (ap Err is.0)))
 
 -- three texts that are added one after another
 pub three : (a b c d x y z : List ℕ) → b ≡ a ++ x → c ≡ b ++ y → d ≡ c ++ z → d ≡ a ++ (x ++ y ++ z)

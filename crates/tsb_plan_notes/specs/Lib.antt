@@ -1,5 +1,7 @@
 -- the unit of each object's values
 pub mod Units
+-- the object that was perhaps meant by a name
+pub mod Near
 -- what is noted of a plan text
 pub mod Notes
 -- a number, taken apart at its point

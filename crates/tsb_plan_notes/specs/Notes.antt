@@ -1,7 +1,8 @@
 -- WHAT IS NOTED OF A PLAN TEXT, in the order of the text: of a name or an index that comes again in its table, both
--- values, of which the last counts; and of a value that is no whole number, its unit. What is no JSON has no notes, nor has
--- what is no object, and no index, of plan texts.
-use Rattle.std.specs.Prelude.{ℕ, List, [], ◌∷◌, ◌++◌, if◌then◌else◌, Bool, true, false, Option, Some, None, codes, bytes_eq, decimal}
+-- values, the last one counting; of a value that is no whole number, its unit; of a value and of an index out of range, the
+-- range; and of a name that no object has, the object that was perhaps meant. What is no JSON has no notes. Names, indices
+-- and values are those of the newest version.
+use Rattle.std.specs.Prelude.{ℕ, List, [], ◌∷◌, ◌++◌, if◌then◌else◌, Bool, true, false, Option, Some, None, codes, bytes_eq, decimal, nat_le}
 use Rattle.std.specs.Str.{is_utf8}
 use Rattle.json.specs.Json.{Json, object, Members, no_members, member, document}
 use Rattle.json.specs.Print.{print}
@@ -9,7 +10,9 @@ use Rattle.json.specs.Tree.{json_tokens}
 use Rattle.tsb_plan.specs.declared.object.Object.{Object}
 use Rattle.tsb_plan.specs.declared.version.TheConstants.Version.{NEWEST}
 use Rattle.tsb_plan.specs.Names.{name_of, object_named}
-use Rattle.tsb_plan_notes.specs.Parts.{is_index, is_whole, meant}
+use Rattle.tsb_plan.specs.Objects.{greatest, indices}
+use Rattle.tsb_plan_notes.specs.Near.{near_object}
+use Rattle.tsb_plan_notes.specs.Parts.{is_index, meant, whole_of}
 use Rattle.tsb_plan_notes.specs.Units.{unit_of, unit_text}
 use Rattle.tsb_plan_notes.specs.declared.units.Unit.{Unit}
 
@@ -51,15 +54,35 @@ unit_end unit d = unit_text unit ++ meant_text (meant unit d) ++ 10 ∷ []
 abbrev pub unit_note : Object → List ℕ → Json → List ℕ
 unit_note o index d = path_of o index ++ fault_text d ++ unit_end (unit_of o) d
 
--- where a value is no whole number, that it is none
-abbrev pub whole_note : Bool → Object → List ℕ → Json → List ℕ
-whole_note true o index d = []
-whole_note false o index d = unit_note o index d
+-- that it is out of range
+unfoldable pub over_text : Json → List ℕ
+over_text d = codes ": " ++ shown d ++ codes " is out of range, 0 to "
+
+-- the end of a line with the greatest value of an object
+unfoldable pub greatest_end : Object → List ℕ
+greatest_end o = decimal (greatest o) ++ unit_text (unit_of o) ++ 10 ∷ []
+
+-- that a value is out of range, with the range and its unit
+abbrev pub over_note : Object → List ℕ → Json → List ℕ
+over_note o index d = path_of o index ++ over_text d ++ greatest_end o
+
+-- a fault of a value, which is this whole number or none: that it is none, or is out of range
+abbrev pub value_note : Option ℕ → Object → List ℕ → Json → List ℕ
+value_note None o index d = unit_note o index d
+value_note (Some n) o index d = if nat_le n (greatest o) then [] else over_note o index d
+
+-- that an index is none, with the range of those of an object
+unfoldable pub range_end : Object → List ℕ
+range_end o = codes ": no such index, 1 to " ++ decimal (indices o) ++ 10 ∷ []
+
+-- that an object has no such index, with the range
+abbrev pub index_note : Object → List ℕ → List ℕ
+index_note o index = path_of o index ++ range_end o
 
 -- of an index with its value, before these
 abbrev pub entry_note : Bool → Object → List ℕ → Json → Members → List ℕ
-entry_note false o index d later = []
-entry_note true o index d later = twice_note (path_of o index) d (next_of index later) ++ whole_note (is_whole d) o index d
+entry_note false o index d later = index_note o index
+entry_note true o index d later = twice_note (path_of o index) d (next_of index later) ++ value_note (whole_of d) o index d
 
 -- of the entries of a table
 abbrev pub entries_notes : Object → Members → List ℕ
@@ -73,9 +96,26 @@ table_notes o d = []
 
 -- ## The text
 
--- of a member with its value, before these: where it names an object, or is the version
+-- that an object was perhaps meant
+unfoldable pub right_text : Object → List ℕ
+right_text o = codes ", did you mean " ++ name_of o ++ codes "?"
+
+-- the object that was perhaps meant
+abbrev pub near_text : Option Object → List ℕ
+near_text None = []
+near_text (Some o) = right_text o
+
+-- that a name is none, with that object
+unfoldable pub near_end : Option Object → List ℕ
+near_end near = codes ": no such object" ++ near_text near ++ 10 ∷ []
+
+-- that no object has a name, with the one that was perhaps meant
+abbrev pub name_note : List ℕ → List ℕ
+name_note name = name ++ near_end (near_object name)
+
+-- of a member with its value, before these: where it names an object, is the version, or is neither
 abbrev pub member_note : Option Object → List ℕ → Json → Members → List ℕ
-member_note None name d later = if bytes_eq name (codes "version") then twice_note name d (next_of name later) else []
+member_note None name d later = if bytes_eq name (codes "version") then twice_note name d (next_of name later) else name_note name
 member_note (Some o) name d later = twice_note name d (next_of name later) ++ table_notes o d
 
 -- of the members of a text

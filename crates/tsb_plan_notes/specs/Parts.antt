@@ -1,5 +1,5 @@
 -- A number of JSON, and what it says where it was meant in seconds and has tenths.
-use Rattle.std.specs.Prelude.{ℕ, ◌+◌, ◌*◌, ◌-◌, ◌==◌, ◌&&◌, nat_le, if◌then◌else◌, Bool, false, is_some, List, length, take, drop, slice_index, Option, Some, None, option_and_then}
+use Rattle.std.specs.Prelude.{ℕ, ◌+◌, ◌*◌, ◌-◌, ◌==◌, ◌&&◌, nat_le, if◌then◌else◌, Bool, false, List, length, take, drop, slice_index, Option, Some, None, option_and_then}
 use Rattle.json.specs.Find.{as_number}
 use Rattle.json.specs.Json.{Json}
 use Rattle.tsb_lines.specs.Words.{number_of}
@@ -8,9 +8,9 @@ use Rattle.tsb_plan.specs.Objects.{indices}
 use Rattle.tsb_plan_notes.specs.declared.units.Unit.{Unit}
 use Rattle.tsb_plan_notes.specs.declared.units.Unit.TheVariants.{Tenths}
 
--- whether a value is a whole number of 32 bits: digits alone
-abbrev pub is_whole : Json → Bool
-is_whole d = is_some (option_and_then number_of (as_number d))
+-- a value that is a whole number of 32 bits: digits alone
+abbrev pub whole_of : Json → Option ℕ
+whole_of d = option_and_then number_of (as_number d)
 
 -- whole seconds and tenths of a second
 abbrev pub joined : Option ℕ → Option ℕ → Option ℕ

@@ -2,11 +2,11 @@
 ghost use Rattle.std.specs.Prelude.{◌≡◌, ◌++◌, OnOk, Some, option_map};
 ghost use Rattle.json.specs.Tree.{HasNumbers, MembersHaveNumbers};
 ghost use Rattle.json.specs.Value.{members_view, value_view};
-ghost use Rattle.tsb_plan_notes.specs.Notes.{entries_notes, entry_note, next_of, path_of, table_notes, twice_note, whole_note};
-ghost use Rattle.tsb_plan_notes.specs.Parts.{is_index, is_whole};
+ghost use Rattle.tsb_plan_notes.specs.Notes.{entries_notes, entry_note, next_of, path_of, table_notes, twice_note, value_note};
+ghost use Rattle.tsb_plan_notes.specs.Parts.{is_index, whole_of};
 
-use crate::lines::{add_twice, add_unit, path_of};
-use crate::numbers::{is_index, is_whole};
+use crate::lines::{add_index, add_over, add_twice, add_unit, path_of};
+use crate::numbers::{is_index, whole_of};
 use json::Value;
 use std::alloc::{AllocError, Global};
 use tsb_plan::Object;
@@ -73,10 +73,10 @@ fn add_entry<'a>(
 {
     let index = entry.0;
     if !is_index(object, index) {
-        return Ok(());
+        return add_index(alloc, object, index, notes);
     }
     add_again(alloc, object, index, &entry.1, later, notes)?;
-    add_whole(alloc, object, index, &entry.1, notes)
+    add_value_note(alloc, object, index, &entry.1, notes)
 }
 
 /// Adds that an index comes again, where it does.
@@ -117,8 +117,8 @@ fn add_twice_at(
     add_twice(alloc, &path, value, again, notes)
 }
 
-/// Adds that a value is no whole number, where it is none.
-fn add_whole(
+/// Adds the fault of a value that is no whole number or is out of range.
+fn add_value_note(
     alloc: Global,
     object: Object,
     index: &str,
@@ -127,11 +127,15 @@ fn add_whole(
 ) -> Result<(), AllocError>
     requires { HasNumbers (value_view value.now) }
     ensures { OnOk result (notes.new.items
-        ≡ notes.old.items ++ whole_note (is_whole (value_view value.now)) object index.now (value_view value.now)) }
+        ≡ notes.old.items ++ value_note (whole_of (value_view value.now)) object index.now (value_view value.now)) }
 {
-    if is_whole(value) {
-        Ok(())
-    } else {
-        add_unit(alloc, object, index, value, notes)
+    match whole_of(value) {
+        Some(number) => {
+            if number <= object.greatest() {
+                return Ok(());
+            }
+            add_over(alloc, object, index, value, notes)
+        }
+        None => add_unit(alloc, object, index, value, notes),
     }
 }

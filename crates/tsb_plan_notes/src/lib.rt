@@ -1,5 +1,5 @@
 //! Notes on a plan text: what the text says and the plan does not show. A name or an index that comes again in its
-//! table, of which the last counts; and a value that is no whole number.
+//! table, of which the last counts; a value that is no whole number; what is out of range, and what no object is named.
 //!
 //! The lines are "profile": this project's own choice.
 #![tactic(auto)]
@@ -8,6 +8,7 @@ mod entries;
 pub mod laws;
 mod lines;
 mod machine;
+mod near;
 mod next;
 mod numbers;
 mod place;

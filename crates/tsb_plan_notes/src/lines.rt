@@ -2,8 +2,10 @@
 ghost use Rattle.std.specs.Prelude.{◌≡◌, ◌++◌, IfOk, OnOk, Some};
 ghost use Rattle.json.specs.Tree.{HasNumbers};
 ghost use Rattle.json.specs.Value.{value_view};
-ghost use Rattle.tsb_plan_notes.specs.Notes.{fault_text, meant_text, path_of, shown, twice_note, unit_end, unit_note};
+ghost use Rattle.tsb_plan_notes.specs.Near.{near_object};
+ghost use Rattle.tsb_plan_notes.specs.Notes.{fault_text, greatest_end, index_note, meant_text, name_note, near_end, near_text, over_note, over_text, path_of, range_end, right_text, shown, twice_note, unit_end, unit_note};
 
+use crate::near::near_object;
 use crate::numbers::meant;
 use crate::units::{Unit, unit_of, unit_text};
 use itoa::Buffer;
@@ -113,4 +115,104 @@ fn add_meant(tenths: Option<u64>, notes: &mut Vec<u8>) -> Result<(), AllocError>
     let mut buffer = Buffer::new();
     notes.extend_from_slice(b", ")?;
     notes.extend_from_slice(buffer.format(tenths).as_bytes())
+}
+
+/// Adds that a value is out of range, with the range and its unit.
+pub(crate) fn add_over(
+    alloc: Global,
+    object: Object,
+    index: &str,
+    value: &Value<'_>,
+    notes: &mut Vec<u8>,
+) -> Result<(), AllocError>
+    requires { HasNumbers (value_view value.now) }
+    ensures { OnOk result (notes.new.items ≡ notes.old.items ++ over_note object index.now (value_view value.now)) }
+{
+    add_path(alloc, object, index, notes)?;
+    add_over_text(alloc, value, notes)?;
+    add_greatest(object, notes)
+}
+
+/// Adds that a value is out of range, up to the greatest.
+#[tactic(auto, unfolding(crate::specs::Notes::over_text))]
+fn add_over_text(alloc: Global, value: &Value<'_>, notes: &mut Vec<u8>) -> Result<(), AllocError>
+    requires { HasNumbers (value_view value.now) }
+    ensures { OnOk result (notes.new.items ≡ notes.old.items ++ over_text (value_view value.now)) }
+{
+    notes.extend_from_slice(b": ")?;
+    add_value(alloc, value, notes)?;
+    notes.extend_from_slice(b" is out of range, 0 to ")
+}
+
+/// Adds the greatest value of an object, the unit, and the end of the line.
+#[tactic(auto, unfolding(crate::specs::Notes::greatest_end))]
+fn add_greatest(object: Object, notes: &mut Vec<u8>) -> Result<(), AllocError>
+    ensures { OnOk result (notes.new.items ≡ notes.old.items ++ greatest_end object) }
+{
+    let mut buffer = Buffer::new();
+    notes.extend_from_slice(buffer.format(object.greatest()).as_bytes())?;
+    notes.extend_from_slice(unit_text(unit_of(object)))?;
+    notes.extend_from_slice(b"\n")
+}
+
+/// Adds that an object has no such index, with the range.
+pub(crate) fn add_index(
+    alloc: Global,
+    object: Object,
+    index: &str,
+    notes: &mut Vec<u8>,
+) -> Result<(), AllocError>
+    ensures { OnOk result (notes.new.items ≡ notes.old.items ++ index_note object index.now) }
+{
+    add_path(alloc, object, index, notes)?;
+    add_range(object, notes)
+}
+
+/// Adds that an index is none, the range of an object's indices, and the end of the line.
+#[tactic(auto, unfolding(crate::specs::Notes::range_end))]
+fn add_range(object: Object, notes: &mut Vec<u8>) -> Result<(), AllocError>
+    ensures { OnOk result (notes.new.items ≡ notes.old.items ++ range_end object) }
+{
+    let mut buffer = Buffer::new();
+    notes.extend_from_slice(b": no such index, 1 to ")?;
+    notes.extend_from_slice(buffer.format(object.indices()).as_bytes())?;
+    notes.extend_from_slice(b"\n")
+}
+
+/// Adds that no object has a name, and the object that was perhaps meant.
+pub(crate) fn add_name(name: &str, notes: &mut Vec<u8>) -> Result<(), AllocError>
+    ensures { OnOk result (notes.new.items ≡ notes.old.items ++ name_note name.now) }
+{
+    notes.extend_from_slice(name.as_bytes())?;
+    add_near_end(near_object(name), notes)
+}
+
+/// Adds that a name is none, the object that was perhaps meant, and the end of the line.
+#[tactic(auto, unfolding(crate::specs::Notes::near_end))]
+fn add_near_end(near: Option<Object>, notes: &mut Vec<u8>) -> Result<(), AllocError>
+    ensures { OnOk result (notes.new.items ≡ notes.old.items ++ near_end near) }
+{
+    notes.extend_from_slice(b": no such object")?;
+    add_near(near, notes)?;
+    notes.extend_from_slice(b"\n")
+}
+
+/// Adds the object that was perhaps meant.
+fn add_near(near: Option<Object>, notes: &mut Vec<u8>) -> Result<(), AllocError>
+    ensures { OnOk result (notes.new.items ≡ notes.old.items ++ near_text near) }
+{
+    match near {
+        Some(object) => add_right(object, notes),
+        None => Ok(()),
+    }
+}
+
+/// Adds that an object was perhaps meant.
+#[tactic(auto, unfolding(crate::specs::Notes::right_text))]
+fn add_right(object: Object, notes: &mut Vec<u8>) -> Result<(), AllocError>
+    ensures { OnOk result (notes.new.items ≡ notes.old.items ++ right_text object) }
+{
+    notes.extend_from_slice(b", did you mean ")?;
+    notes.extend_from_slice(object.name().as_bytes())?;
+    notes.extend_from_slice(b"?")
 }

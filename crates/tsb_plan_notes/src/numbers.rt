@@ -2,20 +2,20 @@
 ghost use Rattle.std.specs.Prelude.{◌≡◌, nat_le, option_and_then, option_map, slice_index};
 ghost use Rattle.json.specs.Find.{as_number};
 ghost use Rattle.json.specs.Value.{value_view};
-ghost use Rattle.tsb_plan_notes.specs.Parts.{is_index, is_whole, is_within, joined, meant, tenths_of};
+ghost use Rattle.tsb_plan_notes.specs.Parts.{is_index, is_within, joined, meant, tenths_of, whole_of};
 
 use crate::units::Unit;
 use json::Value;
 use tsb_lines::number;
 use tsb_plan::Object;
 
-/// Whether a value is a whole number of 0 to 4,294,967,295, written without point and exponent.
-pub(crate) fn is_whole(value: &Value<'_>) -> bool
-    ensures { result ≡ is_whole (value_view value.now) }
+/// A value that is a whole number of 0 to 4,294,967,295, written without point and exponent.
+pub(crate) fn whole_of(value: &Value<'_>) -> Option<u32>
+    ensures { result ≡ whole_of (value_view value.now) }
 {
     match value.as_number() {
-        Some(text) => number(text.as_bytes()).is_some(),
-        None => false,
+        Some(text) => number(text.as_bytes()),
+        None => None,
     }
 }
 

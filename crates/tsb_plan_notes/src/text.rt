@@ -1,5 +1,6 @@
 //! The notes on a text.
-ghost use Rattle.std.specs.Prelude.{◌≡◌, ◌++◌, IfOk, OnOk};
+ghost use Rattle.std.specs.Prelude.{◌≡◌, ◌++◌, [], Err, IfOk, IsOk, MatchResult, OnOk};
+ghost use Rattle.json.specs.declared.error.Error.TheVariants.{Invalid};
 ghost use Rattle.json.specs.Tree.{HasNumbers, MembersHaveNumbers};
 ghost use Rattle.json.specs.Value.{members_view, value_view};
 ghost use Rattle.tsb_plan.specs.declared.version.TheConstants.Version.{NEWEST};
@@ -7,7 +8,7 @@ ghost use Rattle.tsb_plan.specs.Names.{object_named};
 ghost use Rattle.tsb_plan_notes.specs.Notes.{member_note, members_notes, next_of, notes_of, twice_note, value_notes};
 
 use crate::entries::{add_table, next_of};
-use crate::lines::add_twice;
+use crate::lines::{add_name, add_twice};
 use json::{Error, Scratch, Value};
 use std::alloc::{AllocError, Global};
 use tsb_plan::{Object, Version};
@@ -16,19 +17,30 @@ use tsb_plan::{Object, Version};
 const VERSION: &str = "version";
 
 /// What is noted of a plan text: a line, with its line feed, for each member or index that comes again later in its
-/// table, with both values, of which the last counts; and one for each value that is no whole number, with its unit. The
-/// error is that memory ran out.
+/// table, with both values, of which the last counts; one for each value that is no whole number, with its unit; one for
+/// each value or index out of range, with the range; and one for each name that no object has, with the object that was
+/// perhaps meant. The error is that memory ran out.
 ///
-/// A text that is no JSON in UTF-8 has no notes. What has no name of an object, or is no index of it, is passed over: it is
-/// a fault of its own.
+/// A text that is no JSON in UTF-8 has no notes. Names and ranges are those of the newest version.
 pub fn notes(alloc: Global, text: &[u8]) -> Result<Vec<u8>, AllocError>
     ensures { IfOk result (λ notes. notes.items ≡ notes_of text.now) }
 {
     let mut scratch = Scratch::new(alloc);
-    match Value::from_slice(alloc, text, &mut scratch) {
-        Ok(value) => notes_on(alloc, &value),
+    let read = Value::from_slice(alloc, text, &mut scratch);
+    notes_read(alloc, &read)
+}
+
+/// What is noted of a text that was read so: nothing of one that is no JSON, which no error of this call ever answers.
+fn notes_read(alloc: Global, read: &Result<Value<'_>, Error>) -> Result<Vec<u8>, AllocError>
+    requires { IfOk read.now (λ value. HasNumbers (value_view value)) }
+    ensures notes { IfOk result (λ notes. MatchResult read.now (λ value. notes.items ≡ value_notes (value_view value))
+        (λ fault. (fault ≡ Invalid) × (notes.items ≡ []))) }
+    ensures fault { read.now ≡ Err Invalid → IsOk result }
+{
+    match read {
+        Ok(value) => notes_on(alloc, value),
         Err(Error::Invalid) => Ok(Vec::new(alloc)),
-        // Memory ran out. There is no other error of this call.
+        // Memory ran out. There is no other error of a reader of JSON texts.
         Err(_) => Err(AllocError),
     }
 }
@@ -80,7 +92,7 @@ fn add_member<'a>(
         }
         None => {
             if name != VERSION {
-                return Ok(());
+                return add_name(name, notes);
             }
             add_again(alloc, name, &member.1, later, notes)
         }

@@ -1,9 +1,12 @@
 -- Notes, computed.
 use Rattle.std.proofs.Common.{◌≡◌, [], Some, None, refl, codes}
+use Rattle.std.specs.Fmt.{digits}
 use Rattle.json.specs.Json.{Json, Members, member, no_members, number}
 use Rattle.json.specs.Print.{print_from}
 use Rattle.tsb_plan.specs.declared.object.Object.TheVariants.{PhaseMinimumGreen, PhaseRing}
-use Rattle.tsb_plan_notes.specs.Notes.{entries_notes, fault_text, path_of, unit_end}
+use Rattle.tsb_plan.specs.Objects.{objects}
+use Rattle.tsb_plan_notes.specs.Notes.{entries_notes, fault_text, greatest_end, over_text, path_of, range_end, unit_end}
+use Rattle.tsb_plan_notes.specs.Near.{near_object}
 use Rattle.tsb_plan_notes.specs.Parts.{is_index, tenths_of}
 
 -- one entry
@@ -34,3 +37,26 @@ twice : entries_notes PhaseRing (member (codes "1") (number (codes "1")) (entry 
     ≡ codes "phaseRing.1: it stands twice, as 1 and as 2, and the last one counts\n"
 unfolding is_index print_from path_of
 twice = refl
+
+-- the greatest value, and one more
+greatest : entries_notes PhaseMinimumGreen (entry (number (codes "255"))) ≡ []
+unfolding is_index
+greatest = refl
+
+over : entries_notes PhaseMinimumGreen (entry (number (codes "256"))) ≡ codes "phaseMinimumGreen.1: 256 is out of range, 0 to 255: seconds\n"
+unfolding is_index print_from path_of over_text greatest_end digits
+over = refl
+
+-- an index more than there are
+no-index : entries_notes PhaseRing (member (codes "17") (number (codes "1")) no_members) ≡ codes "phaseRing.17: no such index, 1 to 16\n"
+unfolding is_index path_of range_end digits
+no-index = refl
+
+-- a short form of a name, and a name that is near none
+short-form : near_object (codes "phaseMinGreen") ≡ Some PhaseMinimumGreen
+unfolding near_object objects
+short-form = refl
+
+unlike : near_object (codes "version4") ≡ None
+unfolding near_object objects
+unlike = refl

@@ -1,4 +1,4 @@
-use Rattle.std.proofs.Common.{◌≡◌, ◌∙◌, ◌≤◌, List, ℕ, ap, arith, codes, decimal, length, subst}
+use Rattle.std.proofs.Common.{◌≡◌, ◌∙◌, ◌≤◌, List, ℕ, arith, codes, decimal, length, subst}
 use Rattle.tsb_lines.proofs.ShortLemmas.{all-of, said, then}
 use Rattle.tsb_plan_notes.specs.Places.{end_text, wanted_text}
 use Rattle.tsb_plan_notes.proofs.PieceLemmas.{six-long}
