@@ -34,6 +34,7 @@ WAITING = [
     {"tsb_plan_notes some-is", "tsb_plan_text some_is"},
     {"tsb_plan_text few_of", "tsb_status_text few_indices"},
     {"tsb_breaches and-true", "tsb_field_log and-true"},
+    {"tsb_review_text short-object", "tsb_status_text short_name"},
 ]
 
 
