@@ -2,7 +2,7 @@
 
 It shows how tools/release makes its files and what it refuses, and nothing of what was proved: here the note of the
 gate is made up. The wheel goes into a new environment without network, which sees the system's packages; the Debian
-package is unpacked. The last line is `N passed, M failed`.
+package is installed into a folder, which needs root. The last line is `N passed, M failed`.
 """
 import hashlib
 import os
@@ -27,6 +27,8 @@ SECONDS = 600
 PIP = pathlib.Path("/usr/share/python-wheels")
 # Of the caller's environment only this is passed on, so that no other program or package is found.
 KEPT = {it: os.environ[it] for it in ("HOME", "LANG", "TMPDIR") if it in os.environ}
+# dpkg looks for its helpers, such as ldconfig, where the superuser's programs are.
+DPKG = {"PATH": f"{os.defpath}:/usr/sbin:/sbin"}
 
 
 class Wrong(Exception):
@@ -84,14 +86,30 @@ def the_wheel_works(made: pathlib.Path, room: pathlib.Path) -> None:
 
 
 def the_debian_package_works(made: pathlib.Path, room: pathlib.Path) -> None:
-    """Unpacked, and run from there."""
+    """Apt finds what it depends on; dpkg installs it into a folder, its programs run, and dpkg takes it all away."""
     package = next(made.glob("*.deb"))
-    ran(["dpkg-deb", "--extract", package, room / "root"], room, {})
     control = ran(["dpkg-deb", "--field", package, "Package", "Architecture", "Depends"], room, {})
     check("Package: tsb\n" in control and "libc6 (>= 2." in control, control)
-    programs = room / "root/usr/bin"
-    packages = str(room / "root/usr/lib/python3/dist-packages")
+    planned = ran(["apt-get", "--simulate", "--no-install-recommends", "install", package], room, {})
+    check(re.search(r"^Inst tsb ", planned, re.M) is not None, planned)
+    root = room / "root"
+    dpkg = installer(root)
+    ran([*dpkg, "--install", package], room, DPKG)
+    programs = root / "usr/bin"
+    packages = str(root / "usr/lib/python3/dist-packages")
     asked(programs, room, {"PYTHONPATH": packages, "PATH": f"{programs}:{os.defpath}"})
+    listed = ran([*dpkg, "--listfiles", "tsb"], room, DPKG).splitlines()
+    check("/usr/bin/tsb-py" in listed, "dpkg --listfiles")
+    ran([*dpkg, "--remove", "tsb"], room, DPKG)
+    check(not [it for it in listed if (root / it[1:]).is_file()], "dpkg --remove leaves a file")
+
+
+def installer(root: pathlib.Path) -> list[str | pathlib.Path]:
+    """The words of a dpkg for a folder of its own, which has none of the packages of the system."""
+    for name in ("info", "updates"):
+        (root / "var/lib/dpkg" / name).mkdir(parents=True)
+    (root / "var/lib/dpkg/status").touch()
+    return ["dpkg", f"--root={root}", f"--log={root}/log", "--force-depends", "--force-unsafe-io"]
 
 
 def the_archive_is_whole(made: pathlib.Path, room: pathlib.Path) -> None:
