@@ -5,7 +5,6 @@ ghost use Rattle.tsb_words.specs.declared.bench.Asked.{Asked};
 ghost use Rattle.tsb_words.specs.declared.error.WordsError.{WordsError};
 ghost use Rattle.tsb_words.specs.BenchWords.{Spells};
 ghost use Rattle.tsb_text.specs.tsb_objects.Checked.{checked_plan};
-ghost use Rattle.tsb.specs.Lines.{TellsWords};
 ghost use Rattle.tsb_program.specs.Statuses.{number};
 ghost use Rattle.tsb_program.specs.tsb_lines.Seen.{seen};
 ghost use Rattle.tsb.specs.Ends.{Checks, Judged, Ran, RanBuiltIn, Reported, Did, Talked};
@@ -14,51 +13,38 @@ use std::alloc::Global;
 use std::convert::AsStr;
 use std::io::{Read, Write};
 use tsb_program::{
-    Failure, Files, ReadError, Status, Watched, fail, line_of, log_of, plan_of, refuse, tell,
-    tell_end, write_line,
+    Failure, Files, ReadError, Status, Streams, Watched, fail, fail_file, line_of, log_of, plan_of,
+    refuse, tell_end, tell_words_fault, write_line,
 };
 use tsb_text::{Checked, Log, Plan, PlanError, session};
-use tsb_words::WordsError;
 use tsb_words::bench::{Asked, read_words};
+
+/// How the program is used.
+pub const USAGE: &[u8] = b"usage: tsb check PLAN or tsb run PLAN LOG\n";
 
 /// Does what the words ask for, the first of which is the program's name, and gives the status that the program ends
 /// with: 0 where all was done, 1 for a refused plan or log, 2 for bad words, 3 where a read, a write or memory failed.
 ///
-/// What `check` finds in a plan goes to `output`, and so do the answers of a session. The fault that ends `run` goes to
-/// `errors`, and so do bad words and failures.
+/// What `check` finds in a plan goes to the output, and so do the answers of a session. The fault that ends `run` goes to
+/// the errors, and so do bad words and failures. A second line names the file that was not read.
 pub fn run_words<S: AsStr, F: Files, R: Read, W: Write, E: Write>(
     alloc: Global,
     words: &[S],
     files: &F,
-    input: &mut Watched<R>,
-    output: &mut Watched<W>,
-    errors: &mut Watched<E>,
+    streams: &mut Streams<R, W, E>,
 ) -> u8
-    requires reads { input.old.failed ≡ false }
-    requires writes { output.old.failed ≡ false }
-    requires flushed { output.old.flushed ≡ true }
-    ensures { (answer : Result Asked WordsError) × Spells (map S.text words.now) answer × Did answer result (F.bytes files.now)
-        (seen R.remaining input.old) (seen R.remaining input.new) (seen W.contents output.old) (seen W.contents output.new) (seen E.contents errors.old) (seen E.contents errors.new) }
+    requires reads { streams.old.input.failed ≡ false }
+    requires writes { streams.old.output.failed ≡ false }
+    requires flushed { streams.old.output.flushed ≡ true }
+    ensures { (answer : Result Asked WordsError) × Spells (map S.text words.now) answer × Did answer result (F.bytes files.now) streams.old streams.new }
 {
     match read_words(alloc, words) {
-        Ok(Asked::Check(plan)) => check(alloc, plan, files, output, errors),
-        Ok(Asked::Run(plan, log)) => run(alloc, plan, log, files, input, output, errors),
-        Ok(Asked::BuiltIn) => run_built_in(alloc, input, output, errors),
-        Err(fault) => tell_words_fault(errors, fault),
-    }
-}
-
-/// Says why words ask for nothing, and gives the status that the program ends with.
-pub fn tell_words_fault<E: Write>(errors: &mut Watched<E>, fault: WordsError) -> u8
-    ensures { TellsWords fault result (seen E.contents errors.old) (seen E.contents errors.new) }
-{
-    match fault {
-        WordsError::Memory => fail(errors, Failure::Memory),
-        WordsError::Bad => tell(
-            errors,
-            Status::BadWords,
-            b"usage: tsb check PLAN or tsb run PLAN LOG\n",
-        ),
+        Ok(Asked::Check(plan)) => {
+            check(alloc, plan, files, &mut streams.output, &mut streams.errors)
+        }
+        Ok(Asked::Run(plan, log)) => run(alloc, plan, log, files, streams),
+        Ok(Asked::BuiltIn) => run_built_in(alloc, streams),
+        Err(fault) => tell_words_fault(&mut streams.errors, None, USAGE, fault),
     }
 }
 
@@ -70,20 +56,21 @@ fn check<F: Files, W: Write, E: Write>(
     output: &mut Watched<W>,
     errors: &mut Watched<E>,
 ) -> u8
-    ensures { Checks result (F.bytes files.now path.now)
+    ensures { Checks path.now result (F.bytes files.now path.now)
         (seen W.contents output.old) (seen W.contents output.new) (seen E.contents errors.old) (seen E.contents errors.new) }
 {
-    report(alloc, plan_of(alloc, files, path), output, errors)
+    report(alloc, path, plan_of(alloc, files, path), output, errors)
 }
 
-/// Reports what was found of a plan.
+/// Reports what was found of the plan in the file at this path.
 fn report<W: Write, E: Write>(
     alloc: Global,
+    path: &str,
     found: Result<Checked, ReadError<PlanError>>,
     output: &mut Watched<W>,
     errors: &mut Watched<E>,
 ) -> u8
-    ensures { Reported found result
+    ensures { Reported path.now found result
         (seen W.contents output.old) (seen W.contents output.new) (seen E.contents errors.old) (seen E.contents errors.new) }
 {
     match found {
@@ -92,7 +79,7 @@ fn report<W: Write, E: Write>(
             Ok(line) => judge(output, errors, Status::Refused, line.as_bytes()),
             Err(_) => fail(errors, Failure::Memory),
         },
-        Err(ReadError::Failed(fault)) => fail(errors, fault.failure()),
+        Err(ReadError::Failed(fault)) => fail_file(errors, path, fault),
     }
 }
 
@@ -118,44 +105,38 @@ fn run<F: Files, R: Read, W: Write, E: Write>(
     plan: &str,
     log: &str,
     files: &F,
-    input: &mut Watched<R>,
-    output: &mut Watched<W>,
-    errors: &mut Watched<E>,
+    streams: &mut Streams<R, W, E>,
 ) -> u8
-    requires reads { input.old.failed ≡ false }
-    requires writes { output.old.failed ≡ false }
-    requires flushed { output.old.flushed ≡ true }
-    ensures { Ran result (F.bytes files.now plan.now) (F.bytes files.now log.now) (seen R.remaining input.old) (seen R.remaining input.new)
-        (seen W.contents output.old) (seen W.contents output.new) (seen E.contents errors.old) (seen E.contents errors.new) }
+    requires reads { streams.old.input.failed ≡ false }
+    requires writes { streams.old.output.failed ≡ false }
+    requires flushed { streams.old.output.flushed ≡ true }
+    ensures { Ran result plan.now log.now (F.bytes files.now) streams.old streams.new }
 {
     let checked = match plan_of(alloc, files, plan) {
         Ok(checked) => checked,
-        Err(fault) => return refuse(alloc, errors, fault),
+        Err(fault) => return refuse(alloc, &mut streams.errors, plan, fault),
     };
     let rows = match log_of(alloc, files, log) {
         Ok(rows) => rows,
-        Err(fault) => return refuse(alloc, errors, fault),
+        Err(fault) => return refuse(alloc, &mut streams.errors, log, fault),
     };
-    talk(alloc, checked, &rows, input, output, errors)
+    talk(alloc, checked, &rows, streams)
 }
 
 /// Runs a session on the built-in plan of two phases with an empty log.
-fn run_built_in<R: Read, W: Write, E: Write>(
-    alloc: Global,
-    input: &mut Watched<R>,
-    output: &mut Watched<W>,
-    errors: &mut Watched<E>,
-) -> u8
-    requires reads { input.old.failed ≡ false }
-    requires writes { output.old.failed ≡ false }
-    requires flushed { output.old.flushed ≡ true }
-    ensures { RanBuiltIn result (seen R.remaining input.old) (seen R.remaining input.new)
-        (seen W.contents output.old) (seen W.contents output.new) (seen E.contents errors.old) (seen E.contents errors.new) }
+fn run_built_in<R: Read, W: Write, E: Write>(alloc: Global, streams: &mut Streams<R, W, E>) -> u8
+    requires reads { streams.old.input.failed ≡ false }
+    requires writes { streams.old.output.failed ≡ false }
+    requires flushed { streams.old.output.flushed ≡ true }
+    ensures { RanBuiltIn result streams.old streams.new }
 {
     match Checked::new(Plan::two()) {
-        Ok(plan) => talk(alloc, plan, &Log::empty(alloc), input, output, errors),
+        Ok(plan) => talk(alloc, plan, &Log::empty(alloc), streams),
         // It meets the rules.
-        Err(rule) => refuse(alloc, errors, ReadError::Refused(PlanError::Rule(rule))),
+        Err(rule) => {
+            let fault = ReadError::Refused(PlanError::Rule(rule));
+            refuse(alloc, &mut streams.errors, "", fault)
+        }
     }
 }
 
@@ -164,18 +145,15 @@ fn talk<R: Read, W: Write, E: Write>(
     alloc: Global,
     plan: Checked,
     log: &Log,
-    input: &mut Watched<R>,
-    output: &mut Watched<W>,
-    errors: &mut Watched<E>,
+    streams: &mut Streams<R, W, E>,
 ) -> u8
-    requires reads { input.old.failed ≡ false }
-    requires writes { output.old.failed ≡ false }
-    requires flushed { output.old.flushed ≡ true }
-    ensures { Talked result (record { plan = checked_plan plan; log = log.now }) (seen R.remaining input.old) (seen R.remaining input.new)
-        (seen W.contents output.old) (seen W.contents output.new) (seen E.contents errors.old) (seen E.contents errors.new) }
+    requires reads { streams.old.input.failed ≡ false }
+    requires writes { streams.old.output.failed ≡ false }
+    requires flushed { streams.old.output.flushed ≡ true }
+    ensures { Talked result (record { plan = checked_plan plan; log = log.now }) streams.old streams.new }
 {
-    match session(alloc, plan, log, input, output) {
+    match session(alloc, plan, log, &mut streams.input, &mut streams.output) {
         Ok(()) => Status::Done.number(),
-        Err(fault) => tell_end(errors, fault),
+        Err(fault) => tell_end(&mut streams.errors, fault),
     }
 }

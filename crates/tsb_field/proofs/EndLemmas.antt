@@ -4,6 +4,7 @@ use Rattle.std.specs.declared.result.Result.{Result}
 use Rattle.std.proofs.lemmas.Bool.{true≢false}
 use Rattle.std.specs.Prelude.{Err, None, Some, Vec}
 use Rattle.std.specs.declared.option.Option.{Option}
+use Rattle.tsb_program.specs.Devices.{Devices}
 use Rattle.tsb_program.specs.Failures.{Fails}
 use Rattle.tsb_program.specs.declared.failure.Failure.{Failure}
 use Rattle.tsb_program.specs.tsb_lines.Seen.{Seen}
@@ -47,7 +48,7 @@ use Rattle.tsb_field_streams.specs.declared.filter.Reading.{Reading}
 use Rattle.tsb_field_streams.specs.declared.filter.Summary.{Summary}
 use Rattle.tsb_field.specs.LogEnds.{IsPassedOn, Logged, LoggedBeside, LoggedTelling, LoggedWith, NoPlan, TellsFault, TellsWhere}
 use Rattle.tsb_words.specs.FieldWords.{LogWish}
-use Rattle.tsb_field.specs.Ends.{Drawn, Draws, IsDiagram, LogNamed, NamesLog, NoRun, NotDrawn, Pictured, Recorded, RecordedOn, Stops, Told, ToldOn, Writes, WritesMade, failure_by, name_of}
+use Rattle.tsb_field.specs.Ends.{Drawn, Draws, IsDiagram, LogNamed, NamesLog, NoRun, NotDrawn, PicturedBeside, Recorded, RecordedOn, Stops, Told, ToldOn, Writes, WritesMade, failure_by, name_of}
 
 -- there is no log
 pub stops : (fault : ReadError LogError) (known : List ℕ → Option (List ℕ)) (path : Option (List ℕ)) (name : List ℕ) (status : ℕ) (told tells : Seen) → name ≡ name_of path → LogNamed (Err fault) known path
@@ -74,11 +75,11 @@ stops-there (faults.Failed why) status rows files told tells read line = inr (wh
 stops-there (faults.Refused fault) status rows files told tells read line = inl (fault, read, line)
 
 -- a record on a plan that was found
-pub recorded-on : (status : ℕ) (from : Moment) (device : List ℕ) (options : RecordOptions) (found : Plan) (plan rows : List ℕ) (files : List ℕ → Option (List ℕ)) (input left old new told tells : Seen) → HasPlan (files plan) found
-    → RecordedOn status from device options found rows files input left old new told tells → Recorded status from device options plan rows files input left old new told tells
-recorded-on status from device options found plan rows files input left old new told tells has recorded = elim recorded [
+pub recorded-on : (status : ℕ) (from : Moment) (device : List ℕ) (options : RecordOptions) (found : Plan) (plan rows : List ℕ) (files : List ℕ → Option (List ℕ)) (before after : Devices) → HasPlan (files plan) found
+    → RecordedOn status from device options found rows files before after → Recorded status from device options plan rows files before after
+recorded-on status from device options found plan rows files before after has recorded = elim recorded [
   | inl ran ↦ inl (record { plan = found; log = ran.0 }, has, ran.1, ran.2)
-  | inr none ↦ inr (none.0, none.1, elim none.2 [ inl refused ↦ inr (inl (found, has, refused.0, refused.1, refused.2)) | inr failed ↦ inr (inr (inr (found, has, failed))) ])
+  | inr none ↦ inr (none.0, elim none.1 [ inl refused ↦ inr (inl (found, has, refused.0, refused.1, refused.2)) | inr failed ↦ inr (inr (inr (found, has, failed))) ])
 ]
 
 -- what was handed on is the same
@@ -95,22 +96,25 @@ writes-made (Err events.Memory) status from device all old new told tells log wr
 writes-made (Err events.Late) status from device all old new told tells log writes = inr (inr (log, writes.0, writes.1))
 
 -- the events of a session that was read
-pub told-read : (from : Moment) (device : List ℕ) (rows : List LogRow) (replay : Replay) (status : ℕ) (input left old new told tells : Seen) → ReplayRead (Ok replay) left.failed input.bytes left.bytes
-    → Writes status from device (session_events (changes_in replay) rows) old new told tells → ToldOn status from device rows input left old new told tells
-told-read from device rows replay status input left old new told tells read writes = elim writes [
+pub told-read : (from : Moment) (device : List ℕ) (rows : List LogRow) (replay : Replay) (status : ℕ) (before after : Devices)
+    → ReplayRead (Ok replay) after.input.failed before.input.bytes after.input.bytes
+    → Writes status from device (session_events (changes_in replay) rows) before.output after.output before.errors after.errors → ToldOn status from device rows before after
+told-read from device rows replay status before after read writes = elim writes [
   | inl text ↦ inl (inl (read.bytes, read.taken, read.so.0, read.so.1, text.0, subst (λ (shown : List Shown). IsLog from device (session_events shown rows) text.0) read.so.2.changes text.1, text.2))
   | inr none ↦ elim none [ inl memory ↦ inl (inr (read.bytes, read.taken, memory.0, inr (read.so.0, memory.1))) | inr late ↦ inr (read.bytes, read.taken, read.so.0, late.0, late.1, late.2) ]
 ]
 
 -- beside the log that words name
-pub told-on : (status : ℕ) (from : Moment) (device : List ℕ) (rows : List LogRow) (files : List ℕ → Option (List ℕ)) (path : Option (List ℕ)) (input left old new told tells : Seen) → NamesLog files path rows
-    → ToldOn status from device rows input left old new told tells → Told status from device files path input left old new told tells
-told-on status from device rows files path input left old new told tells names on = elim on [ inl drawn ↦ inr (inl (rows, names, drawn)) | inr late ↦ inr (inr late) ]
+pub told-on : (status : ℕ) (from : Moment) (device : List ℕ) (rows : List LogRow) (files : List ℕ → Option (List ℕ)) (path : Option (List ℕ)) (before after : Devices) → NamesLog files path rows
+    → ToldOn status from device rows before after → Told status from device files path before after
+told-on status from device rows files path before after names on = elim on [ inl drawn ↦ inr (inl (rows, names, drawn)) | inr late ↦ inr (inr late) ]
 
 -- the picture of a session that was read
-pub drawn-read : (title : List ℕ) (seconds : ℕ) (from : Option Moment) (ends : List GreenEnd) (rows : List LogRow) (replay : Replay) (status : ℕ) (input left old new told tells : Seen) → ReplayRead (Ok replay) left.failed input.bytes left.bytes
-    → Draws (diagram_text title seconds from (changes_in replay) (last_in replay) rows ends) status old new told tells → Drawn (IsDiagram title seconds from ends) status rows input left old new told tells
-drawn-read title seconds from ends rows replay status input left old new told tells read draws = elim draws [
+pub drawn-read : (title : List ℕ) (seconds : ℕ) (from : Option Moment) (ends : List GreenEnd) (rows : List LogRow) (replay : Replay) (status : ℕ) (before after : Devices)
+    → ReplayRead (Ok replay) after.input.failed before.input.bytes after.input.bytes
+    → Draws (diagram_text title seconds from (changes_in replay) (last_in replay) rows ends) status before.output after.output before.errors after.errors
+    → Drawn (IsDiagram title seconds from ends) status rows before after
+drawn-read title seconds from ends rows replay status before after read draws = elim draws [
   | inl written ↦ inl (
     read.bytes,
     read.taken,
@@ -123,17 +127,12 @@ drawn-read title seconds from ends rows replay status input left old new told te
   | inr memory ↦ inr (read.bytes, read.taken, memory.0, inr (read.so.0, memory.1))
 ]
 
-pub recorded-as : (status : ℕ) (from : Moment) (device : List ℕ) (other options : RecordOptions) (plan rows : List ℕ) (files : List ℕ → Option (List ℕ)) (input left old new told tells : Seen) → other ≡ options
-    → Recorded status from device other plan rows files input left old new told tells → Recorded status from device options plan rows files input left old new told tells
-recorded-as status from device other options plan rows files input left old new told tells same recorded =
-    subst (λ (w : RecordOptions). Recorded status from device w plan rows files input left old new told tells) same recorded
-
-pub pictured-as : (status : ℕ) (title other : List ℕ) (seconds more : ℕ) (from : Option Moment) (source : Option (List ℕ)) (known : List ℕ → Option (List ℕ)) (path : Option (List ℕ)) (input left old new told tells : Seen)
-    → other ≡ title → more ≡ seconds → Pictured status other more from source known path input left old new told tells
-    → Pictured status title seconds from source known path input left old new told tells
-pictured-as status title other seconds more from source known path input left old new told tells same_title same_seconds drawn =
-    subst (λ (t : List ℕ). Pictured status t seconds from source known path input left old new told tells) same_title
-    (subst (λ (s : ℕ). Pictured status other s from source known path input left old new told tells) same_seconds drawn)
+-- the picture of a session with this title and so many seconds a line
+pub beside-as : (source : Option (List ℕ)) (from : Option Moment) (status : ℕ) (title other : List ℕ) (seconds more : ℕ) (rows : List LogRow) (known : List ℕ → Option (List ℕ)) (before after : Devices)
+    → other ≡ title → more ≡ seconds → PicturedBeside source from status other more rows known before after → PicturedBeside source from status title seconds rows known before after
+beside-as source from status title other seconds more rows known before after same_title same_seconds drawn =
+    subst (λ (t : List ℕ). PicturedBeside source from status t seconds rows known before after) same_title
+    (subst (λ (s : ℕ). PicturedBeside source from status other s rows known before after) same_seconds drawn)
 
 -- why the event log of a diagram gives no ends of greens
 pub no-ends : (fault : ReadError EndsError) (from : Moment) (path : List ℕ) (files : List ℕ → Option (List ℕ)) (status : ℕ) (told tells : Seen)
@@ -182,18 +181,19 @@ passed-on (Err e) s blame flushed = inl blame
 -- ## Events of outputs of detectors
 
 -- what was told of a log, and then of its detectors
-pub told-more : (text : List ℕ) (wrote status : ℕ) (wish : LogWish) (input left old new told mid tells : Seen) → status ≡ wrote → Logged wrote wish input left old new told mid
-    → TellsWhere (wrote == 0 && not mid.failed) text mid tells → LoggedTelling text status wish input left old new told tells
-told-more text wrote status wish input left old new told mid tells same logged more = (
+pub told-more : (text : List ℕ) (wrote status : ℕ) (wish : LogWish) (before after : Devices) (mid : Seen) → status ≡ wrote
+    → Logged wrote wish before.input after.input before.output after.output before.errors mid
+    → TellsWhere (wrote == 0 && not mid.failed) text mid after.errors → LoggedTelling text status wish before after
+told-more text wrote status wish before after mid same logged more = (
   mid,
-  subst (λ (s : ℕ). Logged s wish input left old new told mid) (sym same) logged,
-  subst (λ (s : ℕ). TellsWhere (s == 0 && not mid.failed) text mid tells) (sym same) more,
+  subst (λ (s : ℕ). Logged s wish before.input after.input before.output after.output before.errors mid) (sym same) logged,
+  subst (λ (s : ℕ). TellsWhere (s == 0 && not mid.failed) text mid after.errors) (sym same) more,
 )
 
 -- a log was made beside a plan that was found
-pub logged-beside : (plan : Plan) (path : List ℕ) (status : ℕ) (wish : LogWish) (files : List ℕ → Option (List ℕ)) (input left old new told tells : Seen) → HasPlan (files path) plan
-    → LoggedWith plan status wish input left old new told tells → LoggedBeside path status wish files input left old new told tells
-logged-beside plan path status wish files input left old new told tells has logged = elim logged [
+pub logged-beside : (plan : Plan) (path : List ℕ) (status : ℕ) (wish : LogWish) (files : List ℕ → Option (List ℕ)) (before after : Devices) → HasPlan (files path) plan
+    → LoggedWith plan status wish before after → LoggedBeside path status wish files before after
+logged-beside plan path status wish files before after has logged = elim logged [
   | inl telling ↦ inl (plan, has, telling)
   | inr none ↦ inr (none.0, none.1, inr (causes.Memory, none.2))
 ]

@@ -1,7 +1,8 @@
 -- How the program ends, and what it has then written on its output and of faults.
 --
--- Of each stream there is what is seen before and after: `input` and `left`, `old` and `new`, `told` and `tells`.
-use Rattle.std.specs.Prelude.{◌≡◌, ◌⊎◌, ℕ, Bool, true, false, List, [], IsSome, Option, Some, None, Result, Ok, Err, Vec, unwrap_or, codes}
+-- `before` and `after` are what is seen of all devices; of the output alone that is `old` and `new`, and of faults `told`
+-- and `tells`.
+use Rattle.std.specs.Prelude.{◌≡◌, ◌⊎◌, ℕ, Bool, not, true, false, List, [], IsSome, Option, Some, None, Result, Ok, Err, Vec, unwrap_or, codes}
 use Rattle.std.specs.Io.KnownBytes.{Consumes, IsAtEnd}
 use Rattle.tsb_lines.specs.Writes.{AppendsFront}
 use Rattle.tsb_program.specs.Read.{HasLog, HasPlan, RefusesLog, RefusesPlanAt}
@@ -29,8 +30,6 @@ use Rattle.tsb_field_display.specs.Merge.{session_events}
 use Rattle.tsb_field_display.specs.Texts.{IsLog}
 use Rattle.tsb_field_display.specs.Ticks.{AreWritten}
 use Rattle.tsb_text.specs.recording.Ended as recorded
-use Rattle.tsb_text.specs.declared.faults.OnFault.{OnFault}
-use Rattle.tsb_text.specs.declared.faults.OnFault.TheVariants.{GoOn, Stop}
 use Rattle.tsb_text.specs.declared.recording.RecordOptions.{RecordOptions}
 use Rattle.tsb_text.specs.declared.recording.Outcome.{Outcome}
 use Rattle.tsb_text.specs.declared.recording.Outcome.TheVariants as outcomes
@@ -46,10 +45,16 @@ use Rattle.tsb_words.specs.FieldWords.{Wish, diagram, events, log, recording, re
 use Rattle.tsb_words.specs.declared.field_files.Asked.{Asked}
 use Rattle.tsb_words.specs.declared.field_files.RecordManner.{RecordManner}
 use Rattle.tsb_words.specs.declared.error.WordsError.{WordsError}
-use Rattle.tsb_field.specs.Lines.{TellsLate, TellsWords}
+use Rattle.tsb_program.specs.Devices.{Devices}
+use Rattle.tsb_program.specs.Runs.{TellsWords, after_fault}
+use Rattle.tsb_field.specs.Lines.{TellsLate, usage_for}
 use Rattle.tsb_field.specs.GreenEnds.{HasEnds, NoEnds}
 use Rattle.tsb_field.specs.LogEnds.{LoggedOn}
 use Rattle.tsb_field.specs.ReviewEnds.{Reviewed}
+
+-- nothing was read and nothing answered
+abbrev pub IsSilent : (before after : Devices) → Type 0
+IsSilent before after = (after.input ≡ before.input) × (after.output ≡ before.output)
 
 -- ## What words name
 
@@ -103,11 +108,13 @@ NotDrawn failed bytes status told tells =
 
 -- all that a session answered was read, and of this text, which comes of its display lines and the log's rows, as much is
 -- written as the writer takes; or reading it or memory failed, and nothing is written
-abbrev pub Drawn : (List Shown → Option ℕ → List LogRow → List ℕ → Type 0) → ℕ → List LogRow → (input left old new told tells : Seen) → Type 0
-Drawn Is status rows input left old new told tells =
-    ((bytes : List ℕ) × Consumes input.bytes left.bytes bytes × (left.failed ≡ false) × IsAtEnd left.bytes × (text : List ℕ)
-    × Is (changes_of (remaining (shown_lines bytes))) (last_tick (shown_lines bytes)) rows text × Written status text old new told tells)
-    ⊎ ((bytes : List ℕ) × Consumes input.bytes left.bytes bytes × (new ≡ old) × NotDrawn left.failed bytes status told tells)
+abbrev pub Drawn : (List Shown → Option ℕ → List LogRow → List ℕ → Type 0) → ℕ → List LogRow → (before after : Devices) → Type 0
+Drawn Is status rows before after =
+    ((bytes : List ℕ) × Consumes before.input.bytes after.input.bytes bytes × (after.input.failed ≡ false) × IsAtEnd after.input.bytes × (text : List ℕ)
+    × Is (changes_of (remaining (shown_lines bytes))) (last_tick (shown_lines bytes)) rows text
+    × Written status text before.output after.output before.errors after.errors)
+    ⊎ ((bytes : List ℕ) × Consumes before.input.bytes after.input.bytes bytes × (after.output ≡ before.output)
+    × NotDrawn after.input.failed bytes status before.errors after.errors)
 
 -- ## `events`
 
@@ -115,19 +122,21 @@ Drawn Is status rows input left old new told tells =
 abbrev pub IsEvents : Moment → List ℕ → List Shown → Option ℕ → List LogRow → List ℕ → Type 0
 IsEvents from device changes last rows text = IsLog from device (session_events changes rows) text
 
+-- all was read and nothing is written, since with 2 a tick has no time
+abbrev pub IsLate : Moment → ℕ → (before after : Devices) → Type 0
+IsLate from status before after =
+    (bytes : List ℕ) × Consumes before.input.bytes after.input.bytes bytes × (after.input.failed ≡ false) × (AreWritten from → ⊥)
+    × (after.output ≡ before.output) × TellsLate status before.errors after.errors
+
 -- the events of what was read are written; or nothing is: there is no log, or with 2 a tick has no time
-abbrev pub Told : ℕ → Moment → List ℕ → (List ℕ → Option (List ℕ)) → Option (List ℕ) → (input left old new told tells : Seen) → Type 0
-Told status from device files path input left old new told tells =
-    ((left ≡ input) × (new ≡ old) × Stops files path status told tells)
-    ⊎ (((rows : List LogRow) × NamesLog files path rows × Drawn (IsEvents from device) status rows input left old new told tells)
-    ⊎ ((bytes : List ℕ) × Consumes input.bytes left.bytes bytes × (left.failed ≡ false) × (AreWritten from → ⊥) × (new ≡ old)
-    × TellsLate status told tells))
+abbrev pub Told : ℕ → Moment → List ℕ → (List ℕ → Option (List ℕ)) → Option (List ℕ) → (before after : Devices) → Type 0
+Told status from device files path before after =
+    (IsSilent before after × Stops files path status before.errors after.errors)
+    ⊎ (((rows : List LogRow) × NamesLog files path rows × Drawn (IsEvents from device) status rows before after) ⊎ IsLate from status before after)
 
 -- the events of what was read are written, with these rows of a log; or nothing is, since with 2 a tick has no time
-abbrev pub ToldOn : ℕ → Moment → List ℕ → List LogRow → (input left old new told tells : Seen) → Type 0
-ToldOn status from device rows input left old new told tells =
-    Drawn (IsEvents from device) status rows input left old new told tells
-    ⊎ ((bytes : List ℕ) × Consumes input.bytes left.bytes bytes × (left.failed ≡ false) × (AreWritten from → ⊥) × (new ≡ old) × TellsLate status told tells)
+abbrev pub ToldOn : ℕ → Moment → List ℕ → List LogRow → (before after : Devices) → Type 0
+ToldOn status from device rows before after = Drawn (IsEvents from device) status rows before after ⊎ IsLate from status before after
 
 -- ## `record`
 
@@ -152,14 +161,12 @@ WritesMade (Ok text) status old new told tells = Written status text.items old n
 WritesMade (Err ends.Memory) status old new told tells = (new ≡ old) × Fails Memory status told tells
 WritesMade (Err ends.Late) status old new told tells = (new ≡ old) × TellsLate status told tells
 
--- what a record does after a line with which something is wrong, as words say
-abbrev pub on_fault_of : Bool → OnFault
-on_fault_of true = GoOn
-on_fault_of false = Stop
-
--- what is asked of a record, as words say
+-- what is asked of a record, as words say: it is strict where it does not go on
 abbrev pub options_of : RecordManner → RecordOptions
-options_of manner = record { on_fault = on_fault_of manner.goes_on; form = record { recalls = manner.recalls; outputs = manner.outputs } }
+options_of manner = record {
+  on_fault = after_fault (not manner.goes_on);
+  form = record { recalls = manner.recalls; outputs = manner.outputs };
+}
 
 -- a run ended well; or with nothing written: with 4 because a line ended it, of which no more is told, or by a fault
 abbrev pub WritesEnd : Result Outcome SessionError → ℕ → Moment → List ℕ → (old new told tells : Seen) → Type 0
@@ -169,22 +176,23 @@ WritesEnd (Err fault) status from device old new told tells = (new ≡ old) × T
 
 -- commands were run on a plan and a log, and told of what was refused, by a fault of a device exactly where a call of that
 -- device has failed; and then this was written
-abbrev pub RanSo : ℕ → Moment → List ℕ → RecordOptions → Setup → (input left old new told tells : Seen) → Type 0
-RanSo status from device options given input left old new told tells =
-    (result : Result Outcome SessionError) × (mid : Seen) × recorded.Ended result options.on_fault options.form given input.bytes left.bytes told.bytes mid.bytes
-    × Blames result left.failed mid.failed mid.flushed × WritesEnd result status from device old new mid tells
+abbrev pub RanSo : ℕ → Moment → List ℕ → RecordOptions → Setup → (before after : Devices) → Type 0
+RanSo status from device options given before after =
+    (result : Result Outcome SessionError) × (mid : Seen)
+    × recorded.Ended result options.on_fault options.form given before.input.bytes after.input.bytes before.errors.bytes mid.bytes
+    × Blames result after.input.failed mid.failed mid.flushed × WritesEnd result status from device before.output after.output mid after.errors
 
 -- how `record` ended on this plan and the log in the file of this name: after a run, or with nothing read and nothing written
-abbrev pub RecordedOn : ℕ → Moment → List ℕ → RecordOptions → Plan → (rows : List ℕ) → (List ℕ → Option (List ℕ)) → (input left old new told tells : Seen) → Type 0
-RecordedOn status from device options plan rows files input left old new told tells =
-    ((log : List LogRow) × HasLog (files rows) log × RanSo status from device options (record { plan = plan; log = log }) input left old new told tells)
-    ⊎ ((left ≡ input) × (new ≡ old) × Stops files (Some rows) status told tells)
+abbrev pub RecordedOn : ℕ → Moment → List ℕ → RecordOptions → Plan → (rows : List ℕ) → (List ℕ → Option (List ℕ)) → (before after : Devices) → Type 0
+RecordedOn status from device options plan rows files before after =
+    ((log : List LogRow) × HasLog (files rows) log × RanSo status from device options (record { plan = plan; log = log }) before after)
+    ⊎ (IsSilent before after × Stops files (Some rows) status before.errors after.errors)
 
 -- how `record` ended on the files of a plan and a log, of these names: after a run, or with nothing read and nothing written
-abbrev pub Recorded : ℕ → Moment → List ℕ → RecordOptions → (plan rows : List ℕ) → (List ℕ → Option (List ℕ)) → (input left old new told tells : Seen) → Type 0
-Recorded status from device options plan rows files input left old new told tells =
-    ((given : Setup) × HasPlan (files plan) given.plan × HasLog (files rows) given.log × RanSo status from device options given input left old new told tells)
-    ⊎ ((left ≡ input) × (new ≡ old) × NoRun plan rows files status told tells)
+abbrev pub Recorded : ℕ → Moment → List ℕ → RecordOptions → (plan rows : List ℕ) → (List ℕ → Option (List ℕ)) → (before after : Devices) → Type 0
+Recorded status from device options plan rows files before after =
+    ((given : Setup) × HasPlan (files plan) given.plan × HasLog (files rows) given.log × RanSo status from device options given before after)
+    ⊎ (IsSilent before after × NoRun plan rows files status before.errors after.errors)
 
 -- ## `diagram`
 
@@ -206,52 +214,45 @@ Draws text status old new told tells = Written status text old new told tells �
 
 -- the picture of what was read is written, with the ends of greens in the event log of this file; or nothing is, since it
 -- has none
-abbrev pub PicturedTold : Moment → List ℕ → ℕ → List ℕ → ℕ → List LogRow → (List ℕ → Option (List ℕ)) → (input left old new told tells : Seen) → Type 0
-PicturedTold from source status title seconds rows files input left old new told tells =
-    ((left ≡ input) × (new ≡ old) × NoEnds from source files status told tells)
-    ⊎ ((greens : List GreenEnd) × HasEnds from (files source) greens
-    × Drawn (IsDiagram title seconds (Some from) greens) status rows input left old new told tells)
+abbrev pub PicturedTold : Moment → List ℕ → ℕ → List ℕ → ℕ → List LogRow → (List ℕ → Option (List ℕ)) → (before after : Devices) → Type 0
+PicturedTold from source status title seconds rows files before after =
+    (IsSilent before after × NoEnds from source files status before.errors after.errors)
+    ⊎ ((greens : List GreenEnd) × HasEnds from (files source) greens × Drawn (IsDiagram title seconds (Some from) greens) status rows before after)
 
--- the same, where words name a moment to count from; or without ends
-abbrev pub PicturedBy : Option Moment → List ℕ → ℕ → List ℕ → ℕ → List LogRow → (List ℕ → Option (List ℕ)) → (input left old new told tells : Seen) → Type 0
-PicturedBy (Some from) source status title seconds rows files input left old new told tells =
-    PicturedTold from source status title seconds rows files input left old new told tells
-PicturedBy None source status title seconds rows files input left old new told tells =
-    Drawn (IsDiagram title seconds None []) status rows input left old new told tells
-
--- the same, where words name events; or without ends
-abbrev pub PicturedBeside : Option Moment → Option (List ℕ) → ℕ → List ℕ → ℕ → List LogRow → (List ℕ → Option (List ℕ)) → (input left old new told tells : Seen) → Type 0
-PicturedBeside from (Some source) status title seconds rows files input left old new told tells =
-    PicturedBy from source status title seconds rows files input left old new told tells
-PicturedBeside from None status title seconds rows files input left old new told tells =
-    Drawn (IsDiagram title seconds from []) status rows input left old new told tells
+-- the same, where words name events and a moment to count from; or without ends
+abbrev pub PicturedBeside : Option (List ℕ) → Option Moment → ℕ → List ℕ → ℕ → List LogRow → (List ℕ → Option (List ℕ)) → (before after : Devices) → Type 0
+PicturedBeside (Some source) (Some from) status title seconds rows files before after =
+    PicturedTold from source status title seconds rows files before after
+PicturedBeside source from status title seconds rows files before after = Drawn (IsDiagram title seconds from []) status rows before after
 
 -- the picture of what was read is written; or nothing is, since there is no log, or no end of a green
-abbrev pub Pictured : ℕ → List ℕ → ℕ → Option Moment → Option (List ℕ) → (List ℕ → Option (List ℕ)) → Option (List ℕ) → (input left old new told tells : Seen) → Type 0
-Pictured status title seconds from source files path input left old new told tells =
-    ((left ≡ input) × (new ≡ old) × Stops files path status told tells)
-    ⊎ ((rows : List LogRow) × NamesLog files path rows
-    × PicturedBeside from source status title seconds rows files input left old new told tells)
+abbrev pub Pictured : ℕ → List ℕ → ℕ → Option Moment → Option (List ℕ) → (List ℕ → Option (List ℕ)) → Option (List ℕ) → (before after : Devices) → Type 0
+Pictured status title seconds from source files path before after =
+    (IsSilent before after × Stops files path status before.errors after.errors)
+    ⊎ ((rows : List LogRow) × NamesLog files path rows × PicturedBeside source from status title seconds rows files before after)
 
 -- ## What is done
 
 -- what was done for a wish, where files has the known bytes of each path
-abbrev pub DidWish : Wish → ℕ → (List ℕ → Option (List ℕ)) → (input left old new told tells : Seen) → Type 0
-DidWish (log wish) status files input left old new told tells = LoggedOn wish.as_outputs status wish files input left old new told tells
-DidWish (recording from device plan file manner) status files input left old new told tells =
-    Recorded status from device (options_of manner) plan file files input left old new told tells
-DidWish (events from device path) status files input left old new told tells = Told status from device files path input left old new told tells
-DidWish (diagram path title seconds from told_by) status files input left old new told tells =
-    Pictured status (title_of title) (seconds_of seconds) from told_by files path input left old new told tells
-DidWish (reviewing plan) status files input left old new told tells = (left ≡ input) × Reviewed status plan (files plan) old new told tells
+abbrev pub DidWish : Wish → ℕ → (List ℕ → Option (List ℕ)) → (before after : Devices) → Type 0
+DidWish (log wish) status files before after = LoggedOn wish.as_outputs status wish files before after
+DidWish (recording from device plan file manner) status files before after =
+    Recorded status from device (options_of manner) plan file files before after
+DidWish (events from device path) status files before after = Told status from device files path before after
+DidWish (diagram path title seconds from told_by) status files before after =
+    Pictured status (title_of title) (seconds_of seconds) from told_by files path before after
+DidWish (reviewing plan) status files before after =
+    (after.input ≡ before.input) × Reviewed status plan (files plan) before.output after.output before.errors after.errors
 
 -- what was done for what the words ask, where this right word is near a bad one, or `--from` names no moment
-abbrev pub Did : Option (List ℕ) → Bool → Result Asked WordsError → ℕ → (List ℕ → Option (List ℕ)) → (input left old new told tells : Seen) → Type 0
-Did near bad_from (Ok asked) status files input left old new told tells = DidWish (seen asked) status files input left old new told tells
-Did near bad_from (Err fault) status files input left old new told tells = (left ≡ input) × (new ≡ old) × TellsWords near bad_from fault status told tells
+abbrev pub Did : Option (List ℕ) → Bool → Result Asked WordsError → ℕ → (List ℕ → Option (List ℕ)) → (before after : Devices) → Type 0
+Did near bad_from (Ok asked) status files before after = DidWish (seen asked) status files before after
+Did near bad_from (Err fault) status files before after =
+    IsSilent before after × TellsWords near (usage_for bad_from) fault status before.errors after.errors
 
 -- the page that words ask for, if any, is written, with nothing read; else what the words ask was done
-abbrev pub Answered : Option (List ℕ) → List (List ℕ) → ℕ → (List ℕ → Option (List ℕ)) → (input left old new told tells : Seen) → Type 0
-Answered (Some page) words status files input left old new told tells = (left ≡ input) × Written status page old new told tells
-Answered None words status files input left old new told tells =
-    (answer : Result Asked WordsError) × Spells words answer × Did (field_near words) (has_bad_from words) answer status files input left old new told tells
+abbrev pub Answered : Option (List ℕ) → List (List ℕ) → ℕ → (List ℕ → Option (List ℕ)) → (before after : Devices) → Type 0
+Answered (Some page) words status files before after =
+    (after.input ≡ before.input) × Written status page before.output after.output before.errors after.errors
+Answered None words status files before after =
+    (answer : Result Asked WordsError) × Spells words answer × Did (field_near words) (has_bad_from words) answer status files before after

@@ -10,7 +10,9 @@ use crate::log_run::write_log;
 use crate::twice::twice_text;
 use std::alloc::Global;
 use std::io::{Read, Write};
-use tsb_program::{Failure, Files, Status, Watched, fail, plan_or_place, refuse_plan, tell};
+use tsb_program::{
+    Failure, Files, Status, Streams, Watched, fail, plan_or_place, refuse_plan, tell,
+};
 use tsb_text::Plan;
 use tsb_words::field_files::LogAsked;
 
@@ -20,16 +22,19 @@ pub(crate) fn run_log<F: Files, R: Read, W: Write, E: Write>(
     alloc: Global,
     asked: &LogAsked<'_>,
     files: &F,
-    input: &mut Watched<R>,
-    output: &mut Watched<W>,
-    errors: &mut Watched<E>,
+    streams: &mut Streams<R, W, E>,
 ) -> u8
-    ensures { LoggedOn (option_map (λ path. path.now) asked.now.as_outputs) result (seen_log asked.now) (F.bytes files.now)
-        (seen R.remaining input.old) (seen R.remaining input.new) (seen W.contents output.old) (seen W.contents output.new) (seen E.contents errors.old) (seen E.contents errors.new) }
+    ensures { LoggedOn (option_map (λ path. path.now) asked.now.as_outputs) result (seen_log asked.now) (F.bytes files.now) streams.old streams.new }
 {
     match asked.as_outputs {
-        Some(path) => write_beside(alloc, asked, path, files, input, output, errors),
-        None => write_log(alloc, asked, input, output, errors),
+        Some(path) => write_beside(alloc, asked, path, files, streams),
+        None => write_log(
+            alloc,
+            asked,
+            &mut streams.input,
+            &mut streams.output,
+            &mut streams.errors,
+        ),
     }
 }
 
@@ -39,16 +44,13 @@ fn write_beside<F: Files, R: Read, W: Write, E: Write>(
     asked: &LogAsked<'_>,
     path: &str,
     files: &F,
-    input: &mut Watched<R>,
-    output: &mut Watched<W>,
-    errors: &mut Watched<E>,
+    streams: &mut Streams<R, W, E>,
 ) -> u8
-    ensures { LoggedBeside path.now result (seen_log asked.now) (F.bytes files.now)
-        (seen R.remaining input.old) (seen R.remaining input.new) (seen W.contents output.old) (seen W.contents output.new) (seen E.contents errors.old) (seen E.contents errors.new) }
+    ensures { LoggedBeside path.now result (seen_log asked.now) (F.bytes files.now) streams.old streams.new }
 {
     match plan_or_place(alloc, files, path) {
-        Ok(checked) => write_with(alloc, asked, checked.plan(), input, output, errors),
-        Err(fault) => refuse_plan(alloc, errors, path, fault),
+        Ok(checked) => write_with(alloc, asked, checked.plan(), streams),
+        Err(fault) => refuse_plan(alloc, &mut streams.errors, path, fault),
     }
 }
 
@@ -57,16 +59,13 @@ fn write_with<R: Read, W: Write, E: Write>(
     alloc: Global,
     asked: &LogAsked<'_>,
     plan: &Plan,
-    input: &mut Watched<R>,
-    output: &mut Watched<W>,
-    errors: &mut Watched<E>,
+    streams: &mut Streams<R, W, E>,
 ) -> u8
-    ensures { LoggedWith (plan_of plan.now) result (seen_log asked.now)
-        (seen R.remaining input.old) (seen R.remaining input.new) (seen W.contents output.old) (seen W.contents output.new) (seen E.contents errors.old) (seen E.contents errors.new) }
+    ensures { LoggedWith (plan_of plan.now) result (seen_log asked.now) streams.old streams.new }
 {
     match twice_text(alloc, &asked.wires, plan) {
-        Ok(text) => write_telling(alloc, asked, &text, input, output, errors),
-        Err(_) => fail(errors, Failure::Memory),
+        Ok(text) => write_telling(alloc, asked, &text, streams),
+        Err(_) => fail(&mut streams.errors, Failure::Memory),
     }
 }
 
@@ -75,15 +74,18 @@ fn write_telling<R: Read, W: Write, E: Write>(
     alloc: Global,
     asked: &LogAsked<'_>,
     text: &[u8],
-    input: &mut Watched<R>,
-    output: &mut Watched<W>,
-    errors: &mut Watched<E>,
+    streams: &mut Streams<R, W, E>,
 ) -> u8
-    ensures { LoggedTelling text.now result (seen_log asked.now)
-        (seen R.remaining input.old) (seen R.remaining input.new) (seen W.contents output.old) (seen W.contents output.new) (seen E.contents errors.old) (seen E.contents errors.new) }
+    ensures { LoggedTelling text.now result (seen_log asked.now) streams.old streams.new }
 {
-    let status = write_log(alloc, asked, input, output, errors);
-    tell_more(errors, status, text)
+    let status = write_log(
+        alloc,
+        asked,
+        &mut streams.input,
+        &mut streams.output,
+        &mut streams.errors,
+    );
+    tell_more(&mut streams.errors, status, text)
 }
 
 /// Says this of a log, where it ended well and all was told of it.

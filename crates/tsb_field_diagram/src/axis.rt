@@ -1,5 +1,5 @@
 //! The axis of a line of a diagram.
-ghost use Rattle.std.specs.Prelude.{◌≡◌, ◌≤◌, ◌<◌, ◌++◌, ◌*◌, ◌^◌, OnOk};
+ghost use Rattle.std.specs.Prelude.{◌≡◌, ◌≤◌, ◌<◌, ◌++◌, ◌+◌, ◌*◌, ◌^◌, OnOk};
 ghost use Rattle.tsb_field_diagram.specs.Lines.{axis_text, begin_of, grid_text, mark_name, mark_text, marks_before, marks_between, place_of, second_text, step_of};
 
 use crate::band::BAND;
@@ -26,8 +26,7 @@ pub(crate) fn append_axis(
     ensures { OnOk result (text.new.items ≡ text.old.items ++ axis_text bands clock seconds line) }
 {
     let begin = begin_of(clock, seconds, line);
-    let end = begin + 10 * u64::from(seconds);
-    append_marks(text, bands, clock, seconds, begin, end, step_of(seconds))
+    append_marks(text, bands, clock, seconds, begin)
 }
 
 /// The tenth of a second, of those that the axis counts, at which a line begins.
@@ -40,22 +39,21 @@ pub(crate) fn begin_of(clock: Option<u32>, seconds: u32, line: u32) -> u64
     start + u64::from(line) * (10 * u64::from(seconds))
 }
 
-/// Adds to a text the marks from one tenth of a second to before another.
+/// Adds to a text the marks of a line that begins at a tenth of a second.
 fn append_marks(
     text: &mut Vec<u8>,
     bands: usize,
     clock: Option<u32>,
     seconds: u32,
     begin: u64,
-    end: u64,
-    step: u32,
 ) -> Result<(), AllocError>
     requires some { 1 ≤ seconds }
-    requires step { 1 ≤ step }
-    requires begin { begin < 2 ^ 63 }
-    requires end { end < 2 ^ 63 }
-    ensures { OnOk result (text.new.items ≡ text.old.items ++ marks_between bands clock seconds begin end step) }
+    requires most { seconds ≤ 86400 }
+    requires begin { begin < 2 ^ 62 }
+    ensures { OnOk result (text.new.items ≡ text.old.items ++ marks_between bands clock seconds begin (begin + 10 * seconds) (step_of seconds)) }
 {
+    let step = step_of(seconds);
+    let end = begin + 10 * u64::from(seconds);
     let from = marks_before(begin, step);
     let until = marks_before(end, step);
     for index in from..until {

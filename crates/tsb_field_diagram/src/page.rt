@@ -8,7 +8,7 @@ use crate::band::Band;
 use crate::bars::before_tick;
 use crate::ends::GreenEnd;
 use crate::letters::append_ends;
-use crate::line::{append_lines, line_count, line_top};
+use crate::line::{Scale, append_lines, line_count, line_top};
 use crate::lit::bands;
 use crate::title::append_title;
 use crate::write::{append, append_named};
@@ -26,44 +26,59 @@ const TENTH: u128 = 100_000_000;
 /// The tenths of a second that a day has.
 const TENTHS: u128 = 864_000;
 
-/// The phase diagram of a session, as a picture in SVG.
+/// How a diagram is laid out.
+#[derive(Clone, Copy)]
+pub struct DiagramForm<'a> {
+    /// UTF-8 text above the diagram.
+    pub title: &'a [u8],
+    /// How many seconds a line shows, 1 to 86,400: 0 is taken as 1, and more as 86,400.
+    pub seconds_per_line: u32,
+    /// The moment at which tick 1 begins, where the axis has the time of day; `None` where it begins at time 0.
+    pub from: Option<Moment>,
+}
+
+/// What a diagram draws of a session.
+#[derive(Clone, Copy)]
+pub struct Traces<'a> {
+    /// The first display line and those that show something other than the line before, whose ticks rise. What one
+    /// shows holds up to the next, and what the last one shows up to the last tick.
+    pub changes: &'a [Shown],
+    /// The rows of a log of inputs, whose ticks rise: an input that is on in a row is on until the next row.
+    pub rows: &'a [LogRow],
+    /// The last tick. Where it is `None` or 0, the picture has no lines.
+    pub last: Option<u32>,
+}
+
+/// The phase diagram of a session, as a picture in SVG. A tick is a tenth of a second.
 ///
-/// `changes` are the first display line and those that show something other than the line before, whose ticks rise;
-/// what one shows holds up to the next, and what the last one shows up to tick `last`. Where `last` is `None` or 0, the
-/// picture has no lines. `rows` are those of a log of inputs, whose ticks rise: an input that is on in a row is on
-/// until the next row. There may be none. A tick is a tenth of a second, and tick 1 begins at time 0, or where `from` is
-/// given, at this moment: the axis then has the time of day.
+/// Each line shows what is ever lit, or on up to the last tick. From top to bottom these are the preempts in service,
+/// flash, the head of each phase with its pedestrian head below it, the overlaps, vehicle detectors, pedestrian detectors
+/// and preempt inputs. Below them it has an axis of seconds, with the clock at minutes. A bar begins at its tick and is
+/// its ticks wide. Where a head is dark there is no bar. `ends` are ends of greens, each with a letter at the end of its
+/// green: G, M or F. A line below the legend says what they mean, where there are any.
 ///
-/// A line has `seconds_per_line` seconds, 1 to 86,400: 0 is taken as 1, and more as 86,400. Each line has from top to
-/// bottom, where they are ever lit, or on up to tick `last`, the preempts in service, flash, the head of each phase with its pedestrian
-/// head below it, the overlaps, vehicle detectors, pedestrian detectors and preempt inputs; below them it has an axis
-/// of seconds, with the clock at minutes. A bar begins at its tick and is its ticks wide. Where a head is dark there is
-/// no bar. `ends` are ends of greens, each with a letter at the end of its green: G, M or F. A line below the legend says
-/// what they mean, where there are any.
-///
-/// `title` is UTF-8 text: what has a meaning in XML is escaped, and a character that XML forbids becomes `?`, such as
-/// U+FFFE, U+FFFF and each control but the tab and ends of lines. The form of the picture is "profile". The error is
-/// that memory ran out.
+/// What has a meaning in XML is escaped in the title. A character that XML forbids becomes `?` there, such as U+FFFE,
+/// U+FFFF and each control but the tab and ends of lines. The form of the picture is "profile". The error is that
+/// memory ran out.
 pub fn diagram_text(
     alloc: Global,
-    title: &[u8],
-    seconds_per_line: u32,
-    from: Option<Moment>,
-    changes: &[Shown],
-    last: Option<u32>,
-    rows: &[LogRow],
+    form: DiagramForm<'_>,
+    traces: Traces<'_>,
     ends: &[GreenEnd],
 ) -> Result<Vec<u8>, AllocError>
-    ensures { IfOk result (λ text. text.items ≡ diagram_text title.now seconds_per_line from changes.now last rows.now ends.now) }
+    ensures { IfOk result (λ text. text.items
+        ≡ diagram_text form.entry.title.now form.entry.seconds_per_line form.entry.from traces.entry.changes.now traces.entry.last traces.entry.rows.now ends.now) }
 {
-    let clock = clock_of(from);
-    let seconds = line_seconds(seconds_per_line);
-    let last = last.unwrap_or(0);
-    let bands = bands(alloc, changes, before_tick(rows, u64::from(last) + 1))?;
+    let last = traces.last.unwrap_or(0);
+    let scale = Scale {
+        clock: clock_of(form.from),
+        seconds: line_seconds(form.seconds_per_line),
+        last,
+    };
+    let shown = before_tick(traces.rows, u64::from(last) + 1);
+    let bands = bands(alloc, traces.changes, shown)?;
     let mut text = Vec::new(alloc);
-    append_picture(
-        &mut text, title, &bands, clock, seconds, last, changes, rows, ends,
-    )?;
+    append_picture(&mut text, form.title, &bands, scale, traces, ends)?;
     Ok(text)
 }
 
@@ -91,21 +106,19 @@ fn append_picture(
     text: &mut Vec<u8>,
     title: &[u8],
     bands: &[Band],
-    clock: Option<u32>,
-    seconds: u32,
-    last: u32,
-    changes: &[Shown],
-    rows: &[LogRow],
+    scale: Scale,
+    traces: Traces<'_>,
     ends: &[GreenEnd],
 ) -> Result<(), AllocError>
-    requires some { 1 ≤ seconds }
-    requires most { seconds ≤ 86400 }
-    ensures { OnOk result (text.new.items ≡ text.old.items ++ picture_text title.now bands.now clock seconds last changes.now rows.now ends.now) }
+    requires some { 1 ≤ scale.seconds }
+    requires most { scale.seconds ≤ 86400 }
+    ensures { OnOk result (text.new.items
+        ≡ text.old.items ++ picture_text title.now bands.now scale.clock scale.seconds scale.last traces.entry.changes.now traces.entry.rows.now ends.now) }
 {
-    let height = page_height(bands.len(), seconds, last);
-    append_page_head(text, title, seconds, height)?;
-    append_lines(text, bands, clock, seconds, last, changes, rows)?;
-    append_ends(text, bands, seconds, last, ends)?;
+    let height = page_height(bands.len(), scale.seconds, scale.last);
+    append_page_head(text, title, scale.seconds, height)?;
+    append_lines(text, bands, scale, traces.changes, traces.rows)?;
+    append_ends(text, bands, scale.seconds, scale.last, ends)?;
     append(text, b"</svg>\n")
 }
 

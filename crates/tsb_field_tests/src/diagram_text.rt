@@ -2,7 +2,7 @@
 
 use std::alloc::{AllocError, Global};
 use tsb_event_text::{Moment, read_moment};
-use tsb_field_diagram::{EndsError, GreenEnd, Why, diagram_text, read_ends};
+use tsb_field_diagram::{DiagramForm, EndsError, GreenEnd, Traces, Why, diagram_text, read_ends};
 use tsb_field_display::{Replay, Shown, read_line};
 use tsb_log_text::LogRow;
 use tsb_types::{NumberSet, Row};
@@ -218,22 +218,41 @@ fn lines_of(
     last: u32,
     rows: &[LogRow],
 ) -> Result<Vec<u8>, AllocError> {
-    let text = diagram_text(
-        alloc,
-        b"Main",
-        seconds,
-        None,
+    let form = DiagramForm {
+        title: b"Main",
+        seconds_per_line: seconds,
+        from: None,
+    };
+    let traces = Traces {
         changes,
-        Some(last),
         rows,
-        &[],
-    )?;
+        last: Some(last),
+    };
+    let text = diagram_text(alloc, form, traces, &[])?;
     Vec::from_slice(alloc, behind_lines(text.as_slice(), 11))
+}
+
+/// Lines of a minute under this title.
+fn titled(title: &[u8]) -> DiagramForm<'_> {
+    DiagramForm {
+        title,
+        seconds_per_line: 60,
+        from: None,
+    }
+}
+
+/// Nothing that is lit or on, up to this tick if there is one.
+fn nothing_until(last: Option<u32>) -> Traces<'static> {
+    Traces {
+        changes: &[],
+        rows: &[],
+        last,
+    }
 }
 
 /// Whether the diagram of no change, up to this tick if there is one, is its title and its legend.
 fn is_empty(alloc: Global, last: Option<u32>) -> bool {
-    match diagram_text(alloc, b"<\"a'b\">\x01\t&", 60, None, &[], last, &[], &[]) {
+    match diagram_text(alloc, titled(b"<\"a'b\">\x01\t&"), nothing_until(last), &[]) {
         Ok(text) => text.as_slice() == EMPTY,
         Err(_) => false,
     }
@@ -246,7 +265,7 @@ fn a_diagram_of_no_line_has_a_title_and_a_legend(rt: HostRuntime) {
 
 /// Whether this is the second line of a diagram with the title.
 fn has_title(alloc: Global, title: &[u8], line: &[u8]) -> bool {
-    match diagram_text(alloc, title, 60, None, &[], None, &[], &[]) {
+    match diagram_text(alloc, titled(title), nothing_until(None), &[]) {
         Ok(text) => behind_lines(text.as_slice(), 1).starts_with(line),
         Err(_) => false,
     }
@@ -315,16 +334,17 @@ fn moment(text: &[u8]) -> Moment {
 
 /// Whether a diagram of ten seconds from this moment on, of nothing that is lit, has these lines.
 fn has_clock(alloc: Global, replay: &Replay, from: Moment, wanted: &[u8]) -> bool {
-    match diagram_text(
-        alloc,
-        b"Main",
-        10,
-        Some(from),
-        replay.changes(),
-        Some(20),
-        &[],
-        &[],
-    ) {
+    let form = DiagramForm {
+        title: b"Main",
+        seconds_per_line: 10,
+        from: Some(from),
+    };
+    let traces = Traces {
+        changes: replay.changes(),
+        rows: &[],
+        last: Some(20),
+    };
+    match diagram_text(alloc, form, traces, &[]) {
         Ok(text) => behind_lines(text.as_slice(), 11) == wanted,
         Err(_) => false,
     }
@@ -345,16 +365,17 @@ fn end(tick: u32, phase: u32, why: Why) -> GreenEnd {
 
 /// Whether a diagram of these ends ends so.
 fn has_letters(alloc: Global, replay: &Replay, ends: &[GreenEnd], wanted: &[u8]) -> bool {
-    match diagram_text(
-        alloc,
-        b"Main",
-        1,
-        None,
-        replay.changes(),
-        Some(25),
-        &[],
-        ends,
-    ) {
+    let form = DiagramForm {
+        title: b"Main",
+        seconds_per_line: 1,
+        from: None,
+    };
+    let traces = Traces {
+        changes: replay.changes(),
+        rows: &[],
+        last: Some(25),
+    };
+    match diagram_text(alloc, form, traces, ends) {
         Ok(text) => text.as_slice().ends_with(wanted),
         Err(_) => false,
     }

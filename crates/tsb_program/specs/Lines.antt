@@ -7,11 +7,8 @@ use Rattle.tsb_log_text.specs.FaultLines.{log_fault}
 use Rattle.tsb_text.specs.declared.error.SessionError.{SessionError}
 use Rattle.tsb_text.specs.declared.error.SessionError.TheVariants as ends
 use Rattle.tsb_text.specs.EndLines.{session_fault}
-use Rattle.tsb_program.specs.Failures.{Fails, failure_of}
+use Rattle.tsb_program.specs.Failures.{Fails}
 use Rattle.tsb_program.specs.declared.failure.Failure.TheVariants.{Memory, Read, Write}
-use Rattle.tsb_program.specs.declared.files.FileError.{FileError}
-use Rattle.tsb_program.specs.declared.read.ReadError.{ReadError}
-use Rattle.tsb_program.specs.declared.read.ReadError.TheVariants as faults
 use Rattle.tsb_lines.specs.Seen.{Seen, Tells}
 
 -- the line of what ended a session
@@ -25,10 +22,6 @@ TellsEnd ends.Read status told tells = Fails Read status told tells
 TellsEnd ends.Write status told tells = Fails Write status told tells
 TellsEnd ends.TooLarge status told tells = (status ≡ 3) × Tells told tells (codes "commands: too large\n")
 
--- a file or memory failed
-abbrev pub FailsToRead : ℕ → Seen → Seen → Type 0
-FailsToRead status told tells = (why : FileError) × Fails (failure_of why) status told tells
-
 -- the line of a plan's fault
 abbrev pub plan_line : PlanError → List ℕ
 plan_line fault = plan_fault fault ++ 10 ∷ []
@@ -40,8 +33,3 @@ log_line fault = log_fault fault ++ 10 ∷ []
 -- a refusal is told by its own line, with 1, where there is memory for the line
 abbrev pub TellsRefusal : {A : Type 0} → (A → List ℕ) → A → ℕ → Seen → Seen → Type 0
 TellsRefusal line_of why status told tells = ((status ≡ 1) × Tells told tells (line_of why ++ 10 ∷ [])) ⊎ Fails Memory status told tells
-
--- why there is no plan or log is told: a failure, or a refusal by its own line
-abbrev pub Refuses : {A : Type 0} → (A → List ℕ) → ReadError A → ℕ → Seen → Seen → Type 0
-Refuses line_of (faults.Failed why) status told tells = Fails (failure_of why) status told tells
-Refuses line_of (faults.Refused why) status told tells = TellsRefusal line_of why status told tells

@@ -7,7 +7,8 @@ use Rattle.tsb_plan_text.specs.declared.error.PlanError.{PlanError}
 use Rattle.tsb_text.specs.declared.error.SessionError.{SessionError}
 use Rattle.tsb_text.specs.declared.error.SessionError.TheVariants as ends
 use Rattle.tsb_program.specs.Failures.{Fails}
-use Rattle.tsb_program.specs.Lines.{log_line, plan_line}
+use Rattle.tsb_log_text.specs.FaultLines.{log_fault}
+use Rattle.tsb_program.specs.Lines.{TellsRefusal, plan_line}
 use Rattle.tsb_program.specs.Read.{fault_place}
 use Rattle.tsb_program.specs.declared.failure.Failure.TheVariants.{Memory, Input, Write}
 use Rattle.tsb_program.specs.declared.files.Cause.{Cause}
@@ -75,14 +76,18 @@ TellsWhy name (faults.Refused fault) place status told tells = RefusesAt fault p
 abbrev pub TellsNoPlan : List ℕ → PlanFault → ℕ → Seen → Seen → Type 0
 TellsNoPlan name fault status told tells = TellsWhy name fault.why fault.place status told tells
 
+-- a line says why there is no plan or log: the file of this name was not read, or its text is refused by its own line
+abbrev pub Refuses : {A : Type 0} → (A → List ℕ) → List ℕ → ReadError A → ℕ → Seen → Seen → Type 0
+Refuses line_of name (faults.Failed why) status told tells = FailsFile name why status told tells
+Refuses line_of name (faults.Refused why) status told tells = TellsRefusal line_of why status told tells
+
 -- a log is refused with 1
 abbrev pub RefusesLogText : LogError → ℕ → Seen → Seen → Type 0
-RefusesLogText fault status told tells = ((status ≡ 1) × Tells told tells (log_line fault)) ⊎ Fails Memory status told tells
+RefusesLogText fault status told tells = TellsRefusal log_fault fault status told tells
 
--- why there is no log is told, with the name of its file, where that was not read
+-- the same of a log
 abbrev pub TellsNoLog : List ℕ → ReadError LogError → ℕ → Seen → Seen → Type 0
-TellsNoLog name (faults.Failed why) status told tells = FailsFile name why status told tells
-TellsNoLog name (faults.Refused fault) status told tells = RefusesLogText fault status told tells
+TellsNoLog name fault status told tells = Refuses log_fault name fault status told tells
 
 -- ## A run on standard input
 

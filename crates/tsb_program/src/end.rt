@@ -2,13 +2,15 @@
 ghost use Rattle.std.specs.Prelude.{◌≡◌, ◌++◌, ◌∷◌, ℕ, [], IfOk, List, string_bytes};
 ghost use Rattle.tsb_log_text.specs.FaultLines.{log_fault};
 ghost use Rattle.tsb_plan_text.specs.FaultLines.{plan_fault};
-ghost use Rattle.tsb_program.specs.Lines.{Refuses, TellsEnd, TellsRefusal};
+ghost use Rattle.tsb_program.specs.Lines.{TellsEnd, TellsRefusal};
+ghost use Rattle.tsb_program.specs.Told.{Refuses};
 ghost use Rattle.tsb_lines.specs.Seen.{seen};
 
 use crate::failure::{Failure, fail};
 use crate::lines::{line_of, tell, with_end};
 use crate::read::ReadError;
 use crate::status::Status;
+use crate::told::fail_file;
 use std::alloc::{AllocError, Global};
 use std::io::Write;
 use tsb_lines::Watched;
@@ -42,26 +44,24 @@ impl Refusal for LogError {
     }
 }
 
-/// Says why there is no plan or log, and gives the status that the program ends with.
+/// Says why there is no plan or log, in a second line which file was not read, and gives the status that the program
+/// ends with.
 pub fn refuse<E: Write, T: Refusal>(
     alloc: Global,
     errors: &mut Watched<E>,
+    path: &str,
     fault: ReadError<T>,
 ) -> u8
-    ensures { Refuses T.told fault result (seen E.contents errors.old) (seen E.contents errors.new) }
+    ensures { Refuses T.told path.now fault result (seen E.contents errors.old) (seen E.contents errors.new) }
 {
     match fault {
-        ReadError::Failed(fault) => fail(errors, fault.failure()),
-        ReadError::Refused(fault) => tell_refusal(alloc, errors, fault),
+        ReadError::Failed(why) => fail_file(errors, path, why),
+        ReadError::Refused(why) => tell_refusal(alloc, errors, why),
     }
 }
 
 /// Says why a text was refused, where there is memory for the line, and gives the status that the program ends with.
-pub(crate) fn tell_refusal<E: Write, T: Refusal>(
-    alloc: Global,
-    errors: &mut Watched<E>,
-    fault: T,
-) -> u8
+fn tell_refusal<E: Write, T: Refusal>(alloc: Global, errors: &mut Watched<E>, fault: T) -> u8
     ensures { TellsRefusal T.told fault result (seen E.contents errors.old) (seen E.contents errors.new) }
 {
     match fault.ended_line(alloc) {

@@ -2,10 +2,10 @@
 ghost use Rattle.std.specs.Prelude.{◌≡◌, ◌++◌, ◌≤◌, length, IfOk, OnErr, OnOk, true};
 ghost use Rattle.tsb_lines.specs.Writes.{AppendsFront};
 ghost use Rattle.tsb_program.specs.Statuses.{number};
-ghost use Rattle.tsb_program.specs.Told.{FailsFile, TellsInputEnd, TellsNoLog, TellsNoPlan, cause_text, file_line, place_line, plan_lines, safe, shown};
+ghost use Rattle.tsb_program.specs.Told.{FailsFile, TellsInputEnd, TellsNoPlan, cause_text, file_line, place_line, plan_lines, safe, shown};
 ghost use Rattle.tsb_lines.specs.Seen.{GoesOut, Tells, seen};
 
-use crate::end::{tell_end, tell_refusal};
+use crate::end::tell_end;
 use crate::failure::{Failure, fail};
 use crate::files::{Cause, FileError};
 use crate::lines::{line_of, write_line};
@@ -15,7 +15,6 @@ use arrayvec::ArrayVec;
 use std::alloc::{AllocError, Global};
 use std::io::Write;
 use tsb_lines::{ShortLine, Watched, WriteError};
-use tsb_log_text::LogError;
 use tsb_plan_notes::{JsonPlace, TOLD, place_text};
 use tsb_plan_text::PlanError;
 use tsb_text::SessionError;
@@ -49,21 +48,6 @@ pub fn refuse_plan<E: Write>(
             }
             Err(_) => fail(errors, Failure::Memory),
         },
-    }
-}
-
-/// Says why there is no log, in a second line which file was not read, and gives the status that the program ends with.
-pub fn refuse_log<E: Write>(
-    alloc: Global,
-    errors: &mut Watched<E>,
-    path: &str,
-    fault: ReadError<LogError>,
-) -> u8
-    ensures { TellsNoLog path.now fault result (seen E.contents errors.old) (seen E.contents errors.new) }
-{
-    match fault {
-        ReadError::Failed(why) => fail_file(errors, path, why),
-        ReadError::Refused(why) => tell_refusal(alloc, errors, why),
     }
 }
 

@@ -1,9 +1,9 @@
 -- What `tsb_live` makes of all its words.
-use Rattle.std.proofs.Common.{◌≡◌, ◌∙◌, ◌||◌, ◌==◌, ℕ, Bool, true, false, cond, List, [], ◌∷◌, Option, Some, None, Result, if◌then◌else◌, is_some, refl, sym, ap, ap₂, subst, inl, inr, codes, bytes_eq, drop, unwrap_or}
+use Rattle.std.proofs.Common.{◌≡◌, ◌∙◌, ◌||◌, ◌==◌, ℕ, Bool, true, false, cond, List, [], ◌∷◌, Option, Some, None, if◌then◌else◌, is_some, refl, sym, ap, ap₂, subst, inl, inr, codes, bytes_eq, drop, unwrap_or}
 use Rattle.std.proofs.lemmas.List.Folds.{list_any_at}
 use Rattle.std.proofs.lemmas.Slice.Eq.{bytes_eq-Decides}
 use Rattle.std.specs.List.{after_first}
-use Rattle.clap.specs.Faults.{entered_fault, fault_of, flag_word_fault, is_simple_and_free, level_fault, long_fault}
+use Rattle.clap.specs.Faults.{entered_fault, fault_of, flag_word_fault, level_fault, long_fault}
 use Rattle.clap.specs.Kinds.{Kinds}
 use Rattle.clap.specs.Lexer.{has_byte, long_of, name_and_value}
 use Rattle.clap.specs.Matches.{first_value, one_text}
@@ -17,11 +17,10 @@ use Rattle.clap.proofs.OnLiterals.{clap_on_literals}
 use Rattle.clap.proofs.WalkLemmas.{one_text-rows}
 use Rattle.tsb_words.specs.declared.error.WordsError.{WordsError}
 use Rattle.tsb_words.specs.declared.error.WordsError.TheVariants.{Memory, Bad}
-use Rattle.tsb_words.specs.declared.live.Asked.{Asked}
 use Rattle.tsb_words.specs.BenchWords.{is_flag}
 use Rattle.tsb_words.specs.LiveProgram.{flag_rule, flag_text, plan_rule, program, wish_with}
-use Rattle.tsb_words.specs.LiveWords.{Wish, named_last, seen, wish_after, wish_of}
-use Rattle.tsb_words.specs.Words.{IsRefused, SpelledBy, met_where}
+use Rattle.tsb_words.specs.LiveWords.{Wish, named_last, wish_after, wish_of}
+use Rattle.tsb_words.specs.Words.{IsRefused, met_where}
 use Rattle.tsb_words.proofs.FlagLemmas.{Fails, IsFlag, Sorted, help, held_with, long-fails, one-found, short-flag-fails, sorted}
 use Rattle.tsb_words.proofs.LevelLemmas.{Level, Turned, standing, level-dash, level-fails, level-value}
 use Rattle.tsb_words.proofs.OptionLemmas.{first_is}
@@ -289,10 +288,6 @@ pub gives-all : (words : List Text) → Gives (wish_of (drop 1 words)) (fault_of
 gives-all words =
     subst (λ (k : Kinds). Gives (wish_of (drop 1 words)) (k, matches_of program words)) (sym (faults words)) (none (drop 1 words))
 
-pub is-simple-and-free : is_simple_and_free program ≡ true
-unfolding clap_on_literals
-is-simple-and-free = refl
-
 -- ## What is made of that
 
 -- the flag was set, by what its getter answers
@@ -327,12 +322,12 @@ live-refused None kinds rows Bad gives refuses = refl
 live-refused (Some wish) kinds rows Bad gives refuses = absurd (met-not kinds rows gives.0 refuses)
 
 -- words that are taken ask for what was made of them
-pub live-asked : (wish : Option Wish) (kinds : Kinds) (rows given : List Row) (answer : Result Asked WordsError) → Gives wish (kinds, rows) → met_where kinds rows ≡ Some given
-    → ((is_strict : Bool) → one_of (codes "strict") given ≡ Some (flag_text is_strict) → SpelledBy seen (wish_with (first_of (codes "PLAN") given) is_strict) answer)
-    → SpelledBy seen wish answer
-live-asked None kinds rows given answer gives met answered = absurd (met-fails kinds rows given gives met)
-live-asked (Some wish) kinds rows given answer gives met answered =
+pub live-asked : (wish : Option Wish) (kinds : Kinds) (rows given : List Row) (asked : Option Wish) → Gives wish (kinds, rows) → met_where kinds rows ≡ Some given
+    → ((is_strict : Bool) → one_of (codes "strict") given ≡ Some (flag_text is_strict) → asked ≡ wish_with (first_of (codes "PLAN") given) is_strict)
+    → wish ≡ asked
+live-asked None kinds rows given asked gives met answered = absurd (met-fails kinds rows given gives met)
+live-asked (Some wish) kinds rows given asked gives met answered =
     let same : rows ≡ given = met-is kinds rows given gives.0 met in
     let named : first_of (codes "PLAN") given ≡ Some wish.plan = subst (λ (r : List Row). first_of (codes "PLAN") r ≡ Some wish.plan) same gives.1 in
     let set : one_of (codes "strict") given ≡ Some (flag_text wish.is_strict) = subst (λ (r : List Row). one_of (codes "strict") r ≡ Some (flag_text wish.is_strict)) same gives.2 in
-    subst (λ (o : Option Text). SpelledBy seen (wish_with o wish.is_strict) answer) named (answered wish.is_strict set)
+    sym (answered wish.is_strict set ∙ ap (λ (o : Option Text). wish_with o wish.is_strict) named)

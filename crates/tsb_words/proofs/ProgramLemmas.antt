@@ -4,7 +4,7 @@ use Rattle.std.proofs.lemmas.List.{append-nil}
 use Rattle.std.proofs.lemmas.Slice.Eq.{bytes_eq-Decides}
 use Rattle.clap.specs.Walk.{Held, Names, Row, Rule, Step, Text, Walk, finished, has_long, has_short, idle, nothing_held, settled, stop_after, subcommand_met, subcommand_or_other, walk, walk_from, walked}
 use Rattle.clap.specs.Simple.{App, Shape, built, entered, names_of, subcommand_of}
-use Rattle.clap.specs.Faults.{built_fault, check_fault, defaults_fault, entered_fault, fault_of, is_simple_and_free, other_fault, settle_fault, step_fault, walk_fault}
+use Rattle.clap.specs.Faults.{built_fault, check_fault, defaults_fault, entered_fault, fault_of, other_fault, settle_fault, step_fault, walk_fault}
 use Rattle.clap.specs.Kinds.{Kinds, or_else}
 use Rattle.clap.specs.declared.error.kind.ErrorKind.TheVariants.{DisplayHelp, InvalidSubcommand, UnknownArgument}
 use Rattle.clap.proofs.OnLiterals.{clap_on_literals}
@@ -190,7 +190,3 @@ agreed (Some wish) (k ∷ ks) met agrees = let no : (k ∷ ks) ≡ [] = agrees.0
 
 pub agree-all : (words : List Text) → option_and_then asked_by (met_by program words) ≡ wish_of (drop 1 words)
 agree-all words = agreed (wish_of (drop 1 words)) (fault_of program words) (subcommand_of program words) (agree (drop 1 words))
-
-pub is-simple-and-free : is_simple_and_free program ≡ true
-unfolding clap_on_literals
-is-simple-and-free = refl

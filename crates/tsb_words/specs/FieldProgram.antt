@@ -1,5 +1,5 @@
 -- The command of `tsb_field` as `clap` reads it, and what is made of what `clap` answers.
-use Rattle.std.specs.Prelude.{Bool, false, true, if◌then◌else◌, Option, Some, None, option_and_then, option_map, unwrap_or, List, [], ◌∷◌, ◌++◌, ℕ, codes, bytes_eq, Result}
+use Rattle.std.specs.Prelude.{◌≡◌, IsSome, Bool, false, true, if◌then◌else◌, Option, Some, None, option_and_then, option_map, unwrap_or, List, [], ◌∷◌, ◌++◌, ℕ, codes, bytes_eq, Result}
 use Rattle.clap.specs.Simple.{App, Shape, new_shape}
 use Rattle.clap.specs.Walk.{Row, Rule, Text, all_of, first_of}
 use Rattle.tsb_event_text.specs.Events.{can_be_written}
@@ -219,6 +219,15 @@ other_in name rows =
 abbrev pub asked_by : Option (Text × List Row) → Option Wish
 asked_by None = None
 asked_by (Some met) = if bytes_eq met.0 (codes "log") then log_in met.1 else other_in met.0 met.1
+
+-- options of `log` whose moment and manner are spelled: memory may run out while their wires are listed
+abbrev pub HasWires : List Row → Type 0
+HasWires rows = IsSome (moment_in rows) × IsSome (manner_in rows)
+
+-- the subcommand that was met may need memory: it is `log`, and its moment and manner are spelled
+abbrev pub NeedsMemory : Option (Text × List Row) → Type 0
+NeedsMemory None = ⊥
+NeedsMemory (Some met) = (bytes_eq met.0 (codes "log") ≡ true) × HasWires met.1
 
 -- what words ask for, of which the first is the program's name: by what `clap` reads of them where it takes them
 abbrev pub wish_of : List Text → Option Wish

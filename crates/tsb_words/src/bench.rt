@@ -1,9 +1,8 @@
 //! The words of `tsb`, and what they ask for.
-ghost use Rattle.std.specs.Prelude.{map};
+ghost use Rattle.std.specs.Prelude.{◌≡◌, map, option_map};
 ghost use Rattle.clap.specs.Simple.{subcommand_rows_of};
 ghost use Rattle.tsb_words.specs.BenchProgram.{asked_by};
 ghost use Rattle.tsb_words.specs.BenchWords.{Spells, seen};
-ghost use Rattle.tsb_words.specs.Words.{SpelledBy};
 
 use crate::commands::{Argument, Leaf, Program};
 use crate::error::WordsError;
@@ -45,31 +44,35 @@ pub enum Asked<'a> {
 ///
 /// `check PLAN` and `run PLAN LOG` name files, and no word after the name asks for the built-in plan. A word `--` is
 /// passed over once, and what follows it is not a flag: so a file whose name begins with a hyphen is named after it.
-/// All else is `Bad`, and so is a request for help. `Memory` may come in place of every answer.
+/// All else is `Bad`, and so is a request for help. `Memory` may come in place of every answer, as `clap` allocates.
 pub fn read_words<'a, S: AsStr>(alloc: Global, words: &'a [S]) -> Result<Asked<'a>, WordsError>
     ensures { Spells (map S.text words.now) result }
 {
-    match matches_of(alloc, &PROGRAM, words) {
-        Ok(matches) => asked_of(&matches),
-        Err(error) => Err(error),
+    let matches = match matches_of(alloc, &PROGRAM, words) {
+        Ok(matches) => matches,
+        Err(error) => return Err(error),
+    };
+    match asked_of(&matches) {
+        Some(asked) => Ok(asked),
+        None => Err(WordsError::Bad),
     }
 }
 
-/// What the subcommand that was met asks for, with the files that were named.
-fn asked_of<'a>(matches: &ArgMatches<'a>) -> Result<Asked<'a>, WordsError>
-    ensures { SpelledBy seen (asked_by (subcommand_rows_of matches.now)) result }
+/// What the subcommand that was met asks for, with the files that were named. It needs no memory.
+fn asked_of<'a>(matches: &ArgMatches<'a>) -> Option<Asked<'a>>
+    ensures { option_map seen result ≡ asked_by (subcommand_rows_of matches.now) }
 {
     let Some((name, files)) = matches.subcommand() else {
-        return Ok(Asked::BuiltIn);
+        return Some(Asked::BuiltIn);
     };
     let Some(plan) = files.get_str("PLAN") else {
-        return Err(WordsError::Bad);
+        return None;
     };
     if name == "check" {
-        return Ok(Asked::Check(plan));
+        return Some(Asked::Check(plan));
     }
     let Some(log) = files.get_str("LOG") else {
-        return Err(WordsError::Bad);
+        return None;
     };
-    Ok(Asked::Run(plan, log))
+    Some(Asked::Run(plan, log))
 }

@@ -1,8 +1,9 @@
 //! The words of `tsb_field`, and what they ask for.
-ghost use Rattle.std.specs.Prelude.{◌≡◌, map, option_map};
+ghost use Rattle.std.specs.Prelude.{◌≡◌, Err, map, option_map};
 ghost use Rattle.clap.specs.Words.{found_of, rows_of};
 ghost use Rattle.clap.specs.Simple.{subcommand_rows_of};
-ghost use Rattle.tsb_words.specs.FieldProgram.{Spells, asked_by, diagram_in, diagram_with, events_in, events_with, is_set, is_timed, log_in, manner_in, manner_with, other_in, record_in, record_manner_in, record_with, review_in, review_with, wires_in};
+ghost use Rattle.tsb_words.specs.declared.error.WordsError.TheVariants.{Memory};
+ghost use Rattle.tsb_words.specs.FieldProgram.{HasWires, NeedsMemory, Spells, asked_by, diagram_in, diagram_with, events_in, events_with, is_set, is_timed, log_in, manner_in, manner_with, other_in, record_in, record_manner_in, record_with, review_in, review_with, wires_in};
 ghost use Rattle.tsb_words.specs.FieldWords.{seen};
 ghost use Rattle.tsb_words.specs.Wires.{AreSpelled};
 ghost use Rattle.tsb_words.specs.Words.{SpelledBy};
@@ -65,23 +66,42 @@ pub struct RecordManner {
     pub outputs: bool,
 }
 
+/// What the words of `record` ask for.
+#[derive(Clone, Copy)]
+pub struct RecordAsked<'a> {
+    /// The moment at which tick 1 begins.
+    pub from: Moment,
+    /// The device that the events are of, which a line can name (`can_be_written`).
+    pub device: &'a str,
+    /// The file of the plan.
+    pub plan: &'a str,
+    /// The file of the log of inputs.
+    pub log: &'a str,
+    pub manner: RecordManner,
+}
+
+/// What the words of `diagram` ask for.
+#[derive(Clone, Copy)]
+pub struct DiagramAsked<'a> {
+    /// The file of the log of inputs.
+    pub log: Option<&'a str>,
+    /// The title above the diagram.
+    pub title: Option<&'a str>,
+    /// How many seconds a line of the diagram shows, 1 to 86,400.
+    pub seconds_per_line: Option<u32>,
+    /// The moment at which tick 1 begins, where the axis has the time of day.
+    pub from: Option<Moment>,
+    /// The file of an event log that says why greens ended. Where there is one, `from` is given.
+    pub events: Option<&'a str>,
+}
+
 /// What the words ask for.
 #[derive(Drop)]
 pub enum Asked<'a> {
     /// A log of inputs, made from the events of a controller's log.
     Log(LogAsked<'a>),
     /// Events of a controller's log, told by a run of commands.
-    Record {
-        /// The moment at which tick 1 begins.
-        from: Moment,
-        /// The device that the events are of, which a line can name (`can_be_written`).
-        device: &'a str,
-        /// The file of the plan.
-        plan: &'a str,
-        /// The file of the log of inputs.
-        log: &'a str,
-        manner: RecordManner,
-    },
+    Record(RecordAsked<'a>),
     /// Events of a controller's log, made from display lines.
     Events {
         /// The moment at which tick 1 begins.
@@ -92,18 +112,7 @@ pub enum Asked<'a> {
         log: Option<&'a str>,
     },
     /// A diagram of display lines.
-    Diagram {
-        /// The file of the log of inputs.
-        log: Option<&'a str>,
-        /// The title above the diagram.
-        title: Option<&'a str>,
-        /// How many seconds a line of the diagram shows, 1 to 86,400.
-        seconds_per_line: Option<u32>,
-        /// The moment at which tick 1 begins, where the axis has the time of day.
-        from: Option<Moment>,
-        /// The file of an event log that says why greens ended. Where there is one, `from` is given.
-        events: Option<&'a str>,
-    },
+    Diagram(DiagramAsked<'a>),
     /// A review of a plan.
     Review {
         /// The file of the plan.
@@ -120,7 +129,7 @@ pub enum Asked<'a> {
 /// `--log LOG`, `--title TEXT`, `--seconds-per-line N`, and `--from TIME`, and with that `--events FILE`; `review` has the file of a plan. Options come in any order, and
 /// `--NAME=VALUE` is `--NAME VALUE`. A value that begins with a hyphen comes after `=`. All else is `Bad`, and so are a
 /// request for help and a device of `record` or `events` with a double quote, an end of a line or over 900 bytes. `Memory`
-/// may come in place of every answer.
+/// may come in place of every answer, as `clap` allocates. Where it takes the words, only those of `log` may need more.
 pub fn read_words<'a, S: AsStr>(alloc: Global, words: &'a [S]) -> Result<Asked<'a>, WordsError>
     ensures { Spells (map S.text words.now) result }
 {
@@ -130,9 +139,10 @@ pub fn read_words<'a, S: AsStr>(alloc: Global, words: &'a [S]) -> Result<Asked<'
     }
 }
 
-/// What the subcommand that was met asks for.
+/// What the subcommand that was met asks for. Only the wires of `log` need memory.
 fn asked_of<'a>(alloc: Global, matches: &ArgMatches<'a>) -> Result<Asked<'a>, WordsError>
-    ensures { SpelledBy seen (asked_by (subcommand_rows_of matches.now)) result }
+    ensures asked { SpelledBy seen (asked_by (subcommand_rows_of matches.now)) result }
+    ensures memory { result ≡ Err Memory → NeedsMemory (subcommand_rows_of matches.now) }
 {
     let Some((name, options)) = matches.subcommand() else {
         return Err(WordsError::Bad);
@@ -163,7 +173,8 @@ fn other_asked<'a>(name: &str, options: &ArgMatches<'a>) -> Option<Asked<'a>>
 
 /// What `log` asks for, with these options.
 fn log_asked<'a>(alloc: Global, options: &ArgMatches<'a>) -> Result<Asked<'a>, WordsError>
-    ensures { SpelledBy seen (log_in (rows_of (found_of options.now))) result }
+    ensures asked { SpelledBy seen (log_in (rows_of (found_of options.now))) result }
+    ensures memory { result ≡ Err Memory → HasWires (rows_of (found_of options.now)) }
 {
     let Some(from) = moment(options) else {
         return Err(WordsError::Bad);
@@ -278,13 +289,13 @@ fn record_with<'a>(
     let plan = plan?;
     let log = log?;
     if can_be_written(device.as_bytes()) {
-        return Some(Asked::Record {
+        return Some(Asked::Record(RecordAsked {
             from,
             device,
             plan,
             log,
             manner,
-        });
+        }));
     }
     None
 }
@@ -344,13 +355,13 @@ fn diagram_with<'a>(
     if !is_timed(from, events) {
         return None;
     }
-    Some(Asked::Diagram {
+    Some(Asked::Diagram(DiagramAsked {
         log,
         title,
         seconds_per_line,
         from,
         events,
-    })
+    }))
 }
 
 /// Whether events, where they are named, have a moment to count from.

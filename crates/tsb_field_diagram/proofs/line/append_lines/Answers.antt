@@ -15,18 +15,18 @@ loop-line-init c =
       changes = λ t le. refl;
       rows = λ t le. refl;
       text =
-          ap (λ (n : ℕ). c.args.text.now.items ++ lines_text c.args.bands.now c.args.clock c.args.seconds c.args.last c.args.changes.now c.args.rows.now 0 n) whole;
+          ap (λ (n : ℕ). c.args.text.now.items ++ lines_text c.args.bands.now c.args.scale.clock c.args.scale.seconds c.args.scale.last c.args.changes.now c.args.rows.now 0 n) whole;
     }
 
 pub loop-line-preserved : goal.loop-line-preserved
 loop-line-preserved c =
-    let bands = c.args.bands.now in let clock = c.args.clock in let seconds = c.args.seconds in let last = c.args.last in
+    let bands = c.args.bands.now in let clock = c.args.scale.clock in let seconds = c.args.scale.seconds in let last = c.args.scale.last in
     let cs = c.args.changes.now in let rs = c.args.rows.now in let k = c.loop-line.line in
     let held = c.loop-line.invariant in
-    let next = next-first c.args.seconds c.loop-line.line in
-    let changes : c.from_tick-changes.result.now ≡ from_tick tick_of_change (first_tick c.args.seconds c.loop-line.line) c.loop-line.changes.now =
+    let next = next-first c.args.scale.seconds c.loop-line.line in
+    let changes : c.from_tick-changes.result.now ≡ from_tick tick_of_change (first_tick c.args.scale.seconds c.loop-line.line) c.loop-line.changes.now =
     c.from_tick-changes.ensures ∙ ap (λ (n : ℕ). from_tick tick_of_change n c.loop-line.changes.now) c.first_tick-first.ensures.same in
-    let rows : c.from_tick-rows.result.now ≡ from_tick tick_of_row (first_tick c.args.seconds c.loop-line.line) c.loop-line.rows.now =
+    let rows : c.from_tick-rows.result.now ≡ from_tick tick_of_row (first_tick c.args.scale.seconds c.loop-line.line) c.loop-line.rows.now =
     c.from_tick-rows.ensures ∙ ap (λ (n : ℕ). from_tick tick_of_row n c.loop-line.rows.now) c.first_tick-first.ensures.same in
     record {
       changes =
@@ -48,7 +48,7 @@ loop-line-preserved c =
 
 pub returns : goal.returns
 returns c =
-    let bands = c.args.bands.now in let clock = c.args.clock in let seconds = c.args.seconds in let last = c.args.last in
+    let bands = c.args.bands.now in let clock = c.args.scale.clock in let seconds = c.args.scale.seconds in let last = c.args.scale.last in
     let cs = c.args.changes.now in let rs = c.args.rows.now in
     count-end (lines_text bands clock seconds last cs rs) (lines-none bands clock seconds last cs rs)
     c.loop-line.line c.line_count-count.result c.loop-line-test.false c.loop-line.text.items _ c.loop-line.invariant.text

@@ -11,19 +11,19 @@ met c = met-is c.args.matches.now c.in-Some.name.now (rows_of (found_of c.in-Som
 
 pub returns-in_default-get_str : goal.returns-in_default-get_str
 returns-in_default-get_str c =
-    asks-no-plan c.args.matches.now c.in-Some.name.now (found_of c.in-Some.files.now) (met (goal.at.returns-in_default-get_str c).In-Some) c.in_default-get_str.ensures
+    sym (asks-no-plan c.args.matches.now c.in-Some.name.now (found_of c.in-Some.files.now) (met (goal.at.returns-in_default-get_str c).In-Some) c.in_default-get_str.ensures)
 
 pub returns-then-eq : goal.returns-then-eq
 returns-then-eq c =
-    asks-check c.args.matches.now c.in-Some.name.now c.in-Some-get_str.plan.now (found_of c.in-Some.files.now) (met (goal.at.returns-then-eq c).In-Some)
-    c.in-Some-get_str.ensures (sym c.if-eq.ensures)
+    sym (asks-check c.args.matches.now c.in-Some.name.now c.in-Some-get_str.plan.now (found_of c.in-Some.files.now) (met (goal.at.returns-then-eq c).In-Some)
+    c.in-Some-get_str.ensures (sym c.if-eq.ensures))
 
 pub returns-in_default-get_str-2 : goal.returns-in_default-get_str-2
 returns-in_default-get_str-2 c =
-    asks-no-log c.args.matches.now c.in-Some.name.now c.in-Some-get_str.plan.now (found_of c.in-Some.files.now) (met (goal.at.returns-in_default-get_str-2 c).In-Some)
-    c.in-Some-get_str.ensures (sym c.if-eq.ensures) c.in_default-get_str-2.ensures
+    sym (asks-no-log c.args.matches.now c.in-Some.name.now c.in-Some-get_str.plan.now (found_of c.in-Some.files.now) (met (goal.at.returns-in_default-get_str-2 c).In-Some)
+    c.in-Some-get_str.ensures (sym c.if-eq.ensures) c.in_default-get_str-2.ensures)
 
 pub returns : goal.returns
 returns c =
-    asks-run c.args.matches.now c.in-Some.name.now c.in-Some-get_str.plan.now c.in-Some-get_str-2.log.now (found_of c.in-Some.files.now) (met (goal.at.returns c).In-Some)
-    c.in-Some-get_str.ensures (sym c.if-eq.ensures) c.in-Some-get_str-2.ensures
+    sym (asks-run c.args.matches.now c.in-Some.name.now c.in-Some-get_str.plan.now c.in-Some-get_str-2.log.now (found_of c.in-Some.files.now) (met (goal.at.returns c).In-Some)
+    c.in-Some-get_str.ensures (sym c.if-eq.ensures) c.in-Some-get_str-2.ensures)

@@ -19,12 +19,12 @@ asked c is same =
     ap asked_by (met-is c.args.matches.now c.in-Some.name.now rows c.in-Some.ensures.name c.in-Some.ensures.rows)
     ∙ ap (λ (b : Bool). if b then log_in rows else other_in c.in-Some.name.now rows) same
 
-pub returns-then-eq : goal.returns-then-eq
-returns-then-eq c =
-    subst (λ (wish : Option Wish). SpelledBy seen wish c.log_asked.result) (sym (asked (goal.at.returns-then-eq c).In-Some _ (sym c.if-eq.ensures))) c.log_asked.ensures
+pub returns-then-eq-clause-asked : goal.returns-then-eq-clause-asked
+returns-then-eq-clause-asked c =
+    subst (λ (wish : Option Wish). SpelledBy seen wish c.log_asked.result) (sym (asked (goal.at.returns-then-eq-clause-asked c).In-Some _ (sym c.if-eq.ensures))) c.log_asked.ensures.asked
 
-pub returns-in-Some-other_asked : goal.returns-in-Some-other_asked
-returns-in-Some-other_asked c = asked (goal.at.returns-in-Some-other_asked c).In-Some _ (sym c.if-eq.ensures) ∙ sym c.in-Some-other_asked.ensures
+pub returns-in-Some-other_asked-clause-asked : goal.returns-in-Some-other_asked-clause-asked
+returns-in-Some-other_asked-clause-asked c = asked (goal.at.returns-in-Some-other_asked-clause-asked c).In-Some _ (sym c.if-eq.ensures) ∙ sym c.in-Some-other_asked.ensures
 
-pub returns-in-None : goal.returns-in-None
-returns-in-None c = asked (goal.at.returns-in-None c).In-Some _ (sym c.if-eq.ensures) ∙ sym c.in-None.ensures
+pub returns-in-None-clause-asked : goal.returns-in-None-clause-asked
+returns-in-None-clause-asked c = asked (goal.at.returns-in-None-clause-asked c).In-Some _ (sym c.if-eq.ensures) ∙ sym c.in-None.ensures

@@ -1,6 +1,5 @@
 use Rattle.std.proofs.Common.{codes}
 use Rattle.clap.specs.Matches.{found_of}
-use Rattle.tsb_words.specs.declared.field_files.RecordManner.{RecordManner}
 use Rattle.tsb_words.proofs.OptionLemmas.{flag_is}
 use Rattle.tsb_words.proofs.field_files.record_manner.Goals as goal
 
