@@ -20,7 +20,7 @@ ghost use Rattle.tsb_laws.specs.Coordination.{CoordinatedEndByForceOff, OmittedA
 ///
 /// Needs: an untripped stretch.
 /// Not said: that the time is enough to cross the road.
-/// Mistake: a green that ends whatever its pedestrians do, `ready_by_green` (`is_not_ready`, `would_be_ready`).
+/// Mistake: a green that waits for the walk alone, `ready_behind_walk` (`is_not_ready`, `would_be_ready`).
 /// Witness: `a_walk` of WalkRuns.
 pub fn intergreens_hold()
     ensures greens { IntergreensHold }
@@ -100,8 +100,9 @@ pub fn omitted_are_not_served()
 ///
 /// Needs: as `commitments_are_served`, and that no value of the plan is over the greatest of its object.
 /// Not said: which phase starts then. Where no phase is callable and no preempt is in service, all red may last.
-/// Mistake: a crossing that begins only from greens, `joins_from_green` (`is_idle`, `would_not_join`).
-/// Witness: `an_all_red` (both of AllRedRuns).
+/// Mistake: a crossing that begins only from greens, `joins_from_green` (`is_idle`, `would_not_join`), by which all red
+/// lasts for more than the 52 ticks that are given (`would_stay_red`).
+/// Witness: `an_all_red`, of 18 ticks, the end of a red revert of 50 (all of AllRedRuns).
 pub fn all_red_ends()
     ensures { AllRedEnds }
 {}

@@ -1,7 +1,6 @@
 -- Computed mistakes that the laws of operation refuse, and runs that meet their premises.
 pub mod KeptCallRuns
 pub mod OverlapRuns
-pub mod GreenEndRuns
 pub mod MaximumRuns
 pub mod PreemptRuns
 pub mod CrossingGreenRuns
@@ -11,6 +10,8 @@ pub mod WantedPhaseRuns
 pub mod PreemptStageRuns
 pub mod ServedRuns
 pub mod CoordinatedRuns
+pub mod GreenEndRuns
+pub mod MistakenRuns
 pub mod CalledStartRuns
 pub mod OptionMistakes
 pub mod LateGreenRuns

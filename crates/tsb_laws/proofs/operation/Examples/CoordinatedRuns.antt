@@ -1,27 +1,25 @@
 -- Runs from power-up that meet the premises of the laws of coordinated phases, and mistakes that these laws refuse.
-use Rattle.std.proofs.Common.{◌≡◌, ℕ, ◌+◌, ◌-◌, ◌≤◌, ◌==◌, nat_lt, Bool, true, false, not, ◌&&◌, ◌||◌, if◌then◌else◌, max, List, [], ◌∷◌, ◌++◌, Some, None, refl, sym, ap, subst, arith, ◌∙◌, inl, inr}
+use Rattle.std.proofs.Common.{◌≡◌, ℕ, ◌+◌, ◌-◌, ◌≤◌, ◌==◌, nat_lt, Bool, true, false, not, ◌&&◌, ◌||◌, if◌then◌else◌, max, List, [], ◌∷◌, ◌++◌, Some, None, refl, sym, subst, arith, ◌∙◌}
 use Rattle.std.specs.List.{list_all}
-use Rattle.std.proofs.lemmas.Bool.{or_cases, eq-eqb, false≢true}
 use Rattle.tsb_step.specs.tsb_types.Sets.{all_off}
 use Rattle.tsb_step.specs.tsb_types.declared.interval.Interval.TheVariants.{Green}
 use Rattle.tsb_step.specs.tsb_types.Intervals.{is_green}
 use Rattle.tsb_step.specs.tsb_types.Lists.{some_passes}
 use Rattle.tsb_step.specs.tsb_types.declared.row.Row.{Row}
 use Rattle.tsb_step.specs.tsb_plan.declared.object.Object.{Object}
-use Rattle.tsb_step.specs.tsb_plan.declared.object.Object.TheVariants.{PhaseMinimumGreen, PhaseMaximumInitial, PhaseWalk, PhasePedestrianClear, PhaseYellowChange, PhaseRedClear, PhaseRedRevert, UnitRedRevert, PatternCycleTime, PatternOffsetTime}
+use Rattle.tsb_step.specs.tsb_plan.declared.object.Object.TheVariants.{PhaseEnabled, PhaseRing, PhaseSide, PhaseConcurrency, PhaseMinimumGreen, PhaseMaximum1, PhaseMaximum2, PhaseMaximumInitial, PhaseWalk, PhasePedestrianClear, PhaseYellowChange, PhaseRedClear, PhaseRedRevert, UnitRedRevert, VehicleDetectorCallPhase, SequenceData, PatternCycleTime, PatternOffsetTime, PatternSplitNumber, PatternSequenceNumber, SplitTime, SplitCoordPhase}
 use Rattle.tsb_step.specs.tsb_plan.Objects.{greatest}
 use Rattle.tsb_step.specs.tsb_plan.Parts.{cycle}
-use Rattle.tsb_step.specs.tsb_plan.Plan.{Plan, phases, is_enabled, is_concurrent, ring_of, side_of, yellow_change, red_clear, has_variable_initial, minimum_green, maximum_initial, walk, pedestrian_clear, has_minimum_recall, with_values}
+use Rattle.tsb_step.specs.tsb_plan.Plan.{Plan, empty, phases, is_enabled, yellow_change, red_clear, has_variable_initial, minimum_green, maximum_initial, walk, pedestrian_clear, has_minimum_recall, with_values}
 use Rattle.tsb_step.specs.tsb_plan.Quad.{quad}
 use Rattle.tsb_step.specs.tsb_plan.Running.{mode_in_effect, recalls_minimum, is_on_maximum_recall}
 use Rattle.tsb_step.specs.tsb_rules.Consistent.{IsPhase}
-use Rattle.tsb_step.specs.tsb_rules.Rules.{first_broken, may_be_concurrent}
+use Rattle.tsb_step.specs.tsb_rules.Rules.{first_broken}
 use Rattle.tsb_step.specs.tsb_calls.Callable.{has_pedestrian_call, has_passing_call}
 use Rattle.tsb_step.specs.tsb_coord.Coordinated.{end_of}
 use Rattle.tsb_step.specs.tsb_coord.Correction.{forces}
 use Rattle.tsb_step.specs.tsb_ring.declared.want.Want.{Want}
 use Rattle.tsb_step.specs.tsb_ring.declared.want.Want.TheVariants.{Rest}
-use Rattle.tsb_step.specs.tsb_ring.Laws.{IsListed}
 use Rattle.tsb_step.specs.tsb_ring.Rings.{Ring, Ring1, Ring2, in_ring}
 use Rattle.tsb_step.specs.tsb_ring.Wants.{is_on_side, is_candidate, want_within}
 use Rattle.tsb_step.specs.declared.inputs.Input.{Input}
@@ -30,15 +28,15 @@ use Rattle.tsb_step.specs.State.{State, interval}
 use Rattle.tsb_step.specs.Tick.{service, runs, hold, forced, calls_given, set, callable, conflict, ready, rings_given}
 use Rattle.tsb_step.specs.Signs.{IsInStep}
 use Rattle.tsb_step.specs.Runs.{replay, AreTaken}
-use Rattle.tsb_step.specs.Laws.{IsConsistent}
-use Rattle.tsb_step.proofs.GivenLemmas.{enabled_is_listed}
-use Rattle.tsb_step.proofs.Examples.Scenes.{opened, vehicle, called, resting, coordinated}
+use Rattle.tsb_step.specs.Laws.{IsConsistent, is_unlit}
+use Rattle.tsb_step.proofs.Examples.Scenes.{opened, vehicle, called, resting}
 use Rattle.tsb_laws.specs.Stretches.{IsUntripped}
 use Rattle.tsb_laws.specs.ServedCalls.{longest_initial, IsFullyConcurrent}
 use Rattle.tsb_laws.specs.CoordinatedGreens.{HasGoneOn, is_pressed_in_pattern, IsForcedWithin, is_out, is_called_in_pattern, longest_in_pattern, TurnsInPattern}
 use Rattle.tsb_laws.proofs.safety.Examples.PlanFits.{Fits, values_fit, quad_fits, consistent}
 use Rattle.tsb_laws.proofs.safety.Examples.CoordinationRuns.{omits, omits_count, omits_consistent}
-use Rattle.tsb_laws.proofs.operation.Examples.ServedRuns.{all_at, across}
+use Rattle.tsb_laws.proofs.safety.Examples.TickRuns.{ticks, now_then, plan_then, all_taken, unlit_then, dark_then, none_trips}
+use Rattle.tsb_laws.proofs.safety.Examples.StretchRuns.{gone, goes_on, values_alone_fit, goes_with_all, goes_together}
 
 -- ## A coordinated phase without a recall of its own, as pattern 1 is selected
 
@@ -147,68 +145,11 @@ record Running (plan : Plan) (is : List Input) (k p : ℕ) : Type 0 where
 a_pattern : Running prompt started 1 6
 a_pattern = record { consistent = prompt_consistent; taken = taken; runs = runs_1; in_step = in_step_1; enabled = is_on }
 
-pressed : is_pressed_in_pattern 6 (replay prompt started) (Tick (vehicle 5)) ≡ true
-unfolding opened prompt
-pressed = refl
-
-comes_at_2 : forces (replay prompt started).plan (replay prompt started).pattern (replay prompt started).correction 2 6 ≡ true
-unfolding opened prompt
-comes_at_2 = refl
-
-initial_0 : longest_initial (replay prompt started).plan 6 ≡ 0
-unfolding opened prompt
-initial_0 = refl
-
-walk_0 : walk (replay prompt started).plan 6 + pedestrian_clear (replay prompt started).plan 6 ≡ 0
-unfolding opened prompt
-walk_0 = refl
-
-record ForcedGreen (plan : Plan) (base later : List Input) (row : Row) (p n : ℕ) : Type 0 where
-  consistent : IsConsistent plan
-  few : plan.phase_count ≤ 16
-  taken : AreTaken plan later
-  untripped : IsUntripped plan base []
-  pressed : HasGoneOn (is_pressed_in_pattern p) plan base (Tick row ∷ [])
-  forced : IsForcedWithin (replay plan base) p n
-  long : (replay plan base).now + n ≤ (replay plan base).now
-
-a_forced_green : ForcedGreen prompt started started (vehicle 5) 6 0
-a_forced_green = record {
-  consistent = prompt_consistent;
-  few = (let count = prompt_count in omega (arith, count));
-  taken = taken;
-  untripped = dark;
-  pressed = (tt, pressed);
-  forced = record {
-    tick = 2;
-    later = (let at = ticked_1 in omega (arith, at));
-    soon = (let at = ticked_1 in omega (arith, at));
-    forced = comes_at_2;
-    initial = (let at = initial_0 in omega (arith, at));
-    walk = (let at = walk_0 in omega (arith, at));
-  };
-  long = omega arith;
-}
-
 -- ## 6 may end in that tick, and 5 waits for it
 
--- each phase goes with all that it may go with
-goes_with_all : (list_all (λ p. list_all (λ q. not (may_be_concurrent prompt p q) || is_concurrent prompt p q) (phases prompt)) (phases prompt)) ≡ true
+goes_with_all_so : list_all (goes_with_all prompt) (phases prompt) ≡ true
 unfolding opened prompt
-goes_with_all = refl
-
-goes_together : IsFullyConcurrent prompt
-goes_together r p q own_p own_q on_p on_q side =
-    let there_p : IsListed prompt p = enabled_is_listed prompt prompt_consistent p on_p in
-    let there_q : IsListed prompt q = enabled_is_listed prompt prompt_consistent q on_q in
-    let row_p = all_at (λ x. list_all (λ y. not (may_be_concurrent prompt x y) || is_concurrent prompt x y) (phases prompt)) (phases prompt) p goes_with_all there_p in
-    let may : may_be_concurrent prompt p q ≡ true =
-    rw (on_q, across r (ring_of prompt p) (ring_of prompt q) own_p own_q) (eq-eqb (side_of prompt p) (side_of prompt q) side) in
-    elim (or_cases (not (may_be_concurrent prompt p q)) (is_concurrent prompt p q)
-    (all_at (λ y. not (may_be_concurrent prompt p y) || is_concurrent prompt p y) (phases prompt) q row_p there_q)) [
-      | inl h ↦ absurd (false≢true (sym (ap not may) ∙ h))
-      | inr h ↦ h
-    ]
+goes_with_all_so = refl
 
 plan_is : (replay prompt started).plan ≡ prompt
 unfolding opened
@@ -253,59 +194,210 @@ a_ready_green = record {
   taken = taken;
   untripped = dark;
   quiet = none_served;
-  full = subst IsFullyConcurrent (sym plan_is) goes_together;
+  full = subst IsFullyConcurrent (sym plan_is) (goes_together prompt prompt_consistent goes_with_all_so);
   ringed = ringed;
   green = was_green;
   fit = fit;
   pressed = has_conflict_6;
 }
 
--- ## 2 is to be served: it is Red as pattern 1 is selected
+-- ## A plan of a cycle of 10 s: 2 and 6 are coordinated, and cars wait at 4 across the barrier
 
-picked_dark : (replay prompt selected).trip ≡ None
-unfolding opened prompt
-picked_dark = refl
+-- the instant of 2 is 70, in tick 10, and that of 4 is 20; 6 has a minimum green of 20 ticks, for which 2 waits at the barrier
+abbrev pub round_values : List (Object × ℕ × ℕ)
+round_values =
+    (PhaseEnabled, 2, 1) ∷ (PhaseEnabled, 4, 1) ∷ (PhaseEnabled, 6, 1) ∷ (PhaseEnabled, 8, 1) ∷
+    (PhaseRing, 2, 1) ∷ (PhaseRing, 4, 1) ∷ (PhaseRing, 6, 2) ∷ (PhaseRing, 8, 2) ∷
+    (PhaseSide, 2, 1) ∷ (PhaseSide, 4, 2) ∷ (PhaseSide, 6, 1) ∷ (PhaseSide, 8, 2) ∷
+    (PhaseConcurrency, 2, 32) ∷ (PhaseConcurrency, 4, 128) ∷ (PhaseConcurrency, 6, 2) ∷ (PhaseConcurrency, 8, 8) ∷
+    (PhaseMinimumGreen, 2, 1) ∷ (PhaseMinimumGreen, 6, 2) ∷
+    (PhaseMaximum1, 2, 2) ∷ (PhaseMaximum1, 4, 2) ∷ (PhaseMaximum1, 6, 2) ∷ (PhaseMaximum1, 8, 2) ∷
+    (PhaseMaximum2, 2, 2) ∷ (PhaseMaximum2, 4, 2) ∷ (PhaseMaximum2, 6, 2) ∷ (PhaseMaximum2, 8, 2) ∷
+    (PhaseYellowChange, 2, 30) ∷ (PhaseYellowChange, 4, 30) ∷ (PhaseYellowChange, 6, 30) ∷ (PhaseYellowChange, 8, 30) ∷
+    (VehicleDetectorCallPhase, 2, 2) ∷ (VehicleDetectorCallPhase, 4, 4) ∷ (VehicleDetectorCallPhase, 6, 6) ∷ (VehicleDetectorCallPhase, 8, 8) ∷
+    (SequenceData, 1, 2) ∷ (SequenceData, 2, 4) ∷ (SequenceData, 17, 6) ∷ (SequenceData, 18, 8) ∷
+    (PatternCycleTime, 1, 10) ∷ (PatternOffsetTime, 1, 4) ∷ (PatternSplitNumber, 1, 1) ∷ (PatternSequenceNumber, 1, 1) ∷
+    (SplitTime, 2, 5) ∷ (SplitTime, 4, 5) ∷ (SplitTime, 6, 5) ∷ (SplitTime, 8, 5) ∷ (SplitCoordPhase, 2, 1) ∷ (SplitCoordPhase, 6, 1) ∷ []
 
-picked_runs : runs (replay prompt selected) ≡ Some 1
-unfolding opened prompt
-picked_runs = refl
+unfoldable pub round : Plan
+round = with_values empty round_values
 
-picked_in_step : IsInStep (replay prompt selected)
-unfolding opened prompt
-picked_in_step = refl
+-- the greatest of these times
+abbrev limit : Object → ℕ
+limit PatternCycleTime = 10
+limit PhaseMinimumGreen = 2
+limit PhaseMaximumInitial = 0
+limit PhaseWalk = 0
+limit PhasePedestrianClear = 0
+limit PhaseYellowChange = 30
+limit PhaseRedClear = 0
+limit PhaseRedRevert = 0
+limit UnitRedRevert = 0
+limit o = greatest o
 
-picked_plan : (replay prompt selected).plan ≡ prompt
-unfolding opened
-picked_plan = refl
+round_fits : Fits limit round.value
+unfolding round
+round_fits = values_alone_fit limit round_values refl
 
-picked_ring : in_ring (replay prompt selected).plan Ring1 2 ≡ true
-unfolding opened prompt
-picked_ring = refl
+pub round_count : round.phase_count ≡ 16
+unfolding round
+round_count = refl
 
-is_out_2 : is_out 2 (replay prompt selected) (Tick all_off) ≡ true
-unfolding opened prompt
-is_out_2 = refl
+round_breaks_none : first_broken round ≡ None
+unfolding opened round
+round_breaks_none = refl
 
-longest : (p : ℕ) → longest_in_pattern prompt 1 p ≤ 5100
+pub round_consistent : IsConsistent round
+round_consistent = consistent limit round round_count round_breaks_none round_fits
+
+round_few : round.phase_count ≤ 16
+round_few = let count = round_count in omega (arith, count)
+
+round_together : list_all (goes_with_all round) (phases round) ≡ true
+unfolding opened round
+round_together = refl
+
+longest : (p : ℕ) → longest_in_pattern round 1 p ≤ 100
 unfolding longest_in_pattern
 longest p =
-    go (has_variable_initial prompt p) (prompt_fits.bounded PatternCycleTime 1) (prompt_fits.bounded PhaseMinimumGreen p)
-    (prompt_fits.bounded PhaseMaximumInitial p) (prompt_fits.bounded PhaseWalk p) (prompt_fits.bounded PhasePedestrianClear p)
+    go (has_variable_initial round p) (round_fits.bounded PatternCycleTime 1) (round_fits.bounded PhaseMinimumGreen p)
+    (round_fits.bounded PhaseMaximumInitial p) (round_fits.bounded PhaseWalk p) (round_fits.bounded PhasePedestrianClear p)
   where
-    go : (v : Bool) → prompt.value PatternCycleTime 1 ≤ 255 → prompt.value PhaseMinimumGreen p ≤ 255 → prompt.value PhaseMaximumInitial p ≤ 255 →
-        prompt.value PhaseWalk p ≤ 255 → prompt.value PhasePedestrianClear p ≤ 255 →
-        max (cycle prompt 1) (max (if v then max (minimum_green prompt p) (maximum_initial prompt p) else minimum_green prompt p) (walk prompt p + pedestrian_clear prompt p)) ≤ 5100
+    go : (v : Bool) → round.value PatternCycleTime 1 ≤ 10 → round.value PhaseMinimumGreen p ≤ 2 → round.value PhaseMaximumInitial p ≤ 0 →
+        round.value PhaseWalk p ≤ 0 → round.value PhasePedestrianClear p ≤ 0 →
+        max (cycle round 1) (max (if v then max (minimum_green round p) (maximum_initial round p) else minimum_green round p) (walk round p + pedestrian_clear round p)) ≤ 100
     go true one two three four five = omega (arith, one, two, three, four, five)
     go false one two three four five = omega (arith, one, two, three, four, five)
 
-turns_in_1 : TurnsInPattern prompt 1 510 5100
+turns_in_1 : TurnsInPattern round 1 30 100
 turns_in_1 = record {
   clears = record {
-    clearance = λ p. (let y = prompt_fits.bounded PhaseYellowChange p in let z = prompt_fits.bounded PhaseRedClear p in omega (arith, y, z));
-    revert = λ p. (let own = prompt_fits.bounded PhaseRedRevert p in let unit = prompt_fits.bounded UnitRedRevert 1 in omega (arith, own, unit));
+    clearance = λ p. (let y = round_fits.bounded PhaseYellowChange p in let z = round_fits.bounded PhaseRedClear p in omega (arith, y, z));
+    revert = λ p. (let own = round_fits.bounded PhaseRedRevert p in let unit = round_fits.bounded UnitRedRevert 1 in omega (arith, own, unit));
   };
   green = longest;
 }
+
+-- pattern 1 is selected at power-up, and so many ticks come
+abbrev pub so_far : ℕ → List Input
+so_far n = ticks (vehicle 4) n ++ selected
+
+round_unlit : is_unlit round selected ≡ true
+round_unlit = refl
+
+round_selected : AreTaken round selected
+unfolding opened round
+round_selected = (tt, refl)
+
+at_power_up : (replay round selected).now ≡ 0
+unfolding opened
+at_power_up = refl
+
+in_time : (n : ℕ) → n ≤ 500 → (replay round selected).now + n ≤ 1000
+in_time n low = let at = at_power_up in omega (arith, at, low)
+
+pub round_taken : (n : ℕ) → n ≤ 500 → AreTaken round (so_far n)
+round_taken n low = all_taken round (vehicle 4) selected n round_selected (in_time n low)
+
+unlit_so : (n : ℕ) → is_unlit round (so_far n) ≡ true
+unlit_so n = unlit_then round (vehicle 4) selected n round_unlit
+
+pub round_dark : (n : ℕ) → n ≤ 500 → (replay round (so_far n)).trip ≡ None
+round_dark n low = dark_then round (vehicle 4) selected round_consistent round_selected round_unlit n (in_time n low)
+
+-- from the state after m ticks on, n more
+later_in_time : (m n : ℕ) → m ≤ 200 → n ≤ 200 → (replay round (so_far m)).now + n ≤ 1000
+later_in_time m n low few = let at = at_power_up in let later = now_then round (vehicle 4) selected m in omega (arith, at, later, low, few)
+
+untripped : (m n : ℕ) → m ≤ 200 → n ≤ 200 → IsUntripped round (so_far m) (ticks (vehicle 4) n)
+untripped m n low few = none_trips round (vehicle 4) (so_far m) round_consistent (round_taken m (omega (arith, low))) (unlit_so m) n (later_in_time m n low few)
+
+taken_then : (m n : ℕ) → m ≤ 200 → n ≤ 200 → AreTaken round (ticks (vehicle 4) n ++ so_far m)
+taken_then m n low few = all_taken round (vehicle 4) (so_far m) n (round_taken m (omega (arith, low))) (later_in_time m n low few)
+
+selected_plan : (replay round selected).plan ≡ round
+unfolding opened
+selected_plan = refl
+
+round_plan : (m : ℕ) → (replay round (so_far m)).plan ≡ round
+round_plan m = plan_then round (vehicle 4) selected m ∙ selected_plan
+
+full_then : (m : ℕ) → IsFullyConcurrent (replay round (so_far m)).plan
+full_then m = subst IsFullyConcurrent (sym (round_plan m)) (goes_together round round_consistent round_together)
+
+turns_then : (m : ℕ) → TurnsInPattern (replay round (so_far m)).plan 1 30 100
+turns_then m = subst (λ (x : Plan). TurnsInPattern x 1 30 100) (sym (round_plan m)) turns_in_1
+
+-- pattern 1 runs, and its local counter is in step
+record Runs (s : State) (c : ℕ) : Type 0 where
+  runs : runs s ≡ Some 1
+  in_step : IsInStep s
+  ringed : in_ring s.plan Ring1 c ≡ true
+
+-- ## A green that is forced off: 2 is ready in the tick after 10 with a conflict, and not in the second before
+
+pressed_11 : (gone (is_pressed_in_pattern 2) (replay round (so_far 1)) (ticks (vehicle 4) 11)).1 ≡ true
+unfolding opened round
+pressed_11 = refl
+
+is_not_ready_yet : ready (replay round (ticks (vehicle 4) 8 ++ so_far 1)) (vehicle 4) 2 ≡ false
+unfolding opened round
+is_not_ready_yet = refl
+
+is_ready : ready (replay round (ticks (vehicle 4) 10 ++ so_far 1)) (vehicle 4) 2 ≡ true
+unfolding opened round
+is_ready = refl
+
+record OfForced (s : State) : Type 0 where
+  now : s.now ≡ 1
+  comes_at_10 : forces s.plan s.pattern s.correction 10 2 ≡ true
+  initial : longest_initial s.plan 2 ≡ 10
+  walks : walk s.plan 2 + pedestrian_clear s.plan 2 ≡ 0
+
+of_forced : OfForced (replay round (so_far 1))
+unfolding opened round
+of_forced = record { now = refl; comes_at_10 = refl; initial = refl; walks = refl }
+
+record ForcedGreen (plan : Plan) (base later : List Input) (row : Row) (p n : ℕ) : Type 0 where
+  consistent : IsConsistent plan
+  few : plan.phase_count ≤ 16
+  taken : AreTaken plan (later ++ base)
+  untripped : IsUntripped plan base later
+  pressed : HasGoneOn (is_pressed_in_pattern p) plan base (Tick row ∷ later)
+  forced : IsForcedWithin (replay plan base) p n
+  long : (replay plan base).now + n ≤ (replay plan (later ++ base)).now
+
+a_forced_green : ForcedGreen round (so_far 1) (ticks (vehicle 4) 10) (vehicle 4) 2 10
+a_forced_green = record {
+  consistent = round_consistent;
+  few = round_few;
+  taken = taken_then 1 10 (omega arith) (omega arith);
+  untripped = untripped 1 10 (omega arith) (omega arith);
+  pressed = goes_on (is_pressed_in_pattern 2) round (so_far 1) (ticks (vehicle 4) 11) pressed_11;
+  forced = record {
+    tick = 10;
+    later = (let at = of_forced.now in omega (arith, at));
+    soon = (let at = of_forced.now in omega (arith, at));
+    forced = of_forced.comes_at_10;
+    initial = (let at = of_forced.initial in omega (arith, at));
+    walk = (let at = of_forced.walks in omega (arith, at));
+  };
+  long = (let at = now_then round (vehicle 4) (so_far 1) 10 in omega (arith, at));
+}
+
+-- a force-off that counts in the tick of its instant alone: in that tick 2 lacks its initial time, and now its instant has passed
+would_not_be : forced (replay round (ticks (vehicle 4) 10 ++ so_far 1)) 2 ≡ false
+unfolding opened round
+would_not_be = refl
+
+abbrev forgets_it : State → State
+forgets_it s = record s { phases = λ p. record (s.phases p) { forced = false } }
+
+would_not_be_ready : ready (forgets_it (replay round (ticks (vehicle 4) 10 ++ so_far 1))) (vehicle 4) 2 ≡ false
+unfolding opened round
+would_not_be_ready = refl
+
+-- ## 4 is served: it is called from tick 1 on, and Green after tick 51
 
 record Return (test : State → Input → Bool) (plan : Plan) (base later : List Input) (k j h : ℕ) (r : Ring) (c : ℕ) : Type 0 where
   consistent : IsConsistent plan
@@ -318,37 +410,62 @@ record Return (test : State → Input → Bool) (plan : Plan) (base later : List
   ringed : in_ring (replay plan base).plan r c ≡ true
   times : TurnsInPattern (replay plan base).plan k j h
   out : HasGoneOn test plan base later
+  comes : interval (replay plan (later ++ base)) c ≡ Green
 
-a_return : Return (is_out 2) prompt selected (Tick all_off ∷ []) 1 510 5100 Ring1 2
-a_return = record {
-  consistent = prompt_consistent;
-  few = (let count = prompt_count in omega (arith, count));
-  taken = taken;
-  untripped = (picked_dark, dark);
-  full = subst IsFullyConcurrent (sym picked_plan) goes_together;
-  runs = picked_runs;
-  in_step = picked_in_step;
-  ringed = picked_ring;
-  times = subst (λ (x : Plan). TurnsInPattern x 1 510 5100) (sym picked_plan) turns_in_1;
-  out = (tt, is_out_2);
+called_51 : (gone (is_called_in_pattern 4) (replay round (so_far 0)) (ticks (vehicle 4) 51)).1 ≡ true
+unfolding opened round
+called_51 = refl
+
+comes_4 : interval (replay round (ticks (vehicle 4) 51 ++ so_far 0)) 4 ≡ Green
+unfolding opened round
+comes_4 = refl
+
+runs_at_0 : Runs (replay round (so_far 0)) 4
+unfolding opened round
+runs_at_0 = record { runs = refl; in_step = refl; ringed = refl }
+
+a_wait : Return (is_called_in_pattern 4) round (so_far 0) (ticks (vehicle 4) 51) 1 30 100 Ring1 4
+a_wait = record {
+  consistent = round_consistent;
+  few = round_few;
+  taken = taken_then 0 51 (omega arith) (omega arith);
+  untripped = untripped 0 51 (omega arith) (omega arith);
+  full = full_then 0;
+  runs = runs_at_0.runs;
+  in_step = runs_at_0.in_step;
+  ringed = runs_at_0.ringed;
+  times = turns_then 0;
+  out = goes_on (is_called_in_pattern 4) round (so_far 0) (ticks (vehicle 4) 51) called_51;
+  comes = comes_4;
 }
 
-is_called_2 : is_called_in_pattern 2 (replay prompt selected) (Tick all_off) ≡ true
-unfolding opened prompt
-is_called_2 = refl
+-- ## 2 returns: it is out from tick 21 on, and Green again after tick 90
 
-a_wait : Return (is_called_in_pattern 2) prompt selected (Tick all_off ∷ []) 1 510 5100 Ring1 2
-a_wait = record {
-  consistent = prompt_consistent;
-  few = (let count = prompt_count in omega (arith, count));
-  taken = taken;
-  untripped = (picked_dark, dark);
-  full = subst IsFullyConcurrent (sym picked_plan) goes_together;
-  runs = picked_runs;
-  in_step = picked_in_step;
-  ringed = picked_ring;
-  times = subst (λ (x : Plan). TurnsInPattern x 1 510 5100) (sym picked_plan) turns_in_1;
-  out = (tt, is_called_2);
+out_69 : (gone (is_out 2) (replay round (so_far 21)) (ticks (vehicle 4) 69)).1 ≡ true
+unfolding opened round
+out_69 = refl
+
+comes_2 : interval (replay round (ticks (vehicle 4) 69 ++ so_far 21)) 2 ≡ Green
+unfolding opened round
+comes_2 = refl
+
+runs_at_21 : Runs (replay round (so_far 21)) 2
+unfolding opened round
+runs_at_21 = record { runs = refl; in_step = refl; ringed = refl }
+
+a_return : Return (is_out 2) round (so_far 21) (ticks (vehicle 4) 69) 1 30 100 Ring1 2
+a_return = record {
+  consistent = round_consistent;
+  few = round_few;
+  taken = taken_then 21 69 (omega arith) (omega arith);
+  untripped = untripped 21 69 (omega arith) (omega arith);
+  full = full_then 21;
+  runs = runs_at_21.runs;
+  in_step = runs_at_21.in_step;
+  ringed = runs_at_21.ringed;
+  times = turns_then 21;
+  out = goes_on (is_out 2) round (so_far 21) (ticks (vehicle 4) 69) out_69;
+  comes = comes_2;
 }
 
 -- ## A ring that looks across the barrier for its own phases alone
@@ -385,17 +502,3 @@ past_the_cycle plan n c p = end_of plan n p + (cycle plan n - (end_of plan n c +
 would_never_come : nat_lt (past_the_cycle quad 1 2 4) (cycle quad 1) ≡ false
 unfolding opened
 would_never_come = refl
-
--- ## A force-off that counts in the tick of its instant alone
-
--- 2 was forced off in an earlier tick, and has its initial time behind it in this one
-abbrev was_forced : State
-was_forced = record (coordinated 0) { phases = λ p. record ((coordinated 0).phases p) { forced = p == 2 } }
-
-is_ready : ready was_forced all_off 2 ≡ true
-unfolding opened
-is_ready = refl
-
-would_not_be : forced was_forced 2 ≡ false
-unfolding opened
-would_not_be = refl
