@@ -83,3 +83,7 @@ pub mod PlayLaws
 pub mod PlayRecords
 -- what enters where no preempt is in service
 pub mod CalledStarts
+-- when the times run out that a status shows
+pub mod TimesLeft
+-- that the correction limit changes no run while the correction mode is 0
+pub mod CorrectionLimits

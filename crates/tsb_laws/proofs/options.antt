@@ -1,0 +1,10 @@
+pub mod CallLemmas
+pub mod PhaseLemmas
+pub mod RingLemmas
+pub mod PreemptLemmas
+pub mod HeadLemmas
+pub mod RuleLemmas
+pub mod DeskLemmas
+pub mod TickLemmas
+pub mod RunLemmas
+pub mod Examples

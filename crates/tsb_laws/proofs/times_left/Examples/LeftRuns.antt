@@ -1,0 +1,495 @@
+-- A run from power-up that meets the premises of the laws of times that are left: 2 walks for 10 ticks and clears for 10, its
+-- green lasts 20 ticks at least and its gap is 40. Without a conflict it rests; where 1 is called it maxes out after 30. Then it
+-- is in yellow for 30 ticks and in red clearance for 10. And mistakes that these laws refuse.
+use Rattle.std.proofs.Common.{zero, suc, ◌≡◌, ℕ, ◌+◌, ◌-◌, ◌≤◌, ◌==◌, Bool, true, false, not, ◌&&◌, List, [], ◌∷◌, ◌++◌, Option, Some, None, refl, sym, ap, arith, ◌∙◌}
+use Rattle.std.proofs.lemmas.Bool.{and_parts, eqb-true}
+use Rattle.tsb_step.specs.tsb_cells.declared.timer.Timer.{Timer}
+use Rattle.tsb_step.specs.tsb_cells.declared.timer.Timer.TheVariants.{Off, On}
+use Rattle.tsb_step.specs.tsb_cells.Timer.{is_on}
+use Rattle.tsb_step.specs.tsb_types.Intervals.{is_green, is_walk, is_clearance}
+use Rattle.tsb_step.specs.tsb_types.Sets.{all_off}
+use Rattle.tsb_step.specs.tsb_types.declared.interval.Interval.{Interval}
+use Rattle.tsb_step.specs.tsb_types.declared.interval.Interval.TheVariants.{Yellow, RedClear}
+use Rattle.tsb_step.specs.tsb_types.declared.row.Row.{Row}
+use Rattle.tsb_step.specs.tsb_plan.declared.object.Object.{Object}
+use Rattle.tsb_step.specs.tsb_plan.declared.object.Object.TheVariants.{PhaseWalk, PhasePedestrianClear, PhasePedRecall, PhaseMinimumGreen, PhaseMaximum1, PhasePassage, PhaseMinimumGap}
+use Rattle.tsb_step.specs.tsb_plan.Objects.{greatest}
+use Rattle.tsb_step.specs.tsb_plan.Plan.{Plan, yellow_change, red_clear, with_values}
+use Rattle.tsb_step.specs.tsb_plan.Quad.{quad}
+use Rattle.tsb_step.specs.tsb_phase.Green.{gap, reduction_timer, acting_maximum}
+use Rattle.tsb_step.specs.tsb_phase.Pedestrian.{ended_by, walk_time, clearance_time, is_resting_in_walk}
+use Rattle.tsb_step.specs.tsb_phase.Phase.{held_of}
+use Rattle.tsb_step.specs.tsb_ring.Rings.{Ring1}
+use Rattle.tsb_step.specs.tsb_rules.Rules.{first_broken}
+use Rattle.tsb_step.specs.declared.inputs.Input.{Input}
+use Rattle.tsb_step.specs.declared.inputs.Input.TheVariants.{Tick}
+use Rattle.tsb_step.specs.declared.waits.Wait.{Wait}
+use Rattle.tsb_step.specs.declared.waits.Wait.TheVariants as waits
+use Rattle.tsb_step.specs.State.{State, interval, pedestrian_part}
+use Rattle.tsb_step.specs.Status.{RingStatus, status}
+use Rattle.tsb_step.specs.Tick.{runs, phases_given, phase_read, over}
+use Rattle.tsb_step.specs.Waits.{left, phases_again, time_to_last, served, lack, committed_wait, free_wait, wait}
+use Rattle.tsb_step.specs.Runs.{replay, AreTaken}
+use Rattle.tsb_step.specs.Laws.{IsConsistent, is_unlit}
+use Rattle.tsb_step.proofs.TellLemmas.{is_in_green}
+use Rattle.tsb_step.proofs.Examples.Scenes.{opened, vehicle}
+use Rattle.tsb_laws.specs.TimesLeft.{IsShown, InEachTick, KeepsYellow, KeepsRedClear, KeepsWalk, KeepsClearance, KeepsInitial, has_lasted, KeepsGap, has_gapped, KeepsMaximum, is_maxed_out, ToClear, here, HasBegun, KeepsBoth}
+use Rattle.tsb_laws.proofs.safety.Examples.PlanFits.{Fits, values_fit, quad_fits, consistent}
+use Rattle.tsb_laws.proofs.safety.Examples.TickRuns.{ticks, now_then, plan_then, all_taken}
+use Rattle.tsb_laws.proofs.times_left.Examples.TickTests.{passes, each_by, each_plan, IsStretch, ticks_stretch}
+
+abbrev leaving_values : List (Object × ℕ × ℕ)
+leaving_values =
+    (PhaseWalk, 2, 1) ∷ (PhasePedestrianClear, 2, 1) ∷ (PhasePedRecall, 2, 1) ∷
+    (PhaseMinimumGreen, 2, 2) ∷ (PhaseMaximum1, 2, 3) ∷ (PhasePassage, 2, 40) ∷ (PhaseMinimumGap, 2, 40) ∷ []
+
+unfoldable leaving : Plan
+leaving = with_values quad leaving_values
+
+leaving_fits : Fits greatest leaving.value
+unfolding leaving
+leaving_fits = values_fit greatest leaving_values quad refl (quad_fits greatest refl refl)
+
+leaving_count : leaving.phase_count ≡ 16
+unfolding quad leaving
+leaving_count = refl
+
+breaks_none : first_broken leaving ≡ None
+unfolding opened leaving
+breaks_none = refl
+
+leaving_consistent : IsConsistent leaving
+leaving_consistent = consistent greatest leaving leaving_count breaks_none leaving_fits
+
+-- what is shown of ring 1, opened
+unfoldable shown_opened : Unit {0}
+unfolding opened leaving status served lack phases_again committed_wait free_wait wait
+shown_opened = tt
+
+-- a stretch with what is shown before it, and what each of its ticks has
+record Meets (base later : List Input) (Shown Each : Type 0) : Type 0 where
+  stretch : IsStretch leaving base later
+  shown : Shown
+  each : Each
+
+-- what the status of ring 1 shows
+abbrev ring_1 : State → RingStatus
+ring_1 s = (status s).ring Ring1
+
+-- a mistake: what is shown is left once the next tick has passed
+abbrev sooner : ℕ → Timer → ℕ
+sooner time Off = time
+sooner time (On n) = time - (n + 1)
+
+-- ## The green begins
+
+abbrev begun : List Input
+begun = Tick all_off ∷ []
+
+begun_taken : AreTaken leaving begun
+unfolding opened leaving
+begun_taken = (tt, refl)
+
+begun_at : (replay leaving begun).now ≡ 1
+unfolding opened leaving
+begun_at = refl
+
+-- the phase in service, and what is left of its walk, its initial time and its gap
+abbrev green_shown : State → Option ℕ × Option ℕ × Option ℕ × Option ℕ
+green_shown s = ((ring_1 s).phase, (ring_1 s).walk_left, (ring_1 s).initial_left, (ring_1 s).gap_left)
+
+at_begin : green_shown (replay leaving begun) ≡ (Some 2, Some 10, Some 20, Some 40)
+unfolding shown_opened
+at_begin = refl
+
+stretch_of : (n : ℕ) → n ≤ 500 → IsStretch leaving begun (ticks all_off n)
+stretch_of n few = ticks_stretch leaving all_off begun n leaving_consistent begun_taken refl (let at = begun_at in omega (arith, at, few))
+
+is_off : (b : Bool) → not b ≡ true → b ≡ false
+is_off true k = cc
+is_off false k = refl
+
+-- ## Its walk
+
+abbrev tests_walk : State → Row → Bool
+tests_walk s row = walk_time s.plan 2 (ended_by (phases_given s row) 2) == 10 && not (is_resting_in_walk s.plan (phases_given s row) 2)
+
+walks_on : passes tests_walk all_off (replay leaving begun) 10 ≡ true
+unfolding opened leaving
+walks_on = refl
+
+walk_is_10 : walk_time (replay leaving begun).plan 2 (ended_by (phases_again (replay leaving begun)) 2) ≡ 10
+unfolding shown_opened
+walk_is_10 = refl
+
+a_walk : Meets begun (ticks all_off 10) (IsShown (replay leaving begun) Ring1 2 (λ x. x.walk_left) 10)
+    (InEachTick (KeepsWalk 2 10 (replay leaving begun)) leaving begun (ticks all_off 10))
+a_walk = record {
+  stretch = stretch_of 10 (omega arith);
+  shown = record {
+    phase = ap (λ (x : Option ℕ × Option ℕ × Option ℕ × Option ℕ). x.0) at_begin;
+    left = ap (λ (x : Option ℕ × Option ℕ × Option ℕ × Option ℕ). x.1) at_begin;
+  };
+  each = each_by (KeepsWalk 2 10 (replay leaving begun)) tests_walk keeps leaving all_off begun 10 walks_on;
+}
+  where
+    keeps : (s : State) (row : Row) → tests_walk s row ≡ true → KeepsWalk 2 10 (replay leaving begun) s row
+    keeps s row h =
+        let both = and_parts (walk_time s.plan 2 (ended_by (phases_given s row) 2) == 10) (not (is_resting_in_walk s.plan (phases_given s row) 2)) h in
+        let ten : walk_time s.plan 2 (ended_by (phases_given s row) 2) ≡ 10 = eqb-true (walk_time s.plan 2 (ended_by (phases_given s row) 2)) 10 both.0 in
+        let shown = walk_is_10 in
+        record { time = omega (arith, ten, shown); moves_on = λ e. is_off (is_resting_in_walk s.plan (phases_given s row) 2) both.1 }
+
+-- it walks for 9 ticks more, and ends in the tenth
+abbrev parts : State → Bool × Bool
+parts s = (is_walk (pedestrian_part s 2), is_clearance (pedestrian_part s 2))
+
+walks_at_9 : parts (replay leaving (ticks all_off 9 ++ begun)) ≡ (true, false)
+unfolding opened leaving
+walks_at_9 = refl
+
+clears_at_10 : parts (replay leaving (ticks all_off 10 ++ begun)) ≡ (false, true)
+unfolding opened leaving
+clears_at_10 = refl
+
+walk_would_show_9 : sooner 10 ((replay leaving begun).phases 2).pedestrian_timer ≡ 9
+unfolding opened leaving
+walk_would_show_9 = refl
+
+-- ## Its pedestrian clearance
+
+abbrev walked : List Input
+walked = ticks all_off 10 ++ begun
+
+-- the phase in service, and what is left of its pedestrian clearance
+abbrev clearance_shown : State → Option ℕ × Option ℕ
+clearance_shown s = ((ring_1 s).phase, (ring_1 s).clearance_left)
+
+at_clearance : clearance_shown (replay leaving walked) ≡ (Some 2, Some 10)
+unfolding shown_opened
+at_clearance = refl
+
+abbrev tests_clearance : State → Row → Bool
+tests_clearance s row = clearance_time s.plan 2 (ended_by (phases_given s row) 2) == 10
+
+clears_on : passes tests_clearance all_off (replay leaving walked) 10 ≡ true
+unfolding opened leaving
+clears_on = refl
+
+clearance_is_10 : clearance_time (replay leaving walked).plan 2 (ended_by (phases_again (replay leaving walked)) 2) ≡ 10
+unfolding shown_opened
+clearance_is_10 = refl
+
+walked_at : (replay leaving walked).now ≡ 11
+walked_at = let at = begun_at in let clock = now_then leaving all_off begun 10 in omega (arith, at, clock)
+
+walked_taken : AreTaken leaving walked
+walked_taken = all_taken leaving all_off begun 10 begun_taken (let at = begun_at in omega (arith, at))
+
+a_clearance : Meets walked (ticks all_off 10) (IsShown (replay leaving walked) Ring1 2 (λ x. x.clearance_left) 10)
+    (InEachTick (KeepsClearance 2 (replay leaving walked)) leaving walked (ticks all_off 10))
+a_clearance = record {
+  stretch = ticks_stretch leaving all_off walked 10 leaving_consistent walked_taken refl (let at = walked_at in omega (arith, at));
+  shown = record { phase = ap (λ (x : Option ℕ × Option ℕ). x.0) at_clearance; left = ap (λ (x : Option ℕ × Option ℕ). x.1) at_clearance };
+  each = each_by (KeepsClearance 2 (replay leaving walked)) tests_clearance keeps leaving all_off walked 10 clears_on;
+}
+  where
+    keeps : (s : State) (row : Row) → tests_clearance s row ≡ true → KeepsClearance 2 (replay leaving walked) s row
+    keeps s row h =
+        let ten : clearance_time s.plan 2 (ended_by (phases_given s row) 2) ≡ 10 = eqb-true (clearance_time s.plan 2 (ended_by (phases_given s row) 2)) 10 h in
+        let shown = clearance_is_10 in
+        omega (arith, ten, shown)
+
+clears_at_19 : parts (replay leaving (ticks all_off 9 ++ walked)) ≡ (false, true)
+unfolding opened leaving
+clears_at_19 = refl
+
+none_at_20 : parts (replay leaving (ticks all_off 10 ++ walked)) ≡ (false, false)
+unfolding opened leaving
+none_at_20 = refl
+
+clearance_would_show_9 : sooner 10 ((replay leaving walked).phases 2).pedestrian_timer ≡ 9
+unfolding opened leaving
+clearance_would_show_9 = refl
+
+-- ## Its initial time
+
+abbrev tests_initial : State → Row → Bool
+tests_initial s row = time_to_last s.plan (phases_given s row) 2 (ended_by (phases_given s row) 2) == 20
+
+lasts_on : passes tests_initial all_off (replay leaving begun) 20 ≡ true
+unfolding opened leaving
+lasts_on = refl
+
+initial_is_20 : time_to_last (replay leaving begun).plan (phases_again (replay leaving begun)) 2 (ended_by (phases_again (replay leaving begun)) 2) ≡ 20
+unfolding shown_opened
+initial_is_20 = refl
+
+an_initial : Meets begun (ticks all_off 19) (IsShown (replay leaving begun) Ring1 2 (λ x. x.initial_left) 20)
+    (InEachTick (KeepsInitial 2 (replay leaving begun)) leaving begun (Tick all_off ∷ ticks all_off 19))
+an_initial = record {
+  stretch = stretch_of 19 (omega arith);
+  shown = record {
+    phase = ap (λ (x : Option ℕ × Option ℕ × Option ℕ × Option ℕ). x.0) at_begin;
+    left = ap (λ (x : Option ℕ × Option ℕ × Option ℕ × Option ℕ). x.2) at_begin;
+  };
+  each = each_by (KeepsInitial 2 (replay leaving begun)) tests_initial keeps leaving all_off begun 20 lasts_on;
+}
+  where
+    keeps : (s : State) (row : Row) → tests_initial s row ≡ true → KeepsInitial 2 (replay leaving begun) s row
+    keeps s row h =
+        let all : time_to_last s.plan (phases_given s row) 2 (ended_by (phases_given s row) 2) ≡ 20 =
+        eqb-true (time_to_last s.plan (phases_given s row) 2 (ended_by (phases_given s row) 2)) 20 h in
+        let shown = initial_is_20 in
+        omega (arith, all, shown)
+
+lasts_in_20 : has_lasted 2 (replay leaving (ticks all_off 19 ++ begun)) all_off ≡ true
+unfolding opened leaving
+lasts_in_20 = refl
+
+not_in_19 : has_lasted 2 (replay leaving (ticks all_off 18 ++ begun)) all_off ≡ false
+unfolding opened leaving
+not_in_19 = refl
+
+initial_would_show_19 : sooner 20 ((replay leaving begun).phases 2).timer ≡ 19
+unfolding opened leaving
+initial_would_show_19 = refl
+
+-- ## Its gap
+
+abbrev tests_gap : State → Row → Bool
+tests_gap s row =
+    is_green (interval s 2) && (not ((phases_given s row).output 2)
+    && gap s.plan 2 (reduction_timer s.plan (phases_given s row) 2 (held_of (phase_read s 2))) == 40)
+
+rests_on : passes tests_gap all_off (replay leaving begun) 40 ≡ true
+unfolding opened leaving
+rests_on = refl
+
+gap_is_40 : gap (replay leaving begun).plan 2 ((replay leaving begun).phases 2).reduction ≡ 40
+unfolding opened leaving
+gap_is_40 = refl
+
+has_no_output : is_on ((replay leaving begun).phases 2).passage ≡ true
+unfolding opened leaving
+has_no_output = refl
+
+a_gap : Meets begun (ticks all_off 39) (IsShown (replay leaving begun) Ring1 2 (λ x. x.gap_left) 40)
+    (InEachTick (KeepsGap 2 (replay leaving begun)) leaving begun (Tick all_off ∷ ticks all_off 39))
+a_gap = record {
+  stretch = stretch_of 39 (omega arith);
+  shown = record {
+    phase = ap (λ (x : Option ℕ × Option ℕ × Option ℕ × Option ℕ). x.0) at_begin;
+    left = ap (λ (x : Option ℕ × Option ℕ × Option ℕ × Option ℕ). x.3) at_begin;
+  };
+  each = each_by (KeepsGap 2 (replay leaving begun)) tests_gap keeps leaving all_off begun 40 rests_on;
+}
+  where
+    keeps : (s : State) (row : Row) → tests_gap s row ≡ true → KeepsGap 2 (replay leaving begun) s row
+    keeps s row h =
+        let outer = and_parts (is_green (interval s 2)) (not ((phases_given s row).output 2)
+        && gap s.plan 2 (reduction_timer s.plan (phases_given s row) 2 (held_of (phase_read s 2))) == 40) h in
+        let inner = and_parts (not ((phases_given s row).output 2))
+        (gap s.plan 2 (reduction_timer s.plan (phases_given s row) 2 (held_of (phase_read s 2))) == 40) outer.1 in
+        let now : gap s.plan 2 (reduction_timer s.plan (phases_given s row) 2 (held_of (phase_read s 2))) ≡ 40 =
+        eqb-true (gap s.plan 2 (reduction_timer s.plan (phases_given s row) 2 (held_of (phase_read s 2)))) 40 inner.1 in
+        let shown = gap_is_40 in
+        record { green = is_in_green (interval s 2) outer.0; quiet = is_off ((phases_given s row).output 2) inner.0; time = omega (arith, now, shown) }
+
+expires_in_40 : has_gapped 2 (replay leaving (ticks all_off 39 ++ begun)) all_off ≡ true
+unfolding opened leaving
+expires_in_40 = refl
+
+not_in_39 : has_gapped 2 (replay leaving (ticks all_off 38 ++ begun)) all_off ≡ false
+unfolding opened leaving
+not_in_39 = refl
+
+gap_would_show_39 : sooner 40 ((replay leaving begun).phases 2).passage ≡ 39
+unfolding opened leaving
+gap_would_show_39 = refl
+
+-- ## Its maximum, where 1 is called
+
+abbrev called : List Input
+called = Tick (vehicle 1) ∷ begun
+
+called_taken : AreTaken leaving called
+unfolding opened leaving
+called_taken = ((tt, refl), refl)
+
+called_at : (replay leaving called).now ≡ 2
+unfolding opened leaving
+called_at = refl
+
+-- the phase in service, and what is left of its maximum
+abbrev maximum_shown : State → Option ℕ × Option ℕ
+maximum_shown s = ((ring_1 s).phase, (ring_1 s).maximum_left)
+
+at_call : maximum_shown (replay leaving called) ≡ (Some 2, Some 30)
+unfolding shown_opened
+at_call = refl
+
+abbrev is_thirty : Option ℕ → Bool
+is_thirty None = false
+is_thirty (Some m) = m == 30
+
+thirty : (o : Option ℕ) → is_thirty o ≡ true → o ≡ Some 30
+thirty None h = cc
+thirty (Some m) h = ap Some (eqb-true m 30 h)
+
+abbrev tests_maximum : State → Row → Bool
+tests_maximum s row =
+    is_green (interval s 2) && ((phases_given s row).conflict 2 && is_thirty (acting_maximum s.plan (runs s) 2 (s.phases 2).running_maximum))
+
+presses_on : passes tests_maximum (vehicle 1) (replay leaving called) 30 ≡ true
+unfolding opened leaving
+presses_on = refl
+
+maximum_is_30 : acting_maximum (replay leaving called).plan (runs (replay leaving called)) 2 ((replay leaving called).phases 2).running_maximum ≡ Some 30
+unfolding opened leaving
+maximum_is_30 = refl
+
+a_maximum : Meets called (ticks (vehicle 1) 29) (IsShown (replay leaving called) Ring1 2 (λ x. x.maximum_left) 30)
+    (InEachTick (KeepsMaximum 2 (replay leaving called)) leaving called (Tick (vehicle 1) ∷ ticks (vehicle 1) 29))
+a_maximum = record {
+  stretch = ticks_stretch leaving (vehicle 1) called 29 leaving_consistent called_taken refl (let at = called_at in omega (arith, at));
+  shown = record { phase = ap (λ (x : Option ℕ × Option ℕ). x.0) at_call; left = ap (λ (x : Option ℕ × Option ℕ). x.1) at_call };
+  each = each_by (KeepsMaximum 2 (replay leaving called)) tests_maximum keeps leaving (vehicle 1) called 30 presses_on;
+}
+  where
+    keeps : (s : State) (row : Row) → tests_maximum s row ≡ true → KeepsMaximum 2 (replay leaving called) s row
+    keeps s row h =
+        let outer = and_parts (is_green (interval s 2))
+        ((phases_given s row).conflict 2 && is_thirty (acting_maximum s.plan (runs s) 2 (s.phases 2).running_maximum)) h in
+        let inner = and_parts ((phases_given s row).conflict 2) (is_thirty (acting_maximum s.plan (runs s) 2 (s.phases 2).running_maximum)) outer.1 in
+        record {
+          green = is_in_green (interval s 2) outer.0;
+          conflict = inner.0;
+          time = thirty (acting_maximum s.plan (runs s) 2 (s.phases 2).running_maximum) inner.1 ∙ sym maximum_is_30;
+        }
+
+maxes_out_in_30 : is_maxed_out 2 (replay leaving (ticks (vehicle 1) 29 ++ called)) (vehicle 1) ≡ true
+unfolding opened leaving
+maxes_out_in_30 = refl
+
+-- a mistake: it is timed from the beginning of the green, and not from that of the conflict
+maximum_would_show_29 : left 30 ((replay leaving called).phases 2).timer ≡ 29
+unfolding opened leaving
+maximum_would_show_29 = refl
+
+not_maxed_in_29 : is_maxed_out 2 (replay leaving (ticks (vehicle 1) 28 ++ called)) (vehicle 1) ≡ false
+unfolding opened leaving
+not_maxed_in_29 = refl
+
+-- ## Its yellow
+
+abbrev ended : List Input
+ended = ticks (vehicle 1) 30 ++ called
+
+-- the phase in service, what is left of its yellow and of its red clearance, and what 1 waits for
+abbrev yellow_shown : State → Option ℕ × Option ℕ × Option ℕ × Option Wait
+yellow_shown s = ((ring_1 s).phase, (ring_1 s).yellow_left, (ring_1 s).red_clearance_left, (status s).wait 1)
+
+at_end : yellow_shown (replay leaving ended) ≡ (Some 2, Some 30, None, Some (waits.Clears 2 40))
+unfolding shown_opened
+at_end = refl
+
+ended_at : (replay leaving ended).now ≡ 32
+ended_at = let at = called_at in let clock = now_then leaving (vehicle 1) called 30 in omega (arith, at, clock)
+
+ended_taken : AreTaken leaving ended
+ended_taken = all_taken leaving (vehicle 1) called 30 called_taken (let at = called_at in omega (arith, at))
+
+a_yellow : Meets ended (ticks (vehicle 1) 30) (IsShown (replay leaving ended) Ring1 2 (λ x. x.yellow_left) 30)
+    (InEachTick (KeepsYellow 2 (replay leaving ended)) leaving ended (ticks (vehicle 1) 30))
+a_yellow = record {
+  stretch = ticks_stretch leaving (vehicle 1) ended 30 leaving_consistent ended_taken refl (let at = ended_at in omega (arith, at));
+  shown = record {
+    phase = ap (λ (x : Option ℕ × Option ℕ × Option ℕ × Option Wait). x.0) at_end;
+    left = ap (λ (x : Option ℕ × Option ℕ × Option ℕ × Option Wait). x.1) at_end;
+  };
+  each = each_plan (λ (x : Plan). yellow_change x 2) leaving (vehicle 1) ended 30;
+}
+
+-- its interval, and what is shown then
+abbrev interval_shown : State → Interval × Option ℕ × Option ℕ
+interval_shown s = (interval s 2, (ring_1 s).phase, (ring_1 s).red_clearance_left)
+
+yellow_at_29 : interval_shown (replay leaving (ticks (vehicle 1) 29 ++ ended)) ≡ (Yellow, Some 2, None)
+unfolding shown_opened
+yellow_at_29 = refl
+
+red_clear_at_30 : interval_shown (replay leaving (ticks (vehicle 1) 30 ++ ended)) ≡ (RedClear, Some 2, Some 10)
+unfolding shown_opened
+red_clear_at_30 = refl
+
+yellow_would_show_29 : sooner (yellow_change (replay leaving ended).plan 2) ((replay leaving ended).phases 2).timer ≡ 29
+unfolding opened leaving
+yellow_would_show_29 = refl
+
+-- ## Its red clearance
+
+abbrev cleared : List Input
+cleared = ticks (vehicle 1) 30 ++ ended
+
+cleared_at : (replay leaving cleared).now ≡ 62
+cleared_at = let at = ended_at in let clock = now_then leaving (vehicle 1) ended 30 in omega (arith, at, clock)
+
+cleared_taken : AreTaken leaving cleared
+cleared_taken = all_taken leaving (vehicle 1) ended 30 ended_taken (let at = ended_at in omega (arith, at))
+
+a_red_clearance : Meets cleared (ticks (vehicle 1) 9) (IsShown (replay leaving cleared) Ring1 2 (λ x. x.red_clearance_left) 10)
+    (InEachTick (KeepsRedClear 2 (replay leaving cleared)) leaving cleared (Tick (vehicle 1) ∷ ticks (vehicle 1) 9))
+a_red_clearance = record {
+  stretch = ticks_stretch leaving (vehicle 1) cleared 9 leaving_consistent cleared_taken refl (let at = cleared_at in omega (arith, at));
+  shown = record {
+    phase = ap (λ (x : Interval × Option ℕ × Option ℕ). x.1) red_clear_at_30;
+    left = ap (λ (x : Interval × Option ℕ × Option ℕ). x.2) red_clear_at_30;
+  };
+  each = each_plan (λ (x : Plan). red_clear x 2) leaving (vehicle 1) cleared 10;
+}
+
+over_in_10 : over (replay leaving (ticks (vehicle 1) 9 ++ cleared)) 2 ≡ true
+unfolding opened leaving
+over_in_10 = refl
+
+not_over_in_9 : over (replay leaving (ticks (vehicle 1) 8 ++ cleared)) 2 ≡ false
+unfolding opened leaving
+not_over_in_9 = refl
+
+red_clearance_would_show_9 : sooner (red_clear (replay leaving cleared).plan 2) ((replay leaving cleared).phases 2).timer ≡ 9
+unfolding opened leaving
+red_clearance_would_show_9 = refl
+
+-- ## What 1 waits for: both together
+
+each_both : (n : ℕ) → InEachTick (KeepsBoth 2 (replay leaving ended)) leaving ended (ticks (vehicle 1) n)
+each_both zero = tt
+each_both (suc n) = (
+  each_both n,
+  record {
+    yellow = ap (λ (x : Plan). yellow_change x 2) (plan_then leaving (vehicle 1) ended n);
+    red = ap (λ (x : Plan). red_clear x 2) (plan_then leaving (vehicle 1) ended n);
+  },
+)
+
+has_begun : HasBegun (replay leaving ended) 2 (interval (replay leaving ended) 2)
+unfolding opened leaving
+has_begun = refl
+
+a_wait : Meets ended (ticks (vehicle 1) 39) (ToClear (replay leaving ended) 2 40)
+    (InEachTick (KeepsBoth 2 (replay leaving ended)) leaving ended (Tick (vehicle 1) ∷ ticks (vehicle 1) 39))
+a_wait = record {
+  stretch = ticks_stretch leaving (vehicle 1) ended 39 leaving_consistent ended_taken refl (let at = ended_at in omega (arith, at));
+  shown = here 1 (ap (λ (x : Option ℕ × Option ℕ × Option ℕ × Option Wait). x.3) at_end);
+  each = each_both 40;
+}
+
+-- a mistake: a wait that leaves out the red clearance
+wait_would_show_30 : left (yellow_change (replay leaving ended).plan 2) ((replay leaving ended).phases 2).timer ≡ 30
+unfolding opened leaving
+wait_would_show_30 = refl
+
+not_over_in_30 : over (replay leaving (ticks (vehicle 1) 29 ++ ended)) 2 ≡ false
+unfolding opened leaving
+not_over_in_30 = refl
