@@ -57,6 +57,8 @@ OVER = "if phases stand as usual, it turns right beside phase %d over its crossi
 INTO = "if phases stand as usual, it turns right beside phase %d into the leg that phase %d goes into, and both can be green"
 # No walk but that of phase 6, which has none either.
 NO_WALKS: Change = {f"{name}.{p}": 0 for p in (2, 4, 8) for name in ("phaseWalk", "phasePedestrianClear", "pedestrianDetectorCallPhase")}
+AS_SECONDS = "as if it were given in seconds and not in tenths"
+UNUSED = "it is not enabled, so its values have no effect, such as"
 NO_CALL = "while it has an alarm no car calls phase %d, since its fail time is 0 s"
 CASES = [
     Case(1, {"vehicleDetectorCallPhase.1": 0, "splitMode.1": 0}, ["phase 1: no detector, button, recall or split mode calls it"],
@@ -299,6 +301,25 @@ CASES = [
          [f"overlap {o}: {OVER % p}" for o, p in ((1, 2), (2, 4), (4, 8))], NO_WALKS),
     Case(56, {"overlapIncludedPhases.1": 9, "overlapType.1": 1, "overlapModifierPhases.1": 8}, [f"overlap 1: {INTO % (4, 6)}"],
          {"overlapModifierPhases.1": 40}),
+    Case(57, {"phaseRedClear.3": 4}, [f"phase 3: its red clearance of 0.4 s is under 0.5 s, {AS_SECONDS}"], {"phaseRedClear.3": 5}),
+    Case(57, {f"phaseRedClear.{p}": 1 for p in range(1, 9)},
+         [f"phase {p}: its red clearance of 0.1 s is under 0.5 s, {AS_SECONDS}" for p in range(1, 9)], {f"phaseRedClear.{p}": 0 for p in range(1, 9)}),
+    Case(58, {"phasePassage.4": 9, "phaseMinimumGap.4": 9},
+         [f"phase 4: its passage of 0.9 s is under 1 s and no detector extends it, {AS_SECONDS}"], {"phasePassage.4": 10}),
+    Case(58, {f"phase{it}.{p}": 3 for p in (3, 4) for it in ("Passage", "MinimumGap")},
+         [f"phase {p}: its passage of 0.3 s is under 1 s and no detector extends it, {AS_SECONDS}" for p in (3, 4)],
+         {"vehicleDetectorExtend.4": 1, "phaseMaxRecall.3": 1}),
+    Case(58, {"phasePassage.7": 1, "phaseMinimumGap.7": 1},
+         [f"phase 7: its passage of 0.1 s is under 1 s and no detector extends it, {AS_SECONDS}"],
+         {"vehicleDetectorCallPhase.7": 0}),
+    # Phase 9 is not enabled. Values come object by object, and those of splits table by table.
+    Case(59, {"phaseWalk.9": 7}, [f"phase 9: {UNUSED} phaseWalk.9"], {"phaseWalk.9": 0, "phaseWalk.8": 8}),
+    Case(59, {"splitTime.9": 20, "phasePassage.16": 20, "phasePedestrianRecycle.16": 1},
+         [f"phase 9: {UNUSED} splitTime.9", f"phase 16: {UNUSED} phasePassage.16"],
+         {"splitTime.9": 0, "phasePassage.16": 0, "phasePedestrianRecycle.16": 0}),
+    Case(59, {"splitMode.25": 1, "splitTime.121": 20, "phaseDynamicMaxStep.12": 5},
+         [f"phase 9: {UNUSED} splitTime.121", f"phase 12: {UNUSED} phaseDynamicMaxStep.12"],
+         {"splitMode.25": 0, "splitTime.121": 0, "phaseDynamicMaxStep.12": 0, "phaseRing.12": 1, "phaseSide.12": 2}),
 ]
 
 

@@ -5,8 +5,15 @@ crates.
 of docs/use/MANUAL.md, as Python reads its JSON. Times are kept in tenths of a second.
 """
 import collections
+import json
+import re
 from collections.abc import Iterator
 
+from tools import TOP
+
+# The objects of plans: those of version 1 come first.
+MANUAL = json.loads((TOP / "python/tsb/manual.json").read_text())["objects"]
+OBJECTS = sorted(MANUAL, key=lambda name: MANUAL[name]["since"])
 PHASES = range(1, 17)
 DETECTORS = range(1, 17)
 BUTTONS = range(1, 9)
@@ -24,6 +31,7 @@ WAYS = {1: ("east", "south"), 2: ("west", "east"), 3: ("south", "west"), 4: ("no
 # Over which leg the crossing of a through phase lies; the right turn beside it goes into this leg.
 CROSSED = {2: "south", 4: "west", 6: "north", 8: "east"}
 STREETS = [{"west", "east"}, {"north", "south"}]
+AS_SECONDS = "as if it were given in seconds and not in tenths"
 TIMES = ["Delay", "MinimumDuration", "MaximumPresence", "MinimumGreen", "MinimumWalk", "EnterPedClear", "TrackGreen"]
 
 Table = dict[str, dict[str, int]]
@@ -265,9 +273,11 @@ def pedestrians(plan: Plan) -> Iterator[tuple[int, str]]:
 
 
 def clearance(plan: Plan) -> Iterator[tuple[int, str]]:
-    """Advices A15 and A16."""
+    """Advices A15, A16 and A57."""
     sides = {plan.phase("Side", p) for p in plan.enabled}
     for p in plan.enabled:
+        if 0 < plan.phase("RedClear", p) < 5:
+            yield 57, f"phase {p}: its red clearance of {seconds(plan.phase('RedClear', p))} s is under 0.5 s, {AS_SECONDS}"
         on_foot = plan.walks(p) and not plan.detectors(p) and not plan.phase("MinimumGreen", p)
         if not plan.phase("RedClear", p) and not on_foot and len(sides) > 1:
             yield 15, f"phase {p}: its red clearance is 0 s, and phases across the barrier conflict with it"
@@ -279,7 +289,7 @@ def clearance(plan: Plan) -> Iterator[tuple[int, str]]:
 
 
 def actuation(plan: Plan) -> Iterator[tuple[int, str]]:
-    """Advices A17 to A26, A48, A49 and A53."""
+    """Advices A17 to A26, A48, A49, A53 and A58."""
     for p in plan.enabled:
         at = f"phase {p}:"
         passage, gap = plan.phase("Passage", p), plan.phase("MinimumGap", p)
@@ -288,6 +298,8 @@ def actuation(plan: Plan) -> Iterator[tuple[int, str]]:
         extends = [d for d in plan.detectors(p) if plan.value("vehicleDetectorExtend", d)]
         if plan.detectors(p) and not plan.phase("MaxRecall", p) and not passage and not extends:
             yield 17, f"{at} its passage is 0 s and no detector extends it, so any gap between cars ends its green"
+        if plan.detectors(p) and not plan.phase("MaxRecall", p) and 0 < passage < 10 and not extends:
+            yield 58, f"{at} its passage of {seconds(passage)} s is under 1 s and no detector extends it, {AS_SECONDS}"
         if gap < passage and not before and not reducing:
             yield 18, (f"{at} its gap is {seconds(gap)} s as soon as a conflict begins, and not its passage of "
                        f"{seconds(passage)} s, since its times of reduction are 0 s")
@@ -471,7 +483,18 @@ def overlaps(plan: Plan) -> Iterator[tuple[int, str]]:
             yield 41, f"overlap {o}: no phase of it follows another in a ring, so it shows what its phases show"
 
 
-PARTS = [service, pedestrians, clearance, actuation, coordination, patterns, correction, preempts, overlaps, turns]
+def unused(plan: Plan) -> Iterator[tuple[int, str]]:
+    """Advice A59."""
+    # (the order of values is that of the plan's objects, and of splits table by table)
+    indices = {name: 128 if name.startswith("split") else 16 for name in OBJECTS
+               if re.match("phase|split", name) and name not in ("phaseEnabled", "phaseRing", "phaseSide", "phaseConcurrency")}
+    for p in PHASES:
+        given = [f"{name}.{index}" for name, most in indices.items() for index in range(p, most + 1, 16) if plan.value(name, index)]
+        if p not in plan.enabled and given:
+            yield 59, f"phase {p}: it is not enabled, so its values have no effect, such as {given[0]}"
+
+
+PARTS = [service, pedestrians, clearance, actuation, coordination, patterns, correction, preempts, overlaps, turns, unused]
 
 
 def review(text: Table) -> list[str]:

@@ -197,4 +197,16 @@ RUNS = [
     Run(56, True, with_recalls("16", WRONG_PAIR), "", ["step 1"], [], "GRRRRGRR-------- -D-----D-------- G---"),
     Run(56, False, with_recalls("16", {**WRONG_PAIR, "overlapType.1": 1, "overlapModifierPhases.1": 32}), "", ["step 1"], [],
         "GRRRRGRR-------- -D-----D-------- R---"),
+    # Phases 2 and 6 end at tick 100 for a car at phase 3, and are red from tick 135 on. Phase 3 is green 0.4 s later, and
+    # with a red clearance of half a second a tick later.
+    Run(57, True, with_recalls("26", {"phaseRedClear.2": 4, "phaseRedClear.6": 4}), row(100, 3), ["step 139", "when interval 3"],
+        ["tick 0000139"]),
+    Run(57, False, with_recalls("26", {"phaseRedClear.2": 5, "phaseRedClear.6": 5}), row(100, 3), ["step 140", "when interval 3"],
+        ["tick 0000140"]),
+    # The gap of phase 2 is 0.3 s: the first gap between cars after its 5 s ends its green.
+    Run(58, True, with_recalls("26", {"phasePassage.2": 3, "phaseMinimumGap.2": 3}), CARS, ["step 54", "when interval 2"], ["tick 0000054"]),
+    Run(58, False, with_recalls("26", {"phasePassage.2": 11, "phaseMinimumGap.2": 11}), CARS, ["step 122", "when interval 2"], ["tick 0000122"]),
+    # A recall of a phase that is not enabled brings nothing.
+    Run(59, True, with_recalls("9", {}), "", ["step 1000", "when interval 9"], ["never"]),
+    Run(59, False, with_recalls("1", {}), "", ["step 1", "when interval 1"], ["tick 0000001"]),
 ]

@@ -31,14 +31,14 @@ from tools.programs.review_cases import Table
 # The text of which the manual tells, the first fault, and what is told.
 NOTED = re.compile(r"^```\n(\"phase.*)\n```\n\n.* `(plan: [^`]+)`.*\n\n```notes\n((?:.*\n)*?)```$", re.M)
 # The plans that the manual reviews.
-REVIEWED_PLANS = ["first_plan.json", "main_and_oak.json", "tee.json", "one_way_pair.json"]
+REVIEWED_PLANS = ["first_plan.json", "main_and_oak.json", "tee.json"]
 # What notes on a text say.
 KINDS = ["it stands twice", "is no whole number: seconds", "is no whole number: tenths of a second, ", "is no whole number: minutes"]
 # What a review ends with.
 REVIEWED, REFUSED = 0, 1
 # What `tsb check` says of a plan that breaks a rule begins so.
 RULE = "plan: rule "
-ADVICES = [n for n in range(1, 57) if n != 31]
+ADVICES = [n for n in range(1, 60) if n != 31]
 # Display lines have so many characters.
 DISPLAY = 53
 # Objects of phases, detectors and so on, with the number of their indices and values that bring advices about.
@@ -53,8 +53,8 @@ VALUES = {
     "phaseMinimumGreen": (8, [0, 1, 5, 9, 10, 14, 15]), "phaseMaximum1": (8, [5, 10, 20, 25, 30]), "phaseMaximum2": (8, [15, 20, 40]),
     "phaseMaximumInitial": (8, [0, 4, 5, 10, 20]), "phaseAddedInitial": (8, [0, 1, 20]),
     "phaseTimeBeforeReduction": (8, [0, 1, 10, 20, 25, 30]), "phaseTimeToReduce": (8, [0, 1, 10]),
-    "phaseCarsBeforeReduction": (8, [0, 1, 5]), "phasePassage": (8, [0, 10, 20, 25, 30]), "phaseMinimumGap": (8, [0, 10, 20, 25]),
-    "phaseYellowChange": (8, [30, 35, 40]), "phaseRedClear": (8, [0, 1, 10, 15, 20, 55]), "phaseRedRevert": (8, [0, 10, 20]),
+    "phaseCarsBeforeReduction": (8, [0, 1, 5]), "phasePassage": (8, [0, 9, 10, 20, 25, 30]), "phaseMinimumGap": (8, [0, 9, 10, 20, 25]),
+    "phaseYellowChange": (8, [30, 35, 40]), "phaseRedClear": (8, [0, 1, 4, 5, 10, 15, 20, 55]), "phaseRedRevert": (8, [0, 10, 20]),
     "phaseDynamicMaxLimit": (8, [0, 30]), "phaseDynamicMaxStep": (8, [0, 50]), "unitRedRevert": (1, [0, 19, 20]), "unitMax2": (1, [0, 1]),
     "coordForceMode": (1, [0, 0, 1, 2]), "coordMaximumMode": (1, [0, 0, 1, 2]), "patternPermissiveTime": (2, [0, 1, 5, 9, 10, 11, 15, 25]),
     "patternLeadLag": (2, [0, 1]), "coordCorrectionMode": (1, [0, 1, 2, 3]), "coordCorrectionLimit": (1, [0, 0, 1, 25, 50]),
@@ -68,6 +68,9 @@ VALUES = {
     "overlapIncludedPhases": (4, [*LIST, *TURNS]), "overlapType": (4, [0, 1]), "overlapModifierPhases": (4, LIST),
     "overlapAcrossRings": (4, [0, 0, 1]),
 }
+# Objects of phases and of splits, the first and the last of them among these.
+UNUSED = ["phaseNonLock", "phaseMaxRecall", "phaseWalk", "phaseMinimumGreen", "phasePassage", "phaseCarsBeforeReduction", "phaseRing",
+          "phaseDynamicMaxStep", "phasePedestrianRecycle", "splitTime", "splitMode"]
 # The version of plan texts that has all objects.
 NEWEST = 3
 # A pattern, given as a whole, with what it may have of each.
@@ -104,6 +107,10 @@ def at_random(source: random.Random, bases: list[Table]) -> Table:
     if source.random() < 0.1:
         # (ring 2 serves its left turn of side 1 last, and may end its coordinated split before ring 1)
         change |= {"sequenceData.17": 6, "sequenceData.18": 5, "patternLeadLag.1": 1}
+    if source.random() < 0.1:
+        # (a value for a phase that is not enabled)
+        name = source.choice(UNUSED)
+        change[f"{name}.{source.choice([9, 16, 25, 128] if name.startswith('split') else [9, 10, 16])}"] = source.choice([0, 1])
     if source.random() < 0.3:
         # (two splits of one ring and side, whose sum stays)
         one, other = source.choice([(1, 2), (3, 4), (5, 6), (7, 8)])

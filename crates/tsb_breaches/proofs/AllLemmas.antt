@@ -4,9 +4,9 @@ use Rattle.std.specs.List.{list_all}
 use Rattle.std.proofs.lemmas.Bool.Decides.{nat_tests}
 use Rattle.std.proofs.lemmas.List.Folds.{list_all-append, list_all-map}
 use Rattle.tsb_types.specs.Lists.{run_from}
-use Rattle.tsb_breaches.specs.declared.place.Place.{Place}
-use Rattle.tsb_breaches.specs.declared.place.Shape.{Shape}
-use Rattle.tsb_breaches.specs.Places.{firsts, place_of, places, places_beside, places_from, seconds, thirds}
+use Rattle.tsb_review.specs.declared.place.Place.{Place}
+use Rattle.tsb_review.specs.declared.place.Shape.{Shape}
+use Rattle.tsb_review.specs.Places.{firsts, place_of, places, places_beside, places_from, seconds, thirds}
 
 -- ## Tests of two values
 

@@ -9,7 +9,7 @@ use Rattle.tsb_rules.specs.PatternRules.{agrees_with_all, all_coordinate, coordi
 use Rattle.tsb_rules.proofs.RuleLemmas.{Passes, at-run_from, some-run_from, under}
 use Rattle.tsb_types.proofs.RunLemmas.{all-run_from}
 use Rattle.tsb_types.specs.Lists.{run_from}
-use Rattle.tsb_breaches.specs.declared.fault.Fault.TheVariants.{K20None, K20Unused, K20Omitted, K20Sides, K20Apart, K20Ends, K20Ring}
+use Rattle.tsb_breaches.specs.declared.fault.RuleFault.TheVariants.{K20None, K20Unused, K20Omitted, K20Sides, K20Apart, K20Ends, K20Ring}
 use Rattle.tsb_breaches.specs.Laws.{of_values}
 use Rattle.tsb_breaches.specs.Lists.{go_together}
 use Rattle.tsb_breaches.specs.Patterns.{are_across, are_apart, are_coordinated, are_together, coordinates_none, coordinates_omitted, coordinates_unused, coordinates_used, end_apart, has_wrong_count, is_beside}

@@ -10,7 +10,7 @@ use Rattle.tsb_rules.proofs.RuleLemmas.{at-run_from, under}
 use Rattle.tsb_types.proofs.RunLemmas.{all-run_from}
 use Rattle.tsb_types.specs.Lists.{run_from}
 use Rattle.tsb_types.specs.Sets.{names}
-use Rattle.tsb_breaches.specs.declared.fault.Fault.TheVariants.{K15TrackUnused, K15DwellUnused, K15ExitUnused, K15Track, K15Dwell, K15Exit}
+use Rattle.tsb_breaches.specs.declared.fault.RuleFault.TheVariants.{K15TrackUnused, K15DwellUnused, K15ExitUnused, K15Track, K15Dwell, K15Exit}
 use Rattle.tsb_breaches.specs.Laws.{of_values}
 use Rattle.tsb_breaches.specs.Lists.{go_together, lists_apart, lists_unused, lists_used}
 use Rattle.tsb_breaches.proofs.AllLemmas.{and-both, both-are, same-when}

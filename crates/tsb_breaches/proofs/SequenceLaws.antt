@@ -6,7 +6,7 @@ use Rattle.tsb_plan.specs.declared.object.Object.{Object}
 use Rattle.tsb_plan.specs.Plan.{Plan, is_enabled, ring_of, side_of, sequence}
 use Rattle.tsb_rules.specs.SequenceRules.{first_sequence_is_ordered, is_blank, is_ordered, is_zeros, lists_once, other_sequences_are_ordered, rises, zeros_last}
 use Rattle.tsb_types.specs.Lists.{among, first, run_from}
-use Rattle.tsb_breaches.specs.declared.fault.Fault.TheVariants.{K6Unused, K6Ring, K6Missing, K6Again, K6Side, K6Gap, K7Unused, K7Ring, K7Missing, K7Again, K7Side, K7Gap}
+use Rattle.tsb_breaches.specs.declared.fault.RuleFault.TheVariants.{K6Unused, K6Ring, K6Missing, K6Again, K6Side, K6Gap, K7Unused, K7Ring, K7Missing, K7Again, K7Side, K7Gap}
 use Rattle.tsb_breaches.specs.Laws.{of_values}
 use Rattle.tsb_breaches.specs.Sequences.{falls, is_first, is_lower, is_missing, is_other, leaves_gap, lists_again, lists_other_ring, lists_unused}
 use Rattle.tsb_breaches.proofs.AllLemmas.{all-same, all-under, and-both, and-true, both-are, not-below, not-not}

@@ -1,4 +1,4 @@
--- Advices on actuation: A17 to A26. Times are in tenths of a second.
+-- Advices on actuation: A17 to A26, and A58. Times are in tenths of a second.
 use Rattle.std.specs.Prelude.{ℕ, ◌*◌, ◌==◌, nat_le, nat_lt, Bool, false, not, ◌&&◌, ◌||◌, Option, Some, None, min}
 use Rattle.std.specs.List.{list_all, list_any}
 use Rattle.tsb_types.specs.Lists.{is, run_from}
@@ -10,10 +10,18 @@ use Rattle.tsb_review.specs.Calls.{has_detector, conflicts, has_conflicts}
 abbrev pub has_extension : Plan → ℕ → Bool
 has_extension plan p = list_any (λ d. is p (call_phase plan d) && nat_lt 0 (detector_extend plan d)) (run_from 1 16)
 
+-- p is enabled, has vehicle detectors and no maximum recall, and no detector extends it
+abbrev pub is_unextended : Plan → ℕ → Bool
+is_unextended plan p =
+    is_enabled plan p && (has_detector plan p && (not (has_maximum_recall plan p) && not (has_extension plan p)))
+
 -- A17: p has vehicle detectors and no maximum recall; its passage is 0, and no detector extends it
 abbrev pub ends_at_any_gap : Plan → ℕ → Bool
-ends_at_any_gap plan p =
-    is_enabled plan p && (has_detector plan p && (not (has_maximum_recall plan p) && (passage plan p == 0 && not (has_extension plan p))))
+ends_at_any_gap plan p = is_unextended plan p && passage plan p == 0
+
+-- A58: the passage of such a phase is over 0 and under 1 second
+abbrev pub has_short_passage : Plan → ℕ → Bool
+has_short_passage plan p = is_unextended plan p && (nat_lt 0 (passage plan p) && nat_lt (passage plan p) 10)
 
 -- the times of gap reduction of p are 0: it begins and is complete as soon as there is a conflict
 abbrev pub reduces_at_once : Plan → ℕ → Bool

@@ -1,4 +1,4 @@
--- Advices on clearance: A15 and A16. Times are in tenths of a second.
+-- Advices on clearance: A15, A16 and A57. Times are in tenths of a second.
 use Rattle.std.specs.Prelude.{ℕ, ◌==◌, nat_lt, Bool, not, ◌&&◌, Option, is_some}
 use Rattle.std.specs.List.{list_any}
 use Rattle.tsb_types.specs.Lists.{first}
@@ -25,3 +25,7 @@ reverting plan = first (reverts_soon plan) (phases plan)
 -- A16: the red revert of some phase is under 2 seconds
 abbrev pub has_short_revert : Plan → Bool
 has_short_revert plan = is_some (reverting plan)
+
+-- A57: the red clearance of p is over 0 and under 0.5 seconds
+abbrev pub clears_too_soon : Plan → ℕ → Bool
+clears_too_soon plan p = is_enabled plan p && (nat_lt 0 (red_clear plan p) && nat_lt (red_clear plan p) 5)

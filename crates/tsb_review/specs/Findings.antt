@@ -1,8 +1,9 @@
 -- Findings one by one, as the code looks for them.
 use Rattle.std.specs.Prelude.{ℕ, Bool, true, false, ◌&&◌, if◌then◌else◌, Option, Some, None}
+use Rattle.tsb_plan.specs.declared.object.ObjectId.{ObjectId}
 use Rattle.tsb_plan.specs.Plan.{Plan}
 use Rattle.tsb_review.specs.declared.advice.Advice.{Advice}
-use Rattle.tsb_review.specs.declared.advice.Advice.TheVariants.{A36, A56}
+use Rattle.tsb_review.specs.declared.advice.Advice.TheVariants.{A36, A56, A59}
 use Rattle.tsb_review.specs.declared.finding.Finding.{Finding}
 use Rattle.tsb_review.specs.declared.place.Place.{Place}
 use Rattle.tsb_review.specs.declared.place.Place.TheVariants as at
@@ -10,14 +11,15 @@ use Rattle.tsb_review.specs.Advices.{holds, shape}
 use Rattle.tsb_review.specs.Overlaps.{is_turn_beside}
 use Rattle.tsb_review.specs.Places.{place_of}
 use Rattle.tsb_review.specs.Preempts.{has_track}
+use Rattle.tsb_review.specs.Unused.{first_value}
 
 -- the advice for a place, where it holds
 abbrev pub finding_of : Plan → Advice → Place → Option Finding
 finding_of plan a place = if holds plan a place then Some (record { advice = a; place = place }) else None
 
--- the advice for the place of two numbers, where it holds
-abbrev pub finding_at : Plan → Advice → ℕ → ℕ → Option Finding
-finding_at plan a i k = finding_of plan a (place_of (shape a) i k)
+-- the advice for the place of three numbers, where it holds
+abbrev pub finding_at : Plan → Advice → ℕ → ℕ → ℕ → Option Finding
+finding_at plan a i j k = finding_of plan a (place_of (shape a) i j k)
 
 -- an advice is that of a walk that a preempt ends at once
 abbrev pub is_of_walk : Advice → Bool
@@ -46,3 +48,17 @@ has_turn_beside plan place = false
 -- the right turn that a finding is about goes over the crossing of the phase that it names
 abbrev pub crosses_walk : Plan → Finding → Bool
 crosses_walk plan f = is_of_turn f.advice && has_turn_beside plan f.place
+
+-- the first value that is given for the phase of a place, where it is one
+abbrev pub first_value_at : Plan → Place → Option ObjectId
+first_value_at plan (at.Phase p) = first_value plan p
+first_value_at plan place = None
+
+-- that of an advice for a place, where the advice is on phases that are not enabled
+abbrev pub value_at : Plan → Advice → Place → Option ObjectId
+value_at plan A59 place = first_value_at plan place
+value_at plan a place = None
+
+-- the first value of the phase that a finding is about, which is not enabled
+abbrev pub unused_value : Plan → Finding → Option ObjectId
+unused_value plan f = value_at plan f.advice f.place

@@ -11,6 +11,7 @@ pub mod Pedestrians
 pub mod Clearance
 pub mod Actuation
 pub mod Detection
+pub mod Unused
 pub mod Coordination
 pub mod Preempts
 pub mod Overlaps

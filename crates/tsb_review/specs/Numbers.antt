@@ -3,10 +3,10 @@ use Rattle.std.specs.Prelude.{ℕ, Option, Some, None}
 use Rattle.tsb_types.specs.Lists.{or_number}
 use Rattle.tsb_plan.specs.Parts.{call_phase, detector_delay, detector_extend, maximum_presence, cycle, permissive_time, minimum_duration, preempt_maximum_presence, correction_limit}
 use Rattle.tsb_plan.specs.declared.object.Object.TheVariants.{CoordCorrectionMode}
-use Rattle.tsb_plan.specs.Plan.{Plan, walk, pedestrian_clear, minimum_green, maximum, passage, minimum_gap, time_before_reduction, red_revert}
+use Rattle.tsb_plan.specs.Plan.{Plan, walk, pedestrian_clear, minimum_green, maximum, passage, minimum_gap, time_before_reduction, red_clear, red_revert}
 use Rattle.tsb_plan.specs.Running.{pattern_maximum}
 use Rattle.tsb_review.specs.declared.advice.Advice.{Advice}
-use Rattle.tsb_review.specs.declared.advice.Advice.TheVariants.{A4, A7, A8, A9, A10, A11, A12, A13, A14, A16, A18, A19, A20, A21, A25, A26, A27, A28, A30, A32, A35, A39, A42, A43, A47, A48, A49, A54, A56}
+use Rattle.tsb_review.specs.declared.advice.Advice.TheVariants.{A4, A7, A8, A9, A10, A11, A12, A13, A14, A16, A18, A19, A20, A21, A25, A26, A27, A28, A30, A32, A35, A39, A42, A43, A47, A48, A49, A54, A56, A57, A58}
 use Rattle.tsb_review.specs.declared.finding.Finding.{Finding}
 use Rattle.tsb_review.specs.declared.numbers.Numbers.{Numbers}
 use Rattle.tsb_review.specs.declared.place.Place.{Place}
@@ -52,6 +52,8 @@ of_phase plan A18 p = four p (minimum_gap plan p) (passage plan p) 0
 of_phase plan A19 p = four p (passage plan p) 0 0
 of_phase plan A20 p = four p (time_before_reduction plan p) (maximum plan p) 0
 of_phase plan A21 p = four p (minimum_green plan p) 0 0
+of_phase plan A57 p = four p (red_clear plan p) 0 0
+of_phase plan A58 p = four p (passage plan p) 0 0
 of_phase plan x p = four p 0 0 0
 
 -- of a vehicle detector: its number, a time, and the phase that it calls; or a time, a cycle and its pattern
@@ -108,11 +110,12 @@ at_place plan x (at.Detector d) = of_detector plan x d
 at_place plan x (at.Ring r) = four r 0 0 0
 at_place plan x (at.RingSide r s) = of_ring_side plan r s
 at_place plan x (at.Pattern n) = of_pattern plan x n
-at_place plan x (at.Split n p) = of_split plan x n p
+at_place plan x (at.PatternPhase n p) = of_split plan x n p
 at_place plan x (at.Preempt m) = of_preempt plan x m
 at_place plan x (at.PreemptPhase m p) = four m p 0 0
 at_place plan x (at.Overlap o) = of_overlap plan x o
 at_place plan x (at.OverlapPhase o p) = of_overlap_phase plan x o p
+at_place plan x place = four 0 0 0 0
 
 -- of a finding
 abbrev pub numbers_of : Plan → Finding → Numbers

@@ -1,4 +1,4 @@
-//! Advices on actuation: A17 to A26. Times are in tenths of a second.
+//! Advices on actuation: A17 to A26, and A58. Times are in tenths of a second.
 #![tactic(auto, unfolding(tsb_plan::specs::PlanOf::plan_of))]
 
 ghost use Rattle.std.specs.Prelude.{◌≡◌, ◌||◌, not, nat_lt};
@@ -7,7 +7,7 @@ ghost use Rattle.tsb_plan.specs.Parts.{call_phase, detector_delay};
 ghost use Rattle.tsb_plan.specs.Plan.{phases, has_maximum_recall, maximum};
 ghost use Rattle.tsb_plan.specs.PlanOf.{plan_of};
 ghost use Rattle.tsb_review.specs.Calls.{conflicts};
-ghost use Rattle.tsb_review.specs.Actuation.{has_extension, ends_at_any_gap, reduces_at_once, has_gap_trap, has_reduction, reduces_nothing, reduces_too_late, longest_initial, has_idle_initial, adds_without_variable, has_limit_alone, has_step_alone, waits_longer, phase_and, delays_too_long, extends_for_nothing};
+ghost use Rattle.tsb_review.specs.Actuation.{has_extension, is_unextended, ends_at_any_gap, has_short_passage, reduces_at_once, has_gap_trap, has_reduction, reduces_nothing, reduces_too_late, longest_initial, has_idle_initial, adds_without_variable, has_limit_alone, has_step_alone, waits_longer, phase_and, delays_too_long, extends_for_nothing};
 
 use crate::calls::{conflicts, detector_calls, has_conflicts, has_detector};
 use tsb_plan::Plan;
@@ -15,6 +15,9 @@ use tsb_types::{Detector, Phase};
 
 /// How many cars are counted at most.
 const MOST_CARS: u32 = 255;
+
+/// The shortest passage that is usual, where a phase has one.
+const SHORTEST_PASSAGE: u32 = 10;
 
 /// Whether some vehicle detector that calls the phase has an extension.
 fn has_extension(plan: &Plan, phase: Phase) -> bool
@@ -25,15 +28,29 @@ fn has_extension(plan: &Plan, phase: Phase) -> bool
     })
 }
 
-/// A17: whether the phase has vehicle detectors and no maximum recall, its passage is 0, and no detector extends it.
-pub(crate) fn ends_at_any_gap(plan: &Plan, phase: Phase) -> bool
-    ensures { result ≡ ends_at_any_gap (plan_of plan.now) phase }
+/// Whether the phase is enabled, has vehicle detectors and no maximum recall, and no detector extends it.
+fn is_unextended(plan: &Plan, phase: Phase) -> bool
+    ensures { result ≡ is_unextended (plan_of plan.now) phase }
 {
     plan.is_enabled(phase)
         && has_detector(plan, phase)
         && !plan.has_maximum_recall(phase)
-        && plan.passage(phase) == 0
         && !has_extension(plan, phase)
+}
+
+/// A17: whether the phase has vehicle detectors and no maximum recall, its passage is 0, and no detector extends it.
+pub(crate) fn ends_at_any_gap(plan: &Plan, phase: Phase) -> bool
+    ensures { result ≡ ends_at_any_gap (plan_of plan.now) phase }
+{
+    is_unextended(plan, phase) && plan.passage(phase) == 0
+}
+
+/// A58: whether the passage of such a phase is over 0 and under 1 second, as a number of seconds is that is taken for
+/// tenths.
+pub(crate) fn has_short_passage(plan: &Plan, phase: Phase) -> bool
+    ensures { result ≡ has_short_passage (plan_of plan.now) phase }
+{
+    is_unextended(plan, phase) && plan.passage(phase) > 0 && plan.passage(phase) < SHORTEST_PASSAGE
 }
 
 /// Whether the times of gap reduction of the phase are 0.

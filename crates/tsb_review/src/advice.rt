@@ -123,11 +123,17 @@ pub enum Advice {
     A55,
     /// An overlap, as a right turn where phases stand as usual, meets a phase or its walk while both are green.
     A56,
+    /// The red clearance is over 0 and under 0.5 seconds.
+    A57,
+    /// The passage is over 0 and under 1 second, and no detector of the phase extends it.
+    A58,
+    /// Values are given for a phase that is not enabled.
+    A59,
 }
 
 impl Advice {
     /// All advices, in order.
-    pub const ALL: [Advice; 55] = [
+    pub const ALL: [Advice; 58] = [
         Advice::A1,
         Advice::A2,
         Advice::A3,
@@ -183,6 +189,9 @@ impl Advice {
         Advice::A54,
         Advice::A55,
         Advice::A56,
+        Advice::A57,
+        Advice::A58,
+        Advice::A59,
     ];
 
     /// What the advice is given for.
@@ -209,7 +218,10 @@ impl Advice {
             | Advice::A24
             | Advice::A45
             | Advice::A53
-            | Advice::A55 => Shape::Phase,
+            | Advice::A55
+            | Advice::A57
+            | Advice::A58
+            | Advice::A59 => Shape::Phase,
             Advice::A2 | Advice::A25 | Advice::A26 | Advice::A48 | Advice::A49 => Shape::Detector,
             Advice::A3 => Shape::Phases,
             Advice::A4
@@ -220,7 +232,7 @@ impl Advice {
             | Advice::A29
             | Advice::A42
             | Advice::A43
-            | Advice::A46 => Shape::Split,
+            | Advice::A46 => Shape::PatternPhase,
             Advice::A5 => Shape::Ring,
             Advice::A52 => Shape::RingSide,
             Advice::A16 | Advice::A47 => Shape::Unit,

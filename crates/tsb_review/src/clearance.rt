@@ -1,9 +1,9 @@
-//! Advices on clearance: A15 and A16. Times are in tenths of a second.
+//! Advices on clearance: A15, A16 and A57. Times are in tenths of a second.
 #![tactic(auto, unfolding(tsb_plan::specs::PlanOf::plan_of))]
 
 ghost use Rattle.std.specs.Prelude.{◌≡◌};
 ghost use Rattle.tsb_plan.specs.PlanOf.{plan_of};
-ghost use Rattle.tsb_review.specs.Clearance.{is_across, clears_without_red, reverts_soon, reverting, has_short_revert};
+ghost use Rattle.tsb_review.specs.Clearance.{is_across, clears_without_red, reverts_soon, reverting, has_short_revert, clears_too_soon};
 
 use crate::calls::is_for_pedestrians;
 use crate::sought::{Sought, first_phase, some_phase};
@@ -12,6 +12,9 @@ use tsb_types::Phase;
 
 /// The shortest red revert that is usual.
 const SHORTEST_REVERT: u32 = 20;
+
+/// The shortest red clearance that is usual, where a phase has one.
+const SHORTEST_RED: u32 = 5;
 
 /// Whether `other` is an enabled phase of another side than the phase.
 pub(crate) fn is_across(plan: &Plan, phase: Phase, other: Phase) -> bool
@@ -50,4 +53,12 @@ pub(crate) fn has_short_revert(plan: &Plan) -> bool
     ensures { result ≡ has_short_revert (plan_of plan.now) }
 {
     reverting(plan).is_some()
+}
+
+/// A57: whether the red clearance of the phase is over 0 and under 0.5 seconds, as a number of seconds is that is taken
+/// for tenths.
+pub(crate) fn clears_too_soon(plan: &Plan, phase: Phase) -> bool
+    ensures { result ≡ clears_too_soon (plan_of plan.now) phase }
+{
+    plan.is_enabled(phase) && plan.red_clear(phase) > 0 && plan.red_clear(phase) < SHORTEST_RED
 }

@@ -3,17 +3,17 @@
 
 ghost use Rattle.std.specs.Prelude.{◌≡◌, ◌≤◌};
 ghost use Rattle.tsb_plan.specs.PlanOf.{plan_of};
-ghost use Rattle.tsb_review.specs.Places.{firsts, seconds};
+ghost use Rattle.tsb_review.specs.Places.{firsts, seconds, thirds};
 ghost use Rattle.tsb_review.specs.Advices.{holds, shape, of_unit, of_phase, of_phases, of_detector, of_ring, of_ring_side, of_pattern, of_split, of_preempt, of_preempt_phase, of_overlap, of_overlap_phase};
-ghost use Rattle.tsb_review.specs.Findings.{finding_at, finding_of, has_track_at, ends_walk_for_track, has_turn_beside, crosses_walk};
+ghost use Rattle.tsb_review.specs.Findings.{finding_at, finding_of, has_track_at, ends_walk_for_track, has_turn_beside, crosses_walk, first_value_at, unused_value};
 
 use crate::advice::Advice;
 use crate::place::{Place, place_of};
 use crate::{
     actuation, alike, clearance, coordination, detection, entry, overlaps, pedestrians, preempts,
-    service,
+    service, unused,
 };
-use tsb_plan::Plan;
+use tsb_plan::{ObjectId, Plan};
 use tsb_types::{Detector, Overlap, Pattern, Phase, Preempt, Ring, Side};
 
 /// An advice that holds, and what it is given for.
@@ -25,16 +25,18 @@ pub struct Finding {
     pub place: Place,
 }
 
-/// The advice for the place of these two numbers, where it holds. Going through both numbers in ascending order, the
-/// second faster, gives all findings of the advice, each once: `Shape::firsts` and `Shape::seconds` say how many.
-pub fn finding_at(plan: &Plan, advice: Advice, first: u8, second: u8) -> Option<Finding>
+/// The advice for the place of these three numbers, where it holds. Going through the numbers in ascending order, the
+/// third fastest, gives all findings of the advice, each once: `Shape::firsts`, `seconds` and `thirds` say how many.
+pub fn finding_at(plan: &Plan, advice: Advice, first: u8, second: u8, third: u8) -> Option<Finding>
     requires first_from { 1 ≤ first }
     requires first_to { first ≤ firsts (shape advice) }
     requires second_from { 1 ≤ second }
     requires second_to { second ≤ seconds (shape advice) }
-    ensures { result ≡ finding_at (plan_of plan.now) advice first second }
+    requires third_from { 1 ≤ third }
+    requires third_to { third ≤ thirds (shape advice) }
+    ensures { result ≡ finding_at (plan_of plan.now) advice first second third }
 {
-    finding_of(plan, advice, place_of(advice.shape(), first, second))
+    finding_of(plan, advice, place_of(advice.shape(), first, second, third))
 }
 
 /// The advice for the place, where it holds.
@@ -83,6 +85,26 @@ fn has_turn_beside(plan: &Plan, place: &Place) -> bool
     }
 }
 
+/// The first value of the phase that the finding is about, which is not enabled (A59).
+pub fn unused_value(plan: &Plan, finding: &Finding) -> Option<ObjectId>
+    ensures { result ≡ unused_value (plan_of plan.now) finding.now }
+{
+    match finding.advice {
+        Advice::A59 => first_value_at(plan, &finding.place),
+        _ => None,
+    }
+}
+
+/// The first value that is given for the phase of a place, where it is one.
+fn first_value_at(plan: &Plan, place: &Place) -> Option<ObjectId>
+    ensures { result ≡ first_value_at (plan_of plan.now) place.now }
+{
+    match place {
+        Place::Phase(phase) => unused::first_value(plan, *phase),
+        _ => None,
+    }
+}
+
 /// Whether the advice holds of the place.
 pub fn holds(plan: &Plan, advice: Advice, place: &Place) -> bool
     ensures { result ≡ holds (plan_of plan.now) advice place.now }
@@ -95,11 +117,12 @@ pub fn holds(plan: &Plan, advice: Advice, place: &Place) -> bool
         Place::Ring(ring) => of_ring(plan, advice, *ring),
         Place::RingSide(ring, side) => of_ring_side(plan, advice, *ring, *side),
         Place::Pattern(pattern) => of_pattern(plan, advice, *pattern),
-        Place::Split(pattern, phase) => of_split(plan, advice, *pattern, *phase),
+        Place::PatternPhase(pattern, phase) => of_split(plan, advice, *pattern, *phase),
         Place::Preempt(preempt) => of_preempt(plan, advice, *preempt),
         Place::PreemptPhase(preempt, phase) => of_preempt_phase(plan, advice, *preempt, *phase),
         Place::Overlap(overlap) => of_overlap(plan, advice, *overlap),
         Place::OverlapPhase(overlap, phase) => of_overlap_phase(plan, advice, *overlap, *phase),
+        _ => false,
     }
 }
 
@@ -139,6 +162,9 @@ fn of_phase(plan: &Plan, advice: Advice, phase: Phase) -> bool
         Advice::A45 => coordination::recycles_nothing(plan, phase),
         Advice::A53 => detection::forgets_cars(plan, phase),
         Advice::A55 => service::is_shut_out(plan, phase),
+        Advice::A57 => clearance::clears_too_soon(plan, phase),
+        Advice::A58 => actuation::has_short_passage(plan, phase),
+        Advice::A59 => unused::has_unused_values(plan, phase),
         _ => false,
     }
 }

@@ -1,6 +1,6 @@
 //! A second pair of eyes on a plan: what can run and is still wrong, or may be.
 //!
-//! Each advice has a number, A1 to A56, and a definition of its own over the plan. `finding_at` goes through the places
+//! Each advice has a number, A1 to A59, and a definition of its own over the plan. `finding_at` goes through the places
 //! of each advice. Nothing here takes memory, and nothing is remembered but the plan.
 #![tactic(auto)]
 
@@ -22,9 +22,10 @@ mod preempts;
 mod service;
 mod sought;
 mod splits;
+mod unused;
 
 pub use advice::Advice;
 pub use alike::is_also_in;
-pub use finding::{Finding, crosses_walk, ends_walk_for_track, finding_at, holds};
+pub use finding::{Finding, crosses_walk, ends_walk_for_track, finding_at, holds, unused_value};
 pub use numbers::{Numbers, numbers_of};
-pub use place::{Place, Shape};
+pub use place::{Listing, Place, Shape, place_of};

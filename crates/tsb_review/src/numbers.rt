@@ -104,13 +104,14 @@ fn at_place(plan: &Plan, advice: Advice, place: &Place) -> Numbers
         Place::Ring(ring) => four(u32::from(ring.number()), 0, 0, 0),
         Place::RingSide(ring, side) => of_ring_side(plan, *ring, *side),
         Place::Pattern(pattern) => of_pattern(plan, advice, *pattern),
-        Place::Split(pattern, phase) => of_split(plan, advice, *pattern, *phase),
+        Place::PatternPhase(pattern, phase) => of_split(plan, advice, *pattern, *phase),
         Place::Preempt(preempt) => of_preempt(plan, advice, *preempt),
         Place::PreemptPhase(preempt, phase) => {
             four(u32::from(preempt.number()), u32::from(phase.number()), 0, 0)
         }
         Place::Overlap(overlap) => of_overlap(plan, advice, *overlap),
         Place::OverlapPhase(overlap, phase) => of_overlap_phase(plan, advice, *overlap, *phase),
+        _ => four(0, 0, 0, 0),
     }
 }
 
@@ -149,6 +150,8 @@ fn of_phase(plan: &Plan, advice: Advice, phase: Phase) -> Numbers
         Advice::A19 => four(p, plan.passage(phase), 0, 0),
         Advice::A20 => four(p, plan.time_before_reduction(phase), plan.maximum(phase), 0),
         Advice::A21 => four(p, plan.minimum_green(phase), 0, 0),
+        Advice::A57 => four(p, plan.red_clear(phase), 0, 0),
+        Advice::A58 => four(p, plan.passage(phase), 0, 0),
         _ => four(p, 0, 0, 0),
     }
 }

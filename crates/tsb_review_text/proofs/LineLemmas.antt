@@ -1,20 +1,23 @@
 -- The line of a finding or of a breach, and how long it is.
-use Rattle.std.proofs.Common.{◌≡◌, ◌∙◌, ℕ, zero, suc, ◌+◌, ◌*◌, ◌/◌, ◌%◌, ◌<◌, ◌≤◌, ◌==◌, nat_le, Bool, false, true, ◌&&◌, if◌then◌else◌, List, [], ◌∷◌, ◌++◌, append_assoc, length, length-append, drop, drop-cons, get_or, sum_by, flat_map, decimal, codes, refl, sym, ap, arith, rules}
+use Rattle.std.proofs.Common.{◌≡◌, ◌∙◌, ℕ, zero, suc, ◌+◌, ◌*◌, ◌/◌, ◌%◌, ◌<◌, ◌≤◌, ◌==◌, nat_le, Bool, false, true, ◌&&◌, if◌then◌else◌, List, [], ◌∷◌, ◌++◌, append_assoc, length, length-append, drop, drop-cons, get_or, sum_by, flat_map, decimal, codes, Option, Some, None, refl, sym, ap, subst, arith, rules}
 use Rattle.std.proofs.lemmas.Bool.Decides.{nat_tests}
 use Rattle.std.proofs.lemmas.Fmt.{length-decimal-le}
 use Rattle.std.proofs.lemmas.List.Sums.{sum_by-cons}
 use Rattle.tsb_review.specs.declared.advice.Advice.{Advice}
 use Rattle.tsb_types.specs.Lists.{run_from}
+use Rattle.tsb_plan.specs.declared.object.Object.{Object}
+use Rattle.tsb_plan.specs.declared.object.ObjectId.{ObjectId}
+use Rattle.tsb_plan.specs.Names.{name_of}
 use Rattle.tsb_plan.specs.Plan.{Plan}
 use Rattle.tsb_review.specs.declared.finding.Finding.{Finding}
 use Rattle.tsb_review.specs.declared.numbers.Numbers.{Numbers}
 use Rattle.tsb_review.specs.Alike.{is_also_in}
-use Rattle.tsb_review.specs.Findings.{ends_walk_for_track, crosses_walk}
-use Rattle.tsb_breaches.specs.declared.fault.Fault.{Fault}
+use Rattle.tsb_review.specs.Findings.{ends_walk_for_track, crosses_walk, unused_value}
+use Rattle.tsb_breaches.specs.declared.fault.RuleFault.{RuleFault}
 use Rattle.tsb_review_text.specs.declared.line.TheConstants.{LONGEST}
 use Rattle.tsb_lines.specs.ShortLines.{Adds, fitting}
 use Rattle.tsb_review_text.specs.Bytes.{ended}
-use Rattle.tsb_review_text.specs.Lines.{also, filled, fraction, part, seconds}
+use Rattle.tsb_review_text.specs.Lines.{also, filled, fraction, part, seconds, value_name}
 use Rattle.tsb_review_text.specs.BreachTemplates.{breach_template}
 use Rattle.tsb_review_text.specs.Templates.{template, wording}
 use Rattle.tsb_lines.proofs.ShortLemmas.{all-of, onto-fitting, said, then}
@@ -121,44 +124,57 @@ short-patterns plan f a (suc k) small =
     let rest : length (flat_map (also plan f) (run_from (a + 1) k)) ≤ 4 * k = short-patterns plan f (a + 1) k (omega (arith, small)) in
     omega (arith, here, rest, length-append (also plan f a) (flat_map (also plan f) (run_from (a + 1) k)))
 
--- each text has room, and that of an advice for later patterns and a line feed too
-template-room : (x : Advice) → sum_by cost (template x) + 65 ≤ LONGEST
+-- the name of a value has a space, at most 28 letters, a point and ten digits
+short-object : (o : Object) → length (name_of o) ≤ 28
+short-object o = search rules
+
+pub short-name : (o : Object) (i : ℕ) → length (decimal i) ≤ 10 → length (32 ∷ (name_of o ++ 46 ∷ decimal i)) ≤ 41
+short-name o i digits =
+    let letters : length (name_of o) ≤ 28 = short-object o in
+    omega (arith, letters, digits, length-append (name_of o) (46 ∷ decimal i))
+
+-- each text has room, and that of an advice for the name of a value, later patterns and a line feed too
+template-room : (x : Advice) → sum_by cost (template x) + 106 ≤ LONGEST
 unfolding cost
 template-room x = search rules
 
-wording-room : (plan : Plan) (f : Finding) → sum_by cost (wording plan f) + 65 ≤ LONGEST
+wording-room : (plan : Plan) (f : Finding) → sum_by cost (wording plan f) + 106 ≤ LONGEST
 unfolding cost
 wording-room plan f = go (ends_walk_for_track plan f) (crosses_walk plan f)
   where
     go : (b c : Bool) → sum_by cost (if b then codes "A36 preempt P: it can end a walk of phase Q at once, as is allowed where a track has to be cleared" else
-        if c then codes "A56 overlap P: if phases stand as usual, it turns right beside phase Q over its crossing, and is green with its walk" else template f.advice) + 65 ≤ LONGEST
+        if c then codes "A56 overlap P: if phases stand as usual, it turns right beside phase Q over its crossing, and is green with its walk" else template f.advice) + 106 ≤ LONGEST
     go true c = search rules
     go false true = search rules
     go false false = template-room f.advice
 
-breach-room : (f : Fault) → sum_by cost (breach_template f) + 1 ≤ LONGEST
+breach-room : (f : RuleFault) → sum_by cost (breach_template f) + 1 ≤ LONGEST
 unfolding cost
 breach-room f = search rules
 
 -- the line of a finding
-pub line-done : (n : Numbers) (plan : Plan) (f : Finding) (items mid text empty ms : List ℕ) → AreSmall n → empty ≡ [] → text ≡ wording plan f → ms ≡ run_from 1 16 →
-    Adds LONGEST empty (ended (part n) [] text) mid → Adds LONGEST mid (ended (also plan f) (10 ∷ []) ms) items →
-    items ≡ filled n (wording plan f) ++ (flat_map (also plan f) (run_from 1 16) ++ 10 ∷ [])
+pub line-done : (n : Numbers) (plan : Plan) (f : Finding) (id : Option ObjectId) (items mid named text empty ms : List ℕ) → AreSmall n → empty ≡ [] → text ≡ wording plan f
+    → id ≡ unused_value plan f → length (value_name id) ≤ 41 → ms ≡ run_from 1 16
+    → Adds LONGEST empty (ended (part n) [] text) mid → Adds LONGEST mid (value_name id) named → Adds LONGEST named (ended (also plan f) (10 ∷ []) ms) items →
+    items ≡ filled n (wording plan f) ++ (value_name (unused_value plan f) ++ (flat_map (also plan f) (run_from 1 16) ++ 10 ∷ []))
 unfolding filled
-line-done n plan f items mid text empty ms small none is all first second =
+line-done n plan f id items mid named text empty ms small none is value called all first second third =
     let front : List ℕ = flat_map (part n) (wording plan f) in
     let patterns : List ℕ = flat_map (also plan f) (run_from 1 16) in
     let starts : ended (part n) [] text ≡ front ++ [] = ap (ended (part n) []) is ∙ ended-all (part n) [] (wording plan f) in
     let ends : ended (also plan f) (10 ∷ []) ms ≡ patterns ++ 10 ∷ [] = ap (ended (also plan f) (10 ∷ [])) all ∙ ended-all (also plan f) (10 ∷ []) (run_from 1 16) in
-    let both : Adds LONGEST empty ((front ++ []) ++ (patterns ++ 10 ∷ [])) items = (then) (said starts first) (said ends second) in
-    let same : (front ++ []) ++ (patterns ++ 10 ∷ []) ≡ front ++ (patterns ++ 10 ∷ []) = append_assoc front [] (patterns ++ 10 ∷ []) in
+    let name : List ℕ = value_name (unused_value plan f) in
+    let rest : Adds LONGEST mid (name ++ (patterns ++ 10 ∷ [])) items = (then) (said (ap value_name value) second) (said ends third) in
+    let both : Adds LONGEST empty ((front ++ []) ++ (name ++ (patterns ++ 10 ∷ []))) items = (then) (said starts first) rest in
+    let same : (front ++ []) ++ (name ++ (patterns ++ 10 ∷ [])) ≡ front ++ (name ++ (patterns ++ 10 ∷ [])) = append_assoc front [] (name ++ (patterns ++ 10 ∷ [])) in
     let few : length front ≤ sum_by cost (wording plan f) = short-filled n small (wording plan f) in
+    let here : length name ≤ 41 = subst (λ (o : Option ObjectId). length (value_name o) ≤ 41) value called in
     let others : length patterns ≤ 64 = short-patterns plan f 1 16 (omega arith) in
-    let room : sum_by cost (wording plan f) + 65 ≤ LONGEST = wording-room plan f in
-    all-of none (omega (arith, few, others, room, length-append front (patterns ++ 10 ∷ []), length-append patterns (10 ∷ []))) (said same both)
+    let room : sum_by cost (wording plan f) + 106 ≤ LONGEST = wording-room plan f in
+    all-of none (omega (arith, few, here, others, room, length-append front (name ++ (patterns ++ 10 ∷ [])), length-append name (patterns ++ 10 ∷ []), length-append patterns (10 ∷ []))) (said same both)
 
 -- the line of a breach
-pub breach-line-done : (n : Numbers) (f : Fault) (items text empty : List ℕ) → AreSmall n → empty ≡ [] → text ≡ breach_template f →
+pub breach-line-done : (n : Numbers) (f : RuleFault) (items text empty : List ℕ) → AreSmall n → empty ≡ [] → text ≡ breach_template f →
     Adds LONGEST empty (ended (part n) (10 ∷ []) text) items → items ≡ filled n (breach_template f) ++ 10 ∷ []
 unfolding filled
 breach-line-done n f items text empty small none is added =

@@ -12,13 +12,17 @@ use Rattle.tsb_lines.specs.Seen.{Seen}
 use Rattle.tsb_plan.specs.Plan.{Plan}
 use Rattle.tsb_types.specs.Lists.{run_from}
 use Rattle.tsb_review.specs.declared.advice.Advice.{Advice}
-use Rattle.tsb_review.specs.declared.finding.Finding.{Finding}
+use Rattle.tsb_breaches.specs.declared.fault.RuleFault.{RuleFault}
+use Rattle.tsb_breaches.specs.Breaches as breaks
+use Rattle.tsb_breaches.specs.Found.{breach_of}
 use Rattle.tsb_review.specs.declared.place.Place.{Place}
-use Rattle.tsb_review.specs.Advices.{advices, findings, found, holds, shape}
+use Rattle.tsb_review.specs.declared.place.Shape.{Shape}
+use Rattle.tsb_review.specs.Advices.{advices, findings, findings_of, found, holds, shape}
 use Rattle.tsb_review.specs.Findings.{finding_of}
-use Rattle.tsb_review.specs.Places.{firsts, place_of, places, seconds}
-use Rattle.tsb_review_text.specs.Lines.{line_of, review_text}
-use Rattle.tsb_review_text.specs.Written.{Wrote, line_in, text_at, text_from, text_of}
+use Rattle.tsb_review.specs.Places.{firsts, place_of, places, places_beside, places_from, seconds, thirds}
+use Rattle.tsb_review_text.specs.Lines.{breach_line, breaches_text, line_of, review_text}
+use Rattle.tsb_review_text.specs.Written.{Wrote, breach_line_in, line_in, text_at, text_beside, text_from, text_of}
+use Rattle.tsb_review_text.specs.declared.review.Remark.TheVariants as remarks
 
 -- ## The text, part by part
 
@@ -34,6 +38,21 @@ pub flat-map : {A B C : Type 0} (g : B → List C) (f : A → B) (xs : List A) �
 flat-map g f [] = refl
 flat-map g f (x ∷ xs) = ap (λ ys. g (f x) ++ ys) (flat-map g f xs)
 
+-- what is written of all places of a kind, number by number
+by-places : (s : Shape) (line : Place → List ℕ) (at : ℕ → ℕ → ℕ → List ℕ) → ((i j k : ℕ) → line (place_of s i j k) ≡ at i j k) →
+    flat_map line (places s) ≡ flat_map (λ i. flat_map (λ j. flat_map (at i j) (run_from 1 (thirds s))) (run_from 1 (seconds s))) (run_from 1 (firsts s))
+unfolding places places_from places_beside
+by-places s line at same =
+    let beside : ℕ → ℕ → List ℕ = λ i j. flat_map (at i j) (run_from 1 (thirds s)) in
+    flat-flat line (places_from s) (run_from 1 (firsts s))
+    ∙ flat-same (λ i. flat_map line (places_from s i)) (λ i. flat_map (beside i) (run_from 1 (seconds s))) (λ i.
+    flat-flat line (places_beside s i) (run_from 1 (seconds s))
+    ∙ flat-same (λ j. flat_map line (places_beside s i j)) (beside i) (λ j.
+    flat-map line (place_of s i j) (run_from 1 (thirds s))
+    ∙ flat-same (λ k. line (place_of s i j k)) (at i j) (same i j) (run_from 1 (thirds s)))
+    (run_from 1 (seconds s)))
+    (run_from 1 (firsts s))
+
 -- the line of a place, where the advice holds of it
 line-at : (plan : Plan) (a : Advice) (place : Place) → flat_map (line_of plan) (found plan a place) ≡ line_in plan (finding_of plan a place)
 line-at plan a place = go (holds plan a place)
@@ -44,30 +63,43 @@ line-at plan a place = go (holds plan a place)
     go true = append-nil _
     go false = refl
 
--- the lines of an advice for the places with a first number
-from-text : (plan : Plan) (a : Advice) (i : ℕ) →
-    flat_map (λ place. flat_map (line_of plan) (found plan a place)) (map (place_of (shape a) i) (run_from 1 (seconds (shape a)))) ≡ text_from plan a i
-unfolding text_from
-from-text plan a i =
-    flat-map (λ place. flat_map (line_of plan) (found plan a place)) (place_of (shape a) i) (run_from 1 (seconds (shape a)))
-    ∙ flat-same (λ k. flat_map (line_of plan) (found plan a (place_of (shape a) i k))) (text_at plan a i) (λ k. line-at plan a (place_of (shape a) i k)) (run_from 1 (seconds (shape a)))
-
 -- the lines of an advice
-advice-text : (plan : Plan) (a : Advice) → flat_map (line_of plan) (flat_map (found plan a) (places (shape a))) ≡ text_of plan a
-unfolding places text_of
+advice-text : (plan : Plan) (a : Advice) → flat_map (line_of plan) (findings_of plan a) ≡ text_of plan (remarks.Advice a)
+unfolding findings_of text_of text_from text_beside
 advice-text plan a =
-    let line : Place → List ℕ = λ place. flat_map (line_of plan) (found plan a place) in
-    let at : ℕ → List Place = λ i. map (place_of (shape a) i) (run_from 1 (seconds (shape a))) in
     flat-flat (line_of plan) (found plan a) (places (shape a))
-    ∙ flat-flat line at (run_from 1 (firsts (shape a)))
-    ∙ flat-same (λ i. flat_map line (at i)) (text_from plan a) (from-text plan a) (run_from 1 (firsts (shape a)))
+    ∙ by-places (shape a) (λ place. flat_map (line_of plan) (found plan a place)) (text_at plan (remarks.Advice a)) (λ i j k. line-at plan a (place_of (shape a) i j k))
 
 -- the text of a review, advice by advice
-pub by-advices : (plan : Plan) → review_text plan ≡ flat_map (text_of plan) advices
+pub by-advices : (plan : Plan) → review_text plan ≡ flat_map (λ a. text_of plan (remarks.Advice a)) advices
 unfolding review_text findings
 by-advices plan =
-    flat-flat (line_of plan) (λ a. flat_map (found plan a) (places (shape a))) advices
-    ∙ flat-same (λ a. flat_map (line_of plan) (flat_map (found plan a) (places (shape a)))) (text_of plan) (advice-text plan) advices
+    flat-flat (line_of plan) (findings_of plan) advices
+    ∙ flat-same (λ a. flat_map (line_of plan) (findings_of plan a)) (λ a. text_of plan (remarks.Advice a)) (advice-text plan) advices
+
+-- the line of a place, where there is a breach
+breach-at : (plan : Plan) (f : RuleFault) (place : Place) → flat_map (breach_line plan) (breaks.found plan f place) ≡ breach_line_in plan (breach_of plan f place)
+breach-at plan f place = go (breaks.is_at plan f place)
+  where
+    go : (b : Bool) →
+        flat_map (breach_line plan) (if b then (record { fault = f; place = place }) ∷ [] else [])
+        ≡ breach_line_in plan (if b then Some (record { fault = f; place = place }) else None)
+    go true = append-nil _
+    go false = refl
+
+-- the lines of one way to break a rule
+fault-text : (plan : Plan) (f : RuleFault) → flat_map (breach_line plan) (breaks.breaches_of plan f) ≡ text_of plan (remarks.Breach f)
+unfolding breaks.breaches_of text_of text_from text_beside
+fault-text plan f =
+    flat-flat (breach_line plan) (breaks.found plan f) (places (breaks.shape f))
+    ∙ by-places (breaks.shape f) (λ place. flat_map (breach_line plan) (breaks.found plan f place)) (text_at plan (remarks.Breach f)) (λ i j k. breach-at plan f (place_of (breaks.shape f) i j k))
+
+-- the text of all breaches, one way after the other
+pub by-faults : (plan : Plan) → breaches_text plan ≡ flat_map (λ f. text_of plan (remarks.Breach f)) breaks.faults
+unfolding breaches_text breaks.breaches
+by-faults plan =
+    flat-flat (breach_line plan) (breaks.breaches_of plan) breaks.faults
+    ∙ flat-same (λ f. flat_map (breach_line plan) (breaks.breaches_of plan f)) (λ f. text_of plan (remarks.Breach f)) (fault-text plan) breaks.faults
 
 -- ## What has gone out
 
@@ -118,17 +150,6 @@ pub wrote-said : (r : Result (Unit {0}) WriteError) (a b : Seen) (bytes text : L
     → OnErr r (b.failed ≡ true) → OnOk r (b.failed ≡ a.failed) → Wrote r a b text
 wrote-said r a b bytes text same whole front blame well =
     subst (λ (ts : List ℕ). Wrote r a b ts) same (record { whole = whole; front = front; blame = blame; well = well })
-
--- where there is no finding nothing is to be written
-pub wrote-none : (plan : Plan) (o p : Option Finding) (a : Seen) → o ≡ p → o ≡ None → Wrote (Ok tt) a a (line_in plan p)
-wrote-none plan o p a same none =
-    subst (λ (q : Option Finding). Wrote (Ok tt) a a (line_in plan q)) (sym none ∙ same)
-    (record { whole = appends-nothing a.bytes; front = ([], [], appends-nothing a.bytes, refl); blame = tt; well = refl })
-
--- and where there is one its line
-pub wrote-some : (plan : Plan) (f : Finding) (o p : Option Finding) (r : Result (Unit {0}) WriteError) (a b : Seen) → o ≡ p → o ≡ Some f →
-    Wrote r a b (line_of plan f) → Wrote r a b (line_in plan p)
-wrote-some plan f o p r a b same some wrote = subst (λ (q : Option Finding). Wrote r a b (line_in plan q)) (sym some ∙ same) wrote
 
 -- ## Over the numbers from 1 on
 

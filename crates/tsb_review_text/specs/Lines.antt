@@ -1,11 +1,14 @@
 -- The line of a finding or of a breach, byte by byte, and the text of a review.
-use Rattle.std.specs.Prelude.{ℕ, ◌/◌, ◌%◌, ◌==◌, if◌then◌else◌, List, [], ◌∷◌, ◌++◌, decimal, flat_map}
+use Rattle.std.specs.Prelude.{ℕ, ◌/◌, ◌%◌, ◌==◌, if◌then◌else◌, List, [], ◌∷◌, ◌++◌, decimal, flat_map, Option, Some, None}
+use Rattle.tsb_plan.specs.declared.object.ObjectId.{ObjectId}
+use Rattle.tsb_plan.specs.Names.{name_of}
 use Rattle.tsb_plan.specs.Plan.{Plan}
 use Rattle.tsb_review.specs.declared.finding.Finding.{Finding}
 use Rattle.tsb_review.specs.declared.numbers.Numbers.{Numbers}
 use Rattle.tsb_types.specs.Lists.{run_from}
 use Rattle.tsb_review.specs.Advices.{findings}
 use Rattle.tsb_review.specs.Alike.{is_also_in}
+use Rattle.tsb_review.specs.Findings.{unused_value}
 use Rattle.tsb_review.specs.Numbers.{numbers_of}
 use Rattle.tsb_breaches.specs.declared.breach.Breach.{Breach}
 use Rattle.tsb_breaches.specs.Breaches.{breaches}
@@ -32,13 +35,18 @@ part n byte =
 unfoldable pub filled : Numbers → List ℕ → List ℕ
 filled n text = flat_map (part n) text
 
+-- a space and the name of a value: its object and its index
+abbrev pub value_name : Option ObjectId → List ℕ
+value_name None = []
+value_name (Some id) = 32 ∷ (name_of id.object ++ 46 ∷ decimal id.index)
+
 -- a later pattern of which a finding is also told, behind those before it
 abbrev pub also : Plan → Finding → ℕ → List ℕ
 also plan f m = if is_also_in plan f m then 44 ∷ 32 ∷ decimal m else []
 
 -- the line of a finding, with its line feed
 unfoldable pub line_of : Plan → Finding → List ℕ
-line_of plan f = filled (numbers_of plan f) (wording plan f) ++ (flat_map (also plan f) (run_from 1 16) ++ 10 ∷ [])
+line_of plan f = filled (numbers_of plan f) (wording plan f) ++ (value_name (unused_value plan f) ++ (flat_map (also plan f) (run_from 1 16) ++ 10 ∷ []))
 
 -- the text of a review: a line for each finding, in order
 unfoldable pub review_text : Plan → List ℕ

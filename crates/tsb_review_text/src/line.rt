@@ -1,20 +1,21 @@
 //! The line of a finding, or of a breach.
-ghost use Rattle.std.specs.Prelude.{◌≡◌, [], ◌∷◌, decimal};
+ghost use Rattle.std.specs.Prelude.{◌≡◌, ◌≤◌, [], ◌∷◌, ◌++◌, decimal, length};
 ghost use Rattle.tsb_lines.specs.ShortLines.{Adds};
+ghost use Rattle.tsb_plan.specs.Names.{name_of};
 ghost use Rattle.tsb_plan.specs.PlanOf.{plan_of};
 ghost use Rattle.tsb_review_text.specs.Bytes.{ended};
-ghost use Rattle.tsb_review_text.specs.Lines.{seconds, fraction, part, also, line_of, breach_line};
+ghost use Rattle.tsb_review_text.specs.Lines.{seconds, fraction, part, value_name, also, line_of, breach_line};
 
 use crate::breach_template::breach_template;
 use crate::template::wording;
 use tsb_breaches::Breach;
 use tsb_lines::ShortLine;
-use tsb_plan::Plan;
-use tsb_review::{Finding, Numbers, is_also_in, numbers_of};
+use tsb_plan::{Object, ObjectId, Plan};
+use tsb_review::{Finding, Numbers, is_also_in, numbers_of, unused_value};
 use tsb_types::Pattern;
 
 /// The most bytes that a line can have, with its line feed.
-pub const LONGEST: usize = 256;
+pub const LONGEST: usize = 320;
 
 /// The bytes of a line.
 pub type Line = ShortLine<LONGEST>;
@@ -26,6 +27,7 @@ pub fn line_of(plan: &Plan, finding: &Finding) -> Line
     let numbers = numbers_of(plan, finding);
     let mut line = Line::new();
     push_parts(&mut line, wording(plan, finding), &numbers, b"");
+    push_value_name(&mut line, unused_value(plan, finding));
     push_patterns(&mut line, plan, finding, &Pattern::all());
     line
 }
@@ -48,6 +50,34 @@ fn push_parts(line: &mut Line, text: &[u8], numbers: &Numbers, end: &[u8])
         push_part(line, *byte, numbers);
     }
     line.push(end);
+}
+
+/// Adds the name of a value, where there is one.
+fn push_value_name(line: &mut Line, id: Option<ObjectId>)
+    ensures line { Adds LONGEST line.old (value_name id) line.new }
+    ensures short { length (value_name id) ≤ 41 }
+{
+    match id {
+        Some(id) => push_id(line, id),
+        None => line.push(b""),
+    }
+}
+
+/// Adds a space, an object and an index.
+fn push_id(line: &mut Line, id: ObjectId)
+    ensures line { Adds LONGEST line.old (32 ∷ (name_of id.object ++ 46 ∷ decimal id.index)) line.new }
+    ensures short { length (32 ∷ (name_of id.object ++ 46 ∷ decimal id.index)) ≤ 41 }
+{
+    line.push(b" ");
+    push_name(line, id.object);
+    push_point(line, id.index);
+}
+
+/// Adds the name of an object.
+fn push_name(line: &mut Line, object: Object)
+    ensures { Adds LONGEST line.old (name_of object) line.new }
+{
+    line.push(object.name().as_bytes());
 }
 
 /// Adds those of the patterns of which the finding is also told, and a line feed.
@@ -117,10 +147,11 @@ fn push_fraction(line: &mut Line, tenths: u32)
     }
 }
 
-/// Adds a point and tenths of a second.
-fn push_point(line: &mut Line, tenths: u32)
-    ensures { Adds LONGEST line.old (46 ∷ decimal tenths) line.new }
+/// Adds a point and a number: tenths of a second, or an index.
+fn push_point(line: &mut Line, number: u32)
+    ensures line { Adds LONGEST line.old (46 ∷ decimal number) line.new }
+    ensures short { length (decimal number) ≤ 10 }
 {
     line.push(b".");
-    line.push_number(tenths);
+    line.push_number(number);
 }

@@ -164,5 +164,12 @@ fn template(advice: Advice) -> &'static [u8]
         Advice::A56 => {
             b"A56 overlap P: if phases stand as usual, it turns right beside phase R into the leg that phase Q goes into, and both can be green"
         }
+        Advice::A57 => {
+            b"A57 phase P: its red clearance of X s is under 0.5 s, as if it were given in seconds and not in tenths"
+        }
+        Advice::A58 => {
+            b"A58 phase P: its passage of X s is under 1 s and no detector extends it, as if it were given in seconds and not in tenths"
+        }
+        Advice::A59 => { b"A59 phase P: it is not enabled, so its values have no effect, such as" }
     }
 }
