@@ -4,7 +4,7 @@
 It reports files that are not in the layout of `rt fmt` (run on a copy), must-fail edits whose old text is not in its
 file exactly once, lines of documents that are over 120 characters, public definitions without a comment, names and
 paths that documents cite and the repository does not have, functions of many parameters, lemmas that say the same, and
-what tools/pages/tree_facts.py, tools/pages/prose.py and tools/pages/program_words.py find.
+what tools/pages/tree_facts.py, tools/pages/prose.py, tools/pages/meanings.py and tools/pages/program_words.py find.
 """
 import concurrent.futures
 import os
@@ -17,7 +17,7 @@ import tempfile
 # (modules of tools/ have one name, whether a person runs this or another module does)
 sys.path[0] = str(pathlib.Path(__file__).resolve().parent.parent)
 
-from tools.pages import cited_names, definitions_index, program_words, prose, tree_facts  # noqa: E402
+from tools.pages import cited_names, definitions_index, meanings, program_words, prose, tree_facts  # noqa: E402
 from tools.prover import parameters, same_statements  # noqa: E402
 
 
@@ -88,6 +88,7 @@ def main():
     found += cited_names.missing()
     found += tree_facts.missing()
     found += prose.missing()
+    found += meanings.missing()
     found += program_words.missing()
     found += parameters.missing()
     found += same_statements.missing()

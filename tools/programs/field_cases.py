@@ -37,16 +37,16 @@ RECORD = ["record", *FROM, "--device", "1001", "quad.json"]
 LAST, BEHIND = "2026-11-29 05:39:59.999999999", "2026-11-29 05:40:00"
 MOST_ROWS = 1_720_740
 
-# What is told of what was left out.
+# What is printed of what was left out.
 LEFT = b"left out: %d rows of other devices, %d events of channels without an input, %d lines that are no rows\n"
 
-# What is told where no row counts, where no input has an event from tick 1 on, and of the form of times.
+# What is printed where no row counts, where no input has an event from tick 1 on, and of the form of times.
 NO_ROW, NO_EVENT, EMPTY = field_rules.NO_ROW, field_rules.NO_EVENT, "--allow-empty"
 TIMES = b"times: %b, by the first row\n"
 MONTH_FIRST, DAY_FIRST, OF_SECONDS, OF_MILLISECONDS = (
     TIMES % form for form in [b"month-first", b"day-first", b"seconds", b"milliseconds"])
 
-# What is told of a line that ends before the field of a column, and of one of more than 1,000 bytes.
+# What is printed of a line that ends before the field of a column, and of one of more than 1,000 bytes.
 ENDS, LONG = b"%b: the line ends before it", b"over 1000 bytes (is it a text with lines?)"
 GIB = 1 << 30
 
@@ -70,7 +70,7 @@ def logged(text, log, *words, errors=b""):
 
 
 def refused(text, fault, known=b"", *words):
-    """A run of `log` that a fault ends, behind the rows that are known before it, and no others."""
+    """A run of `log` that a fault ends, after the rows that are known before it, and no others."""
     return Run([*LOG, *words], 1, known, fault, text)
 
 
@@ -99,7 +99,7 @@ def form_runs():
         MARK + b"\n" + usual, b"\n  \n# a car\n" + usual + b"\n#\n", b"#" + b"x" * 999 + b"\n" + CAR,
         CAR.replace(b",82,", b',"82",').replace(b"7,", b'"7, Main",', 1), CAR.replace(b"22 07", b"22T07"),
         CAR.replace(b",82,2", b",0000000082,02"), CAR.replace(b"\n", b",and,more,\n"), CAR.replace(b"\n", b',""\n'),
-        # The return before a line feed does not count, and one behind the last line feed is a byte of its line.
+        # The return before a line feed does not count, and one after the last line feed is a byte of its line.
         b"#" + b"x" * 999 + b"\r\n" + CAR, CAR + b"#\r", CAR.replace(b"\n", b",more\n")[:-1] + b"\r",
         CAR + told("07:00:03 1 2", "07:00:03 83 2", "07:00:03 4294967295 2", "07:00:03 0 4294967295"),
     ])
@@ -153,7 +153,7 @@ def wide_runs():
     ]:
         text = f"{HEADER.decode()}7,{first},82,2\n7,{second},81,2\n".encode()
         yield logged(text, CAR_LOG, errors=form)
-        # A form that is named is not told.
+        # A form that is named is not printed.
         if form:
             yield logged(text, CAR_LOG, "--time-form", form.decode()[7:].partition(",")[0])
     # Noon and midnight of a clock of twice 12 hours.
@@ -220,7 +220,7 @@ def separator_runs():
 
 
 # What the exports of tools/programs/exports have to give: the ticks of the log's rows, of which the first has detector
-# 4 on, and what is told. They were made up, each in the form in which some controller, agency or spreadsheet hands out
+# 4 on, and what is printed. They were made up, each in the form in which some controller, agency or spreadsheet hands out
 # its log.
 BOTH, ONE = (33, 41), (33,)
 EXPORT_FORMS = {"a01_udot4": MONTH_FIRST, "a02_ampm": MONTH_FIRST, "a05_epoch": OF_SECONDS, "a06_epochms": OF_MILLISECONDS,
@@ -346,7 +346,7 @@ def wire_runs():
 
 
 def manner_runs():
-    """How a text is read, by words, and what is told of it."""
+    """How a text is read, by words, and what is printed of it."""
     # A form that is named holds from the first row on.
     for form, day in [("month-first", b"03/04/2026"), ("day-first", b"04/03/2026")]:
         text = CAR.replace(b"2026-11-22", day)
@@ -414,10 +414,10 @@ def sort_runs():
         later = field_rules.clock(BEGIN + (window + 1) * field_rules.SECOND + 1)
         at = field_rules.time_text(BEGIN + (window + 1) * field_rules.SECOND + 1).decode()
         yield refused(told(f"{at} 1 1", "07:00:01 82 2"), order % (2, b"07:00:01.0", later, window), b"", *words)
-    # Rows of one moment stay as they stand: a pulse, and a pause that is not seen.
+    # Rows of one moment stay in their order: a pulse, and a pause that is not seen.
     yield logged(told("07:00:04 1 1", "07:00:02 82 3", "07:00:02 81 3"), row(21, [3]) + row(22), "--sort")
     yield logged(told("07:00:04 1 1", "07:00:02 81 3", "07:00:02 82 3"), row(21, [3]), "--sort")
-    # What is told is that of the sorted rows.
+    # What is printed is that of the sorted rows.
     read = b"read: 3 rows from 2026-11-22 %b to 2026-11-22 %b, events of 1 channels\n"
     yield logged(CAR_SECOND + told("07:00:09.5 1 1") + CAR_FIRST, CAR_LOG, "--sort", "--count", errors=read % (b"07:00:01.0", b"07:00:09.5"))
     # Rows of other devices, and rows before the header, say nothing of the time.
@@ -447,7 +447,7 @@ def sort_runs():
         yield Run([*LOG, *words], 2, b"", USAGE, CAR)
 
 
-# Delays and extensions of a plan, in tenths of a second, and what is told of each detector.
+# Delays and extensions of a plan, in tenths of a second, and what is printed of each detector.
 DELAYS, EXTENSIONS = {1: 50, 3: 7, 16: 2550}, {3: 20, 5: 255, 16: 1}
 TWICE = {
     1: b"detector 1: its delay of 5.0 s acts twice\n",
@@ -458,7 +458,7 @@ TWICE = {
 
 
 def outputs_runs():
-    """Events of outputs of the detectors of a plan: the log is the same, and behind all else it is told what acts twice."""
+    """Events of outputs of the detectors of a plan: the input log is the same, and the last lines name what acts twice."""
     twice = ["--as-outputs", "twice.json"]
     every = b"".join(TWICE.values())
     # Detectors to which no wire leads are not told, however they are mapped.
@@ -489,7 +489,7 @@ def outputs_runs():
 
 
 def line_faults():
-    """Lines that are no rows behind a first row, each with what is told of it."""
+    """Lines that are no rows after a first row, each with what is printed of it."""
     clock = b"7,2026-11-22 07:00:03"
     yield from ((line, ENDS % column) for line, column in [
         (b"7", b"time"), (b"\t", b"time"), (b" \t ", b"time"), (b"\t#", b"time"), (b"x", b"time"),
@@ -728,7 +728,7 @@ def joined_runs(given):
     on = [f"07:00:00.0 {code} {n + 1}" for code, most in [(82, 16), (90, 8), (102, 4)] for n in range(most)]
     off = [f"07:00:00.1 {code} {n + 1}" for code, most in [(81, 16), (89, 8), (104, 4)] for n in range(most)]
     yield given(b"", shown(*on, *off), "--log", "all.log")
-    # In one tick by code, and then by parameter; a log that goes on behind the last display line.
+    # In one tick by code, and then by parameter; an input log that goes on after the last display line.
     first = [*TOLD[0], "07:00:00.1 82 1", "07:00:00.1 82 2", "07:00:00.1 90 3"]
     second = [f"07:00:04.4 {it}" for it in ["22 2", "81 2", "82 9", "89 3", "102 1", "105 2"]]
     last = ["07:16:39.9 81 1", "07:16:39.9 81 9", "07:16:39.9 104 1"]
@@ -803,7 +803,7 @@ PATTERN = [(1, 131, 1), (1, 132, 80), *((1, 133 + p, (25, 15)[p % 2]) for p in r
 
 
 def record_runs():
-    """Records: of what remains, and what is told of lines that are no command or are refused; the first ends a strict
+    """Records: of what remains, and what is printed of lines that are no command or are refused; the first ends a strict
     one."""
     for commands, events, errors in [
         (b"", [], b""), (b"step 1\n", FIRST, b""), (b"step 1", FIRST, b""),
@@ -914,7 +914,7 @@ def selected(tick, state):
 
 
 def cycle(yields, zero):
-    """What a cycle of pattern 2 tells: the yield points of phases 2 and 6, and local zero."""
+    """What a cycle of pattern 2 gives: the yield points of phases 2 and 6, and local zero."""
     return [(yields, 151, 2), (yields, 151, 6), (zero, 150, 5)]
 
 
@@ -926,7 +926,7 @@ DWELLS = [*selected(850, 4), *cycle(1470, 1520), *cycle(2190, 2240), *cycle(2910
 # and after 440 it has gone 550.
 GAINS = [*selected(850, 3), *cycle(1250, 1290), (1650, 150, 1), *cycle(1750, 1800)]
 # At tick 851 it stands at 51. So it comes to 550 and to 0 with the first of the two steps that it takes in tick 400 and
-# in tick 440 behind the selection.
+# in tick 440 after the selection.
 PASSES = [*selected(851, 3), *cycle(1251, 1291), (1651, 150, 1), *cycle(1750, 1800)]
 # By add only it loses one tick in six, 400 in 2400. From 51 on it has gone 499 steps after 598 ticks, and 549 after 658;
 # each cycle has 720.
@@ -1022,7 +1022,7 @@ def green_end_faults():
 
 
 def stream_runs():
-    """Reads and writes that fail, and which of several faults is told."""
+    """Reads and writes that fail, and which of several faults is printed."""
     for words in [LOG, EVENTS, ["diagram"]]:
         text = CAR if words == LOG else ALL_LINES
         yield Run(words, 3, b"", INPUT, stdin=TORN)

@@ -33,29 +33,29 @@ USUAL = [0, 1, 2, 3]
 MARKS = {b",": b"commas", b";": b"semicolons", b"\t": b"tabs"}
 COLUMNS = [b"device", b"time", b"code", b"parameter"]
 
-# What is told of a line that begins so, of which the whole text is no text with lines of events.
+# What is printed of a line that begins so, of which the whole text is no text with lines of events.
 WHOLE_FAULTS = [
     (rb"\xff\xfe|\xfe\xff", b"UTF-16: convert by iconv -f utf-16 -t utf-8"),
     (rb"PK.*\x03|\x1f\x8b", b"packed: unpack by unzip or gunzip"), (rb"<", b"XML: export as CSV"),
     (rb".*\x00", b"binary: convert by the controller's own program"),
 ]
 
-# What is told of a field.
+# What is printed of a field.
 NO_DAY = b" has no day (was it opened in a spreadsheet?)"
 NO_SECONDS = b" has no seconds (was it opened in a spreadsheet?)"
 TWO_WAYS = b" can be read in two ways: give --time-form month-first or --time-form day-first"
 NO_NUMBER = b" is no whole number up to 4294967295"
 
-# How many rows are held at a time where they are sorted, and what is told of a row that is one too many.
+# How many rows are held at a time where they are sorted, and what is printed of a row that is one too many.
 MOST_HELD = 1_000_000
 TOO_MANY = b" line %d: over 1000000 rows to sort: give a smaller --sort-within, or a --device"
 
-# What is told where no row counts, and where no input has an event from tick 1 on.
+# What is printed where no row counts, and where no input has an event from tick 1 on.
 GAPS = b"gaps: %d of a minute or more without a row that counts, the longest from %b to %b\n"
 NO_ROW = b"events: no row counts (give --allow-empty where that is right)\n"
 NO_EVENT = b"events: no event of an input from --from on (give --allow-empty where that is right)\n"
 
-# What is told of a text without a header and without a row.
+# What is printed of a text without a header and without a row.
 NOTHING = b"events: no header and no row (do commas, semicolons or tabs part its fields?)\n"
 
 # Forms of times by the words that name them: where a day has its year, its month and its day, and a time in each.
@@ -88,7 +88,7 @@ SHOWN = re.compile(rb"(\d{7}) ([-RYGF]{16}) ([-DCW]{16}) ([-RYGF]{4}) ([0-4]) (?
 
 
 class Fault(Exception):
-    """The line that tells of a fault, and the rows of the log that are known before it."""
+    """The line of a fault, and the rows of the log that are known before it."""
 
     def __init__(self, line, known):
         super().__init__(line)
@@ -114,7 +114,7 @@ def moment(text):
 
 
 def time_text(nanos):
-    """A moment as text: as few digits behind the point as tell it, but one."""
+    """A moment as text: as few digits after the point as it takes, but one."""
     seconds, part = divmod(nanos, SECOND)
     days, second = divmod(seconds, 86400)
     at = datetime.datetime.fromordinal(days) + datetime.timedelta(seconds=second)
@@ -238,7 +238,7 @@ def form_of(text):
 
 
 def whole(text):
-    """The number that digits spell, with zeros behind a point or without, or None."""
+    """The number that digits spell, with zeros after a point or without, or None."""
     digits, _, zeros = text.partition(b".")
     return None if zeros.strip(b"0") else number(digits)
 
@@ -282,7 +282,7 @@ def shown(field):
 
 
 def why(line, places, mark, form):
-    """What is told of a line that is no row, behind `events line N: ` or, of a text without lines, behind `events: `."""
+    """What is printed of a line that is no row, behind `events line N: ` or, of a text without lines, behind `events: `."""
     for begun, told in WHOLE_FAULTS:
         if re.match(begun, line, re.S):
             return b": " + told
@@ -370,13 +370,13 @@ def known_log(begin, wires, events):
 
 
 def clock(nanos):
-    """The time of day of a moment, with one digit behind the point, three or nine: the fewest that tell it."""
+    """The time of day of a moment, with one digit after the point, three or nine: the fewest that it takes."""
     clock, _, part = time_text(nanos).decode().split(" ")[1].partition(".")
     return f"{clock}.{part.ljust(next(n for n in (1, 3, 9) if len(part) <= n), '0')}".encode()
 
 
 def order_fault(count, at, last, place, window=None):
-    """What is told of a row that is earlier than one before it, or by more than a window of seconds."""
+    """What is printed of a row that is earlier than one before it, or by more than a window of seconds."""
     day = 86400 * SECOND
     later = b" of a later day" if at // day < last // day else b""
     cure = b"sort by column %d" % (place + 1)

@@ -1,4 +1,4 @@
-"""Where texts stop being JSON: what tsb_live tells of plan texts at random, beside a second reading of RFC 8259.
+"""Where texts stop being JSON: what tsb_live prints of plan texts at random, beside a second reading of RFC 8259.
 
 The reading knows tokens by regular expressions, and what may follow them by a stack. It is written from the standard
 and from docs/use/MANUAL.md, not from the definitions of the crate tsb_plan_notes.
@@ -51,7 +51,7 @@ def begins_character(begun: bytes) -> bool:
 
 
 def behind_character(text: bytes, at: int) -> int:
-    """The place behind a character of UTF-8 that has several bytes."""
+    """The place after a character of UTF-8 that has several bytes."""
     for end in range(at + 1, at + 5):
         if end > len(text) or not begins_character(text[at:end]):
             raise Stopped(end - 1, "a character or a double quote" if end == at + 1 else "UTF-8")
@@ -64,7 +64,7 @@ def behind_character(text: bytes, at: int) -> int:
 
 
 def behind_escape(text: bytes, at: int) -> int:
-    """The place behind an escape."""
+    """The place after an escape."""
     if found := ESCAPE.match(text, at):
         return found.end()
     begun = BEGUN_ESCAPE.match(text, at)
@@ -73,7 +73,7 @@ def behind_escape(text: bytes, at: int) -> int:
 
 
 def behind_string(text: bytes, at: int) -> int:
-    """The place behind a text in double quotes, behind the first of which this is."""
+    """The place after a text in double quotes, behind the first of which this is."""
     while at < len(text):
         byte = text[at]
         if byte == ord('"'):
@@ -90,7 +90,7 @@ def behind_string(text: bytes, at: int) -> int:
 
 
 def behind_word(text: bytes, at: int) -> int:
-    """The place behind true, false or null."""
+    """The place after true, false or null."""
     word = next(it for it in WORDS if it[:1] == text[at:at + 1])
     same = next((k for k, byte in enumerate(word) if text[at + k:at + k + 1] != bytes([byte])), len(word))
     if same < len(word):
@@ -99,7 +99,7 @@ def behind_word(text: bytes, at: int) -> int:
 
 
 def behind_number(text: bytes, at: int) -> int:
-    """The place behind a number."""
+    """The place after a number."""
     begun = BEGUN_NUMBER.match(text, at)
     assert begun
     if NUMBER.fullmatch(begun[0]):
@@ -108,7 +108,7 @@ def behind_number(text: bytes, at: int) -> int:
 
 
 def behind_value(text: bytes, at: int, expected: str) -> int:
-    """The place behind a value that is no object and no array."""
+    """The place after a value that is no object and no array."""
     first = text[at:at + 1]
     if first == b'"':
         return behind_string(text, at + 1)
@@ -120,7 +120,7 @@ def behind_value(text: bytes, at: int, expected: str) -> int:
 
 
 def skipped(text: bytes, at: int) -> int:
-    """The place behind blanks."""
+    """The place after blanks."""
     found = BLANKS.match(text, at)
     assert found
     return found.end()
@@ -180,7 +180,7 @@ def behind_ends(text: bytes, at: int, closing: list[bytes]) -> tuple[int, bool]:
 
 
 def second_line(text: bytes) -> bytes | None:
-    """The line that tells where a text stops, if it does."""
+    """The line that says where a text stops, if it does."""
     try:
         go_through(text)
     except Stopped as stopped:
@@ -222,7 +222,7 @@ def worked() -> list[bytes]:
 
 
 def compare_one(live: pathlib.Path, folder: str, place: int, text: bytes) -> list[str]:
-    """What tsb_live tells of a text otherwise."""
+    """What tsb_live prints of a text otherwise."""
     path = pathlib.Path(folder, f"{place}.json")
     path.write_bytes(text)
     status, output, errors = ran([live, path], b"")
@@ -236,7 +236,7 @@ def compare_one(live: pathlib.Path, folder: str, place: int, text: bytes) -> lis
 
 
 def compare(live: pathlib.Path) -> list[str]:
-    """What tsb_live tells of texts otherwise than the second reading."""
+    """What tsb_live prints of texts otherwise than the second reading."""
     rng = random.Random("places")
     texts = worked() + [a_text(rng) for _ in range(TEXTS)]
     with tempfile.TemporaryDirectory() as folder, concurrent.futures.ThreadPoolExecutor(4) as pool:

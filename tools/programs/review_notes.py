@@ -1,4 +1,4 @@
-"""What is told of the text of a plan, read a second time: from docs/use/REVIEW.md, and from nothing of the crates.
+"""What is printed of the text of a plan, read a second time: from docs/use/REVIEW.md, and from nothing of the crates.
 
 `notes(text)` gives the lines: a name or an index that comes again in its table, a value that is no whole number, and a
 name, an index or a value that no object has.
@@ -98,7 +98,7 @@ def again(path: str, at: int, pairs: Pairs) -> Iterator[str]:
 
 
 def of_table(name: str, entries: Pairs) -> Iterator[str]:
-    """What is told of the table of an object."""
+    """What is printed of the table of an object."""
     for at, (index, value) in enumerate(entries):
         if index not in map(str, range(1, OBJECTS[name]["count"] + 1)):
             yield f"{name}.{index}: no such index, 1 to {OBJECTS[name]['count']}"
@@ -112,7 +112,7 @@ def of_table(name: str, entries: Pairs) -> Iterator[str]:
 
 
 def notes(text: bytes) -> list[str]:
-    """What is told of a text."""
+    """What is printed of a text."""
     value = parsed(text)
     found: list[str] = []
     for at, (name, it) in enumerate(value.pairs if isinstance(value, Table) else []):

@@ -5,9 +5,9 @@
 PROGRAM is that of tsb_field. Without SUMS they are cases/records.sums, of the sessions that lie beside it;
 tools/reference/make_events.py writes such a file, which has sums of three records of each session: without options, with
 `--recalls`, and with `--outputs`. Of a session whose plan or log has a fault, a record has nothing, and the status is 1.
-The sums are of records that go on: each line on standard error is of a command that was refused or is none, and tells
-its number and its text. Each record of a session tells the same lines. A strict record is the same where there is no
-such line, so that the others of the session are strict; else it tells the first alone, has nothing, and the status is 4.
+The sums are of records that go on: each line on standard error is of a command that was refused or is none, and prints
+its number and its text. Each record of a session prints the same lines. A strict record is the same where there is no
+such line, so that the others of the session are strict; else it prints the first alone, has nothing, and the status is 4.
 In place of this strict record the session has one less in the other forms, where a form has the sum of the first.
 """
 import datetime

@@ -28,7 +28,7 @@ from tools.programs import (breach_cases, breach_checks, breach_rules, review_ca
                             review_runs)
 from tools.programs.review_cases import Table
 
-# The text of which the manual tells, the first fault, and what is told.
+# The text of which the manual tells, the first fault, and what is printed.
 NOTED = re.compile(r"^```\n(\"phase.*)\n```\n\n.* `(plan: [^`]+)`.*\n\n```notes\n((?:.*\n)*?)```$", re.M)
 # The plans that the manual reviews.
 REVIEWED_PLANS = ["first_plan.json", "main_and_oak.json", "tee.json"]
@@ -233,7 +233,7 @@ def note_faults(programs: Programs, texts: int, seed: int) -> list[str]:
 
 
 def manual_faults(programs: Programs) -> list[str]:
-    """What the manual has otherwise: what is told of a text, the reviews of its plans, and the example of each advice."""
+    """What the manual has otherwise: what is printed of a text, the reviews of its plans, and the example of each advice."""
     text = (TOP / "docs/use/REVIEW.md").read_text()
     given, line, noted = NOTED.search(text).groups()  # type: ignore[union-attr]
     told = programs.told(programs.field, "review", text=f'{{"version": 2, {given}}}')
