@@ -45,7 +45,6 @@ TWICE = {
     "Found": {"tsb_events", "tsb_ring"},
     "Kind": {"tsb_field_diagram", "tsb_field_log", "tsb_history"},
     "Mark": {"tsb_field_diagram", "tsb_text"},
-    "Next": {"tsb_plan_notes", "tsb_status"},
     "Outcome": {"tsb_ring", "tsb_text"},
     "Place": {"tsb_breaches", "tsb_review"},
     "Reading": {"tsb_command_text", "tsb_field_streams"},
@@ -56,7 +55,6 @@ TWICE = {
     "Shown": {"tsb_event_text", "tsb_field_display"},
     "Sought": {"tsb_review", "tsb_rules"},
     "Status": {"tsb_program", "tsb_status"},
-    "Stop": {"tsb_plan_notes", "tsb_text"},
     "Watched": {"tsb_bench", "tsb_lines"},
 }
 UNPROVED = {"tsb_tests", "tsb_field_tests", "tsb_layer_runs", "tsb_runs"}

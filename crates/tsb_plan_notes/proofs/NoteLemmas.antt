@@ -1,7 +1,7 @@
 -- The members of an object, one after another, and notes that are added.
-use Rattle.std.proofs.Common.{◌≡◌, ◌∙◌, ℕ, zero, suc, ◌+◌, ◌-◌, ◌<◌, Bool, true, false, if◌then◌else◌, List, [], ◌∷◌, ◌++◌, append_assoc, length, take, take_all, drop, drop-cons, get_or, ap, inl, inr, refl, subst, sym, arith, IfOk, MatchResult, OnOk, Some, None, bytes_eq}
+use Rattle.std.proofs.Common.{◌≡◌, ◌∙◌, ℕ, zero, suc, ◌+◌, ◌<◌, Bool, true, false, if◌then◌else◌, List, [], ◌∷◌, ◌++◌, append_assoc, length, drop, drop-cons, get_or, ap, inl, inr, refl, subst, sym, arith, IfOk, MatchResult, OnOk, Some, None, bytes_eq}
 use Rattle.std.proofs.lemmas.Bool.{cases_Bool}
-use Rattle.std.proofs.lemmas.List.{length-drop}
+use Rattle.std.proofs.lemmas.Option.{same_Some}
 use Rattle.std.proofs.lemmas.Str.{IsUtf8-from_is_utf8, is_utf8-from_IsUtf8}
 use Rattle.std.specs.Result.{is_ok}
 use Rattle.std.specs.declared.result.Result.{Result}
@@ -39,24 +39,17 @@ numbers-at ms k d below h =
     subst (λ (n : ℕ). HasNumbers (value_view (get_or ms k d).1) × MembersHaveNumbers (members_view (drop n ms))) next (numbers-from ms k d below h)
 
 -- so has one that is found
-some-is : {A : Type 0} (x y : A) → Some x ≡ Some y → x ≡ y
-some-is x y e = cc
-
 pub next-numbers : (name : List ℕ) (ms : Members) (d : Json) → MembersHaveNumbers ms → next_of name ms ≡ Some d → HasNumbers d
 next-numbers name no_members d h e = absurd (cc)
 next-numbers name (member key j rest) d h e = go (next-numbers name rest d h.1) (bytes_eq key name) e
   where
     go : (next_of name rest ≡ Some d → HasNumbers d) → (b : Bool) → (if b then Some j else next_of name rest) ≡ Some d → HasNumbers d
-    go later true is = subst HasNumbers (some-is j d is) h.0
+    go later true is = subst HasNumbers (same_Some j d is) h.0
     go later false is = later is
 
 -- a note more, of those that are left
 pub onto : (old new note left all : List ℕ) → new ≡ old ++ note → old ++ (note ++ left) ≡ all → new ++ left ≡ all
 onto old new note left all is so = ap (λ (ts : List ℕ). ts ++ left) is ∙ append_assoc old note left ∙ so
-
--- what is left of a list, as a slice has it
-pub slice-rest : {A : Type 0} (xs : List A) (k : ℕ) → take (length xs - k) (drop k xs) ≡ drop k xs
-slice-rest xs k = take_all (length xs - k) (drop k xs) (omega (arith, length-drop k xs))
 
 -- ## What a text is
 

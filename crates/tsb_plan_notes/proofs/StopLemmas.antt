@@ -4,20 +4,20 @@ use Rattle.std.proofs.lemmas.List.{drop_more}
 use Rattle.std.specs.Prelude.{Some, None}
 use Rattle.std.specs.declared.option.Option.{Option}
 use Rattle.tsb_plan_notes.specs.declared.machine.Machine.{Machine}
-use Rattle.tsb_plan_notes.specs.declared.machine.Stop.{Stop}
+use Rattle.tsb_plan_notes.specs.declared.machine.JsonStop.{JsonStop}
 use Rattle.tsb_plan_notes.specs.Places.{Takes, behind, is_end, or_stop, stop, stop_here}
 
 -- a stop at the end of a text is there
-at-end : (here s : Stop) (b : Bool) → (if b then None else Some here) ≡ Some s → s.at ≡ here.at
+at-end : (here s : JsonStop) (b : Bool) → (if b then None else Some here) ≡ Some s → s.at ≡ here.at
 at-end here s true is = cc
 at-end here s false is = cc
 
 -- a text that stops at once stops so, and one that goes on stops where the rest does
-on : (here s : Stop) (next : Option Machine) (go more : Machine → Option Stop) → ((n : Machine) → go n ≡ Some s → more n ≡ Some s) → or_stop next here go ≡ Some s → or_stop next here more ≡ Some s
+on : (here s : JsonStop) (next : Option Machine) (go more : Machine → Option JsonStop) → ((n : Machine) → go n ≡ Some s → more n ≡ Some s) → or_stop next here go ≡ Some s → or_stop next here more ≡ Some s
 on here s None go more further is = is
 on here s (Some n) go more further is = further n is
 
-pub stops : (m : Machine) (at : ℕ) (text more : List ℕ) (s : Stop) → stop m at text ≡ Some s → s.at < at + length text → stop m at (text ++ more) ≡ Some s
+pub stops : (m : Machine) (at : ℕ) (text more : List ℕ) (s : JsonStop) → stop m at text ≡ Some s → s.at < at + length text → stop m at (text ++ more) ≡ Some s
 stops m at [] more s is lt = absurd (let same : s.at ≡ at = at-end (stop_here m at) s (is_end (stop_here m at).next) is in omega (arith, same, lt))
 stops m at (byte ∷ text) more s is lt =
     on (stop_here m at) s (behind m byte) (λ n. stop n (at + 1) text) (λ n. stop n (at + 1) (text ++ more)) (λ n k. stops n (at + 1) text more s k (omega (arith, lt))) is

@@ -3,14 +3,14 @@ use Rattle.std.specs.Prelude.{◌≡◌, ℕ, ◌+◌, ◌-◌, ◌==◌, Bool, 
 use Rattle.std.specs.List.{fold}
 use Rattle.std.specs.Fmt.{decimal}
 use Rattle.tsb_plan_notes.specs.declared.machine.Machine.{Machine}
-use Rattle.tsb_plan_notes.specs.declared.machine.Stop.{Stop}
+use Rattle.tsb_plan_notes.specs.declared.machine.JsonStop.{JsonStop}
 use Rattle.tsb_plan_notes.specs.declared.machine.TheConstants.{DEPTH}
 use Rattle.tsb_plan_notes.specs.declared.next.Bracket.{Bracket}
 use Rattle.tsb_plan_notes.specs.declared.next.Bracket.TheVariants.{Object, Array}
 use Rattle.tsb_plan_notes.specs.declared.next.Move.{Move}
 use Rattle.tsb_plan_notes.specs.declared.next.Move.TheVariants.{To, Open, Close, Ended, Wrong}
-use Rattle.tsb_plan_notes.specs.declared.next.Next.{Next}
-use Rattle.tsb_plan_notes.specs.declared.next.Next.TheVariants.{Value, FirstItem, FirstName, Name, Colon, ItemEnd, MemberEnd, End, Text, Escape, Hex, Tail, Word, Zero, Whole, Fraction, Exponent, Power}
+use Rattle.tsb_plan_notes.specs.declared.next.JsonNext.{JsonNext}
+use Rattle.tsb_plan_notes.specs.declared.next.JsonNext.TheVariants.{Value, FirstItem, FirstName, Name, Colon, ItemEnd, MemberEnd, End, Text, Escape, Hex, Tail, Word, Zero, Whole, Fraction, Exponent, Power}
 use Rattle.tsb_plan_notes.specs.declared.place.JsonPlace.{JsonPlace}
 use Rattle.tsb_plan_notes.specs.Steps.{after, step}
 
@@ -33,7 +33,7 @@ abbrev pub closed : Machine → Machine
 closed m = record { next = m.next; brackets = record { items = take (length m.brackets.items - 1) m.brackets.items } }
 
 -- what may come behind an opening bracket
-abbrev pub first_in : Bracket → Next
+abbrev pub first_in : Bracket → JsonNext
 first_in Object = FirstName
 first_in Array = FirstItem
 
@@ -65,7 +65,7 @@ Takes false None old new = new ≡ old
 -- ## Where a text stops
 
 -- what has to come, where nothing of this has to: behind a number that may be whole, what follows a value
-abbrev pub wanted : Next → Option Bracket → Next
+abbrev pub wanted : JsonNext → Option Bracket → JsonNext
 wanted Zero top = after top
 wanted Whole top = after top
 wanted Fraction top = after top
@@ -73,26 +73,26 @@ wanted Power top = after top
 wanted next top = next
 
 -- a text stops behind so many bytes
-abbrev pub stop_here : Machine → ℕ → Stop
+abbrev pub stop_here : Machine → ℕ → JsonStop
 stop_here m at = record { at = at; next = wanted m.next (top m.brackets.items) }
 
 -- nothing has to come
-abbrev pub is_end : Next → Bool
+abbrev pub is_end : JsonNext → Bool
 is_end End = true
 is_end next = false
 
 -- a text stops at its end, where something has to come
-abbrev pub unless_end : Stop → Option Stop
+abbrev pub unless_end : JsonStop → Option JsonStop
 unless_end stop = if is_end stop.next then None else Some stop
 
 -- a text stops here, or goes on
-abbrev pub or_stop : Option Machine → Stop → (Machine → Option Stop) → Option Stop
+abbrev pub or_stop : Option Machine → JsonStop → (Machine → Option JsonStop) → Option JsonStop
 or_stop None stop go = Some stop
 or_stop (Some m) stop go = go m
 
 -- where a text stops whose first bytes, so many, have left this: before the first byte that can't stand where it stands, or
 -- at its end
-abbrev pub stop : Machine → ℕ → List ℕ → Option Stop
+abbrev pub stop : Machine → ℕ → List ℕ → Option JsonStop
 stop m at [] = unless_end (stop_here m at)
 stop m at (byte ∷ bytes) = or_stop (behind m byte) (stop_here m at) (λ n. stop n (at + 1) bytes)
 
@@ -107,7 +107,7 @@ abbrev pub column_behind : List ℕ → ℕ
 column_behind bytes = fold (λ column byte. if byte == 10 then 1 else column + 1) 1 bytes
 
 -- the place behind so many bytes of a text
-abbrev pub place_in : List ℕ → Stop → JsonPlace
+abbrev pub place_in : List ℕ → JsonStop → JsonPlace
 place_in text s = record {
   line = line_behind (take s.at text);
   column = column_behind (take s.at text);
@@ -122,7 +122,7 @@ json_place text = option_map (place_in text) (stop start 0 text)
 -- ## What is told
 
 -- what has to come
-abbrev pub wanted_text : Next → List ℕ
+abbrev pub wanted_text : JsonNext → List ℕ
 wanted_text Value = codes "a value"
 wanted_text FirstItem = codes "a value or `]`"
 wanted_text FirstName = codes "a name in double quotes or `}`"

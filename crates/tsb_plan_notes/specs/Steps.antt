@@ -6,8 +6,8 @@ use Rattle.tsb_plan_notes.specs.declared.next.Role.{Role}
 use Rattle.tsb_plan_notes.specs.declared.next.Role.TheVariants as roles
 use Rattle.tsb_plan_notes.specs.declared.next.Rest.{Rest}
 use Rattle.tsb_plan_notes.specs.declared.next.Rest.TheVariants.{Rue, Ue, E, Alse, Lse, Se, Ull, Ll, L}
-use Rattle.tsb_plan_notes.specs.declared.next.Next.{Next}
-use Rattle.tsb_plan_notes.specs.declared.next.Next.TheVariants.{Value, FirstItem, FirstName, Name, Colon, ItemEnd, MemberEnd, End, Text, Escape, Hex, Tail, Word, Minus, Zero, Whole, Point, Fraction, Exponent, Sign, Power}
+use Rattle.tsb_plan_notes.specs.declared.next.JsonNext.{JsonNext}
+use Rattle.tsb_plan_notes.specs.declared.next.JsonNext.TheVariants.{Value, FirstItem, FirstName, Name, Colon, ItemEnd, MemberEnd, End, Text, Escape, Hex, Tail, Word, Minus, Zero, Whole, Point, Fraction, Exponent, Sign, Power}
 use Rattle.tsb_plan_notes.specs.declared.next.Move.{Move}
 use Rattle.tsb_plan_notes.specs.declared.next.Move.TheVariants.{To, Open, Close, Ended, Wrong}
 
@@ -30,11 +30,11 @@ abbrev pub is_escape : ℕ → Bool
 is_escape byte = byte == 34 || (byte == 92 || (byte == 47 || (byte == 98 || (byte == 102 || (byte == 110 || (byte == 114 || byte == 116))))))
 
 -- a byte that has to be this mark, which that follows
-abbrev pub is_mark : ℕ → Next → ℕ → Move
+abbrev pub is_mark : ℕ → JsonNext → ℕ → Move
 is_mark mark next byte = if byte == mark then To next else Wrong
 
 -- a byte that has to be a digit, which this follows
-abbrev pub digit_to : Next → ℕ → Move
+abbrev pub digit_to : JsonNext → ℕ → Move
 digit_to next byte = if is_digit byte then To next else Wrong
 
 -- ## Numbers
@@ -48,23 +48,23 @@ abbrev pub exponent : ℕ → Move
 exponent byte = if byte == 43 then To Sign else if byte == 45 then To Sign else digit_to Power byte
 
 -- the letter before an exponent: e or E
-abbrev pub power_mark : ℕ → Option Next
+abbrev pub power_mark : ℕ → Option JsonNext
 power_mark byte = if byte == 101 then Some Exponent else if byte == 69 then Some Exponent else None
 
 -- with what a number goes on behind a zero
-abbrev pub zero : ℕ → Option Next
+abbrev pub zero : ℕ → Option JsonNext
 zero byte = if byte == 46 then Some Point else power_mark byte
 
 -- behind a digit before the point
-abbrev pub whole : ℕ → Option Next
+abbrev pub whole : ℕ → Option JsonNext
 whole byte = if is_digit byte then Some Whole else zero byte
 
 -- behind one behind the point
-abbrev pub fraction : ℕ → Option Next
+abbrev pub fraction : ℕ → Option JsonNext
 fraction byte = if is_digit byte then Some Fraction else power_mark byte
 
 -- and behind one of its exponent
-abbrev pub digit_of : ℕ → Option Next
+abbrev pub digit_of : ℕ → Option JsonNext
 digit_of byte = if is_digit byte then Some Power else None
 
 -- ## Words
@@ -175,7 +175,7 @@ value byte =
     else word byte
 
 -- a byte that is no blank, between values, names, colons and commas
-abbrev pub begin : Next → ℕ → Move
+abbrev pub begin : JsonNext → ℕ → Move
 begin Value byte = value byte
 begin FirstItem byte = if byte == 93 then Close else value byte
 begin FirstName byte = if byte == 125 then Close else name byte
@@ -186,22 +186,22 @@ begin MemberEnd byte = if byte == 125 then Close else is_mark 44 Name byte
 begin next byte = Wrong
 
 -- any byte there: blanks change nothing
-abbrev pub structure : Next → ℕ → Move
+abbrev pub structure : JsonNext → ℕ → Move
 structure next byte = if is_blank byte then To next else begin next byte
 
 -- what may follow a value within the bracket that was opened last
-abbrev pub after : Option Bracket → Next
+abbrev pub after : Option Bracket → JsonNext
 after None = End
 after (Some brackets.Array) = ItemEnd
 after (Some brackets.Object) = MemberEnd
 
 -- a byte behind a number that may be whole: one with which it goes on, or the first behind it
-abbrev pub finished : Option Next → Option Bracket → ℕ → Move
+abbrev pub finished : Option JsonNext → Option Bracket → ℕ → Move
 finished (Some next) top byte = To next
 finished None top byte = structure (after top) byte
 
 -- what a byte does where this may come, within the bracket that was opened last and is not closed
-abbrev pub step : Next → Option Bracket → ℕ → Move
+abbrev pub step : JsonNext → Option Bracket → ℕ → Move
 step (Text role) top byte = quoted role byte
 step (Escape role) top byte = escape role byte
 step (Hex role left) top byte = hex role left byte

@@ -17,7 +17,7 @@ mod text;
 mod units;
 
 pub use machine::DEPTH;
-pub use next::{Bracket, Next, Rest, Role};
+pub use next::{Bracket, JsonNext, Rest, Role};
 pub use place::{JsonPlace, TOLD, json_place, place_text};
 pub use text::notes;
 pub use units::{Unit, unit_of};

@@ -2,7 +2,7 @@
 ghost use Rattle.std.specs.Prelude.{◌≡◌, ◌≤◌, [], length, IfSome};
 ghost use Rattle.tsb_plan_notes.specs.Places.{Takes, behind, ended, first_in, opened, start, stop, stop_here, top, unless_end, wanted};
 
-use crate::next::{Bracket, Move, Next};
+use crate::next::{Bracket, JsonNext, Move};
 use crate::step::{after, step};
 use arrayvec::ArrayVec;
 
@@ -12,17 +12,17 @@ pub const DEPTH: usize = 127;
 /// A text between two bytes: what may come, and which brackets are open, the last of them behind the others.
 #[derive(Drop)]
 struct Machine {
-    next: Next,
+    next: JsonNext,
     brackets: ArrayVec<Bracket, DEPTH>,
 }
 
 /// Where a text stops being JSON.
 #[derive(Clone, Copy)]
-pub(crate) struct Stop {
+pub(crate) struct JsonStop {
     /// How many bytes come before.
     pub(crate) at: usize,
     /// What has to come there.
-    pub(crate) next: Next,
+    pub(crate) next: JsonNext,
 }
 
 impl Machine {
@@ -31,7 +31,7 @@ impl Machine {
         ensures { result ≡ start }
     {
         Machine {
-            next: Next::Value,
+            next: JsonNext::Value,
             brackets: ArrayVec::new(),
         }
     }
@@ -86,10 +86,10 @@ impl Machine {
     }
 
     /// Where the text stops, behind so many bytes.
-    fn stop_here(&self, at: usize) -> Stop
+    fn stop_here(&self, at: usize) -> JsonStop
         ensures { result ≡ stop_here self.now at }
     {
-        Stop {
+        JsonStop {
             at,
             next: wanted(self.next, self.top()),
         }
@@ -97,7 +97,7 @@ impl Machine {
 }
 
 /// Where a text stops being JSON: before the first byte that can't stand where it stands, or at its end.
-pub(crate) fn stop_of(text: &[u8]) -> Option<Stop>
+pub(crate) fn stop_of(text: &[u8]) -> Option<JsonStop>
     ensures place { result ≡ stop start 0 text.now }
     ensures within { IfSome result (λ found. found.at ≤ length text.now) }
 {
@@ -113,31 +113,31 @@ pub(crate) fn stop_of(text: &[u8]) -> Option<Stop>
 }
 
 /// What has to come, where nothing of this has to: behind a number that may be whole, what follows a value.
-fn wanted(next: Next, top: Option<Bracket>) -> Next
+fn wanted(next: JsonNext, top: Option<Bracket>) -> JsonNext
     ensures { result ≡ wanted next top }
 {
     match next {
-        Next::Zero | Next::Whole | Next::Fraction | Next::Power => after(top),
+        JsonNext::Zero | JsonNext::Whole | JsonNext::Fraction | JsonNext::Power => after(top),
         _ => next,
     }
 }
 
 /// What may come behind an opening bracket.
-fn first_in(bracket: Bracket) -> Next
+fn first_in(bracket: Bracket) -> JsonNext
     ensures { result ≡ first_in bracket }
 {
     match bracket {
-        Bracket::Object => Next::FirstName,
-        Bracket::Array => Next::FirstItem,
+        Bracket::Object => JsonNext::FirstName,
+        Bracket::Array => JsonNext::FirstItem,
     }
 }
 
 /// The end of a text, where something has to come.
-fn unless_end(stop: Stop) -> Option<Stop>
+fn unless_end(stop: JsonStop) -> Option<JsonStop>
     ensures { result ≡ unless_end stop }
 {
     match stop.next {
-        Next::End => None,
+        JsonNext::End => None,
         _ => Some(stop),
     }
 }

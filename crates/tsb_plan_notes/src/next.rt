@@ -35,7 +35,7 @@ pub enum Rest {
 
 /// What a text of JSON may go on with.
 #[derive(Clone, Copy)]
-pub enum Next {
+pub enum JsonNext {
     /// A value.
     Value,
     /// A value, or the end of an array that has none.
@@ -89,7 +89,7 @@ pub enum Next {
 #[derive(Clone, Copy)]
 pub enum Move {
     /// This may follow it.
-    To(Next),
+    To(JsonNext),
     /// It opens an object or an array.
     Open(Bracket),
     /// It closes the last that was opened.

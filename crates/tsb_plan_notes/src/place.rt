@@ -2,8 +2,8 @@
 ghost use Rattle.std.specs.Prelude.{◌≡◌, ◌≤◌, length};
 ghost use Rattle.tsb_plan_notes.specs.Places.{column_behind, end_text, json_place, line_behind, place_in, place_text, wanted_text};
 
-use crate::machine::{Stop, stop_of};
-use crate::next::Next;
+use crate::machine::{JsonStop, stop_of};
+use crate::next::JsonNext;
 use itoa::Buffer;
 use tsb_lines::ShortLine;
 
@@ -20,7 +20,7 @@ pub struct JsonPlace {
     /// Whether it is the end of the text.
     pub ends: bool,
     /// What has to come there.
-    pub next: Next,
+    pub next: JsonNext,
 }
 
 /// Where a text stops being JSON (RFC 8259, in UTF-8): before the first byte that can't stand where it stands, or at its
@@ -38,7 +38,7 @@ pub fn json_place(text: &[u8]) -> Option<JsonPlace>
 }
 
 /// The place behind so many bytes of a text.
-fn place_in(text: &[u8], stop: Stop) -> JsonPlace
+fn place_in(text: &[u8], stop: JsonStop) -> JsonPlace
     requires { stop.at ≤ length text.now }
     ensures { result ≡ place_in text.now stop }
 {
@@ -108,25 +108,25 @@ fn end_text(ends: bool) -> &'static [u8]
 }
 
 /// What has to come.
-fn wanted_text(next: Next) -> &'static [u8]
+fn wanted_text(next: JsonNext) -> &'static [u8]
     ensures text { result.now ≡ wanted_text next }
     ensures short { length result.now ≤ 32 }
 {
     match next {
-        Next::Value => b"a value",
-        Next::FirstItem => b"a value or `]`",
-        Next::FirstName => b"a name in double quotes or `}`",
-        Next::Name => b"a name in double quotes",
-        Next::Colon => b"`:`",
-        Next::ItemEnd => b"`,` or `]`",
-        Next::MemberEnd => b"`,` or `}`",
-        Next::End => b"nothing more",
-        Next::Text(_) => b"a character or a double quote",
-        Next::Escape(_) => b"an escape of JSON",
-        Next::Hex(_, _) => b"a hexadecimal digit",
-        Next::Tail { .. } => b"UTF-8",
-        Next::Word(_) => b"`true`, `false` or `null`",
-        Next::Exponent => b"a digit or a sign",
+        JsonNext::Value => b"a value",
+        JsonNext::FirstItem => b"a value or `]`",
+        JsonNext::FirstName => b"a name in double quotes or `}`",
+        JsonNext::Name => b"a name in double quotes",
+        JsonNext::Colon => b"`:`",
+        JsonNext::ItemEnd => b"`,` or `]`",
+        JsonNext::MemberEnd => b"`,` or `}`",
+        JsonNext::End => b"nothing more",
+        JsonNext::Text(_) => b"a character or a double quote",
+        JsonNext::Escape(_) => b"an escape of JSON",
+        JsonNext::Hex(_, _) => b"a hexadecimal digit",
+        JsonNext::Tail { .. } => b"UTF-8",
+        JsonNext::Word(_) => b"`true`, `false` or `null`",
+        JsonNext::Exponent => b"a digit or a sign",
         _ => b"a digit",
     }
 }

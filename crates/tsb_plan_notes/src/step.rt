@@ -2,48 +2,48 @@
 ghost use Rattle.std.specs.Prelude.{◌≡◌};
 ghost use Rattle.tsb_plan_notes.specs.Steps.{after, after_minus, begin, closed, digit_of, digit_to, escape, exponent, finished, first_byte, fraction, hex, is_blank, is_digit, is_escape, is_hex, is_mark, lead, letter, name, power_mark, quoted, rest_of, step, structure, tail, tail_of, value, whole, word, zero};
 
-use crate::next::{Bracket, Move, Next, Rest, Role};
+use crate::next::{Bracket, JsonNext, Move, Rest, Role};
 
 /// What a byte does where this may come, within the bracket that was opened last and is not closed.
-pub(crate) fn step(next: Next, top: Option<Bracket>, byte: u8) -> Move
+pub(crate) fn step(next: JsonNext, top: Option<Bracket>, byte: u8) -> Move
     ensures { result ≡ step next top byte }
 {
     match next {
-        Next::Text(role) => quoted(role, byte),
-        Next::Escape(role) => escape(role, byte),
-        Next::Hex(role, left) => hex(role, left, byte),
-        Next::Tail {
+        JsonNext::Text(role) => quoted(role, byte),
+        JsonNext::Escape(role) => escape(role, byte),
+        JsonNext::Hex(role, left) => hex(role, left, byte),
+        JsonNext::Tail {
             role,
             low,
             high,
             left,
         } => tail(role, low, high, left, byte),
-        Next::Word(rest) => letter(rest, byte),
-        Next::Minus => after_minus(byte),
-        Next::Point => digit_to(Next::Fraction, byte),
-        Next::Exponent => exponent(byte),
-        Next::Sign => digit_to(Next::Power, byte),
-        Next::Zero => finished(zero(byte), top, byte),
-        Next::Whole => finished(whole(byte), top, byte),
-        Next::Fraction => finished(fraction(byte), top, byte),
-        Next::Power => finished(digit_of(byte), top, byte),
+        JsonNext::Word(rest) => letter(rest, byte),
+        JsonNext::Minus => after_minus(byte),
+        JsonNext::Point => digit_to(JsonNext::Fraction, byte),
+        JsonNext::Exponent => exponent(byte),
+        JsonNext::Sign => digit_to(JsonNext::Power, byte),
+        JsonNext::Zero => finished(zero(byte), top, byte),
+        JsonNext::Whole => finished(whole(byte), top, byte),
+        JsonNext::Fraction => finished(fraction(byte), top, byte),
+        JsonNext::Power => finished(digit_of(byte), top, byte),
         _ => structure(next, byte),
     }
 }
 
 /// What may follow a value within this bracket.
-pub(crate) fn after(top: Option<Bracket>) -> Next
+pub(crate) fn after(top: Option<Bracket>) -> JsonNext
     ensures { result ≡ after top }
 {
     match top {
-        None => Next::End,
-        Some(Bracket::Array) => Next::ItemEnd,
-        Some(Bracket::Object) => Next::MemberEnd,
+        None => JsonNext::End,
+        Some(Bracket::Array) => JsonNext::ItemEnd,
+        Some(Bracket::Object) => JsonNext::MemberEnd,
     }
 }
 
 /// A byte between values, names, colons and commas.
-fn structure(next: Next, byte: u8) -> Move
+fn structure(next: JsonNext, byte: u8) -> Move
     ensures { result ≡ structure next byte }
 {
     if is_blank(byte) {
@@ -53,39 +53,39 @@ fn structure(next: Next, byte: u8) -> Move
 }
 
 /// The same of a byte that is no blank.
-fn begin(next: Next, byte: u8) -> Move
+fn begin(next: JsonNext, byte: u8) -> Move
     ensures { result ≡ begin next byte }
 {
     match next {
-        Next::Value => value(byte),
-        Next::FirstItem => {
+        JsonNext::Value => value(byte),
+        JsonNext::FirstItem => {
             if byte == b']' {
                 Move::Close
             } else {
                 value(byte)
             }
         }
-        Next::FirstName => {
+        JsonNext::FirstName => {
             if byte == b'}' {
                 Move::Close
             } else {
                 name(byte)
             }
         }
-        Next::Name => name(byte),
-        Next::Colon => is_mark(b':', Next::Value, byte),
-        Next::ItemEnd => {
+        JsonNext::Name => name(byte),
+        JsonNext::Colon => is_mark(b':', JsonNext::Value, byte),
+        JsonNext::ItemEnd => {
             if byte == b']' {
                 Move::Close
             } else {
-                is_mark(b',', Next::Value, byte)
+                is_mark(b',', JsonNext::Value, byte)
             }
         }
-        Next::MemberEnd => {
+        JsonNext::MemberEnd => {
             if byte == b'}' {
                 Move::Close
             } else {
-                is_mark(b',', Next::Name, byte)
+                is_mark(b',', JsonNext::Name, byte)
             }
         }
         _ => Move::Wrong,
@@ -93,7 +93,7 @@ fn begin(next: Next, byte: u8) -> Move
 }
 
 /// A byte that has to be this mark, which that follows.
-fn is_mark(mark: u8, next: Next, byte: u8) -> Move
+fn is_mark(mark: u8, next: JsonNext, byte: u8) -> Move
     ensures { result ≡ is_mark mark next byte }
 {
     if byte == mark {
@@ -107,7 +107,7 @@ fn is_mark(mark: u8, next: Next, byte: u8) -> Move
 fn name(byte: u8) -> Move
     ensures { result ≡ name byte }
 {
-    is_mark(b'"', Next::Text(Role::Name), byte)
+    is_mark(b'"', JsonNext::Text(Role::Name), byte)
 }
 
 /// The first byte of a value.
@@ -121,10 +121,10 @@ fn value(byte: u8) -> Move
         return Move::Open(Bracket::Array);
     }
     if byte == b'"' {
-        return Move::To(Next::Text(Role::Value));
+        return Move::To(JsonNext::Text(Role::Value));
     }
     if byte == b'-' {
-        return Move::To(Next::Minus);
+        return Move::To(JsonNext::Minus);
     }
     if is_digit(byte) {
         return after_minus(byte);
@@ -137,13 +137,13 @@ fn word(byte: u8) -> Move
     ensures { result ≡ word byte }
 {
     if byte == b't' {
-        return Move::To(Next::Word(Rest::Rue));
+        return Move::To(JsonNext::Word(Rest::Rue));
     }
     if byte == b'f' {
-        return Move::To(Next::Word(Rest::Alse));
+        return Move::To(JsonNext::Word(Rest::Alse));
     }
     if byte == b'n' {
-        return Move::To(Next::Word(Rest::Ull));
+        return Move::To(JsonNext::Word(Rest::Ull));
     }
     Move::Wrong
 }
@@ -156,7 +156,7 @@ fn letter(rest: Rest, byte: u8) -> Move
         return Move::Wrong;
     }
     match rest_of(rest) {
-        Some(rest) => Move::To(Next::Word(rest)),
+        Some(rest) => Move::To(JsonNext::Word(rest)),
         None => Move::Ended,
     }
 }
@@ -203,13 +203,13 @@ fn quoted(role: Role, byte: u8) -> Move
         return closed(role);
     }
     if byte == b'\\' {
-        return Move::To(Next::Escape(role));
+        return Move::To(JsonNext::Escape(role));
     }
     if byte < b' ' {
         return Move::Wrong;
     }
     if byte < 128 {
-        return Move::To(Next::Text(role));
+        return Move::To(JsonNext::Text(role));
     }
     lead(role, byte)
 }
@@ -219,7 +219,7 @@ fn closed(role: Role) -> Move
     ensures { result ≡ closed role }
 {
     match role {
-        Role::Name => Move::To(Next::Colon),
+        Role::Name => Move::To(JsonNext::Colon),
         Role::Value => Move::Ended,
     }
 }
@@ -259,7 +259,7 @@ fn lead(role: Role, byte: u8) -> Move
 fn tail_of(role: Role, low: u8, high: u8, left: u8) -> Move
     ensures { result ≡ tail_of role low high left }
 {
-    Move::To(Next::Tail {
+    Move::To(JsonNext::Tail {
         role,
         low,
         high,
@@ -275,7 +275,7 @@ fn tail(role: Role, low: u8, high: u8, left: u8, byte: u8) -> Move
         return Move::Wrong;
     }
     if left <= 1 {
-        return Move::To(Next::Text(role));
+        return Move::To(JsonNext::Text(role));
     }
     tail_of(role, 128, 191, left - 1)
 }
@@ -285,10 +285,10 @@ fn escape(role: Role, byte: u8) -> Move
     ensures { result ≡ escape role byte }
 {
     if byte == b'u' {
-        return Move::To(Next::Hex(role, 4));
+        return Move::To(JsonNext::Hex(role, 4));
     }
     if is_escape(byte) {
-        return Move::To(Next::Text(role));
+        return Move::To(JsonNext::Text(role));
     }
     Move::Wrong
 }
@@ -301,9 +301,9 @@ fn hex(role: Role, left: u8, byte: u8) -> Move
         return Move::Wrong;
     }
     if left <= 1 {
-        return Move::To(Next::Text(role));
+        return Move::To(JsonNext::Text(role));
     }
-    Move::To(Next::Hex(role, left - 1))
+    Move::To(JsonNext::Hex(role, left - 1))
 }
 
 /// The first digit of a number.
@@ -311,9 +311,9 @@ fn after_minus(byte: u8) -> Move
     ensures { result ≡ after_minus byte }
 {
     if byte == b'0' {
-        return Move::To(Next::Zero);
+        return Move::To(JsonNext::Zero);
     }
-    digit_to(Next::Whole, byte)
+    digit_to(JsonNext::Whole, byte)
 }
 
 /// A sign or the first digit of an exponent.
@@ -321,16 +321,16 @@ fn exponent(byte: u8) -> Move
     ensures { result ≡ exponent byte }
 {
     if byte == b'+' {
-        return Move::To(Next::Sign);
+        return Move::To(JsonNext::Sign);
     }
     if byte == b'-' {
-        return Move::To(Next::Sign);
+        return Move::To(JsonNext::Sign);
     }
-    digit_to(Next::Power, byte)
+    digit_to(JsonNext::Power, byte)
 }
 
 /// A byte that has to be a digit, which this follows.
-fn digit_to(next: Next, byte: u8) -> Move
+fn digit_to(next: JsonNext, byte: u8) -> Move
     ensures { result ≡ digit_to next byte }
 {
     if is_digit(byte) {
@@ -341,7 +341,7 @@ fn digit_to(next: Next, byte: u8) -> Move
 }
 
 /// A byte behind a number that may be whole: one with which it goes on, or the first behind it.
-fn finished(more: Option<Next>, top: Option<Bracket>, byte: u8) -> Move
+fn finished(more: Option<JsonNext>, top: Option<Bracket>, byte: u8) -> Move
     ensures { result ≡ finished more top byte }
 {
     match more {
@@ -351,54 +351,54 @@ fn finished(more: Option<Next>, top: Option<Bracket>, byte: u8) -> Move
 }
 
 /// With what a number goes on behind a zero.
-fn zero(byte: u8) -> Option<Next>
+fn zero(byte: u8) -> Option<JsonNext>
     ensures { result ≡ zero byte }
 {
     if byte == b'.' {
-        return Some(Next::Point);
+        return Some(JsonNext::Point);
     }
     power_mark(byte)
 }
 
 /// With what a number goes on behind a digit before the point.
-fn whole(byte: u8) -> Option<Next>
+fn whole(byte: u8) -> Option<JsonNext>
     ensures { result ≡ whole byte }
 {
     if is_digit(byte) {
-        return Some(Next::Whole);
+        return Some(JsonNext::Whole);
     }
     zero(byte)
 }
 
 /// With what a number goes on behind a digit behind the point.
-fn fraction(byte: u8) -> Option<Next>
+fn fraction(byte: u8) -> Option<JsonNext>
     ensures { result ≡ fraction byte }
 {
     if is_digit(byte) {
-        return Some(Next::Fraction);
+        return Some(JsonNext::Fraction);
     }
     power_mark(byte)
 }
 
 /// With what a number goes on behind a digit of its exponent.
-fn digit_of(byte: u8) -> Option<Next>
+fn digit_of(byte: u8) -> Option<JsonNext>
     ensures { result ≡ digit_of byte }
 {
     if is_digit(byte) {
-        return Some(Next::Power);
+        return Some(JsonNext::Power);
     }
     None
 }
 
 /// The letter before an exponent.
-fn power_mark(byte: u8) -> Option<Next>
+fn power_mark(byte: u8) -> Option<JsonNext>
     ensures { result ≡ power_mark byte }
 {
     if byte == b'e' {
-        return Some(Next::Exponent);
+        return Some(JsonNext::Exponent);
     }
     if byte == b'E' {
-        return Some(Next::Exponent);
+        return Some(JsonNext::Exponent);
     }
     None
 }

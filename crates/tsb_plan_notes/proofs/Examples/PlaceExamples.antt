@@ -1,6 +1,6 @@
 -- Where texts stop.
 use Rattle.std.specs.Prelude.{◌≡◌, [], ◌∷◌, ◌++◌, Some, None, codes, true, false, refl}
-use Rattle.tsb_plan_notes.specs.declared.next.Next.TheVariants.{Value, Name, MemberEnd, ItemEnd, End, Text}
+use Rattle.tsb_plan_notes.specs.declared.next.JsonNext.TheVariants.{Value, Name, MemberEnd, ItemEnd, End, Text}
 use Rattle.tsb_plan_notes.specs.declared.next.Role.TheVariants as roles
 use Rattle.tsb_plan_notes.specs.Places.{json_place}
 
