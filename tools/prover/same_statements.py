@@ -23,16 +23,12 @@ VALUES = {"ℕ", "Bool", "List", "Option", "State", "Status", "Rule", "Type"}
 WAITING = [
     {"tsb_coord never_late", "tsb_laws never_late"},
     {"tsb_controller goes_to_6", "tsb_laws goes_to_6"},
-    {"tsb_breaches same-when", "tsb_objects same-tests"},
-    {"tsb_breaches ends", "tsb_breaches one-under"},
     {"tsb_field_diagram first-line", "tsb_log_text first-line"},
     {"tsb_field_display is_usual", "tsb_field_display named"},
     {"tsb_field_display line-behind", "tsb_field_streams line-behind"},
     {"tsb_laws free_of", "tsb_laws unserved"},
     {"tsb_laws equal-is", "tsb_status_text equal_is"},
     {"tsb_plan_text few_of", "tsb_status_text few_indices"},
-    {"tsb_breaches and-true", "tsb_field_log and-true"},
-    {"tsb_review_text short-object", "tsb_status_text short_name"},
 ]
 
 

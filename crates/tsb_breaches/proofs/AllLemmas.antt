@@ -1,26 +1,18 @@
 -- Tests that each of a list passes.
 use Rattle.std.proofs.Common.{◌≡◌, ◌∙◌, ℕ, nat_le, nat_lt, Bool, true, false, not, ◌&&◌, ◌||◌, List, [], ◌∷◌, flat_map, refl, sym, ap, arith}
 use Rattle.std.specs.List.{list_all}
-use Rattle.std.proofs.lemmas.Bool.Decides.{nat_tests}
+use Rattle.std.proofs.Math.Bool.{and-true, not-not}
+use Rattle.std.proofs.lemmas.Bool.Decides.{nat_tests, same_from_decides}
 use Rattle.std.proofs.lemmas.List.Folds.{list_all-append, list_all-map}
 use Rattle.tsb_types.specs.Lists.{run_from}
-use Rattle.tsb_breaches.specs.declared.place.Place.{Place}
-use Rattle.tsb_breaches.specs.declared.place.Shape.{Shape}
-use Rattle.tsb_breaches.specs.Places.{firsts, place_of, places, places_beside, places_from, seconds, thirds}
+use Rattle.tsb_review.specs.declared.place.Place.{Place}
+use Rattle.tsb_review.specs.declared.place.Shape.{Shape}
+use Rattle.tsb_review.specs.Places.{firsts, place_of, places, places_beside, places_from, seconds, thirds}
 
 -- ## Tests of two values
 
-pub same-when : (a b : Bool) → (a ≡ true → b ≡ true) → (b ≡ true → a ≡ true) → a ≡ b
-same-when true b there back = sym (there refl)
-same-when false true there back = back refl
-same-when false false there back = refl
-
 pub and-both : {a b c d : Bool} → a ≡ c → b ≡ d → (a && b) ≡ (c && d)
 and-both {a} {b} {c} {d} first second = ap (λ x. x && b) first ∙ ap (λ x. c && x) second
-
-pub and-true : (a : Bool) → (a && true) ≡ a
-and-true true = refl
-and-true false = refl
 
 and-swap : (a b c d : Bool) → ((a && b) && (c && d)) ≡ ((a && c) && (b && d))
 and-swap true true c d = refl
@@ -28,13 +20,10 @@ and-swap true false true d = refl
 and-swap true false false d = refl
 and-swap false b c d = refl
 
-pub not-not : (a : Bool) → not (not a) ≡ a
-not-not true = refl
-not-not false = refl
-
 -- below is not at least
 pub not-below : (a b : ℕ) → not (nat_lt a b) ≡ nat_le b a
-not-below a b = same-when (not (nat_lt a b)) (nat_le b a) (λ e. grind (arith, nat_tests, e)) (λ e. grind (arith, nat_tests, e))
+not-below a b =
+    same_from_decides {P = nat_le b a ≡ true} (not (nat_lt a b)) (nat_le b a) (λ e. grind (arith, nat_tests, e), λ e. grind (arith, nat_tests, e)) (λ e. e, λ e. e)
 
 pub not-at-most : (a b : ℕ) → not (nat_le b a) ≡ nat_lt a b
 not-at-most a b = ap not (sym (not-below a b)) ∙ not-not (nat_lt a b)

@@ -1,7 +1,9 @@
 -- Rule K20 is met exactly where none of the ways to break it is anywhere, where K17 is met.
 use Rattle.std.proofs.Common.{◌≡◌, ◌∙◌, ℕ, zero, suc, ◌+◌, ◌<◌, ◌≤◌, ◌==◌, nat_lt, Bool, true, false, not, ◌&&◌, ◌||◌, if◌then◌else◌, Option, Some, None, refl, sym, ap, arith, inl, inr}
+use Rattle.std.proofs.Math.Bool.{not-not}
 use Rattle.std.specs.List.{list_all, list_any}
 use Rattle.std.proofs.lemmas.Bool.{and_from, and_parts, cases_eq, cases_order, eq-eqb, eqb-true, lt-ltb, or_left, or_right}
+use Rattle.std.proofs.lemmas.Bool.Decides.{same_from_decides}
 use Rattle.tsb_plan.specs.declared.object.Object.{Object}
 use Rattle.tsb_plan.specs.Parts.{is_used, leads_and_lags, split_of, sequence_of, is_omitted, is_coordinated}
 use Rattle.tsb_plan.specs.Plan.{Plan, is_enabled, is_concurrent, side_of}
@@ -9,11 +11,11 @@ use Rattle.tsb_rules.specs.PatternRules.{agrees_with_all, all_coordinate, coordi
 use Rattle.tsb_rules.proofs.RuleLemmas.{Passes, at-run_from, some-run_from, under}
 use Rattle.tsb_types.proofs.RunLemmas.{all-run_from}
 use Rattle.tsb_types.specs.Lists.{run_from}
-use Rattle.tsb_breaches.specs.declared.fault.Fault.TheVariants.{K20None, K20Unused, K20Omitted, K20Sides, K20Apart, K20Ends, K20Ring}
+use Rattle.tsb_breaches.specs.declared.fault.RuleFault.TheVariants.{K20None, K20Unused, K20Omitted, K20Sides, K20Apart, K20Ends, K20Ring}
 use Rattle.tsb_breaches.specs.Laws.{of_values}
 use Rattle.tsb_breaches.specs.Lists.{go_together}
 use Rattle.tsb_breaches.specs.Patterns.{are_across, are_apart, are_coordinated, are_together, coordinates_none, coordinates_omitted, coordinates_unused, coordinates_used, end_apart, has_wrong_count, is_beside}
-use Rattle.tsb_breaches.proofs.AllLemmas.{and-both, both-are, not-not, same-when}
+use Rattle.tsb_breaches.proofs.AllLemmas.{and-both, both-are}
 use Rattle.tsb_breaches.proofs.NoneLemmas.{none_at, none_up_to, none-pattern, none-pattern_phase, none-pattern_phases, none-pattern_ring}
 use Rattle.tsb_breaches.proofs.PatternLaws.{IsNamed, names-listing, names-table}
 use Rattle.tsb_breaches.proofs.PreemptLaws.{apart-down, apart-up, at-16, follows, for-16, imply, other-than, refuse, refuse-unless, refused}
@@ -245,7 +247,9 @@ table-back v l s t e =
     (coordinating v l s t it.one all (record { from = it.from; to = it.below; is = is.0 })).one rf rt) is.1))))))))
 
 table-met : (v : Object → ℕ → ℕ) (l : Bool) (s t : ℕ) → all_well (of_values v) l s t ≡ coordinated_agree (of_values v) l s t
-table-met v l s t = same-when (all_well (of_values v) l s t) (coordinated_agree (of_values v) l s t) (table-there v l s t) (table-back v l s t)
+table-met v l s t =
+    same_from_decides {P = coordinated_agree (of_values v) l s t ≡ true} (all_well (of_values v) l s t) (coordinated_agree (of_values v) l s t)
+    (table-there v l s t, table-back v l s t) (λ e. e, λ e. e)
 
 -- ## Of all patterns
 

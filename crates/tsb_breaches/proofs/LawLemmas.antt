@@ -9,12 +9,12 @@ use Rattle.tsb_rules.specs.PatternRules.{coordinated_phases_agree, patterns_are_
 use Rattle.tsb_rules.specs.Rules.{are_placed, broken_by_extensions, broken_by_parts, broken_by_phases, broken_by_rings, concurrency_is_symmetric, detectors_call_phases, first_broken, gaps_can_reduce, included_phases_are_enabled, limits_reach_minimums, lists_name_across_rings, maximums_reach_minimums, modifiers_are_right, or_rule, pedestrian_detectors_call_walks, preempts_are_concurrent, preempts_dwell, recalled_pedestrians_walk, some_enabled, unless, unused_lists_are_empty, yellows_are_long}
 use Rattle.tsb_rules.specs.SequenceRules.{first_sequence_is_ordered, other_sequences_are_ordered}
 use Rattle.tsb_breaches.specs.declared.breach.Breach.{Breach}
-use Rattle.tsb_breaches.specs.declared.fault.Fault.{Fault}
-use Rattle.tsb_breaches.specs.declared.fault.Fault.TheVariants as at
-use Rattle.tsb_breaches.specs.declared.place.Place.{Place}
+use Rattle.tsb_breaches.specs.declared.fault.RuleFault.{RuleFault}
+use Rattle.tsb_breaches.specs.declared.fault.RuleFault.TheVariants as at
+use Rattle.tsb_review.specs.declared.place.Place.{Place}
 use Rattle.tsb_breaches.specs.Breaches.{breaches, breaches_of, faults, found, is_at, rule_of, shape}
 use Rattle.tsb_breaches.specs.Laws.{first_rule, of_values}
-use Rattle.tsb_breaches.specs.Places.{places}
+use Rattle.tsb_review.specs.Places.{places}
 use Rattle.tsb_breaches.proofs.CoordinationLaws.{met-20}
 use Rattle.tsb_breaches.proofs.NoneLemmas.{none_at}
 use Rattle.tsb_breaches.proofs.PatternLaws.{met-17, met-18, met-19, met-23}
@@ -24,7 +24,7 @@ use Rattle.tsb_breaches.proofs.SequenceLaws.{met-6, met-7}
 
 -- ## The first breach
 
-first-flat : (plan : Plan) (f : Fault) (ps : List Place) (rest : List Breach) →
+first-flat : (plan : Plan) (f : RuleFault) (ps : List Place) (rest : List Breach) →
     first_rule (flat_map (found plan f) ps ++ rest) ≡ unless (list_all (λ place. not (is_at plan f place)) ps) (rule_of f) (first_rule rest)
 first-flat plan f [] rest = refl
 first-flat plan f (p ∷ ps) rest = go (is_at plan f p) (first-flat plan f ps rest)
@@ -36,11 +36,11 @@ first-flat plan f (p ∷ ps) rest = go (is_at plan f p) (first-flat plan f ps re
     go false later = later
 
 -- the rule of the first of these that is at some place
-chain : Plan → List Fault → Option Rule
+chain : Plan → List RuleFault → Option Rule
 chain plan [] = None
 chain plan (f ∷ fs) = unless (none_at plan f) (rule_of f) (chain plan fs)
 
-first-chain : (plan : Plan) (fs : List Fault) → first_rule (flat_map (breaches_of plan) fs) ≡ chain plan fs
+first-chain : (plan : Plan) (fs : List RuleFault) → first_rule (flat_map (breaches_of plan) fs) ≡ chain plan fs
 unfolding breaches_of chain
 first-chain plan [] = refl
 first-chain plan (f ∷ fs) = first-flat plan f (places (shape f)) (flat_map (breaches_of plan) fs) ∙ ap (unless (none_at plan f) (rule_of f)) (first-chain plan fs)
@@ -170,73 +170,73 @@ in-order plan =
 
 -- ## Rules and the ways to break them, from the last on
 
-ways_23 : List Fault
+ways_23 : List RuleFault
 ways_23 = at.K23 ∷ []
 
-ways_22 : List Fault
+ways_22 : List RuleFault
 ways_22 = at.K22 ∷ ways_23
 
-ways_21 : List Fault
+ways_21 : List RuleFault
 ways_21 = at.K21Unused ∷ at.K21Type ∷ ways_22
 
-ways_20 : List Fault
+ways_20 : List RuleFault
 ways_20 = at.K20None ∷ at.K20Unused ∷ at.K20Omitted ∷ at.K20Sides ∷ at.K20Apart ∷ at.K20Ends ∷ at.K20Ring ∷ ways_21
 
-ways_19 : List Fault
+ways_19 : List RuleFault
 ways_19 = at.K19Rings ∷ at.K19Cycle ∷ ways_20
 
-ways_18 : List Fault
+ways_18 : List RuleFault
 ways_18 = at.K18 ∷ ways_19
 
-ways_17 : List Fault
+ways_17 : List RuleFault
 ways_17 = at.K17Offset ∷ at.K17Split ∷ at.K17Sequence ∷ at.K17Blank ∷ ways_18
 
-ways_16 : List Fault
+ways_16 : List RuleFault
 ways_16 = at.K16Track ∷ at.K16Exit ∷ ways_17
 
-ways_15 : List Fault
+ways_15 : List RuleFault
 ways_15 = at.K15TrackUnused ∷ at.K15DwellUnused ∷ at.K15ExitUnused ∷ at.K15Track ∷ at.K15Dwell ∷ at.K15Exit ∷ ways_16
 
-ways_14 : List Fault
+ways_14 : List RuleFault
 ways_14 = at.K14 ∷ ways_15
 
-ways_13 : List Fault
+ways_13 : List RuleFault
 ways_13 = at.K13Unused ∷ at.K13Walk ∷ ways_14
 
-ways_12 : List Fault
+ways_12 : List RuleFault
 ways_12 = at.K12 ∷ ways_13
 
-ways_11 : List Fault
+ways_11 : List RuleFault
 ways_11 = at.K11 ∷ ways_12
 
-ways_10 : List Fault
+ways_10 : List RuleFault
 ways_10 = at.K10Maximum1 ∷ at.K10Maximum2 ∷ ways_11
 
-ways_9 : List Fault
+ways_9 : List RuleFault
 ways_9 = at.K9 ∷ ways_10
 
-ways_8 : List Fault
+ways_8 : List RuleFault
 ways_8 = at.K8 ∷ ways_9
 
-ways_7 : List Fault
+ways_7 : List RuleFault
 ways_7 = at.K7Unused ∷ at.K7Ring ∷ at.K7Missing ∷ at.K7Again ∷ at.K7Side ∷ at.K7Gap ∷ ways_8
 
-ways_6 : List Fault
+ways_6 : List RuleFault
 ways_6 = at.K6Unused ∷ at.K6Ring ∷ at.K6Missing ∷ at.K6Again ∷ at.K6Side ∷ at.K6Gap ∷ ways_7
 
-ways_5 : List Fault
+ways_5 : List RuleFault
 ways_5 = at.K5 ∷ ways_6
 
-ways_4 : List Fault
+ways_4 : List RuleFault
 ways_4 = at.K4Unused ∷ at.K4Ring ∷ at.K4Side ∷ ways_5
 
-ways_3 : List Fault
+ways_3 : List RuleFault
 ways_3 = at.K3 ∷ ways_4
 
-ways_2 : List Fault
+ways_2 : List RuleFault
 ways_2 = at.K2Ring ∷ at.K2Side ∷ ways_3
 
-ways_1 : List Fault
+ways_1 : List RuleFault
 ways_1 = at.K1 ∷ ways_2
 
 met-from-23 : (v : Object → ℕ → ℕ) → chain (of_values v) ways_23 ≡ from_23 (of_values v)

@@ -1,6 +1,7 @@
 -- Rules K17 to K19 and K23 are met exactly where none of the ways to break them is anywhere; K18 and K19 where K17 is
 -- met.
 use Rattle.std.proofs.Common.{◌≡◌, ◌∙◌, ℕ, ◌<◌, ◌≤◌, ◌==◌, nat_le, nat_lt, Bool, true, false, not, ◌&&◌, ◌||◌, if◌then◌else◌, Option, Some, None, refl, ap}
+use Rattle.std.proofs.Math.Bool.{not-not}
 use Rattle.std.specs.List.{list_all}
 use Rattle.std.proofs.lemmas.Bool.{and_parts}
 use Rattle.tsb_plan.specs.declared.object.Object.{Object}
@@ -10,12 +11,13 @@ use Rattle.tsb_rules.specs.PatternRules.{fills, holds_phase, holds_phases, is_wh
 use Rattle.tsb_rules.specs.SequenceRules.{is_blank}
 use Rattle.tsb_rules.proofs.RuleLemmas.{under}
 use Rattle.tsb_types.specs.Lists.{run_from}
-use Rattle.tsb_breaches.specs.declared.fault.Fault.TheVariants.{K17Offset, K17Split, K17Sequence, K17Blank, K18, K19Rings, K19Cycle, K23}
+use Rattle.tsb_breaches.specs.declared.fault.RuleFault.TheVariants.{K17Offset, K17Split, K17Sequence, K17Blank, K18, K19Rings, K19Cycle, K23}
 use Rattle.tsb_breaches.specs.Breaches.{of_split, of_table}
 use Rattle.tsb_breaches.specs.Laws.{of_values}
 use Rattle.tsb_breaches.specs.Patterns.{has_blank_sequence, has_late_offset, has_no_sequence, has_no_split, has_two_sums, is_too_short, least_split, permits_always, sides_time}
-use Rattle.tsb_breaches.proofs.AllLemmas.{all-same, and-both, both-are, not-at-most, not-below, not-not}
+use Rattle.tsb_breaches.proofs.AllLemmas.{all-same, and-both, both-are, not-at-most, not-below}
 use Rattle.tsb_breaches.proofs.NoneLemmas.{none_at, none_up_to, none-pattern, none-pattern_phase, none-pattern_side}
+use Rattle.tsb_breaches.proofs.PhaseLaws.{one-under}
 use Rattle.tsb_breaches.proofs.PreemptLaws.{at-16}
 use Rattle.tsb_breaches.proofs.SequenceLaws.{same-run}
 
@@ -137,14 +139,10 @@ met-19 v met =
 
 -- ## K23
 
-ends : (u l c : Bool) → not l ≡ c → not (u && l) ≡ (not u || c)
-ends false l c is = refl
-ends true l c is = is
-
 pub met-23 : (v : Object → ℕ → ℕ) → none_at (of_values v) K23 ≡ permissive_times_end (of_values v)
 met-23 v =
     let plan : Plan = of_values v in
     none-pattern plan K23
     ∙ all-same (λ n. not (permits_always plan n)) (λ n. not (is_used plan n) || nat_lt (permissive_time plan n) (cycle plan n))
-    (λ n. ends (is_used plan n) (nat_le (cycle plan n) (permissive_time plan n)) (nat_lt (permissive_time plan n) (cycle plan n))
+    (λ n. one-under (is_used plan n) (nat_le (cycle plan n) (permissive_time plan n)) (nat_lt (permissive_time plan n) (cycle plan n))
     (not-at-most (permissive_time plan n) (cycle plan n))) (run_from 1 16)

@@ -1,5 +1,6 @@
 -- Rules K1 to K5, K8 to K14, K16, K21 and K22 are met exactly where none of the ways to break them is anywhere.
 use Rattle.std.proofs.Common.{◌≡◌, ◌∙◌, ℕ, ◌==◌, nat_le, Bool, true, false, not, ◌&&◌, ◌||◌, Option, Some, None, refl, ap}
+use Rattle.std.proofs.Math.Bool.{not-not}
 use Rattle.std.specs.List.{list_all}
 use Rattle.tsb_plan.specs.declared.object.Object.{Object}
 use Rattle.tsb_plan.specs.declared.object.Object.TheVariants.{PhaseMinimumGreen, PhaseMaximum1, PhaseMaximum2, OverlapIncludedPhases, OverlapModifierPhases, PreemptTrackPhase, PreemptDwellPhase, PreemptExitPhase, PhaseConcurrency}
@@ -9,11 +10,11 @@ use Rattle.tsb_rules.specs.PatternRules.{some_and}
 use Rattle.tsb_rules.specs.Rules.{some_enabled, are_placed, is_placed, unused_lists_are_empty, may_be_concurrent, names_across_rings, lists_name_across_rings, is_named_back, concurrency_is_symmetric, yellows_are_long, gaps_can_reduce, maximums_reach_minimums, reaches_minimum, has_walk, recalled_pedestrians_walk, none_or, detectors_call_phases, serves_pedestrians, pedestrian_detectors_call_walks, names_enabled, included_phases_are_enabled, dwells_or_is_empty, preempts_dwell, modifies_rightly, modifiers_are_right, limits_reach_minimums}
 use Rattle.tsb_types.specs.Lists.{run_from}
 use Rattle.tsb_types.specs.Sets.{names}
-use Rattle.tsb_breaches.specs.declared.fault.Fault.TheVariants.{K1, K2Ring, K2Side, K3, K4Unused, K4Ring, K4Side, K5, K8, K9, K10Maximum1, K10Maximum2, K11, K12, K13Unused, K13Walk, K14, K16Track, K16Exit, K21Unused, K21Type, K22}
+use Rattle.tsb_breaches.specs.declared.fault.RuleFault.TheVariants.{K1, K2Ring, K2Side, K3, K4Unused, K4Ring, K4Side, K5, K8, K9, K10Maximum1, K10Maximum2, K11, K12, K13Unused, K13Walk, K14, K16Track, K16Exit, K21Unused, K21Type, K22}
 use Rattle.tsb_breaches.specs.Laws.{of_values}
 use Rattle.tsb_breaches.specs.Lists.{calls_unused, button_calls_unused, button_calls_no_walk, is_unused, has_no_walk, lists_unused, has_no_dwell, modifies_nothing}
 use Rattle.tsb_breaches.specs.Phases.{has_no_ring, has_no_side, keeps_list, names_unused, names_same_ring, names_other_side, is_not_named_back, has_short_yellow, has_long_gap, is_under_minimum, recalls_no_walk, has_low_limit}
-use Rattle.tsb_breaches.proofs.AllLemmas.{all-same, all-under, and-both, both-are, not-below, not-not}
+use Rattle.tsb_breaches.proofs.AllLemmas.{all-same, all-under, and-both, both-are, not-below}
 use Rattle.tsb_breaches.proofs.NoneLemmas.{none_at, none_up_to, none-detector, none-overlap, none-overlap_phase, none-pedestrian_detector, none-phase, none-phases, none-preempt, none-unit}
 
 -- ## K1 to K5

@@ -2,6 +2,7 @@
 use Rattle.std.proofs.Common.{◌≡◌, ◌∙◌, ℕ, ◌<◌, ◌≤◌, ◌==◌, nat_lt, Bool, true, false, not, ◌&&◌, ◌||◌, refl, ap, arith, inl, inr}
 use Rattle.std.specs.List.{list_all}
 use Rattle.std.proofs.lemmas.Bool.{and_from, and_parts, cases_order, eq-eqb, eqb-true, lt-ltb, ltb-true, or_left, or_right}
+use Rattle.std.proofs.lemmas.Bool.Decides.{same_from_decides}
 use Rattle.tsb_plan.specs.declared.object.Object.{Object}
 use Rattle.tsb_plan.specs.declared.object.Object.TheVariants.{PreemptTrackPhase, PreemptDwellPhase, PreemptExitPhase}
 use Rattle.tsb_plan.specs.Plan.{Plan, is_enabled, is_concurrent}
@@ -10,10 +11,10 @@ use Rattle.tsb_rules.proofs.RuleLemmas.{at-run_from, under}
 use Rattle.tsb_types.proofs.RunLemmas.{all-run_from}
 use Rattle.tsb_types.specs.Lists.{run_from}
 use Rattle.tsb_types.specs.Sets.{names}
-use Rattle.tsb_breaches.specs.declared.fault.Fault.TheVariants.{K15TrackUnused, K15DwellUnused, K15ExitUnused, K15Track, K15Dwell, K15Exit}
+use Rattle.tsb_breaches.specs.declared.fault.RuleFault.TheVariants.{K15TrackUnused, K15DwellUnused, K15ExitUnused, K15Track, K15Dwell, K15Exit}
 use Rattle.tsb_breaches.specs.Laws.{of_values}
 use Rattle.tsb_breaches.specs.Lists.{go_together, lists_apart, lists_unused, lists_used}
-use Rattle.tsb_breaches.proofs.AllLemmas.{and-both, both-are, same-when}
+use Rattle.tsb_breaches.proofs.AllLemmas.{and-both, both-are}
 use Rattle.tsb_breaches.proofs.NoneLemmas.{none_at, none_up_to, none-preempt_phase, none-preempt_phases}
 
 -- ## Tests that imply one another
@@ -123,8 +124,8 @@ list-back v o m right =
 
 list-met : (v : Object → ℕ → ℕ) (o : Object) (m : ℕ) → (none_unused v o m && none_apart v o m) ≡ names_concurrent (of_values v) (v o m)
 list-met v o m =
-    same-when (none_unused v o m && none_apart v o m) (names_concurrent (of_values v) (v o m))
-    (λ e. (let parts = and_parts (none_unused v o m) (none_apart v o m) e in list-there v o m parts.0 parts.1)) (list-back v o m)
+    same_from_decides {P = names_concurrent (of_values v) (v o m) ≡ true} (none_unused v o m && none_apart v o m) (names_concurrent (of_values v) (v o m))
+    (λ e. (let parts = and_parts (none_unused v o m) (none_apart v o m) e in list-there v o m parts.0 parts.1), list-back v o m) (λ e. e, λ e. e)
 
 -- ## All lists of all preempts
 

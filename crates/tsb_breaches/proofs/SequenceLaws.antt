@@ -1,15 +1,16 @@
 -- Rules K6 and K7 are met exactly where none of the ways to break them is anywhere.
 use Rattle.std.proofs.Common.{◌≡◌, ◌∙◌, ℕ, zero, suc, ◌+◌, ◌-◌, ◌<◌, ◌≤◌, ◌==◌, nat_le, nat_lt, Bool, true, false, not, ◌&&◌, ◌||◌, if◌then◌else◌, List, [], ◌∷◌, length, drop, slice_index, is_some, Some, refl, sym, ap, arith}
 use Rattle.std.specs.List.{list_all}
+use Rattle.std.proofs.Math.Bool.{and-true, not-not}
 use Rattle.std.proofs.lemmas.Bool.Decides.{nat_tests}
 use Rattle.tsb_plan.specs.declared.object.Object.{Object}
 use Rattle.tsb_plan.specs.Plan.{Plan, is_enabled, ring_of, side_of, sequence}
 use Rattle.tsb_rules.specs.SequenceRules.{first_sequence_is_ordered, is_blank, is_ordered, is_zeros, lists_once, other_sequences_are_ordered, rises, zeros_last}
 use Rattle.tsb_types.specs.Lists.{among, first, run_from}
-use Rattle.tsb_breaches.specs.declared.fault.Fault.TheVariants.{K6Unused, K6Ring, K6Missing, K6Again, K6Side, K6Gap, K7Unused, K7Ring, K7Missing, K7Again, K7Side, K7Gap}
+use Rattle.tsb_breaches.specs.declared.fault.RuleFault.TheVariants.{K6Unused, K6Ring, K6Missing, K6Again, K6Side, K6Gap, K7Unused, K7Ring, K7Missing, K7Again, K7Side, K7Gap}
 use Rattle.tsb_breaches.specs.Laws.{of_values}
 use Rattle.tsb_breaches.specs.Sequences.{falls, is_first, is_lower, is_missing, is_other, leaves_gap, lists_again, lists_other_ring, lists_unused}
-use Rattle.tsb_breaches.proofs.AllLemmas.{all-same, all-under, and-both, and-true, both-are, not-below, not-not}
+use Rattle.tsb_breaches.proofs.AllLemmas.{all-same, all-under, and-both, both-are, not-below}
 use Rattle.tsb_breaches.proofs.NoneLemmas.{none_at, none_up_to, none-listing, none-sequence_phase}
 use Rattle.tsb_breaches.proofs.PhaseLaws.{implied, one-under, unless-zero}
 

@@ -1,5 +1,3 @@
--- the places at which rules can be broken
-pub mod Places
 -- what breaks a rule, by what it is on
 pub mod Phases
 pub mod Sequences

@@ -8,10 +8,10 @@ use Rattle.tsb_plan.specs.Plan.{Plan, ring_of, side_of, yellow_change, minimum_g
 use Rattle.tsb_rules.specs.PatternRules.{split_sum, split_end, coordinated_count}
 use Rattle.tsb_review.specs.declared.numbers.Numbers.{Numbers}
 use Rattle.tsb_breaches.specs.declared.breach.Breach.{Breach}
-use Rattle.tsb_breaches.specs.declared.fault.Fault.{Fault}
-use Rattle.tsb_breaches.specs.declared.fault.Fault.TheVariants.{K2Ring, K2Side, K3, K4Ring, K4Side, K6Ring, K6Side, K6Gap, K7Ring, K7Side, K7Gap, K8, K9, K10Maximum1, K10Maximum2, K17Offset, K17Split, K17Sequence, K17Blank, K18, K19Cycle, K20Sides, K20Ends, K22, K23}
-use Rattle.tsb_breaches.specs.declared.place.Place.{Place}
-use Rattle.tsb_breaches.specs.declared.place.Place.TheVariants as at
+use Rattle.tsb_breaches.specs.declared.fault.RuleFault.{RuleFault}
+use Rattle.tsb_breaches.specs.declared.fault.RuleFault.TheVariants.{K2Ring, K2Side, K3, K4Ring, K4Side, K6Ring, K6Side, K6Gap, K7Ring, K7Side, K7Gap, K8, K9, K10Maximum1, K10Maximum2, K17Offset, K17Split, K17Sequence, K17Blank, K18, K19Cycle, K20Sides, K20Ends, K22, K23}
+use Rattle.tsb_review.specs.declared.place.Place.{Place}
+use Rattle.tsb_review.specs.declared.place.Place.TheVariants as at
 use Rattle.tsb_breaches.specs.Patterns.{least_split, sides_time}
 use Rattle.tsb_breaches.specs.Sequences.{listed, listed_next, lower_behind}
 
@@ -33,7 +33,7 @@ abbrev pub end_in : Plan → ℕ → ℕ → ℕ
 end_in plan n p = in_table (split_of plan n) (λ t. in_table (sequence_of plan n) (λ s. split_end plan s t p))
 
 -- of a phase: its number, and what does not fit
-abbrev pub of_phase : Plan → Fault → ℕ → Numbers
+abbrev pub of_phase : Plan → RuleFault → ℕ → Numbers
 of_phase plan K2Ring p = five p (ring_of plan p) 0 0 0
 of_phase plan K2Side p = five p (side_of plan p) 0 0 0
 of_phase plan K3 p = five p (plan.value PhaseConcurrency p) 0 0 0
@@ -45,13 +45,13 @@ of_phase plan K22 p = five p (dynamic_maximum_limit plan p) (minimum_green plan 
 of_phase plan f p = five p 0 0 0 0
 
 -- of a phase and one that its list names: both, and the ring or the sides
-abbrev pub of_phases : Plan → Fault → ℕ → ℕ → Numbers
+abbrev pub of_phases : Plan → RuleFault → ℕ → ℕ → Numbers
 of_phases plan K4Ring p q = five p q (ring_of plan p) 0 0
 of_phases plan K4Side p q = five p q (side_of plan p) (side_of plan q) 0
 of_phases plan f p q = five p q 0 0 0
 
 -- of a place in a sequence: sequence, ring and place, what is listed there or next, and its ring or a later phase
-abbrev pub of_listing : Plan → Fault → ℕ → ℕ → ℕ → Numbers
+abbrev pub of_listing : Plan → RuleFault → ℕ → ℕ → ℕ → Numbers
 of_listing plan K6Ring s r k = five s r k (listed plan s r k) (ring_of plan (listed plan s r k))
 of_listing plan K7Ring s r k = five s r k (listed plan s r k) (ring_of plan (listed plan s r k))
 of_listing plan K6Side s r k = five s r k (listed plan s r k) (number_of (lower_behind plan s r k))
@@ -61,7 +61,7 @@ of_listing plan K7Gap s r k = five s r k (listed_next plan s r k) 0
 of_listing plan f s r k = five s r k (listed plan s r k) 0
 
 -- of a pattern: its number, and times or numbers
-abbrev pub of_pattern : Plan → Fault → ℕ → Numbers
+abbrev pub of_pattern : Plan → RuleFault → ℕ → Numbers
 of_pattern plan K17Offset n = five n (offset plan n) (cycle plan n) 0 0
 of_pattern plan K17Split n = five n (plan.value PatternSplitNumber n) 0 0 0
 of_pattern plan K17Sequence n = five n (plan.value PatternSequenceNumber n) 0 0 0
@@ -71,12 +71,12 @@ of_pattern plan K23 n = five n (permissive_time plan n) (cycle plan n) 0 0
 of_pattern plan f n = five n 0 0 0 0
 
 -- of a phase in a pattern: both, and its split and what that has to hold
-abbrev pub of_pattern_phase : Plan → Fault → ℕ → ℕ → Numbers
+abbrev pub of_pattern_phase : Plan → RuleFault → ℕ → ℕ → Numbers
 of_pattern_phase plan K18 n p = five n p (in_table (split_of plan n) (λ t. split_time plan t p)) (least_split plan p) 0
 of_pattern_phase plan f n p = five n p 0 0 0
 
 -- of two phases in a pattern: all three, and their sides or the ends of their splits
-abbrev pub of_pattern_phases : Plan → Fault → ℕ → ℕ → ℕ → Numbers
+abbrev pub of_pattern_phases : Plan → RuleFault → ℕ → ℕ → ℕ → Numbers
 of_pattern_phases plan K20Sides n p q = five n p q (side_of plan p) (side_of plan q)
 of_pattern_phases plan K20Ends n p q = five n p q (end_in plan n p) (end_in plan n q)
 of_pattern_phases plan f n p q = five n p q 0 0
@@ -94,7 +94,7 @@ abbrev pub of_pattern_ring : Plan → ℕ → ℕ → Numbers
 of_pattern_ring plan n r = five n r (in_table (split_of plan n) (λ t. coordinated_count plan t r)) 0 0
 
 -- of a way to break a rule, at a place
-abbrev pub at_place : Plan → Fault → Place → Numbers
+abbrev pub at_place : Plan → RuleFault → Place → Numbers
 at_place plan f at.Unit = five 0 0 0 0 0
 at_place plan f (at.Phase p) = of_phase plan f p
 at_place plan f (at.Phases p q) = of_phases plan f p q
@@ -112,6 +112,7 @@ at_place plan f (at.PatternPhase n p) = of_pattern_phase plan f n p
 at_place plan f (at.PatternPhases n p q) = of_pattern_phases plan f n p q
 at_place plan f (at.PatternSide n d) = of_pattern_side plan n d
 at_place plan f (at.PatternRing n r) = of_pattern_ring plan n r
+at_place plan f place = five 0 0 0 0 0
 
 -- of a breach
 abbrev pub numbers_of : Plan → Breach → Numbers

@@ -1,19 +1,18 @@
 //! Where a plan breaks a rule.
 #![tactic(auto, unfolding(tsb_plan::specs::PlanOf::plan_of))]
 
-ghost use Rattle.std.specs.Prelude.{◌≡◌, ◌≤◌};
+ghost use Rattle.std.specs.Prelude.{◌≡◌};
 ghost use Rattle.tsb_plan.specs.PlanOf.{plan_of};
-ghost use Rattle.tsb_breaches.specs.Places.{firsts, seconds, thirds};
-ghost use Rattle.tsb_breaches.specs.Breaches.{is_at, shape, of_phase, of_phases, asks_of, is_listed_wrongly, of_listing, of_sequence_phase, of_pedestrian_detector, of_overlap_phase, of_preempt, of_preempt_phase, of_preempt_phases, of_table, of_pattern, of_split, of_pattern_phase, of_splits, of_pattern_phases, of_pattern_side, of_pattern_ring};
+ghost use Rattle.tsb_breaches.specs.Breaches.{is_at, of_phase, of_phases, asks_of, is_listed_wrongly, of_listing, of_sequence_phase, of_pedestrian_detector, of_overlap_phase, of_preempt, of_preempt_phase, of_preempt_phases, of_table, of_pattern, of_split, of_pattern_phase, of_splits, of_pattern_phases, of_pattern_side, of_pattern_ring};
 ghost use Rattle.tsb_rules.specs.PatternRules.{some_and};
 ghost use Rattle.tsb_breaches.specs.Patterns.{table_of};
-ghost use Rattle.tsb_breaches.specs.Found.{breach_at, breach_of};
+ghost use Rattle.tsb_breaches.specs.Found.{breach_at};
 
-use crate::fault::Fault;
-use crate::place::{Listing, Place, place_of};
+use crate::fault::RuleFault;
 use crate::sums::rings_agree;
 use crate::{lists, patterns, phases, sequences};
 use tsb_plan::{Object, Plan};
+use tsb_review::{Listing, Place};
 use tsb_types::{
     Overlap, Pattern, PedestrianDetector, Phase, Preempt, Ring, Sequence, Side, Split,
 };
@@ -22,28 +21,15 @@ use tsb_types::{
 #[derive(Clone, Copy, PartialEq, Eq)]
 pub struct Breach {
     /// The way in which it is broken.
-    pub fault: Fault,
+    pub fault: RuleFault,
     /// Where it is.
     pub place: Place,
 }
 
-/// The breach at the place of these three numbers, where there is one. Going through the numbers in ascending order, the
-/// third fastest, gives all breaches of this kind, each once: `Shape::firsts`, `seconds` and `thirds` say how many.
-pub fn breach_at(plan: &Plan, fault: Fault, first: u8, second: u8, third: u8) -> Option<Breach>
-    requires first_from { 1 ≤ first }
-    requires first_to { first ≤ firsts (shape fault) }
-    requires second_from { 1 ≤ second }
-    requires second_to { second ≤ seconds (shape fault) }
-    requires third_from { 1 ≤ third }
-    requires third_to { third ≤ thirds (shape fault) }
-    ensures { result ≡ breach_at (plan_of plan.now) fault first second third }
-{
-    breach_of(plan, fault, place_of(fault.shape(), first, second, third))
-}
-
-/// The breach at the place, where there is one.
-fn breach_of(plan: &Plan, fault: Fault, place: Place) -> Option<Breach>
-    ensures { result ≡ breach_of (plan_of plan.now) fault place }
+/// The breach at a place of its kind, where there is one. Going through the places of this kind, `RuleFault::shape`, as
+/// `place_of` gives them, gives all its breaches, each once.
+pub fn breach_at(plan: &Plan, fault: RuleFault, place: Place) -> Option<Breach>
+    ensures { result ≡ breach_at (plan_of plan.now) fault place }
 {
     if is_at(plan, fault, &place) {
         Some(Breach { fault, place })
@@ -53,7 +39,7 @@ fn breach_of(plan: &Plan, fault: Fault, place: Place) -> Option<Breach>
 }
 
 /// Whether the plan breaks the rule in this way at a place of its kind.
-pub fn is_at(plan: &Plan, fault: Fault, place: &Place) -> bool
+pub fn is_at(plan: &Plan, fault: RuleFault, place: &Place) -> bool
     ensures { result ≡ is_at (plan_of plan.now) fault place.now }
 {
     match place {
@@ -82,57 +68,58 @@ pub fn is_at(plan: &Plan, fault: Fault, place: &Place) -> bool
         }
         Place::PatternSide(pattern, side) => of_pattern_side(plan, *pattern, *side),
         Place::PatternRing(pattern, ring) => of_pattern_ring(plan, *pattern, *ring),
+        _ => false,
     }
 }
 
 /// Whether it is there at the phase.
-fn of_phase(plan: &Plan, fault: Fault, phase: Phase) -> bool
+fn of_phase(plan: &Plan, fault: RuleFault, phase: Phase) -> bool
     ensures { result ≡ of_phase (plan_of plan.now) fault phase }
 {
     match fault {
-        Fault::K2Ring => phases::has_no_ring(plan, phase),
-        Fault::K2Side => phases::has_no_side(plan, phase),
-        Fault::K3 => phases::keeps_list(plan, phase),
-        Fault::K8 => phases::has_short_yellow(plan, phase),
-        Fault::K9 => phases::has_long_gap(plan, phase),
-        Fault::K10Maximum1 => phases::is_under_minimum(plan, Object::PhaseMaximum1, phase),
-        Fault::K10Maximum2 => phases::is_under_minimum(plan, Object::PhaseMaximum2, phase),
-        Fault::K11 => phases::recalls_no_walk(plan, phase),
-        Fault::K22 => phases::has_low_limit(plan, phase),
+        RuleFault::K2Ring => phases::has_no_ring(plan, phase),
+        RuleFault::K2Side => phases::has_no_side(plan, phase),
+        RuleFault::K3 => phases::keeps_list(plan, phase),
+        RuleFault::K8 => phases::has_short_yellow(plan, phase),
+        RuleFault::K9 => phases::has_long_gap(plan, phase),
+        RuleFault::K10Maximum1 => phases::is_under_minimum(plan, Object::PhaseMaximum1, phase),
+        RuleFault::K10Maximum2 => phases::is_under_minimum(plan, Object::PhaseMaximum2, phase),
+        RuleFault::K11 => phases::recalls_no_walk(plan, phase),
+        RuleFault::K22 => phases::has_low_limit(plan, phase),
         _ => false,
     }
 }
 
 /// Whether it is there at the list of the phase, for the other.
-fn of_phases(plan: &Plan, fault: Fault, phase: Phase, other: Phase) -> bool
+fn of_phases(plan: &Plan, fault: RuleFault, phase: Phase, other: Phase) -> bool
     ensures { result ≡ of_phases (plan_of plan.now) fault phase other }
 {
     match fault {
-        Fault::K4Unused => phases::names_unused(plan, phase, other),
-        Fault::K4Ring => phases::names_same_ring(plan, phase, other),
-        Fault::K4Side => phases::names_other_side(plan, phase, other),
-        Fault::K5 => phases::is_not_named_back(plan, phase, other),
+        RuleFault::K4Unused => phases::names_unused(plan, phase, other),
+        RuleFault::K4Ring => phases::names_same_ring(plan, phase, other),
+        RuleFault::K4Side => phases::names_other_side(plan, phase, other),
+        RuleFault::K5 => phases::is_not_named_back(plan, phase, other),
         _ => false,
     }
 }
 
 /// Whether its rule asks something of the sequence.
-fn asks_of(plan: &Plan, fault: Fault, sequence: Sequence) -> bool
+fn asks_of(plan: &Plan, fault: RuleFault, sequence: Sequence) -> bool
     ensures { result ≡ asks_of (plan_of plan.now) fault sequence }
 {
     match fault {
-        Fault::K6Unused
-        | Fault::K6Ring
-        | Fault::K6Missing
-        | Fault::K6Again
-        | Fault::K6Side
-        | Fault::K6Gap => sequences::is_first(sequence),
-        Fault::K7Unused
-        | Fault::K7Ring
-        | Fault::K7Missing
-        | Fault::K7Again
-        | Fault::K7Side
-        | Fault::K7Gap => sequences::is_other(plan, sequence),
+        RuleFault::K6Unused
+        | RuleFault::K6Ring
+        | RuleFault::K6Missing
+        | RuleFault::K6Again
+        | RuleFault::K6Side
+        | RuleFault::K6Gap => sequences::is_first(sequence),
+        RuleFault::K7Unused
+        | RuleFault::K7Ring
+        | RuleFault::K7Missing
+        | RuleFault::K7Again
+        | RuleFault::K7Side
+        | RuleFault::K7Gap => sequences::is_other(plan, sequence),
         _ => false,
     }
 }
@@ -140,7 +127,7 @@ fn asks_of(plan: &Plan, fault: Fault, sequence: Sequence) -> bool
 /// Whether what the sequence lists for the ring at the place is not as its rule asks.
 fn is_listed_wrongly(
     plan: &Plan,
-    fault: Fault,
+    fault: RuleFault,
     sequence: Sequence,
     ring: Ring,
     listing: Listing,
@@ -148,21 +135,29 @@ fn is_listed_wrongly(
     ensures { result ≡ is_listed_wrongly (plan_of plan.now) fault sequence ring listing }
 {
     match fault {
-        Fault::K6Unused | Fault::K7Unused => {
+        RuleFault::K6Unused | RuleFault::K7Unused => {
             sequences::lists_unused(plan, sequence, ring, listing)
         }
-        Fault::K6Ring | Fault::K7Ring => {
+        RuleFault::K6Ring | RuleFault::K7Ring => {
             sequences::lists_other_ring(plan, sequence, ring, listing)
         }
-        Fault::K6Again | Fault::K7Again => sequences::lists_again(plan, sequence, ring, listing),
-        Fault::K6Side | Fault::K7Side => sequences::falls(plan, sequence, ring, listing),
-        Fault::K6Gap | Fault::K7Gap => sequences::leaves_gap(plan, sequence, ring, listing),
+        RuleFault::K6Again | RuleFault::K7Again => sequences::lists_again(
+            plan, sequence, ring, listing,
+        ),
+        RuleFault::K6Side | RuleFault::K7Side => sequences::falls(plan, sequence, ring, listing),
+        RuleFault::K6Gap | RuleFault::K7Gap => sequences::leaves_gap(plan, sequence, ring, listing),
         _ => false,
     }
 }
 
 /// Whether it is there at what the sequence lists for the ring at the place.
-fn of_listing(plan: &Plan, fault: Fault, sequence: Sequence, ring: Ring, listing: Listing) -> bool
+fn of_listing(
+    plan: &Plan,
+    fault: RuleFault,
+    sequence: Sequence,
+    ring: Ring,
+    listing: Listing,
+) -> bool
     ensures { result ≡ of_listing (plan_of plan.now) fault sequence ring listing }
 {
     asks_of(plan, fault, sequence) && is_listed_wrongly(plan, fault, sequence, ring, listing)
@@ -171,7 +166,7 @@ fn of_listing(plan: &Plan, fault: Fault, sequence: Sequence, ring: Ring, listing
 /// Whether it is there at what the sequence lists for the ring, for the phase.
 fn of_sequence_phase(
     plan: &Plan,
-    fault: Fault,
+    fault: RuleFault,
     sequence: Sequence,
     ring: Ring,
     phase: Phase,
@@ -182,52 +177,62 @@ fn of_sequence_phase(
 }
 
 /// Whether it is there at the pedestrian detector.
-fn of_pedestrian_detector(plan: &Plan, fault: Fault, detector: PedestrianDetector) -> bool
+fn of_pedestrian_detector(plan: &Plan, fault: RuleFault, detector: PedestrianDetector) -> bool
     ensures { result ≡ of_pedestrian_detector (plan_of plan.now) fault detector }
 {
     match fault {
-        Fault::K13Unused => lists::button_calls_unused(plan, detector),
-        Fault::K13Walk => lists::button_calls_no_walk(plan, detector),
+        RuleFault::K13Unused => lists::button_calls_unused(plan, detector),
+        RuleFault::K13Walk => lists::button_calls_no_walk(plan, detector),
         _ => false,
     }
 }
 
 /// Whether it is there at the overlap, for the phase.
-fn of_overlap_phase(plan: &Plan, fault: Fault, overlap: Overlap, phase: Phase) -> bool
+fn of_overlap_phase(plan: &Plan, fault: RuleFault, overlap: Overlap, phase: Phase) -> bool
     ensures { result ≡ of_overlap_phase (plan_of plan.now) fault overlap phase }
 {
     let index = u32::from(overlap.number());
     match fault {
-        Fault::K14 => lists::lists_unused(plan, Object::OverlapIncludedPhases, index, phase),
-        Fault::K21Unused => lists::lists_unused(plan, Object::OverlapModifierPhases, index, phase),
+        RuleFault::K14 => lists::lists_unused(plan, Object::OverlapIncludedPhases, index, phase),
+        RuleFault::K21Unused => lists::lists_unused(
+            plan,
+            Object::OverlapModifierPhases,
+            index,
+            phase,
+        ),
         _ => false,
     }
 }
 
 /// Whether it is there at the preempt.
-fn of_preempt(plan: &Plan, fault: Fault, preempt: Preempt) -> bool
+fn of_preempt(plan: &Plan, fault: RuleFault, preempt: Preempt) -> bool
     ensures { result ≡ of_preempt (plan_of plan.now) fault preempt }
 {
     match fault {
-        Fault::K16Track => lists::has_no_dwell(plan, Object::PreemptTrackPhase, preempt),
-        Fault::K16Exit => lists::has_no_dwell(plan, Object::PreemptExitPhase, preempt),
+        RuleFault::K16Track => lists::has_no_dwell(plan, Object::PreemptTrackPhase, preempt),
+        RuleFault::K16Exit => lists::has_no_dwell(plan, Object::PreemptExitPhase, preempt),
         _ => false,
     }
 }
 
 /// Whether it is there at the preempt, for the phase.
-fn of_preempt_phase(plan: &Plan, fault: Fault, preempt: Preempt, phase: Phase) -> bool
+fn of_preempt_phase(plan: &Plan, fault: RuleFault, preempt: Preempt, phase: Phase) -> bool
     ensures { result ≡ of_preempt_phase (plan_of plan.now) fault preempt phase }
 {
     let index = u32::from(preempt.number());
     match fault {
-        Fault::K15TrackUnused => {
+        RuleFault::K15TrackUnused => {
             lists::lists_unused(plan, Object::PreemptTrackPhase, index, phase)
         }
-        Fault::K15DwellUnused => {
+        RuleFault::K15DwellUnused => {
             lists::lists_unused(plan, Object::PreemptDwellPhase, index, phase)
         }
-        Fault::K15ExitUnused => lists::lists_unused(plan, Object::PreemptExitPhase, index, phase),
+        RuleFault::K15ExitUnused => lists::lists_unused(
+            plan,
+            Object::PreemptExitPhase,
+            index,
+            phase,
+        ),
         _ => false,
     }
 }
@@ -235,7 +240,7 @@ fn of_preempt_phase(plan: &Plan, fault: Fault, preempt: Preempt, phase: Phase) -
 /// Whether it is there at the preempt, for two phases.
 fn of_preempt_phases(
     plan: &Plan,
-    fault: Fault,
+    fault: RuleFault,
     preempt: Preempt,
     phase: Phase,
     other: Phase,
@@ -243,13 +248,13 @@ fn of_preempt_phases(
     ensures { result ≡ of_preempt_phases (plan_of plan.now) fault preempt phase other }
 {
     match fault {
-        Fault::K15Track => {
+        RuleFault::K15Track => {
             lists::lists_apart(plan, Object::PreemptTrackPhase, preempt, phase, other)
         }
-        Fault::K15Dwell => {
+        RuleFault::K15Dwell => {
             lists::lists_apart(plan, Object::PreemptDwellPhase, preempt, phase, other)
         }
-        Fault::K15Exit => {
+        RuleFault::K15Exit => {
             lists::lists_apart(plan, Object::PreemptExitPhase, preempt, phase, other)
         }
         _ => false,
@@ -257,32 +262,32 @@ fn of_preempt_phases(
 }
 
 /// Whether it is there at the split table of the pattern.
-fn of_table(plan: &Plan, fault: Fault, pattern: Pattern, split: Split) -> bool
+fn of_table(plan: &Plan, fault: RuleFault, pattern: Pattern, split: Split) -> bool
     ensures { result ≡ of_table (plan_of plan.now) fault pattern split }
 {
     match fault {
-        Fault::K19Cycle => patterns::misses_cycle(plan, pattern, split),
-        Fault::K20None => patterns::coordinates_none(plan, split),
+        RuleFault::K19Cycle => patterns::misses_cycle(plan, pattern, split),
+        RuleFault::K20None => patterns::coordinates_none(plan, split),
         _ => false,
     }
 }
 
 /// Whether it is there at the pattern.
-fn of_pattern(plan: &Plan, fault: Fault, pattern: Pattern) -> bool
+fn of_pattern(plan: &Plan, fault: RuleFault, pattern: Pattern) -> bool
     ensures { result ≡ of_pattern (plan_of plan.now) fault pattern }
 {
     match fault {
-        Fault::K17Offset => patterns::has_late_offset(plan, pattern),
-        Fault::K17Split => patterns::has_no_split(plan, pattern),
-        Fault::K17Sequence => patterns::has_no_sequence(plan, pattern),
-        Fault::K17Blank => patterns::has_blank_sequence(plan, pattern),
-        Fault::K23 => patterns::permits_always(plan, pattern),
+        RuleFault::K17Offset => patterns::has_late_offset(plan, pattern),
+        RuleFault::K17Split => patterns::has_no_split(plan, pattern),
+        RuleFault::K17Sequence => patterns::has_no_sequence(plan, pattern),
+        RuleFault::K17Blank => patterns::has_blank_sequence(plan, pattern),
+        RuleFault::K23 => patterns::permits_always(plan, pattern),
         _ => of_pattern_table(plan, fault, pattern),
     }
 }
 
 /// Whether it is there at the split table of the pattern, where that is used and has one.
-fn of_pattern_table(plan: &Plan, fault: Fault, pattern: Pattern) -> bool
+fn of_pattern_table(plan: &Plan, fault: RuleFault, pattern: Pattern) -> bool
     ensures { result ≡ some_and (of_table (plan_of plan.now) fault pattern) (table_of (plan_of plan.now) pattern) }
 {
     match patterns::table_of(plan, pattern) {
@@ -292,19 +297,19 @@ fn of_pattern_table(plan: &Plan, fault: Fault, pattern: Pattern) -> bool
 }
 
 /// Whether it is there at the phase of the split table.
-fn of_split(plan: &Plan, fault: Fault, phase: Phase, split: Split) -> bool
+fn of_split(plan: &Plan, fault: RuleFault, phase: Phase, split: Split) -> bool
     ensures { result ≡ of_split (plan_of plan.now) fault phase split }
 {
     match fault {
-        Fault::K18 => patterns::is_too_short(plan, split, phase),
-        Fault::K20Unused => patterns::coordinates_unused(plan, split, phase),
-        Fault::K20Omitted => patterns::coordinates_omitted(plan, split, phase),
+        RuleFault::K18 => patterns::is_too_short(plan, split, phase),
+        RuleFault::K20Unused => patterns::coordinates_unused(plan, split, phase),
+        RuleFault::K20Omitted => patterns::coordinates_omitted(plan, split, phase),
         _ => false,
     }
 }
 
 /// Whether it is there at the pattern, for the phase.
-fn of_pattern_phase(plan: &Plan, fault: Fault, pattern: Pattern, phase: Phase) -> bool
+fn of_pattern_phase(plan: &Plan, fault: RuleFault, pattern: Pattern, phase: Phase) -> bool
     ensures { result ≡ of_pattern_phase (plan_of plan.now) fault pattern phase }
 {
     match patterns::table_of(plan, pattern) {
@@ -316,7 +321,7 @@ fn of_pattern_phase(plan: &Plan, fault: Fault, pattern: Pattern, phase: Phase) -
 /// Whether it is there at two phases of the split table of the pattern.
 fn of_splits(
     plan: &Plan,
-    fault: Fault,
+    fault: RuleFault,
     pattern: Pattern,
     phase: Phase,
     other: Phase,
@@ -325,9 +330,9 @@ fn of_splits(
     ensures { result ≡ of_splits (plan_of plan.now) fault pattern phase other split }
 {
     match fault {
-        Fault::K20Sides => patterns::are_across(plan, split, phase, other),
-        Fault::K20Apart => patterns::are_apart(plan, split, phase, other),
-        Fault::K20Ends => patterns::end_apart_in(plan, pattern, split, phase, other),
+        RuleFault::K20Sides => patterns::are_across(plan, split, phase, other),
+        RuleFault::K20Apart => patterns::are_apart(plan, split, phase, other),
+        RuleFault::K20Ends => patterns::end_apart_in(plan, pattern, split, phase, other),
         _ => false,
     }
 }
@@ -335,7 +340,7 @@ fn of_splits(
 /// Whether it is there at the pattern, for two phases.
 fn of_pattern_phases(
     plan: &Plan,
-    fault: Fault,
+    fault: RuleFault,
     pattern: Pattern,
     phase: Phase,
     other: Phase,

@@ -2,7 +2,7 @@
 ghost use Rattle.std.specs.Prelude.{◌≡◌};
 ghost use Rattle.tsb_breaches.specs.Breaches.{rule_of, shape};
 
-use crate::place::Shape;
+use tsb_review::Shape;
 use tsb_rules::Rule;
 
 /// A way to break a rule. Each is named for its rule, and what it is where a rule can be broken in several ways.
@@ -10,7 +10,7 @@ use tsb_rules::Rule;
 /// They stand in the order in which a review gives them. "Phase" without more is an enabled phase, and a used pattern is
 /// one whose cycle is not 0.
 #[derive(Clone, Copy, PartialEq, Eq)]
-pub enum Fault {
+pub enum RuleFault {
     /// No phase is enabled.
     K1,
     /// A phase is of no ring.
@@ -124,64 +124,64 @@ pub enum Fault {
     K23,
 }
 
-impl Fault {
+impl RuleFault {
     /// All of them, in order.
-    pub const ALL: [Fault; 55] = [
-        Fault::K1,
-        Fault::K2Ring,
-        Fault::K2Side,
-        Fault::K3,
-        Fault::K4Unused,
-        Fault::K4Ring,
-        Fault::K4Side,
-        Fault::K5,
-        Fault::K6Unused,
-        Fault::K6Ring,
-        Fault::K6Missing,
-        Fault::K6Again,
-        Fault::K6Side,
-        Fault::K6Gap,
-        Fault::K7Unused,
-        Fault::K7Ring,
-        Fault::K7Missing,
-        Fault::K7Again,
-        Fault::K7Side,
-        Fault::K7Gap,
-        Fault::K8,
-        Fault::K9,
-        Fault::K10Maximum1,
-        Fault::K10Maximum2,
-        Fault::K11,
-        Fault::K12,
-        Fault::K13Unused,
-        Fault::K13Walk,
-        Fault::K14,
-        Fault::K15TrackUnused,
-        Fault::K15DwellUnused,
-        Fault::K15ExitUnused,
-        Fault::K15Track,
-        Fault::K15Dwell,
-        Fault::K15Exit,
-        Fault::K16Track,
-        Fault::K16Exit,
-        Fault::K17Offset,
-        Fault::K17Split,
-        Fault::K17Sequence,
-        Fault::K17Blank,
-        Fault::K18,
-        Fault::K19Rings,
-        Fault::K19Cycle,
-        Fault::K20None,
-        Fault::K20Unused,
-        Fault::K20Omitted,
-        Fault::K20Sides,
-        Fault::K20Apart,
-        Fault::K20Ends,
-        Fault::K20Ring,
-        Fault::K21Unused,
-        Fault::K21Type,
-        Fault::K22,
-        Fault::K23,
+    pub const ALL: [RuleFault; 55] = [
+        RuleFault::K1,
+        RuleFault::K2Ring,
+        RuleFault::K2Side,
+        RuleFault::K3,
+        RuleFault::K4Unused,
+        RuleFault::K4Ring,
+        RuleFault::K4Side,
+        RuleFault::K5,
+        RuleFault::K6Unused,
+        RuleFault::K6Ring,
+        RuleFault::K6Missing,
+        RuleFault::K6Again,
+        RuleFault::K6Side,
+        RuleFault::K6Gap,
+        RuleFault::K7Unused,
+        RuleFault::K7Ring,
+        RuleFault::K7Missing,
+        RuleFault::K7Again,
+        RuleFault::K7Side,
+        RuleFault::K7Gap,
+        RuleFault::K8,
+        RuleFault::K9,
+        RuleFault::K10Maximum1,
+        RuleFault::K10Maximum2,
+        RuleFault::K11,
+        RuleFault::K12,
+        RuleFault::K13Unused,
+        RuleFault::K13Walk,
+        RuleFault::K14,
+        RuleFault::K15TrackUnused,
+        RuleFault::K15DwellUnused,
+        RuleFault::K15ExitUnused,
+        RuleFault::K15Track,
+        RuleFault::K15Dwell,
+        RuleFault::K15Exit,
+        RuleFault::K16Track,
+        RuleFault::K16Exit,
+        RuleFault::K17Offset,
+        RuleFault::K17Split,
+        RuleFault::K17Sequence,
+        RuleFault::K17Blank,
+        RuleFault::K18,
+        RuleFault::K19Rings,
+        RuleFault::K19Cycle,
+        RuleFault::K20None,
+        RuleFault::K20Unused,
+        RuleFault::K20Omitted,
+        RuleFault::K20Sides,
+        RuleFault::K20Apart,
+        RuleFault::K20Ends,
+        RuleFault::K20Ring,
+        RuleFault::K21Unused,
+        RuleFault::K21Type,
+        RuleFault::K22,
+        RuleFault::K23,
     ];
 
     /// The rule that is broken.
@@ -189,50 +189,53 @@ impl Fault {
         ensures { result ≡ rule_of self }
     {
         match self {
-            Fault::K1 => Rule::K1,
-            Fault::K2Ring | Fault::K2Side => Rule::K2,
-            Fault::K3 => Rule::K3,
-            Fault::K4Unused | Fault::K4Ring | Fault::K4Side => Rule::K4,
-            Fault::K5 => Rule::K5,
-            Fault::K6Unused
-            | Fault::K6Ring
-            | Fault::K6Missing
-            | Fault::K6Again
-            | Fault::K6Side
-            | Fault::K6Gap => Rule::K6,
-            Fault::K7Unused
-            | Fault::K7Ring
-            | Fault::K7Missing
-            | Fault::K7Again
-            | Fault::K7Side
-            | Fault::K7Gap => Rule::K7,
-            Fault::K8 => Rule::K8,
-            Fault::K9 => Rule::K9,
-            Fault::K10Maximum1 | Fault::K10Maximum2 => Rule::K10,
-            Fault::K11 => Rule::K11,
-            Fault::K12 => Rule::K12,
-            Fault::K13Unused | Fault::K13Walk => Rule::K13,
-            Fault::K14 => Rule::K14,
-            Fault::K15TrackUnused
-            | Fault::K15DwellUnused
-            | Fault::K15ExitUnused
-            | Fault::K15Track
-            | Fault::K15Dwell
-            | Fault::K15Exit => Rule::K15,
-            Fault::K16Track | Fault::K16Exit => Rule::K16,
-            Fault::K17Offset | Fault::K17Split | Fault::K17Sequence | Fault::K17Blank => Rule::K17,
-            Fault::K18 => Rule::K18,
-            Fault::K19Rings | Fault::K19Cycle => Rule::K19,
-            Fault::K20None
-            | Fault::K20Unused
-            | Fault::K20Omitted
-            | Fault::K20Sides
-            | Fault::K20Apart
-            | Fault::K20Ends
-            | Fault::K20Ring => Rule::K20,
-            Fault::K21Unused | Fault::K21Type => Rule::K21,
-            Fault::K22 => Rule::K22,
-            Fault::K23 => Rule::K23,
+            RuleFault::K1 => Rule::K1,
+            RuleFault::K2Ring | RuleFault::K2Side => Rule::K2,
+            RuleFault::K3 => Rule::K3,
+            RuleFault::K4Unused | RuleFault::K4Ring | RuleFault::K4Side => Rule::K4,
+            RuleFault::K5 => Rule::K5,
+            RuleFault::K6Unused
+            | RuleFault::K6Ring
+            | RuleFault::K6Missing
+            | RuleFault::K6Again
+            | RuleFault::K6Side
+            | RuleFault::K6Gap => Rule::K6,
+            RuleFault::K7Unused
+            | RuleFault::K7Ring
+            | RuleFault::K7Missing
+            | RuleFault::K7Again
+            | RuleFault::K7Side
+            | RuleFault::K7Gap => Rule::K7,
+            RuleFault::K8 => Rule::K8,
+            RuleFault::K9 => Rule::K9,
+            RuleFault::K10Maximum1 | RuleFault::K10Maximum2 => Rule::K10,
+            RuleFault::K11 => Rule::K11,
+            RuleFault::K12 => Rule::K12,
+            RuleFault::K13Unused | RuleFault::K13Walk => Rule::K13,
+            RuleFault::K14 => Rule::K14,
+            RuleFault::K15TrackUnused
+            | RuleFault::K15DwellUnused
+            | RuleFault::K15ExitUnused
+            | RuleFault::K15Track
+            | RuleFault::K15Dwell
+            | RuleFault::K15Exit => Rule::K15,
+            RuleFault::K16Track | RuleFault::K16Exit => Rule::K16,
+            RuleFault::K17Offset
+            | RuleFault::K17Split
+            | RuleFault::K17Sequence
+            | RuleFault::K17Blank => Rule::K17,
+            RuleFault::K18 => Rule::K18,
+            RuleFault::K19Rings | RuleFault::K19Cycle => Rule::K19,
+            RuleFault::K20None
+            | RuleFault::K20Unused
+            | RuleFault::K20Omitted
+            | RuleFault::K20Sides
+            | RuleFault::K20Apart
+            | RuleFault::K20Ends
+            | RuleFault::K20Ring => Rule::K20,
+            RuleFault::K21Unused | RuleFault::K21Type => Rule::K21,
+            RuleFault::K22 => Rule::K22,
+            RuleFault::K23 => Rule::K23,
         }
     }
 
@@ -241,47 +244,48 @@ impl Fault {
         ensures { result ≡ shape self }
     {
         match self {
-            Fault::K1 => Shape::Unit,
-            Fault::K2Ring
-            | Fault::K2Side
-            | Fault::K3
-            | Fault::K8
-            | Fault::K9
-            | Fault::K10Maximum1
-            | Fault::K10Maximum2
-            | Fault::K11
-            | Fault::K22 => Shape::Phase,
-            Fault::K4Unused | Fault::K4Ring | Fault::K4Side | Fault::K5 => Shape::Phases,
-            Fault::K6Unused
-            | Fault::K6Ring
-            | Fault::K6Again
-            | Fault::K6Side
-            | Fault::K6Gap
-            | Fault::K7Unused
-            | Fault::K7Ring
-            | Fault::K7Again
-            | Fault::K7Side
-            | Fault::K7Gap => Shape::Listing,
-            Fault::K6Missing | Fault::K7Missing => Shape::SequencePhase,
-            Fault::K12 => Shape::Detector,
-            Fault::K13Unused | Fault::K13Walk => Shape::PedestrianDetector,
-            Fault::K14 | Fault::K21Unused => Shape::OverlapPhase,
-            Fault::K15TrackUnused | Fault::K15DwellUnused | Fault::K15ExitUnused =>
+            RuleFault::K1 => Shape::Unit,
+            RuleFault::K2Ring
+            | RuleFault::K2Side
+            | RuleFault::K3
+            | RuleFault::K8
+            | RuleFault::K9
+            | RuleFault::K10Maximum1
+            | RuleFault::K10Maximum2
+            | RuleFault::K11
+            | RuleFault::K22 => Shape::Phase,
+            RuleFault::K4Unused | RuleFault::K4Ring | RuleFault::K4Side | RuleFault::K5 =>
+                Shape::Phases,
+            RuleFault::K6Unused
+            | RuleFault::K6Ring
+            | RuleFault::K6Again
+            | RuleFault::K6Side
+            | RuleFault::K6Gap
+            | RuleFault::K7Unused
+            | RuleFault::K7Ring
+            | RuleFault::K7Again
+            | RuleFault::K7Side
+            | RuleFault::K7Gap => Shape::Listing,
+            RuleFault::K6Missing | RuleFault::K7Missing => Shape::SequencePhase,
+            RuleFault::K12 => Shape::Detector,
+            RuleFault::K13Unused | RuleFault::K13Walk => Shape::PedestrianDetector,
+            RuleFault::K14 | RuleFault::K21Unused => Shape::OverlapPhase,
+            RuleFault::K15TrackUnused | RuleFault::K15DwellUnused | RuleFault::K15ExitUnused =>
                 Shape::PreemptPhase,
-            Fault::K15Track | Fault::K15Dwell | Fault::K15Exit => Shape::PreemptPhases,
-            Fault::K16Track | Fault::K16Exit => Shape::Preempt,
-            Fault::K17Offset
-            | Fault::K17Split
-            | Fault::K17Sequence
-            | Fault::K17Blank
-            | Fault::K19Cycle
-            | Fault::K20None
-            | Fault::K23 => Shape::Pattern,
-            Fault::K18 | Fault::K20Unused | Fault::K20Omitted => Shape::PatternPhase,
-            Fault::K19Rings => Shape::PatternSide,
-            Fault::K20Sides | Fault::K20Apart | Fault::K20Ends => Shape::PatternPhases,
-            Fault::K20Ring => Shape::PatternRing,
-            Fault::K21Type => Shape::Overlap,
+            RuleFault::K15Track | RuleFault::K15Dwell | RuleFault::K15Exit => Shape::PreemptPhases,
+            RuleFault::K16Track | RuleFault::K16Exit => Shape::Preempt,
+            RuleFault::K17Offset
+            | RuleFault::K17Split
+            | RuleFault::K17Sequence
+            | RuleFault::K17Blank
+            | RuleFault::K19Cycle
+            | RuleFault::K20None
+            | RuleFault::K23 => Shape::Pattern,
+            RuleFault::K18 | RuleFault::K20Unused | RuleFault::K20Omitted => Shape::PatternPhase,
+            RuleFault::K19Rings => Shape::PatternSide,
+            RuleFault::K20Sides | RuleFault::K20Apart | RuleFault::K20Ends => Shape::PatternPhases,
+            RuleFault::K20Ring => Shape::PatternRing,
+            RuleFault::K21Type => Shape::Overlap,
         }
     }
 }

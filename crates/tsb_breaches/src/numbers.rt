@@ -12,13 +12,12 @@ ghost use Rattle.tsb_breaches.specs.Patterns.{sides_time};
 ghost use Rattle.tsb_breaches.specs.Numbers.{five, number_of, in_table, end_in, of_phase, of_phases, of_listing, of_pattern, of_pattern_phase, of_pattern_phases, sum_in, of_pattern_side, of_pattern_ring, at_place, numbers_of};
 
 use crate::breach::Breach;
-use crate::fault::Fault;
+use crate::fault::RuleFault;
 use crate::patterns::{least_split, sides_time};
-use crate::place::{Listing, Place};
 use crate::sequences::{listed, listed_next, lower_behind, ring_of_number};
 use crate::sums::{coordinated_count, split_sum};
 use tsb_plan::{Object, Plan};
-use tsb_review::Numbers;
+use tsb_review::{Listing, Numbers, Place};
 use tsb_rules::split_end;
 use tsb_types::{
     Detector, Overlap, Pattern, PedestrianDetector, Phase, Ring, Sequence, Side, Split,
@@ -60,7 +59,7 @@ pub fn numbers_of(plan: &Plan, breach: &Breach) -> Numbers
 }
 
 /// The numbers of a place.
-fn at_place(plan: &Plan, fault: Fault, place: &Place) -> Numbers
+fn at_place(plan: &Plan, fault: RuleFault, place: &Place) -> Numbers
     ensures { result ≡ at_place (plan_of plan.now) fault place.now }
 {
     match place {
@@ -89,6 +88,7 @@ fn at_place(plan: &Plan, fault: Fault, place: &Place) -> Numbers
         }
         Place::PatternSide(pattern, side) => of_pattern_side(plan, *pattern, *side),
         Place::PatternRing(pattern, ring) => of_pattern_ring(plan, *pattern, *ring),
+        _ => five(0, 0, 0, 0, 0),
     }
 }
 
@@ -148,19 +148,19 @@ fn three(first: u8, second: u8, third: u8) -> Numbers
 }
 
 /// Of a phase: its number, and what does not fit.
-fn of_phase(plan: &Plan, fault: Fault, phase: Phase) -> Numbers
+fn of_phase(plan: &Plan, fault: RuleFault, phase: Phase) -> Numbers
     ensures { result ≡ of_phase (plan_of plan.now) fault phase }
 {
     let p = u32::from(phase.number());
     match fault {
-        Fault::K2Ring => five(p, plan.ring(phase), 0, 0, 0),
-        Fault::K2Side => five(p, plan.side(phase), 0, 0, 0),
-        Fault::K3 => five(p, plan.at(Object::PhaseConcurrency, p), 0, 0, 0),
-        Fault::K8 => five(p, plan.yellow_change(phase), 0, 0, 0),
-        Fault::K9 => five(p, plan.minimum_gap(phase), plan.passage(phase), 0, 0),
-        Fault::K10Maximum1 => beside_minimum(plan, Object::PhaseMaximum1, phase),
-        Fault::K10Maximum2 => beside_minimum(plan, Object::PhaseMaximum2, phase),
-        Fault::K22 => {
+        RuleFault::K2Ring => five(p, plan.ring(phase), 0, 0, 0),
+        RuleFault::K2Side => five(p, plan.side(phase), 0, 0, 0),
+        RuleFault::K3 => five(p, plan.at(Object::PhaseConcurrency, p), 0, 0, 0),
+        RuleFault::K8 => five(p, plan.yellow_change(phase), 0, 0, 0),
+        RuleFault::K9 => five(p, plan.minimum_gap(phase), plan.passage(phase), 0, 0),
+        RuleFault::K10Maximum1 => beside_minimum(plan, Object::PhaseMaximum1, phase),
+        RuleFault::K10Maximum2 => beside_minimum(plan, Object::PhaseMaximum2, phase),
+        RuleFault::K22 => {
             five(
                 p,
                 plan.dynamic_maximum_limit(phase),
@@ -189,13 +189,13 @@ fn beside_minimum(plan: &Plan, object: Object, phase: Phase) -> Numbers
 }
 
 /// Of a phase and one that its list names: both, and the ring or the sides.
-fn of_phases(plan: &Plan, fault: Fault, phase: Phase, other: Phase) -> Numbers
+fn of_phases(plan: &Plan, fault: RuleFault, phase: Phase, other: Phase) -> Numbers
     ensures { result ≡ of_phases (plan_of plan.now) fault phase other }
 {
     let (p, q) = (u32::from(phase.number()), u32::from(other.number()));
     match fault {
-        Fault::K4Ring => five(p, q, plan.ring(phase), 0, 0),
-        Fault::K4Side => five(p, q, plan.side(phase), plan.side(other), 0),
+        RuleFault::K4Ring => five(p, q, plan.ring(phase), 0, 0),
+        RuleFault::K4Side => five(p, q, plan.side(phase), plan.side(other), 0),
         _ => five(p, q, 0, 0, 0),
     }
 }
@@ -203,7 +203,7 @@ fn of_phases(plan: &Plan, fault: Fault, phase: Phase, other: Phase) -> Numbers
 /// Of a place in a sequence: sequence, ring and place, what is listed there or next, and its ring or a later phase.
 fn of_listing(
     plan: &Plan,
-    fault: Fault,
+    fault: RuleFault,
     sequence: Sequence,
     ring: Ring,
     listing: Listing,
@@ -212,15 +212,15 @@ fn of_listing(
 {
     let number = listed(plan, sequence, ring, listing);
     match fault {
-        Fault::K6Ring | Fault::K7Ring => {
+        RuleFault::K6Ring | RuleFault::K7Ring => {
             let ring_of = ring_of_number(plan, number);
             listing_numbers(sequence, ring, listing, number, ring_of)
         }
-        Fault::K6Side | Fault::K7Side => {
+        RuleFault::K6Side | RuleFault::K7Side => {
             let lower = number_or_zero(lower_behind(plan, sequence, ring, listing));
             listing_numbers(sequence, ring, listing, number, lower)
         }
-        Fault::K6Gap | Fault::K7Gap => {
+        RuleFault::K6Gap | RuleFault::K7Gap => {
             let next = listed_next(plan, sequence, ring, listing);
             listing_numbers(sequence, ring, listing, next, 0)
         }
@@ -243,17 +243,17 @@ fn listing_numbers(
 }
 
 /// Of a pattern: its number, and times or numbers.
-fn of_pattern(plan: &Plan, fault: Fault, pattern: Pattern) -> Numbers
+fn of_pattern(plan: &Plan, fault: RuleFault, pattern: Pattern) -> Numbers
     ensures { result ≡ of_pattern (plan_of plan.now) fault pattern }
 {
     let n = u32::from(pattern.number());
     match fault {
-        Fault::K17Offset => five(n, plan.offset(pattern), plan.cycle(pattern), 0, 0),
-        Fault::K17Split => five(n, plan.at(Object::PatternSplitNumber, n), 0, 0, 0),
-        Fault::K17Sequence => five(n, plan.at(Object::PatternSequenceNumber, n), 0, 0, 0),
-        Fault::K17Blank => five(n, plan.at(Object::PatternSequenceNumber, n), 0, 0, 0),
-        Fault::K19Cycle => five(n, sides_in(plan, pattern), plan.cycle(pattern), 0, 0),
-        Fault::K23 => five(n, plan.permissive_time(pattern), plan.cycle(pattern), 0, 0),
+        RuleFault::K17Offset => five(n, plan.offset(pattern), plan.cycle(pattern), 0, 0),
+        RuleFault::K17Split => five(n, plan.at(Object::PatternSplitNumber, n), 0, 0, 0),
+        RuleFault::K17Sequence => five(n, plan.at(Object::PatternSequenceNumber, n), 0, 0, 0),
+        RuleFault::K17Blank => five(n, plan.at(Object::PatternSequenceNumber, n), 0, 0, 0),
+        RuleFault::K19Cycle => five(n, sides_in(plan, pattern), plan.cycle(pattern), 0, 0),
+        RuleFault::K23 => five(n, plan.permissive_time(pattern), plan.cycle(pattern), 0, 0),
         _ => five(n, 0, 0, 0, 0),
     }
 }
@@ -269,12 +269,12 @@ fn sides_in(plan: &Plan, pattern: Pattern) -> u32
 }
 
 /// Of a phase in a pattern: both, and its split and what that has to hold.
-fn of_pattern_phase(plan: &Plan, fault: Fault, pattern: Pattern, phase: Phase) -> Numbers
+fn of_pattern_phase(plan: &Plan, fault: RuleFault, pattern: Pattern, phase: Phase) -> Numbers
     ensures { result ≡ of_pattern_phase (plan_of plan.now) fault pattern phase }
 {
     let (n, p) = (u32::from(pattern.number()), u32::from(phase.number()));
     match fault {
-        Fault::K18 => five(
+        RuleFault::K18 => five(
             n,
             p,
             split_in(plan, pattern, phase),
@@ -298,7 +298,7 @@ fn split_in(plan: &Plan, pattern: Pattern, phase: Phase) -> u32
 /// Of two phases in a pattern: all three, and their sides or the ends of their splits.
 fn of_pattern_phases(
     plan: &Plan,
-    fault: Fault,
+    fault: RuleFault,
     pattern: Pattern,
     phase: Phase,
     other: Phase,
@@ -308,8 +308,8 @@ fn of_pattern_phases(
     let (p, q) = (u32::from(phase.number()), u32::from(other.number()));
     let n = u32::from(pattern.number());
     match fault {
-        Fault::K20Sides => five(n, p, q, plan.side(phase), plan.side(other)),
-        Fault::K20Ends => {
+        RuleFault::K20Sides => five(n, p, q, plan.side(phase), plan.side(other)),
+        RuleFault::K20Ends => {
             let end = end_in(plan, pattern, phase);
             five(n, p, q, end, end_in(plan, pattern, other))
         }

@@ -8,8 +8,8 @@ ghost use Rattle.tsb_plan.specs.Plan.{is_enabled, ring_of, side_of};
 ghost use Rattle.tsb_rules.specs.SequenceRules.{is_blank, is_zeros};
 ghost use Rattle.tsb_breaches.specs.Sequences.{listed, behind, lists_unused, lists_other_ring, lists_again, is_lower, lower_behind, falls, listed_next, leaves_gap, is_missing, is_first, is_other};
 
-use crate::place::Listing;
 use tsb_plan::Plan;
+use tsb_review::Listing;
 use tsb_types::{Phase, Ring, Sequence};
 
 /// What the sequence lists for the ring at the place, 0 for no phase.

@@ -31,7 +31,7 @@ abbrev pub shape : Advice → Shape
 shape A1 = shapes.Phase
 shape A2 = shapes.Detector
 shape A3 = shapes.Phases
-shape A4 = shapes.Split
+shape A4 = shapes.PatternPhase
 shape A5 = shapes.Ring
 shape A6 = shapes.Phase
 shape A7 = shapes.Phase
@@ -39,9 +39,9 @@ shape A8 = shapes.Phase
 shape A9 = shapes.Phase
 shape A10 = shapes.Phase
 shape A11 = shapes.Phase
-shape A12 = shapes.Split
+shape A12 = shapes.PatternPhase
 shape A13 = shapes.Phase
-shape A14 = shapes.Split
+shape A14 = shapes.PatternPhase
 shape A15 = shapes.Phase
 shape A16 = shapes.Unit
 shape A17 = shapes.Phase
@@ -54,9 +54,9 @@ shape A23 = shapes.Phase
 shape A24 = shapes.Phase
 shape A25 = shapes.Detector
 shape A26 = shapes.Detector
-shape A27 = shapes.Split
-shape A28 = shapes.Split
-shape A29 = shapes.Split
+shape A27 = shapes.PatternPhase
+shape A28 = shapes.PatternPhase
+shape A29 = shapes.PatternPhase
 shape A30 = shapes.Pattern
 shape A32 = shapes.Pattern
 shape A33 = shapes.PreemptPhase
@@ -68,11 +68,11 @@ shape A38 = shapes.Preempt
 shape A39 = shapes.Overlap
 shape A40 = shapes.OverlapPhase
 shape A41 = shapes.Overlap
-shape A42 = shapes.Split
-shape A43 = shapes.Split
+shape A42 = shapes.PatternPhase
+shape A43 = shapes.PatternPhase
 shape A44 = shapes.Pattern
 shape A45 = shapes.Phase
-shape A46 = shapes.Split
+shape A46 = shapes.PatternPhase
 shape A47 = shapes.Unit
 shape A48 = shapes.Detector
 shape A49 = shapes.Detector
@@ -202,16 +202,21 @@ holds plan a (at.Detector d) = of_detector plan a d
 holds plan a (at.Ring r) = of_ring plan a r
 holds plan a (at.RingSide r s) = of_ring_side plan a r s
 holds plan a (at.Pattern n) = of_pattern plan a n
-holds plan a (at.Split n p) = of_split plan a n p
+holds plan a (at.PatternPhase n p) = of_split plan a n p
 holds plan a (at.Preempt m) = of_preempt plan a m
 holds plan a (at.PreemptPhase m p) = of_preempt_phase plan a m p
 holds plan a (at.Overlap o) = of_overlap plan a o
 holds plan a (at.OverlapPhase o p) = of_overlap_phase plan a o p
+holds plan a place = false
 
 -- the advice for a place, where it holds
 abbrev pub found : Plan → Advice → Place → List Finding
 found plan a place = if holds plan a place then (record { advice = a; place = place }) ∷ [] else []
 
+-- those of an advice, place after place
+unfoldable pub findings_of : Plan → Advice → List Finding
+findings_of plan a = flat_map (found plan a) (places (shape a))
+
 -- what a review finds: of each advice in order, each place in order at which it holds
 unfoldable pub findings : Plan → List Finding
-findings plan = flat_map (λ a. flat_map (found plan a) (places (shape a))) advices
+findings plan = flat_map (findings_of plan) advices

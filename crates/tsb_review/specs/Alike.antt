@@ -44,7 +44,7 @@ yields_first plan n p = yields_too_long plan n p && not (is_told_before plan A43
 
 -- the advice, given for a place, says the same of its phase in pattern m, a later one
 abbrev pub is_also_at : Plan → Advice → Place → ℕ → Bool
-is_also_at plan a (at.Split n p) m = nat_lt n m && is_alike plan a n p m
+is_also_at plan a (at.PatternPhase n p) m = nat_lt n m && is_alike plan a n p m
 is_also_at plan a place m = false
 
 -- a finding is also told of pattern m

@@ -1,5 +1,5 @@
 -- Findings one by one, as the code looks for them.
-use Rattle.std.specs.Prelude.{ℕ, Bool, true, false, ◌&&◌, if◌then◌else◌, Option, Some, None}
+use Rattle.std.specs.Prelude.{Bool, true, false, ◌&&◌, if◌then◌else◌, Option, Some, None}
 use Rattle.tsb_plan.specs.declared.object.ObjectId.{ObjectId}
 use Rattle.tsb_plan.specs.Plan.{Plan}
 use Rattle.tsb_review.specs.declared.advice.Advice.{Advice}
@@ -7,19 +7,14 @@ use Rattle.tsb_review.specs.declared.advice.Advice.TheVariants.{A36, A56, A59}
 use Rattle.tsb_review.specs.declared.finding.Finding.{Finding}
 use Rattle.tsb_review.specs.declared.place.Place.{Place}
 use Rattle.tsb_review.specs.declared.place.Place.TheVariants as at
-use Rattle.tsb_review.specs.Advices.{holds, shape}
+use Rattle.tsb_review.specs.Advices.{holds}
 use Rattle.tsb_review.specs.Overlaps.{is_turn_beside}
-use Rattle.tsb_review.specs.Places.{place_of}
 use Rattle.tsb_review.specs.Preempts.{has_track}
 use Rattle.tsb_review.specs.Unused.{first_value}
 
 -- the advice for a place, where it holds
-abbrev pub finding_of : Plan → Advice → Place → Option Finding
-finding_of plan a place = if holds plan a place then Some (record { advice = a; place = place }) else None
-
--- the advice for the place of two numbers, where it holds
-abbrev pub finding_at : Plan → Advice → ℕ → ℕ → Option Finding
-finding_at plan a i k = finding_of plan a (place_of (shape a) i k)
+abbrev pub finding_at : Plan → Advice → Place → Option Finding
+finding_at plan a place = if holds plan a place then Some (record { advice = a; place = place }) else None
 
 -- an advice is that of a walk that a preempt ends at once
 abbrev pub is_of_walk : Advice → Bool

@@ -110,11 +110,12 @@ at_place plan x (at.Detector d) = of_detector plan x d
 at_place plan x (at.Ring r) = four r 0 0 0
 at_place plan x (at.RingSide r s) = of_ring_side plan r s
 at_place plan x (at.Pattern n) = of_pattern plan x n
-at_place plan x (at.Split n p) = of_split plan x n p
+at_place plan x (at.PatternPhase n p) = of_split plan x n p
 at_place plan x (at.Preempt m) = of_preempt plan x m
 at_place plan x (at.PreemptPhase m p) = four m p 0 0
 at_place plan x (at.Overlap o) = of_overlap plan x o
 at_place plan x (at.OverlapPhase o p) = of_overlap_phase plan x o p
+at_place plan x place = four 0 0 0 0
 
 -- of a finding
 abbrev pub numbers_of : Plan → Finding → Numbers

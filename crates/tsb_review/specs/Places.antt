@@ -1,4 +1,4 @@
--- The places that advices are given for, each named by its numbers.
+-- The places for which advices are given and at which rules can be broken, each named by its numbers.
 use Rattle.std.specs.Prelude.{ℕ, List, map, flat_map}
 use Rattle.tsb_types.specs.Lists.{run_from}
 use Rattle.tsb_review.specs.declared.place.Place.{Place}
@@ -6,52 +6,103 @@ use Rattle.tsb_review.specs.declared.place.Place.TheVariants as at
 use Rattle.tsb_review.specs.declared.place.Shape.{Shape}
 use Rattle.tsb_review.specs.declared.place.Shape.TheVariants as shapes
 
--- how many there are by their first number: one unit, 16 phases, vehicle detectors and patterns, 2 rings, 4 preempts and 4
--- overlaps
+-- how many there are by their first number: one unit, 16 phases, vehicle detectors and patterns, 8 pedestrian detectors,
+-- 4 sequences, overlaps and preempts, 2 rings
 abbrev pub firsts : Shape → ℕ
 firsts shapes.Unit = 1
 firsts shapes.Phase = 16
 firsts shapes.Phases = 16
-firsts shapes.Detector = 16
 firsts shapes.Ring = 2
 firsts shapes.RingSide = 2
-firsts shapes.Pattern = 16
-firsts shapes.Split = 16
-firsts shapes.Preempt = 4
-firsts shapes.PreemptPhase = 4
+firsts shapes.Listing = 4
+firsts shapes.SequencePhase = 4
+firsts shapes.Detector = 16
+firsts shapes.PedestrianDetector = 8
 firsts shapes.Overlap = 4
 firsts shapes.OverlapPhase = 4
+firsts shapes.Preempt = 4
+firsts shapes.PreemptPhase = 4
+firsts shapes.PreemptPhases = 4
+firsts shapes.Pattern = 16
+firsts shapes.PatternPhase = 16
+firsts shapes.PatternPhases = 16
+firsts shapes.PatternSide = 16
+firsts shapes.PatternRing = 16
 
--- and by their second: 16 phases where it is a phase, 4 sides where it is a side, and else one
+-- by their second: 2 rings, 4 sides or 16 phases, and else one
 abbrev pub seconds : Shape → ℕ
 seconds shapes.Unit = 1
 seconds shapes.Phase = 1
 seconds shapes.Phases = 16
-seconds shapes.Detector = 1
 seconds shapes.Ring = 1
 seconds shapes.RingSide = 4
-seconds shapes.Pattern = 1
-seconds shapes.Split = 16
-seconds shapes.Preempt = 1
-seconds shapes.PreemptPhase = 16
+seconds shapes.Listing = 2
+seconds shapes.SequencePhase = 2
+seconds shapes.Detector = 1
+seconds shapes.PedestrianDetector = 1
 seconds shapes.Overlap = 1
 seconds shapes.OverlapPhase = 16
+seconds shapes.Preempt = 1
+seconds shapes.PreemptPhase = 16
+seconds shapes.PreemptPhases = 16
+seconds shapes.Pattern = 1
+seconds shapes.PatternPhase = 16
+seconds shapes.PatternPhases = 16
+seconds shapes.PatternSide = 4
+seconds shapes.PatternRing = 2
 
--- the place of a kind that has these two numbers; the second counts only where it is a phase or a side
-abbrev pub place_of : Shape → ℕ → ℕ → Place
-place_of shapes.Unit i k = at.Unit
-place_of shapes.Phase i k = at.Phase i
-place_of shapes.Phases i k = at.Phases i k
-place_of shapes.Detector i k = at.Detector i
-place_of shapes.Ring i k = at.Ring i
-place_of shapes.RingSide i k = at.RingSide i k
-place_of shapes.Pattern i k = at.Pattern i
-place_of shapes.Split i k = at.Split i k
-place_of shapes.Preempt i k = at.Preempt i
-place_of shapes.PreemptPhase i k = at.PreemptPhase i k
-place_of shapes.Overlap i k = at.Overlap i
-place_of shapes.OverlapPhase i k = at.OverlapPhase i k
+-- and by their third: 16 places of a sequence or 16 phases, and else one
+abbrev pub thirds : Shape → ℕ
+thirds shapes.Unit = 1
+thirds shapes.Phase = 1
+thirds shapes.Phases = 1
+thirds shapes.Ring = 1
+thirds shapes.RingSide = 1
+thirds shapes.Listing = 16
+thirds shapes.SequencePhase = 16
+thirds shapes.Detector = 1
+thirds shapes.PedestrianDetector = 1
+thirds shapes.Overlap = 1
+thirds shapes.OverlapPhase = 1
+thirds shapes.Preempt = 1
+thirds shapes.PreemptPhase = 1
+thirds shapes.PreemptPhases = 16
+thirds shapes.Pattern = 1
+thirds shapes.PatternPhase = 1
+thirds shapes.PatternPhases = 16
+thirds shapes.PatternSide = 1
+thirds shapes.PatternRing = 1
 
--- all places of a kind, by their first number and then by their second
+-- the place of a kind that has these three numbers; those that it does not have do not count
+abbrev pub place_of : Shape → ℕ → ℕ → ℕ → Place
+place_of shapes.Unit i j k = at.Unit
+place_of shapes.Phase i j k = at.Phase i
+place_of shapes.Phases i j k = at.Phases i j
+place_of shapes.Ring i j k = at.Ring i
+place_of shapes.RingSide i j k = at.RingSide i j
+place_of shapes.Listing i j k = at.Listing i j k
+place_of shapes.SequencePhase i j k = at.SequencePhase i j k
+place_of shapes.Detector i j k = at.Detector i
+place_of shapes.PedestrianDetector i j k = at.PedestrianDetector i
+place_of shapes.Overlap i j k = at.Overlap i
+place_of shapes.OverlapPhase i j k = at.OverlapPhase i j
+place_of shapes.Preempt i j k = at.Preempt i
+place_of shapes.PreemptPhase i j k = at.PreemptPhase i j
+place_of shapes.PreemptPhases i j k = at.PreemptPhases i j k
+place_of shapes.Pattern i j k = at.Pattern i
+place_of shapes.PatternPhase i j k = at.PatternPhase i j
+place_of shapes.PatternPhases i j k = at.PatternPhases i j k
+place_of shapes.PatternSide i j k = at.PatternSide i j
+place_of shapes.PatternRing i j k = at.PatternRing i j
+
+-- those of a kind that have these first two numbers, by their third
+unfoldable pub places_beside : Shape → ℕ → ℕ → List Place
+places_beside shape i j = map (place_of shape i j) (run_from 1 (thirds shape))
+
+-- those that have this first number, by their second and then by their third
+unfoldable pub places_from : Shape → ℕ → List Place
+places_from shape i = flat_map (places_beside shape i) (run_from 1 (seconds shape))
+
+-- all places of a kind, by their first number, then by their second, and then by their third
 unfoldable pub places : Shape → List Place
-places shape = flat_map (λ i. map (place_of shape i) (run_from 1 (seconds shape))) (run_from 1 (firsts shape))
+places shape = flat_map (places_from shape) (run_from 1 (firsts shape))

@@ -1,8 +1,8 @@
 -- What phases are sought for, as data, so that one loop seeks them all. Each is a test of the advices.
 use Rattle.std.specs.Prelude.{ℕ, Bool}
 use Rattle.tsb_plan.specs.Plan.{Plan, is_concurrent}
-use Rattle.tsb_review.specs.declared.sought.Sought.{Sought}
-use Rattle.tsb_review.specs.declared.sought.Sought.TheVariants.{InConflict, Across, InRing, Rival, SplitFrom, Beside, Actuated, SoonReverting, ServedApart, Passed, LeftShort, EndingApart, Concurrent, DwellBeside, On, EnteringBeside}
+use Rattle.tsb_review.specs.declared.sought.SoughtPhase.{SoughtPhase}
+use Rattle.tsb_review.specs.declared.sought.SoughtPhase.TheVariants.{InConflict, Across, InRing, Rival, SplitFrom, Beside, Actuated, SoonReverting, ServedApart, Passed, LeftShort, EndingApart, Concurrent, DwellBeside, On, EnteringBeside}
 use Rattle.tsb_review.specs.Calls.{conflicts}
 use Rattle.tsb_review.specs.Clearance.{is_across, reverts_soon}
 use Rattle.tsb_review.specs.Coordination.{is_actuated, ends_apart_from}
@@ -14,7 +14,7 @@ use Rattle.tsb_review.specs.Service.{is_in_ring, is_rival, is_served_apart}
 use Rattle.tsb_review.specs.Splits.{is_passed, is_left_short}
 
 -- what a phase has to be
-abbrev pub is_sought : Sought → Plan → ℕ → Bool
+abbrev pub is_sought : SoughtPhase → Plan → ℕ → Bool
 is_sought (InConflict p) plan = conflicts plan p
 is_sought (Across p) plan = is_across plan p
 is_sought (InRing r) plan = is_in_ring plan r

@@ -232,7 +232,7 @@ impl Advice {
             | Advice::A29
             | Advice::A42
             | Advice::A43
-            | Advice::A46 => Shape::Split,
+            | Advice::A46 => Shape::PatternPhase,
             Advice::A5 => Shape::Ring,
             Advice::A52 => Shape::RingSide,
             Advice::A16 | Advice::A47 => Shape::Unit,

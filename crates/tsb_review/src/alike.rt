@@ -74,7 +74,7 @@ fn is_also_at(plan: &Plan, advice: Advice, place: &Place, other: Pattern) -> boo
     ensures { result ≡ is_also_at (plan_of plan.now) advice place.now other }
 {
     match place {
-        Place::Split(pattern, phase) => {
+        Place::PatternPhase(pattern, phase) => {
             pattern.number() < other.number() && is_alike(plan, advice, *pattern, *phase, other)
         }
         _ => false,

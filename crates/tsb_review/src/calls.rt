@@ -9,7 +9,7 @@ ghost use Rattle.tsb_plan.specs.PlanOf.{plan_of};
 ghost use Rattle.tsb_rules.specs.Rules.{has_walk, serves_pedestrians};
 ghost use Rattle.tsb_review.specs.Calls.{has_detector, has_button, is_recalled, has_recall, has_call, is_recalled_by_pattern, recalls_pedestrians_in_pattern, conflicts, has_conflicts, is_for_pedestrians};
 
-use crate::sought::{Sought, some_phase};
+use crate::sought::{SoughtPhase, some_phase};
 use tsb_plan::{Object, Plan};
 use tsb_types::{Detector, Pattern, PedestrianDetector, Phase};
 
@@ -120,7 +120,7 @@ pub(crate) fn conflicts(plan: &Plan, phase: Phase, other: Phase) -> bool
 pub(crate) fn has_conflicts(plan: &Plan, phase: Phase) -> bool
     ensures { result ≡ has_conflicts (plan_of plan.now) phase }
 {
-    some_phase(plan, Sought::InConflict(phase))
+    some_phase(plan, SoughtPhase::InConflict(phase))
 }
 
 /// Whether the phase has a walk.

@@ -6,7 +6,7 @@ ghost use Rattle.tsb_plan.specs.PlanOf.{plan_of};
 ghost use Rattle.tsb_review.specs.Clearance.{is_across, clears_without_red, reverts_soon, reverting, has_short_revert, clears_too_soon};
 
 use crate::calls::is_for_pedestrians;
-use crate::sought::{Sought, first_phase, some_phase};
+use crate::sought::{SoughtPhase, first_phase, some_phase};
 use tsb_plan::Plan;
 use tsb_types::Phase;
 
@@ -31,7 +31,7 @@ pub(crate) fn clears_without_red(plan: &Plan, phase: Phase) -> bool
     plan.is_enabled(phase)
         && !is_for_pedestrians(plan, phase)
         && plan.red_clear(phase) == 0
-        && some_phase(plan, Sought::Across(phase))
+        && some_phase(plan, SoughtPhase::Across(phase))
 }
 
 /// Whether the phase is enabled, and its red revert is under 2 seconds.
@@ -45,7 +45,7 @@ pub(crate) fn reverts_soon(plan: &Plan, phase: Phase) -> bool
 pub(crate) fn reverting(plan: &Plan) -> Option<Phase>
     ensures { result ≡ reverting (plan_of plan.now) }
 {
-    first_phase(plan, Sought::SoonReverting)
+    first_phase(plan, SoughtPhase::SoonReverting)
 }
 
 /// A16: whether the red revert of some phase is under 2 seconds.

@@ -12,7 +12,7 @@ ghost use Rattle.tsb_review.specs.Coordination.{spare_time, has_tight_split, ove
 
 use crate::calls::{has_recall, has_walk, is_recalled_in, serves_pedestrians};
 use crate::pedestrians::{overruns_split, pedestrian_time};
-use crate::sought::{Sought, some_phase};
+use crate::sought::{SoughtPhase, some_phase};
 use crate::splits::{end_of, green_of_split, left_short, passed_by};
 use tsb_plan::{CorrectionMode, Object, Plan};
 use tsb_types::{Pattern, Phase};
@@ -132,7 +132,7 @@ pub(crate) fn yields_once(plan: &Plan, pattern: Pattern) -> bool
 {
     plan.is_used(pattern)
         && plan.permissive_time(pattern) == 0
-        && some_phase(plan, Sought::Actuated(pattern))
+        && some_phase(plan, SoughtPhase::Actuated(pattern))
 }
 
 /// Whether there is a maximum, and it is under this time.
@@ -188,7 +188,7 @@ fn ends_apart(plan: &Plan, pattern: Pattern, phase: Phase) -> bool
     ensures { result ≡ ends_apart (plan_of plan.now) pattern phase }
 {
     plan.is_coordinated_now(Some(pattern), phase)
-        && some_phase(plan, Sought::EndingApart(pattern, phase))
+        && some_phase(plan, SoughtPhase::EndingApart(pattern, phase))
 }
 
 /// Whether the splits of the coordinated phases of the pattern end at different times.

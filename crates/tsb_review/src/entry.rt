@@ -7,7 +7,7 @@ ghost use Rattle.tsb_plan.specs.Plan.{has_dual_entry};
 ghost use Rattle.tsb_rules.specs.PatternRules.{is_on, has_phases};
 ghost use Rattle.tsb_review.specs.Entry.{may_enter, entry_count, enters_beside, has_unlike_entry};
 
-use crate::sought::{Sought, some_phase};
+use crate::sought::{SoughtPhase, some_phase};
 use tsb_plan::{Object, Plan};
 use tsb_types::{Phase, Ring, Side};
 
@@ -64,7 +64,7 @@ pub(crate) fn enters_beside(plan: &Plan, ring: Ring, side: Side, phase: Phase) -
 pub(crate) fn has_unlike_entry(plan: &Plan, ring: Ring, side: Side) -> bool
     ensures { result ≡ has_unlike_entry (plan_of plan.now) ring side }
 {
-    some_phase(plan, Sought::On(ring, side))
-        && some_phase(plan, Sought::EnteringBeside(ring, side))
+    some_phase(plan, SoughtPhase::On(ring, side))
+        && some_phase(plan, SoughtPhase::EnteringBeside(ring, side))
         && entry_count(plan, ring, side) != 1
 }

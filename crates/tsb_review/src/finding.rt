@@ -1,14 +1,13 @@
 //! What a review finds.
 #![tactic(auto, unfolding(tsb_plan::specs::PlanOf::plan_of))]
 
-ghost use Rattle.std.specs.Prelude.{◌≡◌, ◌≤◌};
+ghost use Rattle.std.specs.Prelude.{◌≡◌};
 ghost use Rattle.tsb_plan.specs.PlanOf.{plan_of};
-ghost use Rattle.tsb_review.specs.Places.{firsts, seconds};
-ghost use Rattle.tsb_review.specs.Advices.{holds, shape, of_unit, of_phase, of_phases, of_detector, of_ring, of_ring_side, of_pattern, of_split, of_preempt, of_preempt_phase, of_overlap, of_overlap_phase};
-ghost use Rattle.tsb_review.specs.Findings.{finding_at, finding_of, has_track_at, ends_walk_for_track, has_turn_beside, crosses_walk, first_value_at, unused_value};
+ghost use Rattle.tsb_review.specs.Advices.{holds, of_unit, of_phase, of_phases, of_detector, of_ring, of_ring_side, of_pattern, of_split, of_preempt, of_preempt_phase, of_overlap, of_overlap_phase};
+ghost use Rattle.tsb_review.specs.Findings.{finding_at, has_track_at, ends_walk_for_track, has_turn_beside, crosses_walk, first_value_at, unused_value};
 
 use crate::advice::Advice;
-use crate::place::{Place, place_of};
+use crate::place::Place;
 use crate::{
     actuation, alike, clearance, coordination, detection, entry, overlaps, pedestrians, preempts,
     service, unused,
@@ -25,21 +24,10 @@ pub struct Finding {
     pub place: Place,
 }
 
-/// The advice for the place of these two numbers, where it holds. Going through both numbers in ascending order, the
-/// second faster, gives all findings of the advice, each once: `Shape::firsts` and `Shape::seconds` say how many.
-pub fn finding_at(plan: &Plan, advice: Advice, first: u8, second: u8) -> Option<Finding>
-    requires first_from { 1 ≤ first }
-    requires first_to { first ≤ firsts (shape advice) }
-    requires second_from { 1 ≤ second }
-    requires second_to { second ≤ seconds (shape advice) }
-    ensures { result ≡ finding_at (plan_of plan.now) advice first second }
-{
-    finding_of(plan, advice, place_of(advice.shape(), first, second))
-}
-
-/// The advice for the place, where it holds.
-fn finding_of(plan: &Plan, advice: Advice, place: Place) -> Option<Finding>
-    ensures { result ≡ finding_of (plan_of plan.now) advice place }
+/// The advice for the place, where it holds. Going through the places of its kind, `Advice::shape`, as `place_of` gives
+/// them, gives all findings of the advice, each once.
+pub fn finding_at(plan: &Plan, advice: Advice, place: Place) -> Option<Finding>
+    ensures { result ≡ finding_at (plan_of plan.now) advice place }
 {
     if holds(plan, advice, &place) {
         Some(Finding { advice, place })
@@ -115,11 +103,12 @@ pub fn holds(plan: &Plan, advice: Advice, place: &Place) -> bool
         Place::Ring(ring) => of_ring(plan, advice, *ring),
         Place::RingSide(ring, side) => of_ring_side(plan, advice, *ring, *side),
         Place::Pattern(pattern) => of_pattern(plan, advice, *pattern),
-        Place::Split(pattern, phase) => of_split(plan, advice, *pattern, *phase),
+        Place::PatternPhase(pattern, phase) => of_split(plan, advice, *pattern, *phase),
         Place::Preempt(preempt) => of_preempt(plan, advice, *preempt),
         Place::PreemptPhase(preempt, phase) => of_preempt_phase(plan, advice, *preempt, *phase),
         Place::Overlap(overlap) => of_overlap(plan, advice, *overlap),
         Place::OverlapPhase(overlap, phase) => of_overlap_phase(plan, advice, *overlap, *phase),
+        _ => false,
     }
 }
 

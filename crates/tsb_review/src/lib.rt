@@ -28,4 +28,4 @@ pub use advice::Advice;
 pub use alike::is_also_in;
 pub use finding::{Finding, crosses_walk, ends_walk_for_track, finding_at, holds, unused_value};
 pub use numbers::{Numbers, numbers_of};
-pub use place::{Place, Shape};
+pub use place::{Listing, Place, Shape, place_of};

@@ -104,13 +104,14 @@ fn at_place(plan: &Plan, advice: Advice, place: &Place) -> Numbers
         Place::Ring(ring) => four(u32::from(ring.number()), 0, 0, 0),
         Place::RingSide(ring, side) => of_ring_side(plan, *ring, *side),
         Place::Pattern(pattern) => of_pattern(plan, advice, *pattern),
-        Place::Split(pattern, phase) => of_split(plan, advice, *pattern, *phase),
+        Place::PatternPhase(pattern, phase) => of_split(plan, advice, *pattern, *phase),
         Place::Preempt(preempt) => of_preempt(plan, advice, *preempt),
         Place::PreemptPhase(preempt, phase) => {
             four(u32::from(preempt.number()), u32::from(phase.number()), 0, 0)
         }
         Place::Overlap(overlap) => of_overlap(plan, advice, *overlap),
         Place::OverlapPhase(overlap, phase) => of_overlap_phase(plan, advice, *overlap, *phase),
+        _ => four(0, 0, 0, 0),
     }
 }
 

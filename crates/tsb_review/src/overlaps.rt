@@ -11,7 +11,7 @@ ghost use Rattle.tsb_review.specs.Overlaps.{is_split_from, is_split_at, split_at
 
 use crate::calls::has_walk;
 use crate::legs::{goes_out_by, goes_through, is_of_other_street, right_of, turns_left};
-use crate::sought::{Sought, first_phase, some_phase};
+use crate::sought::{SoughtPhase, first_phase, some_phase};
 use tsb_plan::{Object, Plan};
 use tsb_types::{Overlap, Phase};
 
@@ -29,7 +29,7 @@ fn is_split_at(plan: &Plan, overlap: Overlap, phase: Phase) -> bool
     ensures { result ≡ is_split_at (plan_of plan.now) overlap phase }
 {
     plan.included_phases(overlap).contains(phase)
-        && some_phase(plan, Sought::SplitFrom(overlap, phase))
+        && some_phase(plan, SoughtPhase::SplitFrom(overlap, phase))
 }
 
 /// The first such phase.
@@ -48,7 +48,7 @@ pub(crate) fn split_from(plan: &Plan, overlap: Overlap, phase: Option<Phase>) ->
 {
     match phase {
         None => None,
-        Some(phase) => first_phase(plan, Sought::SplitFrom(overlap, phase)),
+        Some(phase) => first_phase(plan, SoughtPhase::SplitFrom(overlap, phase)),
     }
 }
 
@@ -80,7 +80,7 @@ fn is_carried_at(plan: &Plan, overlap: Overlap, phase: Phase) -> bool
     ensures { result ≡ is_carried_at (plan_of plan.now) overlap phase }
 {
     plan.included_phases(overlap).contains(phase)
-        && some_phase(plan, Sought::Beside(overlap, phase))
+        && some_phase(plan, SoughtPhase::Beside(overlap, phase))
 }
 
 /// Whether the overlap includes two phases of one ring.

@@ -8,7 +8,7 @@ ghost use Rattle.tsb_plan.specs.PlanOf.{plan_of};
 ghost use Rattle.tsb_review.specs.Preempts.{has_dwell, has_track, fills_track, is_by_railroad, clears_no_track, lasts_too_long, ends_pedestrians, cuts_walk, cuts_clearance, has_preempt_times, is_never_served, is_held_by_input, dwells_beside, dwells_alone};
 
 use crate::calls::serves_pedestrians;
-use crate::sought::{Sought, some_phase};
+use crate::sought::{SoughtPhase, some_phase};
 use tsb_plan::{Object, Plan};
 use tsb_types::{Phase, Preempt};
 
@@ -136,6 +136,6 @@ pub(crate) fn dwells_alone(plan: &Plan, preempt: Preempt, phase: Phase) -> bool
     ensures { result ≡ dwells_alone (plan_of plan.now) preempt phase }
 {
     plan.dwell_phases(preempt).contains(phase)
-        && some_phase(plan, Sought::Concurrent(phase))
-        && !some_phase(plan, Sought::DwellBeside(preempt, phase))
+        && some_phase(plan, SoughtPhase::Concurrent(phase))
+        && !some_phase(plan, SoughtPhase::DwellBeside(preempt, phase))
 }

@@ -11,7 +11,7 @@ ghost use Rattle.tsb_plan.specs.Running.{is_omitted_now};
 ghost use Rattle.tsb_review.specs.Service.{is_never_called, has_settings, is_set_for_nothing, is_kept_apart, can_wait_for, is_served_apart, apart_from, may_lose_coordination, is_in_ring, has_fixed_times, has_two_recalls, is_always_called, is_rival, has_rival, rivalled, rival_of, never_recalls_softly, is_always_omitted, is_shut_out};
 
 use crate::calls::{conflicts, has_call, has_soft_recall, is_recalled, is_recalled_by_pattern};
-use crate::sought::{Sought, first_phase, some_phase};
+use crate::sought::{SoughtPhase, first_phase, some_phase};
 use tsb_plan::Plan;
 use tsb_types::{Detector, Pattern, Phase, Ring};
 
@@ -69,7 +69,7 @@ pub(crate) fn is_served_apart(plan: &Plan, pattern: Pattern, phase: Phase, other
 pub(crate) fn apart_from(plan: &Plan, pattern: Pattern, phase: Phase) -> Option<Phase>
     ensures { result ≡ apart_from (plan_of plan.now) pattern phase }
 {
-    first_phase(plan, Sought::ServedApart(pattern, phase))
+    first_phase(plan, SoughtPhase::ServedApart(pattern, phase))
 }
 
 /// A4: whether the phase is a coordinated one of the used pattern, which serves a phase of its side apart from it.
@@ -93,7 +93,7 @@ pub(crate) fn is_in_ring(plan: &Plan, ring: Ring, phase: Phase) -> bool
 pub(crate) fn has_fixed_times(plan: &Plan, ring: Ring) -> bool
     ensures { result ≡ has_fixed_times (plan_of plan.now) ring }
 {
-    some_phase(plan, Sought::InRing(ring)) && all_have_maximum_recall(plan, ring)
+    some_phase(plan, SoughtPhase::InRing(ring)) && all_have_maximum_recall(plan, ring)
 }
 
 /// Whether all phases of the ring have maximum recall.
@@ -129,7 +129,7 @@ pub(crate) fn is_rival(plan: &Plan, phase: Phase, other: Phase) -> bool
 fn has_rival(plan: &Plan, phase: Phase) -> bool
     ensures { result ≡ has_rival (plan_of plan.now) phase }
 {
-    is_always_called(plan, phase) && some_phase(plan, Sought::Rival(phase))
+    is_always_called(plan, phase) && some_phase(plan, SoughtPhase::Rival(phase))
 }
 
 /// The first phase that has a rival.
@@ -148,7 +148,7 @@ pub(crate) fn rival_of(plan: &Plan, phase: Option<Phase>) -> Option<Phase>
 {
     match phase {
         None => None,
-        Some(phase) => first_phase(plan, Sought::Rival(phase)),
+        Some(phase) => first_phase(plan, SoughtPhase::Rival(phase)),
     }
 }
 

@@ -21,7 +21,7 @@ use tsb_types::{Overlap, Pattern, Phase, Preempt, Ring, Side};
 
 /// What a phase has to be.
 #[derive(Clone, Copy)]
-pub(crate) enum Sought {
+pub(crate) enum SoughtPhase {
     /// It conflicts with this phase.
     InConflict(Phase),
     /// It is enabled, and of another side than this phase.
@@ -57,31 +57,31 @@ pub(crate) enum Sought {
 }
 
 /// Whether the phase is so.
-fn is_sought(plan: &Plan, sought: Sought, phase: Phase) -> bool
+fn is_sought(plan: &Plan, sought: SoughtPhase, phase: Phase) -> bool
     ensures { result ≡ is_sought sought (plan_of plan.now) phase }
 {
     match sought {
-        Sought::InConflict(other) => conflicts(plan, other, phase),
-        Sought::Across(other) => is_across(plan, other, phase),
-        Sought::InRing(ring) => is_in_ring(plan, ring, phase),
-        Sought::Rival(other) => is_rival(plan, other, phase),
-        Sought::SplitFrom(overlap, other) => is_split_from(plan, overlap, other, phase),
-        Sought::Beside(overlap, other) => is_beside(plan, overlap, other, phase),
-        Sought::Actuated(pattern) => is_actuated(plan, pattern, phase),
-        Sought::SoonReverting => reverts_soon(plan, phase),
-        Sought::ServedApart(pattern, other) => is_served_apart(plan, pattern, other, phase),
-        Sought::Passed(pattern, other, late) => is_passed(plan, pattern, other, late, phase),
-        Sought::LeftShort(pattern, other) => is_left_short(plan, pattern, other, phase),
-        Sought::EndingApart(pattern, other) => ends_apart_from(plan, pattern, other, phase),
-        Sought::Concurrent(other) => plan.concurrency(other).contains(phase),
-        Sought::DwellBeside(preempt, other) => dwells_beside(plan, preempt, other, phase),
-        Sought::On(ring, side) => is_on(plan, ring, side, phase),
-        Sought::EnteringBeside(ring, side) => enters_beside(plan, ring, side, phase),
+        SoughtPhase::InConflict(other) => conflicts(plan, other, phase),
+        SoughtPhase::Across(other) => is_across(plan, other, phase),
+        SoughtPhase::InRing(ring) => is_in_ring(plan, ring, phase),
+        SoughtPhase::Rival(other) => is_rival(plan, other, phase),
+        SoughtPhase::SplitFrom(overlap, other) => is_split_from(plan, overlap, other, phase),
+        SoughtPhase::Beside(overlap, other) => is_beside(plan, overlap, other, phase),
+        SoughtPhase::Actuated(pattern) => is_actuated(plan, pattern, phase),
+        SoughtPhase::SoonReverting => reverts_soon(plan, phase),
+        SoughtPhase::ServedApart(pattern, other) => is_served_apart(plan, pattern, other, phase),
+        SoughtPhase::Passed(pattern, other, late) => is_passed(plan, pattern, other, late, phase),
+        SoughtPhase::LeftShort(pattern, other) => is_left_short(plan, pattern, other, phase),
+        SoughtPhase::EndingApart(pattern, other) => ends_apart_from(plan, pattern, other, phase),
+        SoughtPhase::Concurrent(other) => plan.concurrency(other).contains(phase),
+        SoughtPhase::DwellBeside(preempt, other) => dwells_beside(plan, preempt, other, phase),
+        SoughtPhase::On(ring, side) => is_on(plan, ring, side, phase),
+        SoughtPhase::EnteringBeside(ring, side) => enters_beside(plan, ring, side, phase),
     }
 }
 
 /// Whether some phase is so.
-pub(crate) fn some_phase(plan: &Plan, sought: Sought) -> bool
+pub(crate) fn some_phase(plan: &Plan, sought: SoughtPhase) -> bool
     ensures { result ≡ list_any (is_sought sought (plan_of plan.now)) (phases (plan_of plan.now)) }
 {
     Phase::all()
@@ -90,7 +90,7 @@ pub(crate) fn some_phase(plan: &Plan, sought: Sought) -> bool
 }
 
 /// The first phase that is so.
-pub(crate) fn first_phase(plan: &Plan, sought: Sought) -> Option<Phase>
+pub(crate) fn first_phase(plan: &Plan, sought: SoughtPhase) -> Option<Phase>
     ensures { result ≡ first (is_sought sought (plan_of plan.now)) (phases (plan_of plan.now)) }
 {
     Phase::all()

@@ -9,7 +9,7 @@ ghost use Rattle.tsb_objects.specs.Instants.{end_of, instant_from};
 ghost use Rattle.tsb_review.specs.Splits.{split_time_in, green_of_split, is_forced_after, is_behind, is_passed, passed_by, is_left_short, left_short};
 
 use crate::calls::conflicts;
-use crate::sought::{Sought, first_phase};
+use crate::sought::{SoughtPhase, first_phase};
 use tsb_plan::Plan;
 use tsb_rules::split_end;
 use tsb_types::{Pattern, Phase};
@@ -104,7 +104,7 @@ pub(crate) fn is_passed(plan: &Plan, pattern: Pattern, phase: Phase, late: u32, 
 pub(crate) fn passed_by(plan: &Plan, pattern: Pattern, phase: Phase, late: u32) -> Option<Phase>
     ensures { result ≡ passed_by (plan_of plan.now) pattern phase late }
 {
-    first_phase(plan, Sought::Passed(pattern, phase, late))
+    first_phase(plan, SoughtPhase::Passed(pattern, phase, late))
 }
 
 /// Whether `next`, where it begins at the end of the permissive time of the phase, has less than its minimum green
@@ -122,5 +122,5 @@ pub(crate) fn is_left_short(plan: &Plan, pattern: Pattern, phase: Phase, next: P
 pub(crate) fn left_short(plan: &Plan, pattern: Pattern, phase: Phase) -> Option<Phase>
     ensures { result ≡ left_short (plan_of plan.now) pattern phase }
 {
-    first_phase(plan, Sought::LeftShort(pattern, phase))
+    first_phase(plan, SoughtPhase::LeftShort(pattern, phase))
 }

@@ -1,5 +1,5 @@
 -- The line of a finding or of a breach, and how long it is.
-use Rattle.std.proofs.Common.{◌≡◌, ◌∙◌, ℕ, zero, suc, ◌+◌, ◌*◌, ◌/◌, ◌%◌, ◌<◌, ◌≤◌, ◌==◌, nat_le, Bool, false, true, ◌&&◌, if◌then◌else◌, List, [], ◌∷◌, ◌++◌, append_assoc, length, length-append, drop, drop-cons, get_or, sum_by, flat_map, decimal, codes, Option, refl, sym, ap, subst, arith, rules}
+use Rattle.std.proofs.Common.{◌≡◌, ◌∙◌, ℕ, zero, suc, ◌+◌, ◌*◌, ◌/◌, ◌%◌, ◌<◌, ◌≤◌, ◌==◌, nat_le, Bool, false, true, ◌&&◌, if◌then◌else◌, List, [], ◌∷◌, ◌++◌, append_assoc, length, length-append, drop, drop-cons, get_or, sum_by, flat_map, decimal, codes, Option, Some, None, refl, sym, ap, subst, arith, rules}
 use Rattle.std.proofs.lemmas.Bool.Decides.{nat_tests}
 use Rattle.std.proofs.lemmas.Fmt.{length-decimal-le}
 use Rattle.std.proofs.lemmas.List.Sums.{sum_by-cons}
@@ -13,7 +13,7 @@ use Rattle.tsb_review.specs.declared.finding.Finding.{Finding}
 use Rattle.tsb_review.specs.declared.numbers.Numbers.{Numbers}
 use Rattle.tsb_review.specs.Alike.{is_also_in}
 use Rattle.tsb_review.specs.Findings.{ends_walk_for_track, crosses_walk, unused_value}
-use Rattle.tsb_breaches.specs.declared.fault.Fault.{Fault}
+use Rattle.tsb_breaches.specs.declared.fault.RuleFault.{RuleFault}
 use Rattle.tsb_review_text.specs.declared.line.TheConstants.{LONGEST}
 use Rattle.tsb_lines.specs.ShortLines.{Adds, fitting}
 use Rattle.tsb_review_text.specs.Bytes.{ended}
@@ -125,12 +125,9 @@ short-patterns plan f a (suc k) small =
     omega (arith, here, rest, length-append (also plan f a) (flat_map (also plan f) (run_from (a + 1) k)))
 
 -- the name of a value has a space, at most 28 letters, a point and ten digits
-short-object : (o : Object) → length (name_of o) ≤ 28
-short-object o = search rules
-
 pub short-name : (o : Object) (i : ℕ) → length (decimal i) ≤ 10 → length (32 ∷ (name_of o ++ 46 ∷ decimal i)) ≤ 41
 short-name o i digits =
-    let letters : length (name_of o) ≤ 28 = short-object o in
+    let letters : length (name_of o) ≤ 28 = search rules in
     omega (arith, letters, digits, length-append (name_of o) (46 ∷ decimal i))
 
 -- each text has room, and that of an advice for the name of a value, later patterns and a line feed too
@@ -148,7 +145,7 @@ wording-room plan f = go (ends_walk_for_track plan f) (crosses_walk plan f)
     go false true = search rules
     go false false = template-room f.advice
 
-breach-room : (f : Fault) → sum_by cost (breach_template f) + 1 ≤ LONGEST
+breach-room : (f : RuleFault) → sum_by cost (breach_template f) + 1 ≤ LONGEST
 unfolding cost
 breach-room f = search rules
 
@@ -174,7 +171,7 @@ line-done n plan f id items mid named text empty ms small none is value called a
     all-of none (omega (arith, few, here, others, room, length-append front (name ++ (patterns ++ 10 ∷ [])), length-append name (patterns ++ 10 ∷ []), length-append patterns (10 ∷ []))) (said same both)
 
 -- the line of a breach
-pub breach-line-done : (n : Numbers) (f : Fault) (items text empty : List ℕ) → AreSmall n → empty ≡ [] → text ≡ breach_template f →
+pub breach-line-done : (n : Numbers) (f : RuleFault) (items text empty : List ℕ) → AreSmall n → empty ≡ [] → text ≡ breach_template f →
     Adds LONGEST empty (ended (part n) (10 ∷ []) text) items → items ≡ filled n (breach_template f) ++ 10 ∷ []
 unfolding filled
 breach-line-done n f items text empty small none is added =

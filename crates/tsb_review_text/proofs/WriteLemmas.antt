@@ -1,9 +1,10 @@
 -- What a writer has taken of a review, piece by piece.
-use Rattle.std.proofs.Common.{◌≡◌, ◌∙◌, ℕ, zero, suc, ◌+◌, ◌-◌, ◌<◌, ◌≤◌, Bool, true, false, if◌then◌else◌, List, [], ◌∷◌, ◌++◌, append_assoc, length, drop, drop-cons, get_or, map, flat_map, refl, sym, ap, arith, subst, OnErr, OnOk, Option, Some, None}
+use Rattle.std.proofs.Common.{◌≡◌, ◌∙◌, ℕ, zero, suc, ◌+◌, ◌-◌, ◌<◌, ◌≤◌, Bool, true, false, if◌then◌else◌, List, [], ◌∷◌, ◌++◌, append_assoc, length, drop, get_or, flat_map, refl, sym, ap, arith, subst, OnErr, OnOk, Option, Some, None}
 use Rattle.std.specs.declared.result.Result.{Result}
 use Rattle.std.specs.declared.result.Result.TheVariants.{Ok, Err}
-use Rattle.std.proofs.lemmas.List.{append-nil}
+use Rattle.std.proofs.lemmas.List.{append-nil, at_drop_all, at_drop_more}
 use Rattle.std.proofs.lemmas.List.Concat.{flat_map-append}
+use Rattle.std.proofs.lemmas.List.Folds.{flat_map-map}
 use Rattle.std.specs.Io.KnownBytes.{Appends}
 use Rattle.tsb_lines.proofs.StreamLemmas.{Gone, appends-more, appends-nothing}
 use Rattle.tsb_lines.specs.Writes.{AppendsFront}
@@ -12,31 +13,47 @@ use Rattle.tsb_lines.specs.Seen.{Seen}
 use Rattle.tsb_plan.specs.Plan.{Plan}
 use Rattle.tsb_types.specs.Lists.{run_from}
 use Rattle.tsb_review.specs.declared.advice.Advice.{Advice}
-use Rattle.tsb_review.specs.declared.finding.Finding.{Finding}
+use Rattle.tsb_breaches.specs.declared.fault.RuleFault.{RuleFault}
+use Rattle.tsb_breaches.specs.Breaches.{breaches, breaches_of, faults, found as found_at, is_at, shape as kind_of}
 use Rattle.tsb_review.specs.declared.place.Place.{Place}
-use Rattle.tsb_review.specs.Advices.{advices, findings, found, holds, shape}
-use Rattle.tsb_review.specs.Findings.{finding_of}
-use Rattle.tsb_review.specs.Places.{firsts, place_of, places, seconds}
-use Rattle.tsb_review_text.specs.Lines.{line_of, review_text}
-use Rattle.tsb_review_text.specs.Written.{Wrote, line_in, text_at, text_from, text_of}
+use Rattle.tsb_review.specs.declared.place.Shape.{Shape}
+use Rattle.tsb_review.specs.Advices.{advices, findings, findings_of, found, holds, shape}
+use Rattle.tsb_review.specs.Places.{firsts, place_of, places, places_beside, places_from, seconds, thirds}
+use Rattle.tsb_review_text.specs.Lines.{breach_line, breaches_text, line_of, review_text}
+use Rattle.tsb_review_text.specs.Written.{Wrote, breach_line_in, line_at, line_in, shape_of, text_at, text_beside, text_from, text_of}
+use Rattle.tsb_review_text.specs.declared.review.Remark.{Remark}
+use Rattle.tsb_review_text.specs.declared.review.Remark.TheVariants as remarks
 
 -- ## The text, part by part
 
-pub flat-same : {A B : Type 0} (f g : A → List B) → ((x : A) → f x ≡ g x) → (xs : List A) → flat_map f xs ≡ flat_map g xs
+flat-same : {A B : Type 0} (f g : A → List B) → ((x : A) → f x ≡ g x) → (xs : List A) → flat_map f xs ≡ flat_map g xs
 flat-same f g same [] = refl
 flat-same f g same (x ∷ xs) = ap (λ ys. ys ++ flat_map f xs) (same x) ∙ ap (λ ys. g x ++ ys) (flat-same f g same xs)
 
-pub flat-flat : {A B C : Type 0} (g : B → List C) (f : A → List B) (xs : List A) → flat_map g (flat_map f xs) ≡ flat_map (λ x. flat_map g (f x)) xs
+flat-flat : {A B C : Type 0} (g : B → List C) (f : A → List B) (xs : List A) → flat_map g (flat_map f xs) ≡ flat_map (λ x. flat_map g (f x)) xs
 flat-flat g f [] = refl
 flat-flat g f (x ∷ xs) = flat_map-append g (f x) (flat_map f xs) ∙ ap (λ ys. flat_map g (f x) ++ ys) (flat-flat g f xs)
 
-pub flat-map : {A B C : Type 0} (g : B → List C) (f : A → B) (xs : List A) → flat_map g (map f xs) ≡ flat_map (λ x. g (f x)) xs
-flat-map g f [] = refl
-flat-map g f (x ∷ xs) = ap (λ ys. g (f x) ++ ys) (flat-map g f xs)
+-- what is written of all places of a kind, number by number
+by-places : (s : Shape) (line : Place → List ℕ) →
+    flat_map line (places s) ≡ flat_map (λ i. flat_map (λ j. flat_map (λ k. line (place_of s i j k)) (run_from 1 (thirds s))) (run_from 1 (seconds s))) (run_from 1 (firsts s))
+unfolding places places_from places_beside
+by-places s line =
+    let beside : ℕ → ℕ → List ℕ = λ i j. flat_map (λ k. line (place_of s i j k)) (run_from 1 (thirds s)) in
+    flat-flat line (places_from s) (run_from 1 (firsts s))
+    ∙ flat-same (λ i. flat_map line (places_from s i)) (λ i. flat_map (beside i) (run_from 1 (seconds s)))
+    (λ i. flat-flat line (places_beside s i) (run_from 1 (seconds s))
+    ∙ flat-same (λ j. flat_map line (places_beside s i j)) (beside i) (λ j. flat_map-map line (place_of s i j) (run_from 1 (thirds s))) (run_from 1 (seconds s)))
+    (run_from 1 (firsts s))
+
+-- the lines of a remark
+remark-text : (plan : Plan) (r : Remark) → flat_map (line_at plan r) (places (shape_of r)) ≡ text_of plan r
+unfolding text_of text_from text_beside
+remark-text plan r = by-places (shape_of r) (line_at plan r)
 
 -- the line of a place, where the advice holds of it
-line-at : (plan : Plan) (a : Advice) (place : Place) → flat_map (line_of plan) (found plan a place) ≡ line_in plan (finding_of plan a place)
-line-at plan a place = go (holds plan a place)
+finding-line : (plan : Plan) (a : Advice) (place : Place) → flat_map (line_of plan) (found plan a place) ≡ line_at plan (remarks.Advice a) place
+finding-line plan a place = go (holds plan a place)
   where
     go : (b : Bool) →
         flat_map (line_of plan) (if b then (record { advice = a; place = place }) ∷ [] else [])
@@ -44,30 +61,45 @@ line-at plan a place = go (holds plan a place)
     go true = append-nil _
     go false = refl
 
--- the lines of an advice for the places with a first number
-from-text : (plan : Plan) (a : Advice) (i : ℕ) →
-    flat_map (λ place. flat_map (line_of plan) (found plan a place)) (map (place_of (shape a) i) (run_from 1 (seconds (shape a)))) ≡ text_from plan a i
-unfolding text_from
-from-text plan a i =
-    flat-map (λ place. flat_map (line_of plan) (found plan a place)) (place_of (shape a) i) (run_from 1 (seconds (shape a)))
-    ∙ flat-same (λ k. flat_map (line_of plan) (found plan a (place_of (shape a) i k))) (text_at plan a i) (λ k. line-at plan a (place_of (shape a) i k)) (run_from 1 (seconds (shape a)))
-
 -- the lines of an advice
-advice-text : (plan : Plan) (a : Advice) → flat_map (line_of plan) (flat_map (found plan a) (places (shape a))) ≡ text_of plan a
-unfolding places text_of
+advice-text : (plan : Plan) (a : Advice) → flat_map (line_of plan) (findings_of plan a) ≡ text_of plan (remarks.Advice a)
+unfolding findings_of
 advice-text plan a =
-    let line : Place → List ℕ = λ place. flat_map (line_of plan) (found plan a place) in
-    let at : ℕ → List Place = λ i. map (place_of (shape a) i) (run_from 1 (seconds (shape a))) in
     flat-flat (line_of plan) (found plan a) (places (shape a))
-    ∙ flat-flat line at (run_from 1 (firsts (shape a)))
-    ∙ flat-same (λ i. flat_map line (at i)) (text_from plan a) (from-text plan a) (run_from 1 (firsts (shape a)))
+    ∙ flat-same (λ place. flat_map (line_of plan) (found plan a place)) (line_at plan (remarks.Advice a)) (finding-line plan a) (places (shape a))
+    ∙ remark-text plan (remarks.Advice a)
 
 -- the text of a review, advice by advice
-pub by-advices : (plan : Plan) → review_text plan ≡ flat_map (text_of plan) advices
+pub by-advices : (plan : Plan) → review_text plan ≡ flat_map (λ a. text_of plan (remarks.Advice a)) advices
 unfolding review_text findings
 by-advices plan =
-    flat-flat (line_of plan) (λ a. flat_map (found plan a) (places (shape a))) advices
-    ∙ flat-same (λ a. flat_map (line_of plan) (flat_map (found plan a) (places (shape a)))) (text_of plan) (advice-text plan) advices
+    flat-flat (line_of plan) (findings_of plan) advices
+    ∙ flat-same (λ a. flat_map (line_of plan) (findings_of plan a)) (λ a. text_of plan (remarks.Advice a)) (advice-text plan) advices
+
+-- the line of a place, where there is a breach
+breach-at : (plan : Plan) (f : RuleFault) (place : Place) → flat_map (breach_line plan) (found_at plan f place) ≡ line_at plan (remarks.Breach f) place
+breach-at plan f place = go (is_at plan f place)
+  where
+    go : (b : Bool) →
+        flat_map (breach_line plan) (if b then (record { fault = f; place = place }) ∷ [] else [])
+        ≡ breach_line_in plan (if b then Some (record { fault = f; place = place }) else None)
+    go true = append-nil _
+    go false = refl
+
+-- the lines of one way to break a rule
+fault-text : (plan : Plan) (f : RuleFault) → flat_map (breach_line plan) (breaches_of plan f) ≡ text_of plan (remarks.Breach f)
+unfolding breaches_of
+fault-text plan f =
+    flat-flat (breach_line plan) (found_at plan f) (places (kind_of f))
+    ∙ flat-same (λ place. flat_map (breach_line plan) (found_at plan f place)) (line_at plan (remarks.Breach f)) (breach-at plan f) (places (kind_of f))
+    ∙ remark-text plan (remarks.Breach f)
+
+-- the text of all breaches, one way after the other
+pub by-faults : (plan : Plan) → breaches_text plan ≡ flat_map (λ f. text_of plan (remarks.Breach f)) faults
+unfolding breaches_text breaches
+by-faults plan =
+    flat-flat (breach_line plan) (breaches_of plan) faults
+    ∙ flat-same (λ f. flat_map (breach_line plan) (breaches_of plan f)) (λ f. text_of plan (remarks.Breach f)) (fault-text plan) faults
 
 -- ## What has gone out
 
@@ -119,17 +151,6 @@ pub wrote-said : (r : Result (Unit {0}) WriteError) (a b : Seen) (bytes text : L
 wrote-said r a b bytes text same whole front blame well =
     subst (λ (ts : List ℕ). Wrote r a b ts) same (record { whole = whole; front = front; blame = blame; well = well })
 
--- where there is no finding nothing is to be written
-pub wrote-none : (plan : Plan) (o p : Option Finding) (a : Seen) → o ≡ p → o ≡ None → Wrote (Ok tt) a a (line_in plan p)
-wrote-none plan o p a same none =
-    subst (λ (q : Option Finding). Wrote (Ok tt) a a (line_in plan q)) (sym none ∙ same)
-    (record { whole = appends-nothing a.bytes; front = ([], [], appends-nothing a.bytes, refl); blame = tt; well = refl })
-
--- and where there is one its line
-pub wrote-some : (plan : Plan) (f : Finding) (o p : Option Finding) (r : Result (Unit {0}) WriteError) (a b : Seen) → o ≡ p → o ≡ Some f →
-    Wrote r a b (line_of plan f) → Wrote r a b (line_in plan p)
-wrote-some plan f o p r a b same some wrote = subst (λ (q : Option Finding). Wrote r a b (line_in plan q)) (sym some ∙ same) wrote
-
 -- ## Over the numbers from 1 on
 
 -- what is left at a number, and behind it
@@ -179,15 +200,7 @@ end-run f a b text k end over so = wrote-all a b text (went-as a b text _ _ (lef
 -- ## Over a list
 
 left-of : {A : Type 0} (f : A → List ℕ) (xs : List A) (k : ℕ) (d : A) → k < length xs → flat_map f (drop k xs) ≡ f (get_or xs k d) ++ flat_map f (drop (k + 1) xs)
-left-of f xs k d below =
-    let next : suc k ≡ k + 1 = omega arith in
-    ap (flat_map f) (drop-cons xs k d below) ∙ ap (λ (n : ℕ). f (get_or xs k d) ++ flat_map f (drop n xs)) next
-
-drop-end : {A : Type 0} (xs : List A) (k : ℕ) → length xs ≤ k → drop k xs ≡ []
-drop-end [] zero over = refl
-drop-end [] (suc k) over = refl
-drop-end (x ∷ xs) zero over = absurd (omega (arith, over))
-drop-end (x ∷ xs) (suc k) over = drop-end xs k (omega (arith, over))
+left-of f xs k d below = at_drop_more (flat_map f) xs k d below
 
 pub start-list : {A : Type 0} (f : A → List ℕ) (xs : List A) (a : Seen) (text : List ℕ) → text ≡ flat_map f xs → Went a a text (flat_map f (drop 0 xs))
 start-list f xs a text is = record { gone = record { gone = []; grown = appends-nothing a.bytes; whole = is }; well = refl }
@@ -204,4 +217,4 @@ fail-list f xs d a b c text k e below so front failed =
 
 pub end-list : {A : Type 0} (f : A → List ℕ) (xs : List A) (a b : Seen) (text : List ℕ) (k : ℕ) → length xs ≤ k →
     Went a b text (flat_map f (drop k xs)) → Wrote (Ok tt) a b text
-end-list f xs a b text k over so = wrote-all a b text (went-as a b text _ _ (ap (flat_map f) (drop-end xs k over)) so)
+end-list f xs a b text k over so = wrote-all a b text (went-as a b text _ _ (at_drop_all (flat_map f) xs k over) so)

@@ -1,11 +1,11 @@
 -- THE LINES OF BREACHES: the text of each way to break a rule, with letters where numbers stand. P, Q, R, S and T are the
 -- numbers a to e of a breach; W, X, Y, Z and U are the same as times, in seconds.
 use Rattle.std.specs.Prelude.{ℕ, List, codes}
-use Rattle.tsb_breaches.specs.declared.fault.Fault.{Fault}
-use Rattle.tsb_breaches.specs.declared.fault.Fault.TheVariants.{K1, K2Ring, K2Side, K3, K4Unused, K4Ring, K4Side, K5, K6Unused, K6Ring, K6Missing, K6Again, K6Side, K6Gap, K7Unused, K7Ring, K7Missing, K7Again, K7Side, K7Gap, K8, K9, K10Maximum1, K10Maximum2, K11, K12, K13Unused, K13Walk, K14, K15TrackUnused, K15DwellUnused, K15ExitUnused, K15Track, K15Dwell, K15Exit, K16Track, K16Exit, K17Offset, K17Split, K17Sequence, K17Blank, K18, K19Rings, K19Cycle, K20None, K20Unused, K20Omitted, K20Sides, K20Apart, K20Ends, K20Ring, K21Unused, K21Type, K22, K23}
+use Rattle.tsb_breaches.specs.declared.fault.RuleFault.{RuleFault}
+use Rattle.tsb_breaches.specs.declared.fault.RuleFault.TheVariants.{K1, K2Ring, K2Side, K3, K4Unused, K4Ring, K4Side, K5, K6Unused, K6Ring, K6Missing, K6Again, K6Side, K6Gap, K7Unused, K7Ring, K7Missing, K7Again, K7Side, K7Gap, K8, K9, K10Maximum1, K10Maximum2, K11, K12, K13Unused, K13Walk, K14, K15TrackUnused, K15DwellUnused, K15ExitUnused, K15Track, K15Dwell, K15Exit, K16Track, K16Exit, K17Offset, K17Split, K17Sequence, K17Blank, K18, K19Rings, K19Cycle, K20None, K20Unused, K20Omitted, K20Sides, K20Apart, K20Ends, K20Ring, K21Unused, K21Type, K22, K23}
 
 -- the text of a breach
-abbrev pub breach_template : Fault → List ℕ
+abbrev pub breach_template : RuleFault → List ℕ
 breach_template K1 = codes "K1 unit: no phase is enabled"
 breach_template K2Ring = codes "K2 phase P: its ring is Q, not 1 or 2"
 breach_template K2Side = codes "K2 phase P: its side is Q, not 1 to 4"

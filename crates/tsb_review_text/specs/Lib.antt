@@ -8,5 +8,3 @@ pub mod Lines
 pub mod Bytes
 -- what a review writes, part by part
 pub mod Written
--- what goes out for breaches, part by part
-pub mod BreachesWritten

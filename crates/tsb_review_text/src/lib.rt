@@ -3,11 +3,9 @@
 #![tactic(auto)]
 
 mod breach_template;
-mod breaches;
 mod line;
 mod review;
 mod template;
 
-pub use breaches::write_breaches;
 pub use line::{LONGEST, Line, breach_line, line_of};
-pub use review::write_review;
+pub use review::{write_breaches, write_review};

@@ -9,7 +9,7 @@ use Rattle.tsb_plan.specs.Quad.{quad}
 use Rattle.tsb_rules.specs.declared.rules.Rule.TheVariants.{K8, K20, K23}
 use Rattle.tsb_rules.specs.PatternRules.{coordinated_count, side_sum, split_end, split_sum}
 use Rattle.tsb_rules.specs.Rules.{broken_by_extensions, broken_by_parts, broken_by_phases, broken_by_rings, first_broken}
-use Rattle.tsb_breaches.specs.declared.fault.Fault.TheVariants.{K20Ends}
+use Rattle.tsb_breaches.specs.declared.fault.RuleFault.TheVariants.{K20Ends}
 use Rattle.tsb_breaches.specs.Breaches.{of_pattern_phases}
 use Rattle.tsb_breaches.specs.Patterns.{are_together, permits_always}
 use Rattle.tsb_breaches.specs.Phases.{has_short_yellow}

@@ -1,10 +1,6 @@
-use Rattle.tsb_plan.specs.PlanOf.{plan_of}
-use Rattle.tsb_review_text.proofs.WriteLemmas.{wrote-none, wrote-some}
+use Rattle.std.proofs.Common.{◌∙◌}
+use Rattle.tsb_review_text.proofs.WriteLemmas.{wrote-said}
 use Rattle.tsb_review_text.proofs.review.write_at.Goals as goal
 
-pub returns-in-Some : goal.returns-in-Some
-returns-in-Some g c =
-    wrote-some (plan_of c.args.plan.now) c.in-Some.finding c.finding_at.result _ c.write_finding.result _ _ c.finding_at.ensures c.in-Some.is c.write_finding.ensures
-
-pub returns-in-None : goal.returns-in-None
-returns-in-None g c = wrote-none (plan_of c.args.plan.now) c.finding_at.result _ _ c.finding_at.ensures c.in-None.is
+pub returns : goal.returns
+returns g c = wrote-said c.write_text.result _ _ c.as_bytes.result.now _ (c.as_bytes.ensures.bytes ∙ c.line_at-line.ensures) c.write_text.ensures.whole c.write_text.ensures.front c.write_text.ensures.blame c.write_text.ensures.well

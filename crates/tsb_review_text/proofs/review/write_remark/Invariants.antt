@@ -4,8 +4,8 @@ use Rattle.tsb_plan.specs.PlanOf.{plan_of}
 use Rattle.tsb_lines.specs.Seen.{seen}
 use Rattle.tsb_review_text.specs.Written.{text_from, text_of}
 use Rattle.tsb_review_text.proofs.WriteLemmas.{Went}
-use Rattle.tsb_review_text.proofs.review.write_advice.Given as goal
+use Rattle.tsb_review_text.proofs.review.write_remark.Given as goal
 
 -- what has gone out, and what is left, are all
 abbrev pub invariant-loop-first : goal.invariant-loop-first
-invariant-loop-first g l = Went (seen g.W.Write.contents l.fn.output) (seen g.W.Write.contents l.output) (text_of (plan_of l.plan) l.advice) (flat_map (text_from (plan_of l.plan) l.advice) (run_from l.first (l.count + 1 - l.first)))
+invariant-loop-first g l = Went (seen g.W.Write.contents l.fn.output) (seen g.W.Write.contents l.output) (text_of (plan_of l.plan) l.remark) (flat_map (text_from (plan_of l.plan) l.remark) (run_from l.first (l.count + 1 - l.first)))

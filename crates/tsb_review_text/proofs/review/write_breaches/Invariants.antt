@@ -1,0 +1,12 @@
+use Rattle.std.proofs.Common.{drop, flat_map}
+use Rattle.tsb_plan.specs.PlanOf.{plan_of}
+use Rattle.tsb_lines.specs.Seen.{seen}
+use Rattle.tsb_review_text.specs.Lines.{breaches_text}
+use Rattle.tsb_review_text.specs.Written.{text_of}
+use Rattle.tsb_review_text.specs.declared.review.Remark.TheVariants as remarks
+use Rattle.tsb_review_text.proofs.WriteLemmas.{Went}
+use Rattle.tsb_review_text.proofs.review.write_breaches.Given as goal
+
+-- what has gone out, and what is left, are all
+abbrev pub invariant-loop-fault : goal.invariant-loop-fault
+invariant-loop-fault g l = Went (seen g.W.Write.contents l.fn.output) (seen g.W.Write.contents l.output) (breaches_text (plan_of l.plan)) (flat_map (λ f. text_of (plan_of l.plan) (remarks.Breach f)) (drop l.fault-index l.fault-items))
