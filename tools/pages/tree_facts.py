@@ -40,19 +40,15 @@ LAYERS = {"desk": "tsb_transact", "detectors": "tsb_detect", "calls": "tsb_calls
 # the crate. Types of tests, comparisons and times are not looked at.
 TWICE = {
     "Cause": {"tsb_phase", "tsb_program"},
-    "Command": {"tsb_command_text", "tsb_machine"},
-    "Conditions": {"tsb_phase", "tsb_ring"},
-    "Found": {"tsb_events", "tsb_ring"},
-    "Kind": {"tsb_field_diagram", "tsb_field_log", "tsb_history"},
+    "Kind": {"tsb_field_diagram", "tsb_history"},
     "Mark": {"tsb_field_diagram", "tsb_text"},
-    "Outcome": {"tsb_ring", "tsb_text"},
-    "Reading": {"tsb_command_text", "tsb_field_streams"},
+    "Next": {"tsb_plan_notes", "tsb_status"},
+    "Place": {"tsb_breaches", "tsb_review"},
     "Refusal": {"tsb_program", "tsb_types"},
-    "Rows": {"tsb_field_log", "tsb_text"},
-    "Served": {"tsb_heads", "tsb_status"},
-    "Shown": {"tsb_event_text", "tsb_field_display"},
+    "Shape": {"tsb_breaches", "tsb_review"},
+    "Sought": {"tsb_review", "tsb_rules"},
     "Status": {"tsb_program", "tsb_status"},
-    "Watched": {"tsb_bench", "tsb_lines"},
+    "Stop": {"tsb_plan_notes", "tsb_text"},
 }
 UNPROVED = {"tsb_tests", "tsb_field_tests", "tsb_layer_runs", "tsb_runs"}
 

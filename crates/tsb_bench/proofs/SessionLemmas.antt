@@ -3,7 +3,7 @@ use Rattle.std.proofs.Common.{◌≡◌, ℕ, ◌+◌, ◌<◌, List, [], ◌∷
 use Rattle.std.proofs.lemmas.List.{take_more}
 use Rattle.tsb_history.specs.History.{Change, newest_kind}
 use Rattle.tsb_history.specs.declared.kinds.Kind.{Kind}
-use Rattle.tsb_machine.specs.declared.commands.Command.TheVariants as asks
+use Rattle.tsb_machine.specs.declared.commands.MachineCommand.TheVariants as asks
 use Rattle.tsb_machine.specs.declared.commands.Answer.{Answer}
 use Rattle.tsb_machine.specs.declared.commands.Answer.TheVariants as answers
 use Rattle.tsb_machine.specs.Laws.{TellsKinds}

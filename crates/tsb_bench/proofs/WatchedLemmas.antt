@@ -9,7 +9,7 @@ use Rattle.tsb_step.specs.State.{State}
 use Rattle.tsb_step.specs.Watches as step
 use Rattle.tsb_step.specs.Watches.{watched, TellsLastChange}
 use Rattle.tsb_controller.specs.Whole.{All, AreAllBy, all_in, all_put_back}
-use Rattle.tsb_bench.specs.declared.watched.Watched.{Watched}
+use Rattle.tsb_bench.specs.declared.watched.WatchedLayer.{WatchedLayer}
 use Rattle.tsb_bench.specs.declared.watched.Value.{Value}
 use Rattle.tsb_bench.specs.declared.watched.Value.TheVariants as values
 use Rattle.tsb_bench.specs.Held.{Held, state_of, IsHeld, HasSoundPast}
@@ -43,18 +43,18 @@ told-apart v w same = sym (untold-told v) ∙ ap untold same ∙ untold-told w
 -- ## The search
 
 -- the value is what is watched, wherever the layer is that of some rows
-abbrev pub Tells : Watch → Watched → Value → Type 0
+abbrev pub Tells : Watch → WatchedLayer → Value → Type 0
 Tells w x value = (now : ℕ) (a : All) → Holds w a x → AreAllBy now a → told value ≡ watched w (all_in now a)
 
 -- where it is: the layer, the tick number and the value are those of rows from which the records left lead back
-pub record IsAt (h : Held) (w : Watch) (x : Watched) (tick : ℕ) (value : Value) (left : List Change) : Type 0 where
+pub record IsAt (h : Held) (w : Watch) (x : WatchedLayer) (tick : ℕ) (value : Value) (left : List Change) : Type 0 where
   pub rows : All
   pub sound : HasSoundPast tick rows left
   pub holds : Holds w rows x
   pub tells : Tells w x value
   pub goes : (t : Option ℕ) → TellsLastChange w (pasts (all_in tick rows) left) t → TellsLastChange w (pasts (state_of h) h.records) t
 
-pub at-start : (h : Held) (w : Watch) (x : Watched) (value : Value) → HasSoundPast h.tick h.rows h.records → Holds w h.rows x → Tells w x value → IsAt h w x h.tick value h.records
+pub at-start : (h : Held) (w : Watch) (x : WatchedLayer) (value : Value) → HasSoundPast h.tick h.rows h.records → Holds w h.rows x → Tells w x value → IsAt h w x h.tick value h.records
 at-start h w x value sound holds tells = record { rows = h.rows; sound = sound; holds = holds; tells = tells; goes = λ t told. told }
 
 -- of the states of a run, the one before is another
@@ -66,7 +66,7 @@ same-here : (w : Watch) (s before : State) (rs : List Change) (t : Option ℕ) �
 same-here w s before [] t same told = inr (same, told)
 same-here w s before (r ∷ rs) t same told = inr (same, told)
 
-module _ (h : Held) (w : Watch) (x : Watched) (tick : ℕ) (value : Value) (r : Change) (rs : List Change) (at : IsAt h w x tick value (r ∷ rs)) where
+module _ (h : Held) (w : Watch) (x : WatchedLayer) (tick : ℕ) (value : Value) (r : Change) (rs : List Change) (at : IsAt h w x tick value (r ∷ rs)) where
   -- the rows before the record
   abbrev pub back : All
   back = all_put_back at.rows r.entries
@@ -94,7 +94,7 @@ module _ (h : Held) (w : Watch) (x : Watched) (tick : ℕ) (value : Value) (r : 
       (λ e. differs (told-apart old value (old_is ∙ ap (watched w) (sym before) ∙ sym e ∙ sym here))))
 
   -- the value was the same before
-  goes-on : (y : Watched) → Holds w back y → Tells w y value → IsAt h w y (tick - ticks_of r.kind) value rs
+  goes-on : (y : WatchedLayer) → Holds w back y → Tells w y value → IsAt h w y (tick - ticks_of r.kind) value rs
   goes-on y holds tells = record {
     rows = back;
     sound = at.sound.2;
@@ -107,19 +107,19 @@ module _ (h : Held) (w : Watch) (x : Watched) (tick : ℕ) (value : Value) (r : 
   }
 
   -- another layer has the same
-  pub goes-on-same : (y : Watched) (old : Value) → Holds w back y → Tells w y old → old ≡ value → IsAt h w y (tick - ticks_of r.kind) value rs
+  pub goes-on-same : (y : WatchedLayer) (old : Value) → Holds w back y → Tells w y old → old ≡ value → IsAt h w y (tick - ticks_of r.kind) value rs
   goes-on-same y old holds tells same = goes-on y holds (subst (Tells w y) same tells)
 
   -- the layer itself stayed
-  pub goes-on-still : (y : Watched) → Holds w back y → y ≡ x → IsAt h w y (tick - ticks_of r.kind) value rs
-  goes-on-still y holds same = goes-on y holds (subst (λ (z : Watched). Tells w z value) (sym same) at.tells)
+  pub goes-on-still : (y : WatchedLayer) → Holds w back y → y ≡ x → IsAt h w y (tick - ticks_of r.kind) value rs
+  goes-on-still y holds same = goes-on y holds (subst (λ (z : WatchedLayer). Tells w z value) (sym same) at.tells)
 
   -- a record of no cells changes nothing
   pub goes-past : r.entries ≡ [] → IsAt h w x (tick - ticks_of r.kind) value rs
   goes-past none = goes-on x (subst (λ (es : List (ℕ × ℕ)). Holds w (all_put_back at.rows es) x) (sym none) at.holds) at.tells
 
 -- records of quiet ticks change nothing but the tick number
-pub goes-quiet : (k : ℕ) (h : Held) (w : Watch) (x : Watched) (tick : ℕ) (value : Value) (left : List Change) → k ≤ quiet_ticks left → IsAt h w x tick value left → IsAt h w x (tick - k) value (drop k left)
+pub goes-quiet : (k : ℕ) (h : Held) (w : Watch) (x : WatchedLayer) (tick : ℕ) (value : Value) (left : List Change) → k ≤ quiet_ticks left → IsAt h w x tick value left → IsAt h w x (tick - k) value (drop k left)
 goes-quiet zero h w x tick value left most at = subst (λ (n : ℕ). IsAt h w x n value left) (omega arith) at
 goes-quiet (suc k) h w x tick value [] most at = absurd (omega (arith, most))
 goes-quiet (suc k) h w x tick value (r ∷ rs) most at =
@@ -128,5 +128,5 @@ goes-quiet (suc k) h w x tick value (r ∷ rs) most at =
     (goes-quiet k h w x (tick - 1) value rs first.1 (subst (λ (d : Kind). IsAt h w x (tick - ticks_of d) value rs) first.0.tick (goes-past h w x tick value r rs at first.0.none)))
 
 -- no record is left
-pub none-left : (h : Held) (w : Watch) (x : Watched) (tick : ℕ) (value : Value) → IsAt h w x tick value [] → TellsLastChange w (pasts (state_of h) h.records) None
+pub none-left : (h : Held) (w : Watch) (x : WatchedLayer) (tick : ℕ) (value : Value) → IsAt h w x tick value [] → TellsLastChange w (pasts (state_of h) h.records) None
 none-left h w x tick value at = at.goes None refl

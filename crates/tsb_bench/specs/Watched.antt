@@ -9,13 +9,13 @@ use Rattle.tsb_phase.specs.Layer as phases
 use Rattle.tsb_preempt.specs.Layer as preempts
 use Rattle.tsb_step.specs.Watches as step
 use Rattle.tsb_controller.specs.Whole.{All}
-use Rattle.tsb_bench.specs.declared.watched.Watched.{Watched}
-use Rattle.tsb_bench.specs.declared.watched.Watched.TheVariants as layers
+use Rattle.tsb_bench.specs.declared.watched.WatchedLayer.{WatchedLayer}
+use Rattle.tsb_bench.specs.declared.watched.WatchedLayer.TheVariants as layers
 use Rattle.tsb_bench.specs.declared.watched.Value.{Value}
 use Rattle.tsb_bench.specs.declared.watched.Value.TheVariants as values
 
 -- it is the layer of what is watched, closed, with its cells as in these rows
-abbrev pub Holds : Watch → All → Watched → Type 0
+abbrev pub Holds : Watch → All → WatchedLayer → Type 0
 Holds (watches.Interval p) a (layers.Interval l q) = (q ≡ p) × (phases.cells_of l ≡ a.layers.phases) × (phases.is_open l ≡ false)
 Holds (watches.Ped p) a (layers.Ped l q) = (q ≡ p) × (phases.cells_of l ≡ a.layers.phases) × (phases.is_open l ≡ false)
 Holds (watches.Call p) a (layers.Call l q) = (q ≡ p) × (calls.cells_of l ≡ a.layers.calls) × (calls.is_open l ≡ false)

@@ -27,7 +27,7 @@ ghost use Rattle.tsb_bench.specs.Shown.{IsShown};
 
 use crate::cabinet::{Cabinet, Changes, MOST_CELLS};
 use crate::shown::{forget_shown, keep_shown};
-use crate::watched::Watched;
+use crate::watched::WatchedLayer;
 use arrayvec::ArrayVec;
 use std::alloc::Global;
 use std::marker::Model;
@@ -425,7 +425,7 @@ impl Bench {
     pub fn when(&self, watch: Watch) -> Option<u32>
         ensures { TellsLastChange watch (pasts (state_of self.now) self.now.records) result }
     {
-        let mut watched = Watched::of(&self.cabinet, watch);
+        let mut watched = WatchedLayer::of(&self.cabinet, watch);
         let value = watched.value();
         let mut tick = self.tick;
         let mut records = self.history.walk_back();

@@ -21,7 +21,7 @@ use tsb_types::Watch;
 
 /// The layer that has a watched value, and which of the layer's values that is.
 #[derive(Clone, Copy)]
-pub(crate) enum Watched {
+pub(crate) enum WatchedLayer {
     /// The interval of a phase.
     Interval(Phases, Phase),
     /// The pedestrian part of a phase.
@@ -60,21 +60,21 @@ impl Value {
     }
 }
 
-impl Watched {
+impl WatchedLayer {
     /// The layer of a watched value, as it is in the cabinet.
-    pub(crate) fn of(cabinet: &Cabinet, watch: Watch) -> Watched
+    pub(crate) fn of(cabinet: &Cabinet, watch: Watch) -> WatchedLayer
         requires shut { IsShut cabinet.now }
         ensures { Holds watch (rows_of cabinet.now) result }
     {
         let controller = &cabinet.controller;
         match watch {
-            Watch::Interval(phase) => Watched::Interval(*controller.phases(), phase),
-            Watch::Ped(phase) => Watched::Ped(*controller.phases(), phase),
-            Watch::Call(phase) => Watched::Call(*controller.calls(), phase),
-            Watch::Output(detector) => Watched::Output(*controller.detectors(), detector),
-            Watch::Alarm(detector) => Watched::Alarm(*controller.detectors(), detector),
-            Watch::Stage => Watched::Stage(*controller.preempts()),
-            Watch::Trip => Watched::Trip(cabinet.monitor),
+            Watch::Interval(phase) => WatchedLayer::Interval(*controller.phases(), phase),
+            Watch::Ped(phase) => WatchedLayer::Ped(*controller.phases(), phase),
+            Watch::Call(phase) => WatchedLayer::Call(*controller.calls(), phase),
+            Watch::Output(detector) => WatchedLayer::Output(*controller.detectors(), detector),
+            Watch::Alarm(detector) => WatchedLayer::Alarm(*controller.detectors(), detector),
+            Watch::Stage => WatchedLayer::Stage(*controller.preempts()),
+            Watch::Trip => WatchedLayer::Trip(cabinet.monitor),
         }
     }
 
@@ -86,13 +86,13 @@ impl Watched {
         ensures untouched { result ≡ false → self.new ≡ self.old }
     {
         match self {
-            Watched::Interval(phases, _) => undo_part(phases, change, PHASES),
-            Watched::Ped(phases, _) => undo_part(phases, change, PHASES),
-            Watched::Call(calls, _) => undo_part(calls, change, CALLS),
-            Watched::Output(detectors, _) => undo_part(detectors, change, DETECTORS),
-            Watched::Alarm(detectors, _) => undo_part(detectors, change, DETECTORS),
-            Watched::Stage(preempts) => undo_part(preempts, change, PREEMPTS),
-            Watched::Trip(monitor) => undo_part(&mut monitor.bank, change, MONITOR),
+            WatchedLayer::Interval(phases, _) => undo_part(phases, change, PHASES),
+            WatchedLayer::Ped(phases, _) => undo_part(phases, change, PHASES),
+            WatchedLayer::Call(calls, _) => undo_part(calls, change, CALLS),
+            WatchedLayer::Output(detectors, _) => undo_part(detectors, change, DETECTORS),
+            WatchedLayer::Alarm(detectors, _) => undo_part(detectors, change, DETECTORS),
+            WatchedLayer::Stage(preempts) => undo_part(preempts, change, PREEMPTS),
+            WatchedLayer::Trip(monitor) => undo_part(&mut monitor.bank, change, MONITOR),
         }
     }
 
@@ -102,13 +102,13 @@ impl Watched {
         ensures { (watch : WatchValue) (now : ℕ) (a : All) → Holds watch a self.now → AreAllBy now a → told result ≡ watched watch (all_in now a) }
     {
         match self {
-            Watched::Interval(phases, phase) => Value::Interval(phases.interval(*phase)),
-            Watched::Ped(phases, phase) => Value::Ped(phases.ped(*phase)),
-            Watched::Call(calls, phase) => Value::Call(calls.vehicle(*phase)),
-            Watched::Output(detectors, detector) => Value::Output(detectors.output(*detector)),
-            Watched::Alarm(detectors, detector) => Value::Alarm(detectors.alarm(*detector)),
-            Watched::Stage(preempts) => Value::Stage(preempts.stage()),
-            Watched::Trip(monitor) => Value::Trip(monitor.trip()),
+            WatchedLayer::Interval(phases, phase) => Value::Interval(phases.interval(*phase)),
+            WatchedLayer::Ped(phases, phase) => Value::Ped(phases.ped(*phase)),
+            WatchedLayer::Call(calls, phase) => Value::Call(calls.vehicle(*phase)),
+            WatchedLayer::Output(detectors, detector) => Value::Output(detectors.output(*detector)),
+            WatchedLayer::Alarm(detectors, detector) => Value::Alarm(detectors.alarm(*detector)),
+            WatchedLayer::Stage(preempts) => Value::Stage(preempts.stage()),
+            WatchedLayer::Trip(monitor) => Value::Trip(monitor.trip()),
         }
     }
 }

@@ -11,7 +11,7 @@ use Rattle.tsb_step.specs.tsb_plan.Plan.{Plan, phases}
 use Rattle.tsb_phase.specs.declared.conditions.Conditions as phase_conditions
 use Rattle.tsb_phase.specs.Promises.{IsTicked, TellsOver, IsClearing}
 use Rattle.tsb_phase.proofs.OverLemmas.{overs-may_clear}
-use Rattle.tsb_ring.specs.declared.conditions.Conditions as ring_conditions
+use Rattle.tsb_ring.specs.declared.conditions.RingConditions as ring_conditions
 use Rattle.tsb_ring.specs.Cells.{IsBy, rings_in}
 use Rattle.tsb_ring.specs.Looks.{IsWithin}
 use Rattle.tsb_ring.specs.Moves.{if_passes, moves, is_cleared}
@@ -55,11 +55,11 @@ cleared-phase plan s g here p on =
       | inr two ↦ here.ringed Ring2 p (moved-ring plan g Ring2 _ p two)
     ]
 
-pub apart : (plan : Plan) (c : ring_conditions.Conditions) (row : List ℕ) (m : Moves) → IsDecided plan c row m → AreApart m
+pub apart : (plan : Plan) (c : ring_conditions.RingConditions) (row : List ℕ) (m : Moves) → IsDecided plan c row m → AreApart m
 apart plan c row m decided = subst AreApart (sym decided) (moves-apart plan (rings_in row) (given_of plan c))
 
 -- what the rings clear may be cleared once the times of phases have run
-pub clearing : (now : ℕ) (plan : Plan) (k : phase_conditions.Conditions) (c : ring_conditions.Conditions) (row old timed : List ℕ) (m : Moves) → IsPlaced plan → IsBy row →
+pub clearing : (now : ℕ) (plan : Plan) (k : phase_conditions.Conditions) (c : ring_conditions.RingConditions) (row old timed : List ℕ) (m : Moves) → IsPlaced plan → IsBy row →
     IsDecided plan c row m → IsTicked now k plan old timed → TellsOver now plan old c.timing → (p : ℕ) → is_cleared m p ≡ true → IsClearing p timed
 clearing now plan k c row old timed m ok by decided ticked over p on =
     let here : is_cleared (moves plan (rings_in row) (given_of plan c)) p ≡ true = subst (λ (x : Moves). is_cleared x p ≡ true) decided on in

@@ -19,7 +19,7 @@ use Rattle.tsb_calls.specs.Promises as calls
 use Rattle.tsb_phase.specs.declared.conditions.Conditions as phase_conditions
 use Rattle.tsb_phase.specs.Cells as phase_cells
 use Rattle.tsb_phase.specs.Promises as phases
-use Rattle.tsb_ring.specs.declared.conditions.Conditions as ring_conditions
+use Rattle.tsb_ring.specs.declared.conditions.RingConditions as ring_conditions
 use Rattle.tsb_ring.specs.declared.ring_order.RingOrder.TheVariants.{Ring1First}
 use Rattle.tsb_ring.specs.Cells as ring_cells
 use Rattle.tsb_ring.specs.Moves.{is_ended, is_started}
@@ -72,7 +72,7 @@ pub record AreConditions (s : Sensed) (called : Called) (counts : List ℕ) (c :
   pub orders_are : c.orders ≡ orders s
 
 -- what the rings decide from: phases as they were, the sequence in effect, calls, phase timing and orders
-abbrev pub for_rings : Sensed → Called → Timing → ring_conditions.Conditions
+abbrev pub for_rings : Sensed → Called → Timing → ring_conditions.RingConditions
 for_rings s called timing = record {
   intervals = s.intervals;
   sequence = s.coordination.sequence;

@@ -105,10 +105,10 @@ impl Sensed {
     }
 
     /// What the rings decide from.
-    pub(crate) fn for_rings(&self, called: &Called, timing: &Timing) -> tsb_ring::Conditions
+    pub(crate) fn for_rings(&self, called: &Called, timing: &Timing) -> tsb_ring::RingConditions
         ensures { result ≡ for_rings self.now called.now timing.now }
     {
-        tsb_ring::Conditions {
+        tsb_ring::RingConditions {
             intervals: self.intervals,
             sequence: self.coordination.sequence,
             called: *called,

@@ -4,7 +4,7 @@ use Rattle.tsb_event_text.specs.declared.columns.Column.{Column}
 use Rattle.tsb_event_text.specs.declared.columns.Column.TheVariants.{Device, Time, Code, Parameter}
 use Rattle.tsb_event_text.specs.declared.columns.Columns.{Columns}
 use Rattle.tsb_event_text.specs.declared.columns.Separator.TheVariants.{Comma, Semicolon, Tab}
-use Rattle.tsb_event_text.specs.declared.faults.Shown.{Shown}
+use Rattle.tsb_event_text.specs.declared.faults.ShownField.{ShownField}
 use Rattle.tsb_event_text.specs.declared.faults.RowFault.{RowFault}
 use Rattle.tsb_event_text.specs.declared.faults.RowFault.TheVariants.{Utf16, Zip, Xml, Binary, Lacks, Quote, Parted, Missing, Ambiguous, NoDay, NoSeconds, OtherForm, NoTime, NoNumber}
 use Rattle.tsb_event_text.specs.declared.times.Moment.{Moment}
@@ -65,7 +65,7 @@ abbrev pub front_of : List ℕ → List ℕ
 front_of field = take (min (length field) 40) field
 
 -- a field as it is shown: its first bytes, and spaces behind them
-abbrev pub shown_of : List ℕ → Shown
+abbrev pub shown_of : List ℕ → ShownField
 shown_of field = record {
   bytes = front_of field ++ drop (length (front_of field)) (codes "                                        ");
   count = length (front_of field);

@@ -15,7 +15,7 @@ pub const SHOWN: usize = 40;
 
 /// The first bytes of a field, as a fault shows them.
 #[derive(Clone, Copy, Debug, PartialEq, Eq)]
-pub struct Shown {
+pub struct ShownField {
     /// Its first bytes, and spaces behind them.
     pub bytes: [u8; SHOWN],
     /// How many of them are bytes of the field.
@@ -42,17 +42,17 @@ pub enum RowFault {
     /// It ends before the field of this column.
     Missing(Column),
     /// Its time has a month and a day, and does not tell which is first.
-    Ambiguous(Shown),
+    Ambiguous(ShownField),
     /// Its time has a clock and no day.
-    NoDay(Shown),
+    NoDay(ShownField),
     /// Its time has a clock without seconds.
-    NoSeconds(Shown),
+    NoSeconds(ShownField),
     /// Its time is none in the first form, and one in the second.
-    OtherForm(TimeForm, TimeForm, Shown),
+    OtherForm(TimeForm, TimeForm, ShownField),
     /// Its time is none in this form, and in no other.
-    NoTime(TimeForm, Shown),
+    NoTime(TimeForm, ShownField),
     /// Its code or its parameter is no whole number.
-    NoNumber(Column, Shown),
+    NoNumber(Column, ShownField),
 }
 
 /// Why a line is no row, with its columns in these places; of a line that is one, its last cause. `times` is the form of
@@ -286,13 +286,13 @@ fn has_no_second(time: &[u8]) -> bool
 }
 
 /// A field as a fault shows it.
-fn front(field: &[u8]) -> Shown
+fn front(field: &[u8]) -> ShownField
     ensures { result ≡ shown_of field.now }
 {
     let first = &field[..field.len().min(SHOWN)];
     let mut bytes = [b' '; SHOWN];
     bytes[..first.len()].copy_from_slice(first);
-    Shown {
+    ShownField {
         bytes,
         count: first.len(),
     }

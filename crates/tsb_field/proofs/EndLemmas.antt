@@ -42,7 +42,7 @@ use Rattle.tsb_field_log.specs.Mapping.{wires_of}
 use Rattle.tsb_field_log.specs.declared.inputs.Wire.{Wire}
 use Rattle.tsb_field_streams.specs.Standing.{given_of}
 use Rattle.tsb_field_streams.specs.Streaming.{Ended}
-use Rattle.tsb_field_streams.specs.declared.filter.Reading.{Reading}
+use Rattle.tsb_field_streams.specs.declared.filter.RowOptions.{RowOptions}
 use Rattle.tsb_field_streams.specs.declared.filter.Summary.{Summary}
 use Rattle.tsb_field.specs.LogEnds.{IsPassedOn, LoggedBeside, LoggedWith, NoPlan, TellsFault}
 use Rattle.tsb_words.specs.FieldWords.{LogWish}
@@ -167,7 +167,7 @@ told-fault filters.Write status told tells memory read write line = absurd (writ
 told-fault fault status told tells memory read write line = line
 
 -- a filter ended so with what it was given
-pub ended-as : (result : Result Summary FilterError) (reading : Reading) (device other : Option (List ℕ)) (wires more : List Wire) (input left old new : Option (List ℕ)) → other ≡ device → more ≡ wires
+pub ended-as : (result : Result Summary FilterError) (reading : RowOptions) (device other : Option (List ℕ)) (wires more : List Wire) (input left old new : Option (List ℕ)) → other ≡ device → more ≡ wires
     → Ended result (given_of reading other (wires_of more)) input left old new → Ended result (given_of reading device (wires_of wires)) input left old new
 ended-as result reading device other wires more input left old new same_device same_wires ended =
     subst (λ (d : Option (List ℕ)). Ended result (given_of reading d (wires_of wires)) input left old new) same_device

@@ -3,7 +3,7 @@
 use Rattle.std.specs.Prelude.{ℕ, zero, suc, ◌/◌, ◌%◌, ◌==◌, ◌&&◌, Bool, List, [], ◌++◌, if◌then◌else◌, codes, decimal}
 use Rattle.std.specs.List.{list_any}
 use Rattle.tsb_field_log.specs.Wires.{leads_to}
-use Rattle.tsb_field_log.specs.declared.inputs.Kind.TheVariants.{Vehicle}
+use Rattle.tsb_field_log.specs.declared.inputs.InputKind.TheVariants.{Vehicle}
 use Rattle.tsb_field_log.specs.declared.inputs.Wire.{Wire}
 use Rattle.tsb_text.specs.tsb_plan.Parts.{detector_delay, detector_extend}
 use Rattle.tsb_text.specs.tsb_plan.Plan.{Plan}

@@ -9,7 +9,7 @@ ghost use Rattle.tsb_field.specs.LogEnds.{Logged, TellsFault, TellsLogEnd, Tells
 use crate::report::{is_lost, report, status_of};
 use std::alloc::Global;
 use std::io::{Read, Write};
-use tsb_field_streams::{FilterError, Reading, Summary, log};
+use tsb_field_streams::{FilterError, RowOptions, Summary, log};
 use tsb_program::{Failure, Status, Watched, fail, tell};
 use tsb_words::field_files::{LogAsked, Manner};
 
@@ -28,7 +28,7 @@ pub(crate) fn write_log<R: Read, W: Write, E: Write>(
     ensures { Logged result (seen_log asked.now)
         (seen R.remaining input.old) (seen R.remaining input.new) (seen W.contents output.old) (seen W.contents output.new) (seen E.contents errors.old) (seen E.contents errors.new) }
 {
-    let reading = Reading {
+    let reading = RowOptions {
         from: asked.from,
         times: asked.manner.times,
         zone: asked.manner.zone,

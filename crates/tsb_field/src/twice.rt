@@ -3,12 +3,12 @@
 ghost use Rattle.std.specs.Prelude.{◌≡◌, ◌++◌, IfOk, OnOk, string_bytes};
 ghost use Rattle.tsb_field_log.specs.Mapping.{wires_of};
 ghost use Rattle.tsb_field_log.specs.Wires.{leads_to};
-ghost use Rattle.tsb_field_log.specs.declared.inputs.Kind.TheVariants.{Vehicle};
+ghost use Rattle.tsb_field_log.specs.declared.inputs.InputKind.TheVariants.{Vehicle};
 ghost use Rattle.tsb_text.specs.tsb_plan.PlanOf.{plan_of};
 ghost use Rattle.tsb_field.specs.Twice.{acts_twice, both_line, delay_line, extend_line, is_led, twice_line, twice_lines, twice_text};
 
 use std::alloc::{AllocError, Global};
-use tsb_field_log::{Kind, Wire, wires};
+use tsb_field_log::{InputKind, Wire, wires};
 use tsb_text::{Detector, Plan};
 
 /// How many vehicle detectors there are.
@@ -71,7 +71,7 @@ fn is_led(wires: &[Wire], detector: u8) -> bool
 fn leads_to(wire: Wire, detector: u8) -> bool
     ensures { result ≡ leads_to wire Vehicle detector }
 {
-    wire.kind == Kind::Vehicle && wire.input == detector
+    wire.kind == InputKind::Vehicle && wire.input == detector
 }
 
 /// What is told of a detector with this delay and this extension, in tenths of a second: nothing where it has neither.

@@ -2,7 +2,7 @@
 use Rattle.std.proofs.Common.{ℕ, List, arith}
 use Rattle.tsb_types.specs.Sets.{all_off}
 use Rattle.tsb_types.proofs.SetLemmas.{names-list_of, list_of-below}
-use Rattle.tsb_field_log.specs.declared.inputs.Kind.TheVariants.{Vehicle, Pedestrian, Preempt}
+use Rattle.tsb_field_log.specs.declared.inputs.InputKind.TheVariants.{Vehicle, Pedestrian, Preempt}
 use Rattle.tsb_field_log.specs.declared.inputs.Wire.{Wire}
 use Rattle.tsb_field_log.specs.declared.inputs.InputEvent.{InputEvent}
 use Rattle.tsb_field_log.specs.Ticks.{row_in, input_on}

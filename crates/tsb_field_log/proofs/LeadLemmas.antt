@@ -8,8 +8,8 @@ use Rattle.tsb_types.specs.Sets.{has_number, list_of, set_of_list}
 use Rattle.tsb_types.specs.declared.row.Row.{Row}
 use Rattle.tsb_types.specs.declared.number_set.NumberSet.{NumberSet}
 use Rattle.tsb_types.proofs.SetLemmas.{same-list_of, same_numbers, names-list_of, names-above, list_of-below}
-use Rattle.tsb_field_log.specs.declared.inputs.Kind.{Kind}
-use Rattle.tsb_field_log.specs.declared.inputs.Kind.TheVariants.{Vehicle, Pedestrian, Preempt}
+use Rattle.tsb_field_log.specs.declared.inputs.InputKind.{InputKind}
+use Rattle.tsb_field_log.specs.declared.inputs.InputKind.TheVariants.{Vehicle, Pedestrian, Preempt}
 use Rattle.tsb_field_log.specs.declared.inputs.Wire.{Wire}
 use Rattle.tsb_field_log.specs.declared.inputs.InputEvent.{InputEvent}
 use Rattle.tsb_field_log.specs.declared.leads.Lead.{Lead}
@@ -87,7 +87,7 @@ untouched-wire from tick es e wire le lt =
     ap (λ (b : Bool). b || switched_on wire (begin_of from tick) (begin_of from (tick + 1)) (es ++ e ∷ [])) begun
     ∙ ap (λ (b : Bool). on_at false wire (begin_of from tick) es || b) raised
 
-untouched-input : (from tick : ℕ) (es : List InputEvent) (e : InputEvent) (wires : List Wire) (kind : Kind) (number : ℕ) → begin_of from (tick + 1) ≤ e.nanos → begin_of from tick < e.nanos
+untouched-input : (from tick : ℕ) (es : List InputEvent) (e : InputEvent) (wires : List Wire) (kind : InputKind) (number : ℕ) → begin_of from (tick + 1) ≤ e.nanos → begin_of from tick < e.nanos
     → input_on from wires (es ++ e ∷ []) tick kind number ≡ input_on from wires es tick kind number
 untouched-input from tick es e [] kind number le lt = refl
 untouched-input from tick es e (w ∷ ws) kind number le lt =
@@ -98,7 +98,7 @@ abbrev row_with : NumberSet → NumberSet → NumberSet → Row
 row_with v p n = record { vehicles = v; pedestrians = p; preempts = n }
 
 -- rows of the same inputs are one
-lists-row : (a b : Kind → ℕ → Bool) → ((kind : Kind) (number : ℕ) → a kind number ≡ b kind number)
+lists-row : (a b : InputKind → ℕ → Bool) → ((kind : InputKind) (number : ℕ) → a kind number ≡ b kind number)
     → row_with (set_of_list (list_of 16 (a Vehicle))) (set_of_list (list_of 8 (a Pedestrian))) (set_of_list (list_of 4 (a Preempt)))
     ≡ row_with (set_of_list (list_of 16 (b Vehicle))) (set_of_list (list_of 8 (b Pedestrian))) (set_of_list (list_of 4 (b Preempt)))
 lists-row a b same =
@@ -142,7 +142,7 @@ leads-opened from tick to es (w ∷ ws) before =
 
 -- ## Rows
 
-lead-input : (from tick : ℕ) (es : List InputEvent) (wires : List Wire) (kind : Kind) (number : ℕ) → lead_on (map (lead_of from tick es) wires) kind number ≡ input_on from wires es tick kind number
+lead-input : (from tick : ℕ) (es : List InputEvent) (wires : List Wire) (kind : InputKind) (number : ℕ) → lead_on (map (lead_of from tick es) wires) kind number ≡ input_on from wires es tick kind number
 lead-input from tick es [] kind number = refl
 lead-input from tick es (w ∷ ws) kind number =
     ap (λ (b : Bool). (is_same_kind w.kind kind && w.input == number && is_on_in from w tick es) || b) (lead-input from tick es ws kind number)
@@ -168,12 +168,12 @@ step-off h true r k = refl
 step-off h false r k = refl
 
 -- the wire at a place, and those after it
-lead-more : (ls : List Lead) (i : ℕ) (d : Lead) (kind : Kind) (number : ℕ) → i < length ls
+lead-more : (ls : List Lead) (i : ℕ) (d : Lead) (kind : InputKind) (number : ℕ) → i < length ls
     → lead_on (drop i ls) kind number ≡ ((leads_to (get_or ls i d).wire kind number && ((get_or ls i d).begun || (get_or ls i d).raised)) || lead_on (drop (i + 1) ls) kind number)
 lead-more ls i d kind number lt = rw (add-one i) (ap (λ (v : List Lead). lead_on v kind number) (drop-cons ls i d lt))
 
 -- the row so far, with the wire at a place where that is on
-pub row-on : (ls : List Lead) (i : ℕ) (d : Lead) (row now : Row) (kind : Kind) (number : ℕ) → i < length ls → ((get_or ls i d).begun || (get_or ls i d).raised) ≡ true
+pub row-on : (ls : List Lead) (i : ℕ) (d : Lead) (row now : Row) (kind : InputKind) (number : ℕ) → i < length ls → ((get_or ls i d).begun || (get_or ls i d).raised) ≡ true
     → has_input now kind number ≡ (has_input row kind number || leads_to (get_or ls i d).wire kind number && is_input kind number)
     → (has_input row kind number || lead_on (drop i ls) kind number && is_input kind number) ≡ (lead_on ls kind number && is_input kind number)
     → (has_input now kind number || lead_on (drop (i + 1) ls) kind number && is_input kind number) ≡ (lead_on ls kind number && is_input kind number)
@@ -183,7 +183,7 @@ row-on ls i d row now kind number lt on has was =
     ∙ ap (λ (b : Bool). has_input row kind number || ((leads_to (get_or ls i d).wire kind number && b) || lead_on (drop (i + 1) ls) kind number) && is_input kind number) (sym on)
     ∙ ap (λ (b : Bool). has_input row kind number || b && is_input kind number) (sym (lead-more ls i d kind number lt)) ∙ was
 
-pub row-off : (ls : List Lead) (i : ℕ) (d : Lead) (row : Row) (kind : Kind) (number : ℕ) → i < length ls → ((get_or ls i d).begun || (get_or ls i d).raised) ≡ false
+pub row-off : (ls : List Lead) (i : ℕ) (d : Lead) (row : Row) (kind : InputKind) (number : ℕ) → i < length ls → ((get_or ls i d).begun || (get_or ls i d).raised) ≡ false
     → (has_input row kind number || lead_on (drop i ls) kind number && is_input kind number) ≡ (lead_on ls kind number && is_input kind number)
     → (has_input row kind number || lead_on (drop (i + 1) ls) kind number && is_input kind number) ≡ (lead_on ls kind number && is_input kind number)
 row-off ls i d row kind number lt off was =
@@ -192,7 +192,7 @@ row-off ls i d row kind number lt off was =
     ∙ ap (λ (b : Bool). has_input row kind number || b && is_input kind number) (sym (lead-more ls i d kind number lt)) ∙ was
 
 -- where all were looked at
-pub row-all : (ls : List Lead) (i : ℕ) (row : Row) (kind : Kind) (number : ℕ) → length ls ≤ i → (has_input row kind number || lead_on (drop i ls) kind number && is_input kind number) ≡ (lead_on ls kind number && is_input kind number)
+pub row-all : (ls : List Lead) (i : ℕ) (row : Row) (kind : InputKind) (number : ℕ) → length ls ≤ i → (has_input row kind number || lead_on (drop i ls) kind number && is_input kind number) ≡ (lead_on ls kind number && is_input kind number)
     → has_input row kind number ≡ (lead_on ls kind number && is_input kind number)
 row-all ls i row kind number le was =
     sym (or-false (has_input row kind number)) ∙ ap (λ (v : List Lead). has_input row kind number || lead_on v kind number && is_input kind number) (sym (drop_all i ls le)) ∙ was
@@ -216,7 +216,7 @@ set-is count set test fits small same = same_numbers set (set_of_list (list_of c
 
 -- the row that has the inputs that are on
 pub row-is : (row : Row) (ls : List Lead) → row.vehicles.word < 2 ^ 16 → row.pedestrians.word < 2 ^ 16 → row.preempts.word < 2 ^ 16
-    → ((kind : Kind) (number : ℕ) → has_input row kind number ≡ (lead_on ls kind number && is_input kind number)) → row ≡ row_of_leads ls
+    → ((kind : InputKind) (number : ℕ) → has_input row kind number ≡ (lead_on ls kind number && is_input kind number)) → row ≡ row_of_leads ls
 unfolding row_of_leads
 row-is row ls fv fp fn same =
     let small8 : list_of 8 (lead_on ls Pedestrian) < 2 ^ 8 = list_of-below 8 (lead_on ls Pedestrian) in

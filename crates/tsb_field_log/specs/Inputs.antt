@@ -1,19 +1,19 @@
 -- Inputs of a bench, the channels of a controller that lead to them, and when a channel is on.
 use Rattle.std.specs.Prelude.{ℕ, ◌==◌, ◌&&◌, ◌||◌, nat_le, nat_lt, Bool, true, false, List, [], ◌∷◌, if◌then◌else◌, Option, Some, None}
-use Rattle.tsb_field_log.specs.declared.inputs.Kind.{Kind}
-use Rattle.tsb_field_log.specs.declared.inputs.Kind.TheVariants.{Vehicle, Pedestrian, Preempt}
+use Rattle.tsb_field_log.specs.declared.inputs.InputKind.{InputKind}
+use Rattle.tsb_field_log.specs.declared.inputs.InputKind.TheVariants.{Vehicle, Pedestrian, Preempt}
 use Rattle.tsb_field_log.specs.declared.inputs.Wire.{Wire}
 use Rattle.tsb_field_log.specs.declared.inputs.Signal.{Signal}
 use Rattle.tsb_field_log.specs.declared.inputs.InputEvent.{InputEvent}
 
 -- how many inputs of this kind there are
-abbrev pub most_inputs : Kind → ℕ
+abbrev pub most_inputs : InputKind → ℕ
 most_inputs Vehicle = 16
 most_inputs Pedestrian = 8
 most_inputs Preempt = 4
 
 -- the kinds are one
-abbrev pub is_same_kind : Kind → Kind → Bool
+abbrev pub is_same_kind : InputKind → InputKind → Bool
 is_same_kind Vehicle Vehicle = true
 is_same_kind Vehicle Pedestrian = false
 is_same_kind Vehicle Preempt = false

@@ -4,8 +4,8 @@ use Rattle.tsb_types.specs.Sets.{list_of, set_of_list}
 use Rattle.tsb_types.specs.declared.row.Row.{Row}
 use Rattle.tsb_field_log.specs.Inputs.{is_of, is_same_kind, on_at, switched_on}
 use Rattle.tsb_field_log.specs.Ticks.{begin_of}
-use Rattle.tsb_field_log.specs.declared.inputs.Kind.{Kind}
-use Rattle.tsb_field_log.specs.declared.inputs.Kind.TheVariants.{Vehicle, Pedestrian, Preempt}
+use Rattle.tsb_field_log.specs.declared.inputs.InputKind.{InputKind}
+use Rattle.tsb_field_log.specs.declared.inputs.InputKind.TheVariants.{Vehicle, Pedestrian, Preempt}
 use Rattle.tsb_field_log.specs.declared.inputs.Wire.{Wire}
 use Rattle.tsb_field_log.specs.declared.inputs.InputEvent.{InputEvent}
 use Rattle.tsb_field_log.specs.declared.leads.Lead.{Lead}
@@ -39,7 +39,7 @@ abbrev pub lead_opened : Lead → Lead
 lead_opened lead = record { wire = lead.wire; on = lead.on; begun = lead.on; raised = false }
 
 -- one of these that lead to the input is on in the tick
-abbrev pub lead_on : List Lead → Kind → ℕ → Bool
+abbrev pub lead_on : List Lead → InputKind → ℕ → Bool
 lead_on [] kind number = false
 lead_on (l ∷ ls) kind number = (is_same_kind l.wire.kind kind && l.wire.input == number && (l.begun || l.raised)) || lead_on ls kind number
 

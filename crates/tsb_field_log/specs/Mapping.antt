@@ -2,25 +2,25 @@
 use Rattle.std.specs.Prelude.{ℕ, zero, suc, ◌==◌, ◌&&◌, Bool, List, [], ◌∷◌, ◌++◌, if◌then◌else◌}
 use Rattle.std.specs.List.{list_any}
 use Rattle.tsb_field_log.specs.Inputs.{is_same_kind, most_inputs}
-use Rattle.tsb_field_log.specs.declared.inputs.Kind.{Kind}
-use Rattle.tsb_field_log.specs.declared.inputs.Kind.TheVariants.{Vehicle, Pedestrian, Preempt}
+use Rattle.tsb_field_log.specs.declared.inputs.InputKind.{InputKind}
+use Rattle.tsb_field_log.specs.declared.inputs.InputKind.TheVariants.{Vehicle, Pedestrian, Preempt}
 use Rattle.tsb_field_log.specs.declared.inputs.Wire.{Wire}
 
 -- the wire is of this kind, and from this channel
-abbrev pub leads_from : Kind → ℕ → Wire → Bool
+abbrev pub leads_from : InputKind → ℕ → Wire → Bool
 leads_from kind channel wire = is_same_kind wire.kind kind && wire.channel == channel
 
 -- one of these wires is of this kind, and from this channel
-abbrev pub is_wired : List Wire → Kind → ℕ → Bool
+abbrev pub is_wired : List Wire → InputKind → ℕ → Bool
 is_wired wires kind channel = list_any (leads_from kind channel) wires
 
 -- the wire from a channel to the input of its own number; none where the channel is mapped
-abbrev pub own_wire : List Wire → Kind → ℕ → List Wire
+abbrev pub own_wire : List Wire → InputKind → ℕ → List Wire
 own_wire mapped kind number =
     if is_wired mapped kind number then [] else record { kind = kind; channel = number; input = number } ∷ []
 
 -- those from so many channels, from this one on
-unfoldable pub own_wires : List Wire → Kind → ℕ → ℕ → List Wire
+unfoldable pub own_wires : List Wire → InputKind → ℕ → ℕ → List Wire
 own_wires mapped kind number zero = []
 own_wires mapped kind number (suc count) = own_wire mapped kind number ++ own_wires mapped kind (suc number) count
 

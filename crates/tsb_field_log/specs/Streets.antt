@@ -9,7 +9,7 @@ use Rattle.tsb_field_log.specs.Leads.{lead_of}
 use Rattle.tsb_field_log.specs.declared.inputs.Wire.{Wire}
 use Rattle.tsb_field_log.specs.declared.inputs.InputEvent.{InputEvent}
 use Rattle.tsb_field_log.specs.declared.street.Street.{Street}
-use Rattle.tsb_field_log.specs.declared.street.Rows.{Rows}
+use Rattle.tsb_field_log.specs.declared.street.KnownRows.{KnownRows}
 
 -- the tick that a moment lies in, and 0 where it is before tick 1
 abbrev pub tick_at : ℕ → ℕ → ℕ
@@ -40,5 +40,5 @@ rows_until from wires events tick to =
     changes (row_in from wires events) (row_before (row_in from wires events) (unwritten tick)) (unwritten tick) (to - unwritten tick)
 
 -- rows one after the other
-abbrev pub rows_in : Rows → List LogRow
+abbrev pub rows_in : KnownRows → List LogRow
 rows_in rows = option_to_list rows.first ++ option_to_list rows.second

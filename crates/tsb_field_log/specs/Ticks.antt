@@ -4,8 +4,8 @@ use Rattle.std.specs.Prelude.{ℕ, ◌+◌, ◌-◌, ◌*◌, ◌==◌, ◌&&◌
 use Rattle.tsb_types.specs.Sets.{list_of, set_of_list}
 use Rattle.tsb_types.specs.declared.row.Row.{Row}
 use Rattle.tsb_field_log.specs.Inputs.{is_same_kind, on_at, switched_on}
-use Rattle.tsb_field_log.specs.declared.inputs.Kind.{Kind}
-use Rattle.tsb_field_log.specs.declared.inputs.Kind.TheVariants.{Vehicle, Pedestrian, Preempt}
+use Rattle.tsb_field_log.specs.declared.inputs.InputKind.{InputKind}
+use Rattle.tsb_field_log.specs.declared.inputs.InputKind.TheVariants.{Vehicle, Pedestrian, Preempt}
 use Rattle.tsb_field_log.specs.declared.inputs.Wire.{Wire}
 use Rattle.tsb_field_log.specs.declared.inputs.InputEvent.{InputEvent}
 
@@ -20,7 +20,7 @@ is_on_in from wire tick events =
     on_at false wire (begin_of from tick) events || switched_on wire (begin_of from tick) (begin_of from (tick + 1)) events
 
 -- an input is on in a tick: one of the wires that lead to it is
-abbrev pub input_on : ℕ → List Wire → List InputEvent → ℕ → Kind → ℕ → Bool
+abbrev pub input_on : ℕ → List Wire → List InputEvent → ℕ → InputKind → ℕ → Bool
 input_on from [] events tick kind number = false
 input_on from (wire ∷ wires) events tick kind number =
     (is_same_kind wire.kind kind && wire.input == number && is_on_in from wire tick events) || input_on from wires events tick kind number

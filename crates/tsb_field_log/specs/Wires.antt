@@ -3,20 +3,20 @@ use Rattle.std.specs.Prelude.{ℕ, ◌==◌, ◌&&◌, nat_le, Bool}
 use Rattle.tsb_types.specs.Sets.{has_number}
 use Rattle.tsb_types.specs.declared.row.Row.{Row}
 use Rattle.tsb_field_log.specs.Inputs.{is_same_kind, most_inputs}
-use Rattle.tsb_field_log.specs.declared.inputs.Kind.{Kind}
-use Rattle.tsb_field_log.specs.declared.inputs.Kind.TheVariants.{Vehicle, Pedestrian, Preempt}
+use Rattle.tsb_field_log.specs.declared.inputs.InputKind.{InputKind}
+use Rattle.tsb_field_log.specs.declared.inputs.InputKind.TheVariants.{Vehicle, Pedestrian, Preempt}
 use Rattle.tsb_field_log.specs.declared.inputs.Wire.{Wire}
 
 -- a bench has this input
-abbrev pub is_input : Kind → ℕ → Bool
+abbrev pub is_input : InputKind → ℕ → Bool
 is_input kind number = nat_le 1 number && nat_le number (most_inputs kind)
 
 -- the row has this input on
-abbrev pub has_input : Row → Kind → ℕ → Bool
+abbrev pub has_input : Row → InputKind → ℕ → Bool
 has_input row Vehicle number = has_number row.vehicles number
 has_input row Pedestrian number = has_number row.pedestrians number
 has_input row Preempt number = has_number row.preempts number
 
 -- the wire leads to this input
-abbrev pub leads_to : Wire → Kind → ℕ → Bool
+abbrev pub leads_to : Wire → InputKind → ℕ → Bool
 leads_to wire kind number = is_same_kind wire.kind kind && wire.input == number

@@ -4,7 +4,7 @@ ghost use Rattle.tsb_field_log.specs.Inputs.{is_of, most_inputs, signal_of};
 
 /// A kind of input.
 #[derive(Clone, Copy, PartialEq, Eq)]
-pub enum Kind {
+pub enum InputKind {
     /// A vehicle detector.
     Vehicle,
     /// A pedestrian detector.
@@ -13,15 +13,15 @@ pub enum Kind {
     Preempt,
 }
 
-impl Kind {
+impl InputKind {
     /// How many inputs of this kind a bench has.
     pub fn most(self) -> u8
         ensures { result ≡ most_inputs self }
     {
         match self {
-            Kind::Vehicle => 16,
-            Kind::Pedestrian => 8,
-            Kind::Preempt => 4,
+            InputKind::Vehicle => 16,
+            InputKind::Pedestrian => 8,
+            InputKind::Preempt => 4,
         }
     }
 }
@@ -29,7 +29,7 @@ impl Kind {
 /// What an event says of an input: its kind, and whether it is switched on or off.
 #[derive(Clone, Copy)]
 pub struct Signal {
-    pub kind: Kind,
+    pub kind: InputKind,
     pub on: bool,
 }
 
@@ -40,12 +40,12 @@ impl Signal {
         ensures { result ≡ signal_of code }
     {
         let (kind, on) = match code {
-            82 => (Kind::Vehicle, true),
-            81 => (Kind::Vehicle, false),
-            90 => (Kind::Pedestrian, true),
-            89 => (Kind::Pedestrian, false),
-            102 => (Kind::Preempt, true),
-            104 => (Kind::Preempt, false),
+            82 => (InputKind::Vehicle, true),
+            81 => (InputKind::Vehicle, false),
+            90 => (InputKind::Pedestrian, true),
+            89 => (InputKind::Pedestrian, false),
+            102 => (InputKind::Preempt, true),
+            104 => (InputKind::Preempt, false),
             _ => return None,
         };
         Some(Signal { kind, on })
@@ -55,7 +55,7 @@ impl Signal {
 /// A channel of a controller that leads to an input of a bench. Several may lead to one input, and one to several.
 #[derive(Clone, Copy, PartialEq, Eq)]
 pub struct Wire {
-    pub kind: Kind,
+    pub kind: InputKind,
     /// The controller's number.
     pub channel: u32,
     /// The bench's number, from 1 to the most that there are of the kind.
@@ -67,7 +67,7 @@ pub struct Wire {
 pub struct InputEvent {
     /// The moment, in nanoseconds, as a `Moment` of an event row counts them.
     pub nanos: u128,
-    pub kind: Kind,
+    pub kind: InputKind,
     /// The controller's number.
     pub channel: u32,
     /// Whether it is switched on.

@@ -3,9 +3,9 @@ ghost use Rattle.std.specs.Prelude.{◌≡◌, ◌||◌, ◌&&◌, ℕ, false, m
 ghost use Rattle.tsb_field_log.specs.Inputs.{is_of};
 ghost use Rattle.tsb_field_log.specs.Leads.{lead_opened, lead_taken, row_of_leads};
 ghost use Rattle.tsb_field_log.specs.Wires.{has_input, is_input, leads_to};
-ghost use Rattle.tsb_field_log.specs.declared.inputs.Kind.{Kind};
+ghost use Rattle.tsb_field_log.specs.declared.inputs.InputKind.{InputKind};
 
-use crate::inputs::{InputEvent, Kind, Wire};
+use crate::inputs::{InputEvent, InputKind, Wire};
 use tsb_types::Row;
 
 /// A wire, and what is known of it in the present tick.
@@ -110,22 +110,22 @@ pub(crate) fn row_of(leads: &[Lead]) -> Row
 
 /// The row with the input of a wire switched on, where a bench has that input.
 fn with_input(row: Row, wire: Wire) -> Row
-    ensures { (kind : Kind) (number : ℕ) → has_input result kind number
+    ensures { (kind : InputKind) (number : ℕ) → has_input result kind number
         ≡ (has_input row kind number || leads_to wire kind number && is_input kind number) }
 {
     if wire.input < 1 || wire.input > wire.kind.most() {
         return row;
     }
     match wire.kind {
-        Kind::Vehicle => Row {
+        InputKind::Vehicle => Row {
             vehicles: row.vehicles.with(wire.input, true),
             ..row
         },
-        Kind::Pedestrian => Row {
+        InputKind::Pedestrian => Row {
             pedestrians: row.pedestrians.with(wire.input, true),
             ..row
         },
-        Kind::Preempt => Row {
+        InputKind::Preempt => Row {
             preempts: row.preempts.with(wire.input, true),
             ..row
         },

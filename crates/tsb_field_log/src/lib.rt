@@ -11,6 +11,6 @@ mod leads;
 mod mapping;
 mod street;
 
-pub use inputs::{InputEvent, Kind, Signal, Wire};
+pub use inputs::{InputEvent, InputKind, Signal, Wire};
 pub use mapping::{is_wired, wires};
-pub use street::{Rows, Street};
+pub use street::{KnownRows, Street};

@@ -3,7 +3,7 @@ ghost use Rattle.std.specs.Prelude.{◌≡◌, ◌++◌, IfOk, OnOk};
 ghost use Rattle.tsb_field_log.specs.Inputs.{most_inputs};
 ghost use Rattle.tsb_field_log.specs.Mapping.{is_wired, leads_from, own_wires, wires_of};
 
-use crate::inputs::{Kind, Wire};
+use crate::inputs::{InputKind, Wire};
 use std::alloc::{AllocError, Global};
 
 /// The wires that are mapped, and then for each kind a wire from channel n to input n, from 1 to the most inputs of the
@@ -14,28 +14,28 @@ pub fn wires(alloc: Global, mapped: &[Wire]) -> Result<Vec<Wire>, AllocError>
 {
     let mut all = Vec::new(alloc);
     all.extend_from_slice(mapped)?;
-    push_own_wires(&mut all, mapped, Kind::Vehicle)?;
-    push_own_wires(&mut all, mapped, Kind::Pedestrian)?;
-    push_own_wires(&mut all, mapped, Kind::Preempt)?;
+    push_own_wires(&mut all, mapped, InputKind::Vehicle)?;
+    push_own_wires(&mut all, mapped, InputKind::Pedestrian)?;
+    push_own_wires(&mut all, mapped, InputKind::Preempt)?;
     Ok(all)
 }
 
 /// Whether one of these wires is of this kind, and from this channel.
-pub fn is_wired(wires: &[Wire], kind: Kind, channel: u32) -> bool
+pub fn is_wired(wires: &[Wire], kind: InputKind, channel: u32) -> bool
     ensures { result ≡ is_wired wires.now kind channel }
 {
     wires.iter().any(|wire| leads_from(*wire, kind, channel))
 }
 
 /// Whether the wire is of this kind, and from this channel.
-fn leads_from(wire: Wire, kind: Kind, channel: u32) -> bool
+fn leads_from(wire: Wire, kind: InputKind, channel: u32) -> bool
     ensures { result ≡ leads_from kind channel wire }
 {
     wire.kind == kind && wire.channel == channel
 }
 
 /// Pushes the wires of a kind from the channels that are not mapped to the inputs of their own numbers.
-fn push_own_wires(all: &mut Vec<Wire>, mapped: &[Wire], kind: Kind) -> Result<(), AllocError>
+fn push_own_wires(all: &mut Vec<Wire>, mapped: &[Wire], kind: InputKind) -> Result<(), AllocError>
     ensures { OnOk result (all.new.items ≡ all.old.items ++ own_wires mapped.now kind 1 (most_inputs kind)) }
 {
     let most = kind.most();

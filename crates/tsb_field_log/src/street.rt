@@ -23,7 +23,7 @@ const TENTH: u128 = 100_000_000;
 /// Rows of a log that have become known, one after the other: at most two of the ticks between two events differ from
 /// the row before.
 #[derive(Clone, Copy, PartialEq, Eq)]
-pub struct Rows {
+pub struct KnownRows {
     pub first: Option<LogRow>,
     pub second: Option<LogRow>,
 }
@@ -64,7 +64,7 @@ impl Street {
 
     /// Takes an event, and gives the rows that have become known. `None` where it is past tick 6,000,000: the street is
     /// then as it was. Events come in the order of their ticks.
-    pub fn push(&mut self, event: InputEvent) -> Option<Rows>
+    pub fn push(&mut self, event: InputEvent) -> Option<KnownRows>
         ensures past { IsNone result ↔ (TICKS < tick_at self.old.from event.nanos) }
         ensures pushed { (wires : List Wire) (events : List InputEvent) → Follows wires events self.old
             → self.old.tick ≤ tick_at self.old.from event.nanos
@@ -91,7 +91,7 @@ impl Street {
     }
 
     /// The rows that become known once no more events come: up to tick 6,000,000.
-    pub fn finish(&mut self) -> Rows
+    pub fn finish(&mut self) -> KnownRows
         ensures given { (wires : List Wire) (events : List InputEvent) → Follows wires events self.old → self.old.tick ≤ TICKS
             → rows_in result ≡ rows_until self.old.from wires events self.old.tick (TICKS + 1) }
         ensures whole { (from : ℕ) (wires : List Wire) (events : List InputEvent) → HasTaken from wires events self.old
@@ -103,7 +103,7 @@ impl Street {
 
 impl Street {
     /// Goes to a tick, before its first event, where that is a later one, and gives the rows of the ticks before it.
-    fn advance(&mut self, to: u32) -> Rows
+    fn advance(&mut self, to: u32) -> KnownRows
         requires { to ≤ TICKS + 1 }
         ensures from { self.new.from ≡ self.old.from }
         ensures tick { self.old.tick ≤ to → self.new.tick ≡ to }
@@ -111,7 +111,7 @@ impl Street {
             → Follows wires events self.new × (rows_in result ≡ rows_until self.old.from wires events self.old.tick to) }
     {
         if to <= self.tick {
-            return Rows {
+            return KnownRows {
                 first: None,
                 second: None,
             };
@@ -121,7 +121,7 @@ impl Street {
         }
         let first = self.settle_until(to, self.tick + 1);
         let second = self.settle_until(to, to);
-        Rows { first, second }
+        KnownRows { first, second }
     }
 
     /// Where this tick is before `to`, gives its row and goes to `next`: the tick after it, or any later one where no event

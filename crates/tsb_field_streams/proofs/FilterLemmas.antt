@@ -16,7 +16,7 @@ use Rattle.tsb_field_log.specs.declared.inputs.Wire.{Wire}
 use Rattle.tsb_field_log.specs.declared.inputs.Signal.{Signal}
 use Rattle.tsb_field_log.specs.declared.inputs.InputEvent.{InputEvent}
 use Rattle.tsb_field_log.specs.declared.street.Street.{Street}
-use Rattle.tsb_field_log.specs.declared.street.Rows.{Rows}
+use Rattle.tsb_field_log.specs.declared.street.KnownRows.{KnownRows}
 use Rattle.tsb_field_log.specs.Inputs.{signal_of}
 use Rattle.tsb_field_log.specs.Changes.{changes}
 use Rattle.tsb_field_log.specs.Streets.{tick_at, rows_in}
@@ -133,7 +133,7 @@ event-taken g s e street t few =
     rw (le-ltb TICKS (tick_at g.from e.nanos) (within g.from g.wires s.events e street t), le-ltb MOST_ROWS (length (rows_before g.from g.wires (s.events ++ e ∷ []))) few) refl
 
 -- how many rows are known after it
-pub known-then : (g : Given) (s : Stand) (e : InputEvent) (f : Filter) (rows : Rows) (known : ℕ) → StandsAt g s f
+pub known-then : (g : Given) (s : Stand) (e : InputEvent) (f : Filter) (rows : KnownRows) (known : ℕ) → StandsAt g s f
     → rows_before g.from g.wires (s.events ++ e ∷ []) ≡ rows_before g.from g.wires s.events ++ rows_in rows
     → known ≡ f.rows + length (rows_in rows) → length (rows_before g.from g.wires (s.events ++ e ∷ [])) ≡ known
 known-then g s e f rows known at grown is =
@@ -143,7 +143,7 @@ known-then g s e f rows known at grown is =
     ap length grown ∙ omega (arith, were, all, is)
 
 -- a row that is in order is taken by what it says
-pub row-takes : (g : Given) (number : ℕ) (s : Stand) (row : EventRow) (signal : Signal) (given : Result Rows FilterError) (f : Filter) → s.last ≤ row.moment.nanos
+pub row-takes : (g : Given) (number : ℕ) (s : Stand) (row : EventRow) (signal : Signal) (given : Result KnownRows FilterError) (f : Filter) → s.last ≤ row.moment.nanos
     → signal_of row.code ≡ Some signal → Takes g (with_count s row.moment.nanos) (with_signal g (with_count s row.moment.nanos) row (Some signal)) given f
     → Takes g s (with_in_order g number s row) given f
 row-takes g number s row signal given f later told takes =
@@ -155,7 +155,7 @@ row-takes g number s row signal given f later told takes =
     subst (λ (come : Result Stand FilterError). Takes g s come given f) (sym is) takes
 
 -- a row that is in order and says nothing of an input
-pub row-passes : (g : Given) (number : ℕ) (s : Stand) (row : EventRow) (rows : Rows) (f : Filter) → s.last ≤ row.moment.nanos → signal_of row.code ≡ None → rows_in rows ≡ []
+pub row-passes : (g : Given) (number : ℕ) (s : Stand) (row : EventRow) (rows : KnownRows) (f : Filter) → s.last ≤ row.moment.nanos → signal_of row.code ≡ None → rows_in rows ≡ []
     → StandsAt g (with_count s row.moment.nanos) f → Takes g s (with_in_order g number s row) (Ok rows) f
 row-passes g number s row rows f later told none stands =
     let in_order : nat_lt row.moment.nanos s.last ≡ false = le-ltb row.moment.nanos s.last later in
@@ -169,7 +169,7 @@ row-passes g number s row rows f later told none stands =
     known = sym (ap (λ (v : List LogRow). rows_before g.from g.wires s.events ++ v) none ∙ append-nil (rows_before g.from g.wires s.events))
 
 -- the first row, with its columns in the usual places
-pub first-takes : (g : Given) (number : ℕ) (s : Stand) (text : List ℕ) (columns : Columns) (given : Result Rows FilterError) (f : Filter) → is_preface text ≡ false → columns ≡ usual_of text
+pub first-takes : (g : Given) (number : ℕ) (s : Stand) (text : List ℕ) (columns : Columns) (given : Result KnownRows FilterError) (f : Filter) → is_preface text ≡ false → columns ≡ usual_of text
     → Takes g s (with_row_line g number (record s { columns = Some columns }) columns text) given f → Takes g s (with_first g number s text None) given f
 first-takes g number s text columns given f no_preface usual takes =
     subst (λ (come : Result Stand FilterError). Takes g s come given f)
@@ -233,13 +233,13 @@ stands_held g s f held row latest at is most later = record {
 }
 
 -- a row that is given out is taken in order
-pub given-takes : (g : Given) (number : ℕ) (s : Stand) (rows : List EventRow) (first : Option EventRow) (row : EventRow) (given : Result Rows FilterError) (f : Filter) → first ≡ Some row
+pub given-takes : (g : Given) (number : ℕ) (s : Stand) (rows : List EventRow) (first : Option EventRow) (row : EventRow) (given : Result KnownRows FilterError) (f : Filter) → first ≡ Some row
     → Takes g (record s { held = rows }) (with_in_order g number (record s { held = rows }) row) given f → Takes g s (with_given g number (record s { held = rows }) first) given f
 given-takes g number s rows first row given f is takes =
     subst (λ (o : Option EventRow). Takes g s (with_given g number (record s { held = rows }) o) given f) (sym is) takes
 
 -- a row that is not too late, and for which there is room, is held
-pub late-takes : (g : Given) (number : ℕ) (s : Stand) (row : EventRow) (seconds bound : ℕ) (given : Result Rows FilterError) (f : Filter) → bound ≡ bound_of s.latest seconds → bound ≤ row.moment.nanos
+pub late-takes : (g : Given) (number : ℕ) (s : Stand) (row : EventRow) (seconds bound : ℕ) (given : Result KnownRows FilterError) (f : Filter) → bound ≡ bound_of s.latest seconds → bound ≤ row.moment.nanos
     → nat_le (most_held g.window) (length s.held) ≡ false → Takes g (with_held s row) (with_due g number (with_held s row) seconds) given f → Takes g s (with_late g number s row seconds) given f
 late-takes g number s row seconds bound given f is in_time room takes =
     let fault : Result Stand FilterError = Err (TimeOrder (lateness number s row.moment.nanos seconds)) in

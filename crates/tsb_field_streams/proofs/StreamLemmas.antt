@@ -10,7 +10,7 @@ use Rattle.tsb_lines.specs.Writes.{AppendsFront}
 use Rattle.tsb_lines.proofs.StreamLemmas.{appends-more}
 use Rattle.tsb_lines.specs.Lines.{HasNoFeed, kept, without_return}
 use Rattle.tsb_lines.proofs.KeptLemmas.{kept-more}
-use Rattle.tsb_field_log.specs.declared.street.Rows.{Rows}
+use Rattle.tsb_field_log.specs.declared.street.KnownRows.{KnownRows}
 use Rattle.tsb_field_log.specs.Changes.{rows_of}
 use Rattle.tsb_field_log.specs.Streets.{rows_in}
 use Rattle.tsb_log_text.specs.LogText.{log_text}
@@ -80,7 +80,7 @@ wrote-more g bytes more old new w = record {
 }
 
 -- the log that is known grows by the rows of a line
-known-grows : (g : Given) (s t : Stand) (rows : Rows) → rows_before g.from g.wires t.events ≡ rows_before g.from g.wires s.events ++ rows_in rows
+known-grows : (g : Given) (s t : Stand) (rows : KnownRows) → rows_before g.from g.wires t.events ≡ rows_before g.from g.wires s.events ++ rows_in rows
     → known_log g t ≡ known_log g s ++ log_text (rows_in rows)
 known-grows g s t rows grown = ap log_text grown ∙ text-append (rows_before g.from g.wires s.events) (rows_in rows)
 
@@ -112,7 +112,7 @@ write-fault (Err d) e is fault = let same : Err e ≡ Err Write = sym is ∙ fau
 -- ## A line
 
 -- the rows of a line that was taken are written, or the writer fails
-rows-went : (r : Result (Unit {0}) FilterError) (g : Given) (bytes : List ℕ) (s t : Stand) (stream : Stream) (rows : Rows) (a b c : Option (List ℕ))
+rows-went : (r : Result (Unit {0}) FilterError) (g : Given) (bytes : List ℕ) (s t : Stand) (stream : Stream) (rows : KnownRows) (a b c : Option (List ℕ))
     → HasRead g bytes stream.number t [] → filtered g bytes ≡ Ok t → stream.line ≡ [] → StandsAt g t stream.filter → Appends a b (known_log g s)
     → rows_before g.from g.wires t.events ≡ rows_before g.from g.wires s.events ++ rows_in rows
     → OnOk r (Appends b c (log_text (rows_in rows))) → AppendsFront b c (log_text (rows_in rows)) → OnErr r (r ≡ Err Write) → Went r g bytes stream a c
@@ -130,7 +130,7 @@ rows-went (Err e) g bytes s t stream rows a b c read comes empty stands grown mo
       inl (let is : e ≡ Write = cc in is),
     )
 
-pub line-went : (r : Result (Unit {0}) FilterError) (g : Given) (bytes line : List ℕ) (old new : Stream) (rows : Rows) (a b c : Option (List ℕ)) → (f : Follows g bytes old a b)
+pub line-went : (r : Result (Unit {0}) FilterError) (g : Given) (bytes line : List ℕ) (old new : Stream) (rows : KnownRows) (a b c : Option (List ℕ)) → (f : Follows g bytes old a b)
     → line ≡ without_return old.line → Takes g f.stand (with_line g old.number f.stand line) (Ok rows) new.filter → new.line ≡ [] → new.number ≡ one_more old.number
     → OnOk r (Appends b c (log_text (rows_in rows))) → AppendsFront b c (log_text (rows_in rows)) → OnErr r (r ≡ Err Write) → Went r g (bytes ++ 10 ∷ []) new a c
 line-went r g bytes line old new rows a b c f is takes empty next ok front fault = goes (with_line g old.number f.stand line) refl takes
@@ -196,7 +196,7 @@ line-broken g before taken line next bytes e a c cut w =
 -- ## The end
 
 -- what the last line comes to
-pub record LastTaken (g : Given) (bytes : List ℕ) (old : Stream) (rows : Rows) (filter : Filter) (a b : Option (List ℕ)) : Type 0 where
+pub record LastTaken (g : Given) (bytes : List ℕ) (old : Stream) (rows : KnownRows) (filter : Filter) (a b : Option (List ℕ)) : Type 0 where
   pub before : Stand
   pub stand : Stand
   pub comes : filtered g bytes ≡ Ok stand
@@ -204,7 +204,7 @@ pub record LastTaken (g : Given) (bytes : List ℕ) (old : Stream) (rows : Rows)
   pub grown : Appends a b (known_log g before)
   pub more : rows_before g.from g.wires stand.events ≡ rows_before g.from g.wires before.events ++ rows_in rows
 
-pub last-taken : (g : Given) (bytes line : List ℕ) (old : Stream) (rows : Rows) (filter : Filter) (a b : Option (List ℕ)) → (f : Follows g bytes old a b) → line ≡ old.line
+pub last-taken : (g : Given) (bytes line : List ℕ) (old : Stream) (rows : KnownRows) (filter : Filter) (a b : Option (List ℕ)) → (f : Follows g bytes old a b) → line ≡ old.line
     → Takes g f.stand (with_line g old.number f.stand line) (Ok rows) filter → LastTaken g bytes old rows filter a b
 last-taken g bytes line old rows filter a b f is takes = goes (with_line g old.number f.stand line) refl takes
   where
@@ -234,7 +234,7 @@ last-fault g bytes line old filter e a b f is takes = (wrote-before g bytes old 
     goes (Err d) k takes = all-comes g bytes old.number f.stand f.held (Err e) f.read (sym same ∙ k ∙ ap Err (sym takes))
 
 -- its rows are not written
-pub last-unwritten : (g : Given) (bytes : List ℕ) (old : Stream) (rows : Rows) (filter : Filter) (e : FilterError) (a b c : Option (List ℕ)) → LastTaken g bytes old rows filter a b
+pub last-unwritten : (g : Given) (bytes : List ℕ) (old : Stream) (rows : KnownRows) (filter : Filter) (e : FilterError) (a b c : Option (List ℕ)) → LastTaken g bytes old rows filter a b
     → AppendsFront b c (log_text (rows_in rows)) → e ≡ Write → WroteFront g bytes a c × ((e ≡ Write) ⊎ (all_of g bytes ≡ Err e))
 last-unwritten g bytes old rows filter e a b c l front is =
     let tail = known-begins g l.stand filter l.stands in (
@@ -244,7 +244,7 @@ last-unwritten g bytes old rows filter e a b c l front is =
     )
 
 -- all that is known by the lines is written
-pub known-last : (g : Given) (bytes : List ℕ) (old : Stream) (rows : Rows) (filter : Filter) (a b c : Option (List ℕ)) → (l : LastTaken g bytes old rows filter a b)
+pub known-last : (g : Given) (bytes : List ℕ) (old : Stream) (rows : KnownRows) (filter : Filter) (a b c : Option (List ℕ)) → (l : LastTaken g bytes old rows filter a b)
     → Appends b c (log_text (rows_in rows)) → Known g bytes l.stand 0 filter a c
 known-last g bytes old rows filter a b c l ok = record {
   stand = l.stand;
@@ -255,7 +255,7 @@ known-last g bytes old rows filter a b c l ok = record {
 }
 
 -- its rows are written, or the writer fails
-pub last-took : (r : Result (Unit {0}) FilterError) (g : Given) (bytes : List ℕ) (old : Stream) (rows : Rows) (filter : Filter) (a b c : Option (List ℕ)) → LastTaken g bytes old rows filter a b
+pub last-took : (r : Result (Unit {0}) FilterError) (g : Given) (bytes : List ℕ) (old : Stream) (rows : KnownRows) (filter : Filter) (a b c : Option (List ℕ)) → LastTaken g bytes old rows filter a b
     → OnOk r (Appends b c (log_text (rows_in rows))) → AppendsFront b c (log_text (rows_in rows)) → OnErr r (r ≡ Err Write) → TookLast r g bytes filter a c
 last-took (Ok u) g bytes old rows filter a b c l ok front fault = (l.stand, known-last g bytes old rows filter a b c l ok)
 last-took (Err e) g bytes old rows filter a b c l ok front fault = last-unwritten g bytes old rows filter e a b c l front (write-fault (Err e) e refl fault)
@@ -289,7 +289,7 @@ known-wrote g bytes before n filter a c k =
     }
 
 -- one more is taken
-pub next-taken : (g : Given) (bytes : List ℕ) (before : Stand) (n : ℕ) (old new : Filter) (rows : Rows) (a b c : Option (List ℕ)) → (k : Known g bytes before n old a b)
+pub next-taken : (g : Given) (bytes : List ℕ) (before : Stand) (n : ℕ) (old new : Filter) (rows : KnownRows) (a b c : Option (List ℕ)) → (k : Known g bytes before n old a b)
     → Takes g k.stand (with_next g k.stand) (Ok rows) new → Appends b c (log_text (rows_in rows)) → Known g bytes before (n + 1) new a c
 next-taken g bytes before n old new rows a b c k takes ok =
     let more : suc n ≡ n + 1 = omega arith in
@@ -306,7 +306,7 @@ next-taken g bytes before n old new rows a b c k takes ok =
     }
 
 -- its rows are not written
-pub next-unwritten : (g : Given) (bytes : List ℕ) (before : Stand) (n : ℕ) (old new : Filter) (rows : Rows) (e : FilterError) (a b c : Option (List ℕ)) → (k : Known g bytes before n old a b)
+pub next-unwritten : (g : Given) (bytes : List ℕ) (before : Stand) (n : ℕ) (old new : Filter) (rows : KnownRows) (e : FilterError) (a b c : Option (List ℕ)) → (k : Known g bytes before n old a b)
     → Takes g k.stand (with_next g k.stand) (Ok rows) new → AppendsFront b c (log_text (rows_in rows)) → e ≡ Write → WroteFront g bytes a c × ((e ≡ Write) ⊎ (all_of g bytes ≡ Err e))
 next-unwritten g bytes before n old new rows e a b c k takes front write = (goes (with_next g k.stand) refl takes, inl write)
   where
@@ -391,17 +391,17 @@ end-long g bytes filter e a c k is long =
     )
 
 -- the log is whole
-whole-is : (g : Given) (s : Stand) (rest : Rows) → rows_before g.from g.wires s.events ++ rows_in rest ≡ rows_of (row_in g.from g.wires s.events)
+whole-is : (g : Given) (s : Stand) (rest : KnownRows) → rows_before g.from g.wires s.events ++ rows_in rest ≡ rows_of (row_in g.from g.wires s.events)
     → whole_log g s ≡ known_log g s ++ log_text (rows_in rest)
 whole-is g s rest is = ap log_text (sym is) ∙ text-append (rows_before g.from g.wires s.events) (rows_in rest)
 
 -- its last rows are not written
-pub end-unwritten : (g : Given) (bytes : List ℕ) (filter : Filter) (rest : Rows) (e : FilterError) (a b c : Option (List ℕ)) → (k : AllKnown g bytes filter a b)
+pub end-unwritten : (g : Given) (bytes : List ℕ) (filter : Filter) (rest : KnownRows) (e : FilterError) (a b c : Option (List ℕ)) → (k : AllKnown g bytes filter a b)
     → rows_before g.from g.wires k.stand.events ++ rows_in rest ≡ rows_of (row_in g.from g.wires k.stand.events) → AppendsFront b c (log_text (rows_in rest)) → e ≡ Write → Finished (Err e) g bytes a c
 end-unwritten g bytes filter rest e a b c k whole front is =
     (front-of g bytes k.before k.count k.stand (known_log g k.stand) (log_text (rows_in rest)) [] a b c k.first k.taken k.grown front (whole-is g k.stand rest whole ∙ sym (append-nil (known_log g k.stand ++ log_text (rows_in rest)))), inl is)
 
-grown-whole : (g : Given) (s : Stand) (rest : Rows) (a b c : Option (List ℕ)) → rows_before g.from g.wires s.events ++ rows_in rest ≡ rows_of (row_in g.from g.wires s.events)
+grown-whole : (g : Given) (s : Stand) (rest : KnownRows) (a b c : Option (List ℕ)) → rows_before g.from g.wires s.events ++ rows_in rest ≡ rows_of (row_in g.from g.wires s.events)
     → Appends a b (known_log g s) → Appends b c (log_text (rows_in rest)) → Appends a c (whole_log g s)
 grown-whole g s rest a b c whole grown ok = subst (λ (v : List ℕ). Appends a c v) (sym (whole-is g s rest whole)) (appends-more a b c (known_log g s) (log_text (rows_in rest)) grown ok)
 
@@ -411,7 +411,7 @@ whole-taken g s few =
     let long : length (whole_log g s) ≡ 39 * length (rows_of (row_in g.from g.wires s.events)) = text-length (rows_of (row_in g.from g.wires s.events)) in
     logs g.from g.wires s.events (omega (arith, long, few))
 
-pub end-whole : (g : Given) (bytes : List ℕ) (filter : Filter) (rest : Rows) (summary : Summary) (a b c : Option (List ℕ)) → (k : AllKnown g bytes filter a b)
+pub end-whole : (g : Given) (bytes : List ℕ) (filter : Filter) (rest : KnownRows) (summary : Summary) (a b c : Option (List ℕ)) → (k : AllKnown g bytes filter a b)
     → length (rows_of (row_in g.from g.wires k.stand.events)) ≤ 1720740 → rows_before g.from g.wires k.stand.events ++ rows_in rest ≡ rows_of (row_in g.from g.wires k.stand.events) → Appends b c (log_text (rows_in rest))
     → summary ≡ summary_at g k.stand → Finished (Ok summary) g bytes a c
 end-whole g bytes filter rest summary a b c k few whole ok is = (

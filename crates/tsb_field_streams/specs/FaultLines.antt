@@ -5,7 +5,7 @@ use Rattle.tsb_event_text.specs.declared.columns.Column.TheVariants.{Device, Tim
 use Rattle.tsb_event_text.specs.declared.columns.Separator.{Separator}
 use Rattle.tsb_event_text.specs.declared.columns.Separator.TheVariants.{Comma, Semicolon, Tab}
 use Rattle.tsb_event_text.specs.TimeForms.{time_form_word}
-use Rattle.tsb_event_text.specs.declared.faults.Shown.{Shown}
+use Rattle.tsb_event_text.specs.declared.faults.ShownField.{ShownField}
 use Rattle.tsb_event_text.specs.declared.faults.RowFault.{RowFault}
 use Rattle.tsb_event_text.specs.declared.faults.RowFault.TheVariants.{Utf16, Zip, Xml, Binary, Lacks, Quote, Parted, Missing, Ambiguous, NoDay, NoSeconds, OtherForm, NoTime, NoNumber}
 use Rattle.tsb_event_text.specs.declared.time_forms.TimeForm.{TimeForm}
@@ -31,11 +31,11 @@ abbrev pub safe : ℕ → ℕ
 safe byte = if nat_lt byte 32 || nat_lt 126 byte || byte == 34 then 63 else byte
 
 -- what a field has, as it can be shown
-abbrev pub shown_text : Shown → List ℕ
+abbrev pub shown_text : ShownField → List ℕ
 shown_text field = map safe (take (min field.count 40) field.bytes)
 
 -- the name of a column, and what its field has
-abbrev pub field_text : Column → Shown → List ℕ
+abbrev pub field_text : Column → ShownField → List ℕ
 field_text column field = column_name column ++ (codes ": \"" ++ (shown_text field ++ 34 ∷ []))
 
 -- a time in a form
@@ -47,11 +47,11 @@ example Seconds = codes "1795330800.1"
 example Milliseconds = codes "1795330800100"
 
 -- a time that is none in its form
-abbrev pub no_time_text : TimeForm → Shown → List ℕ
+abbrev pub no_time_text : TimeForm → ShownField → List ℕ
 no_time_text form time = field_text Time time ++ (codes " is no time as " ++ example form)
 
 -- a time that has another form
-abbrev pub other_form_text : TimeForm → TimeForm → Shown → List ℕ
+abbrev pub other_form_text : TimeForm → TimeForm → ShownField → List ℕ
 other_form_text form own time =
     field_text Time time
     ++ (codes " is " ++ (time_form_word own ++ (codes ", not " ++ (time_form_word form ++ codes ": one form a file, by the first row or --time-form"))))

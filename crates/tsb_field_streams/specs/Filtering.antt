@@ -17,7 +17,7 @@ use Rattle.tsb_event_text.specs.declared.zones.Zone.{Zone}
 use Rattle.tsb_event_text.specs.Faults.{fault_of, is_preface}
 use Rattle.tsb_event_text.specs.TimeForms.{is_there}
 use Rattle.tsb_event_text.specs.Wide.{is_passed, wide_of}
-use Rattle.tsb_field_log.specs.declared.inputs.Kind.{Kind}
+use Rattle.tsb_field_log.specs.declared.inputs.InputKind.{InputKind}
 use Rattle.tsb_field_log.specs.declared.inputs.Signal.{Signal}
 use Rattle.tsb_field_log.specs.declared.inputs.Wire.{Wire}
 use Rattle.tsb_field_log.specs.declared.inputs.InputEvent.{InputEvent}
@@ -98,7 +98,7 @@ abbrev pub with_event : Given → Stand → InputEvent → Result Stand FilterEr
 with_event g s event = if nat_lt TICKS (tick_at g.from event.nanos) then Err PastEnd else with_events g s (s.events ++ event ∷ [])
 
 -- the first wire of this kind and from this channel
-abbrev pub wire_place : List Wire → Kind → ℕ → Option ℕ
+abbrev pub wire_place : List Wire → InputKind → ℕ → Option ℕ
 wire_place wires kind channel = position (leads_from kind channel) wires
 
 -- the channel of this wire has had an event

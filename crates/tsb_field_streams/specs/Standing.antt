@@ -3,14 +3,14 @@ use Rattle.std.specs.Prelude.{◌≡◌, ◌≤◌, ◌++◌, ℕ, List, length,
 use Rattle.tsb_event_text.specs.TimeForms.{is_there}
 use Rattle.tsb_field_log.specs.declared.inputs.InputEvent.{InputEvent}
 use Rattle.tsb_field_log.specs.declared.inputs.Wire.{Wire}
-use Rattle.tsb_field_log.specs.declared.street.Rows.{Rows}
+use Rattle.tsb_field_log.specs.declared.street.KnownRows.{KnownRows}
 use Rattle.tsb_field_log.specs.Streets.{tick_at, rows_in}
 use Rattle.tsb_field_log.specs.Pushed.{last_tick, rows_before}
 use Rattle.tsb_field_log.specs.Taken.{HasTaken}
 use Rattle.tsb_field_streams.specs.Holding.{held_rows, most_rows}
 use Rattle.tsb_field_streams.specs.declared.error.FilterError.{FilterError}
 use Rattle.tsb_field_streams.specs.declared.filter.Filter.{Filter}
-use Rattle.tsb_field_streams.specs.declared.filter.Reading.{Reading}
+use Rattle.tsb_field_streams.specs.declared.filter.RowOptions.{RowOptions}
 use Rattle.tsb_field_streams.specs.declared.filter.LeftOut.{LeftOut}
 use Rattle.tsb_field_streams.specs.declared.filter.TheConstants.{MOST_ROWS}
 use Rattle.tsb_field_streams.specs.Filtering.{Given, Stand, most_held, start}
@@ -20,7 +20,7 @@ abbrev pub left_out_of : Filter → LeftOut
 left_out_of f = f.left_out
 
 -- what is asked for
-abbrev pub given_of : Reading → Option (List ℕ) → List Wire → Given
+abbrev pub given_of : RowOptions → Option (List ℕ) → List Wire → Given
 given_of reading device wires = record {
   from = reading.from.nanos;
   device = device;
@@ -31,7 +31,7 @@ given_of reading device wires = record {
 }
 
 -- rows are read so
-pub record IsRead (g : Given) (reading : Reading) : Type 0 where
+pub record IsRead (g : Given) (reading : RowOptions) : Type 0 where
   pub from : g.from ≡ reading.from.nanos
   pub times : g.times ≡ reading.times
   pub zone : g.zone ≡ reading.zone
@@ -67,11 +67,11 @@ StandsAtStart g f = StandsAt g (start g) f
 
 -- a filter of which these events were known has taken what comes to this, with these rows of the log become known; or it has
 -- its fault
-abbrev pub TakesBehind : Given → List InputEvent → Result Stand FilterError → Result Rows FilterError → Filter → Type 0
+abbrev pub TakesBehind : Given → List InputEvent → Result Stand FilterError → Result KnownRows FilterError → Filter → Type 0
 TakesBehind g events (Ok t) (Ok rows) f = StandsAt g t f × (rows_before g.from g.wires t.events ≡ rows_before g.from g.wires events ++ rows_in rows)
 TakesBehind g events (Err e) (Err d) f = d ≡ e
 TakesBehind g events come given f = ⊥
 
 -- so of a filter that stood there
-abbrev pub Takes : Given → Stand → Result Stand FilterError → Result Rows FilterError → Filter → Type 0
+abbrev pub Takes : Given → Stand → Result Stand FilterError → Result KnownRows FilterError → Filter → Type 0
 Takes g s come given f = TakesBehind g s.events come given f

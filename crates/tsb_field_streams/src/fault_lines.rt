@@ -9,7 +9,7 @@ use crate::error::{Disorder, FilterError};
 use arrayvec::ArrayVec;
 use itoa::Buffer;
 use std::{fmt, str};
-use tsb_event_text::{Column, RowFault, SHOWN, Separator, Shown, TimeForm, time_form_word};
+use tsb_event_text::{Column, RowFault, SHOWN, Separator, ShownField, TimeForm, time_form_word};
 use tsb_lines::ShortLine;
 
 /// How many bytes there is room for in the line of a fault: more than any has, and its end.
@@ -244,7 +244,7 @@ fn push_missing(line: &mut FaultLine, column: Column)
 }
 
 /// Adds what a field has, and words.
-fn push_of_field(line: &mut FaultLine, column: Column, field: Shown, words: &[u8])
+fn push_of_field(line: &mut FaultLine, column: Column, field: ShownField, words: &[u8])
     requires { length words.now ≤ 85 }
     ensures { AddsShort 180 line.old (field_text column field ++ words.now) line.new }
 {
@@ -253,7 +253,7 @@ fn push_of_field(line: &mut FaultLine, column: Column, field: Shown, words: &[u8
 }
 
 /// Adds that a time has another form.
-fn push_other_form(line: &mut FaultLine, form: TimeForm, own: TimeForm, time: Shown)
+fn push_other_form(line: &mut FaultLine, form: TimeForm, own: TimeForm, time: ShownField)
     ensures { AddsShort 180 line.old (other_form_text form own time) line.new }
 {
     push_field(line, Column::Time, time);
@@ -272,7 +272,7 @@ fn push_form(line: &mut FaultLine, form: TimeForm)
 }
 
 /// Adds that a time is none in its form.
-fn push_no_time(line: &mut FaultLine, form: TimeForm, time: Shown)
+fn push_no_time(line: &mut FaultLine, form: TimeForm, time: ShownField)
     ensures { AddsShort 180 line.old (no_time_text form time) line.new }
 {
     push_field(line, Column::Time, time);
@@ -303,7 +303,7 @@ fn separator_name(separator: Separator) -> &'static [u8]
 }
 
 /// Adds the name of a column, and what its field has.
-fn push_field(line: &mut FaultLine, column: Column, field: Shown)
+fn push_field(line: &mut FaultLine, column: Column, field: ShownField)
     ensures { AddsShort 53 line.old (field_text column field) line.new }
 {
     line.push(column_name(column));
@@ -313,7 +313,7 @@ fn push_field(line: &mut FaultLine, column: Column, field: Shown)
 }
 
 /// What a field has, as it can be shown.
-fn shown(field: Shown) -> ArrayVec<u8, SHOWN>
+fn shown(field: ShownField) -> ArrayVec<u8, SHOWN>
     ensures text { result.items ≡ shown_text field }
     ensures short { length result.items ≤ 40 }
 {

@@ -25,7 +25,7 @@ use tsb_event_text::{
     Column, Columns, EventRow, Moment, RowFault, TimeForm, WideRow, Zone, event_row, header,
     is_passed, is_preface, row_fault, wide_row,
 };
-use tsb_field_log::{Rows, Signal, Street, Wire};
+use tsb_field_log::{KnownRows, Signal, Street, Wire};
 use tsb_lines::is_skipped;
 
 /// The greatest length of a line, in bytes.
@@ -36,7 +36,7 @@ pub const MOST_ROWS: u32 = 1_720_740;
 
 /// How rows are read.
 #[derive(Clone, Copy)]
-pub struct Reading {
+pub struct RowOptions {
     /// The moment at which tick 1 begins.
     pub from: Moment,
     /// The form of times, or `None` where the first row says it.
@@ -84,7 +84,7 @@ pub struct Summary {
 /// What is known after some lines of events.
 #[derive(Drop)]
 pub struct Filter<'a> {
-    reading: Reading,
+    reading: RowOptions,
     /// The device whose rows count, byte for byte, or all where it is `None`.
     device: Option<&'a [u8]>,
     /// The wires that the street was made with.
@@ -113,7 +113,7 @@ pub struct Filter<'a> {
 }
 
 /// No row of a log.
-const NO_ROWS: Rows = Rows {
+const NO_ROWS: KnownRows = KnownRows {
     first: None,
     second: None,
 };
@@ -126,7 +126,7 @@ impl<'a> Filter<'a> {
     /// an event. `held` holds no row yet, and as many as are held in such a reading (`most_held`).
     #[tactic(auto, using(crate::proofs::FilterLemmas::none_known))]
     pub fn new(
-        reading: Reading,
+        reading: RowOptions,
         device: Option<&'a [u8]>,
         wires: &'a [Wire],
         used: Vec<bool>,
@@ -170,7 +170,7 @@ impl<'a> Filter<'a> {
     /// and the first row that is held is taken once no other may come before it. The errors are `LongLine`, `Malformed`,
     /// `TimeOrder`, `TooManyRows`, `PastEnd` and `LogTooLarge`; no line is taken after one.
     #[tactic(auto, unfolding(crate::specs::Filtering::with_line))]
-    pub fn take_line(&mut self, number: u32, line: &[u8]) -> Result<Rows, FilterError>
+    pub fn take_line(&mut self, number: u32, line: &[u8]) -> Result<KnownRows, FilterError>
         ensures takes { (g : Given) (s : Stand) → StandsAt g s self.old → Takes g s (with_line g number s line.now) result self.new }
         ensures own { IfErr result IsOfText }
     {
@@ -185,7 +185,7 @@ impl<'a> Filter<'a> {
     }
 
     /// Takes a line that is not skipped.
-    fn take_text(&mut self, number: u32, text: &[u8]) -> Result<Rows, FilterError>
+    fn take_text(&mut self, number: u32, text: &[u8]) -> Result<KnownRows, FilterError>
         ensures takes { (g : Given) (s : Stand) → StandsAt g s self.old → Takes g s (with_text g number s text.now s.columns) result self.new }
         ensures own { IfErr result IsOfText }
     {
@@ -199,7 +199,7 @@ impl<'a> Filter<'a> {
     }
 
     /// Takes a header, which has a column of the device where one is asked for.
-    fn take_header(&mut self, number: u32, columns: Columns) -> Result<Rows, FilterError>
+    fn take_header(&mut self, number: u32, columns: Columns) -> Result<KnownRows, FilterError>
         ensures takes { (g : Given) (s : Stand) → StandsAt g s self.old → Takes g s (with_header g number s columns) result self.new }
         ensures own { IfErr result IsOfText }
     {
@@ -219,7 +219,7 @@ impl<'a> Filter<'a> {
     }
 
     /// Takes a line that is no header where none came: one that a maker writes before the header, or the first row.
-    fn take_first(&mut self, number: u32, text: &[u8]) -> Result<Rows, FilterError>
+    fn take_first(&mut self, number: u32, text: &[u8]) -> Result<KnownRows, FilterError>
         ensures takes { (g : Given) (s : Stand) → StandsAt g s self.old → Takes g s (with_first g number s text.now None) result self.new }
         ensures own { IfErr result IsOfText }
     {
@@ -236,7 +236,7 @@ impl<'a> Filter<'a> {
         number: u32,
         columns: Columns,
         text: &[u8],
-    ) -> Result<Rows, FilterError>
+    ) -> Result<KnownRows, FilterError>
         ensures takes { (g : Given) (s : Stand) → StandsAt g s self.old → Takes g s (with_row_line g number (record s { columns = Some columns }) columns text.now) result self.new }
         ensures own { IfErr result IsOfText }
     {
@@ -245,7 +245,7 @@ impl<'a> Filter<'a> {
     }
 
     /// Passes over a line.
-    fn pass(&mut self) -> Rows
+    fn pass(&mut self) -> KnownRows
         ensures takes { (g : Given) (s : Stand) → StandsAt g s self.old → Takes g s (with_passed s) (Ok result) self.new }
     {
         self.left_out.passed = self.left_out.passed.saturating_add(1);
@@ -259,7 +259,7 @@ impl<'a> Filter<'a> {
         number: u32,
         columns: Columns,
         text: &[u8],
-    ) -> Result<Rows, FilterError>
+    ) -> Result<KnownRows, FilterError>
         ensures takes { (g : Given) (s : Stand) → StandsAt g s self.old → Takes g s (with_row_line g number s columns text.now) result self.new }
         ensures own { IfErr result IsOfText }
     {
@@ -278,7 +278,7 @@ impl<'a> Filter<'a> {
         number: u32,
         columns: Columns,
         text: &[u8],
-    ) -> Result<Rows, FilterError>
+    ) -> Result<KnownRows, FilterError>
         ensures takes { (g : Given) (s : Stand) → StandsAt g s self.old → Takes g s (with_other_line g number s columns text.now) result self.new }
         ensures own { IfErr result IsOfText }
     {
@@ -300,7 +300,7 @@ impl<'a> Filter<'a> {
         columns: Columns,
         text: &[u8],
         row: WideRow,
-    ) -> Result<Rows, FilterError>
+    ) -> Result<KnownRows, FilterError>
         ensures takes { (g : Given) (s : Stand) → StandsAt g s self.old → Takes g s (with_wide g number s (fault_of columns s.times text.now) (Some row)) result self.new }
         ensures own { IfErr result IsOfText }
     {
@@ -327,7 +327,7 @@ impl<'a> Filter<'a> {
         number: u32,
         form: TimeForm,
         row: EventRow,
-    ) -> Result<Rows, FilterError>
+    ) -> Result<KnownRows, FilterError>
         ensures takes { (g : Given) (s : Stand) → StandsAt g s self.old → Takes g s (with_formed g number s form row) result self.new }
         ensures own { IfErr result IsOfText }
     {
@@ -336,7 +336,7 @@ impl<'a> Filter<'a> {
     }
 
     /// Takes a row.
-    fn take_row(&mut self, number: u32, row: EventRow) -> Result<Rows, FilterError>
+    fn take_row(&mut self, number: u32, row: EventRow) -> Result<KnownRows, FilterError>
         ensures takes { (g : Given) (s : Stand) → StandsAt g s self.old → Takes g s (with_row g number s row) result self.new }
         ensures own { IfErr result IsOfText }
     {
@@ -348,7 +348,7 @@ impl<'a> Filter<'a> {
     }
 
     /// Takes a row that counts, in order or sorted.
-    fn take_counted(&mut self, number: u32, row: EventRow) -> Result<Rows, FilterError>
+    fn take_counted(&mut self, number: u32, row: EventRow) -> Result<KnownRows, FilterError>
         ensures takes { (g : Given) (s : Stand) → StandsAt g s self.old → Takes g s (with_counted g number s row g.window) result self.new }
         ensures own { IfErr result IsOfText }
     {
@@ -359,7 +359,7 @@ impl<'a> Filter<'a> {
     }
 
     /// Takes a row that counts, and has to be no earlier than the one taken before it.
-    fn take_in_order(&mut self, number: u32, row: EventRow) -> Result<Rows, FilterError>
+    fn take_in_order(&mut self, number: u32, row: EventRow) -> Result<KnownRows, FilterError>
         ensures takes { (g : Given) (s : Stand) → StandsAt g s self.old → Takes g s (with_in_order g number s row) result self.new }
         ensures own { IfErr result IsOfText }
     {
@@ -390,7 +390,7 @@ impl<'a> Filter<'a> {
     }
 
     /// The rows that become known at the end of all lines. What was left out stays. The error is `LogTooLarge`.
-    pub fn finish(&mut self) -> Result<Rows, FilterError>
+    pub fn finish(&mut self) -> Result<KnownRows, FilterError>
         ensures whole { (g : Given) (s : Stand) → StandsAt g s self.old → MatchResult result
             (λ rows. rows_before g.from g.wires s.events ++ rows_in rows ≡ rows_of (row_in g.from g.wires s.events))
             (λ e. (e ≡ LogTooLarge) × (MOST_ROWS < length (rows_of (row_in g.from g.wires s.events)))) }
@@ -406,7 +406,7 @@ impl<'a> Filter<'a> {
     }
 
     /// Whether a log may have these rows as well.
-    fn has_room(&self, rows: Rows) -> bool
+    fn has_room(&self, rows: KnownRows) -> bool
         ensures { result ≡ nat_le (length (rows_in rows)) (MOST_ROWS - self.now.rows) }
     {
         count_of(rows) <= MOST_ROWS.saturating_sub(self.rows)
@@ -471,7 +471,7 @@ fn parameter_of(row: WideRow) -> Option<u32>
 }
 
 /// How many rows these are.
-fn count_of(rows: Rows) -> u32
+fn count_of(rows: KnownRows) -> u32
     ensures count { result ≡ length (rows_in rows) }
     ensures few { result ≤ 2 }
 {

@@ -9,7 +9,7 @@ ghost use Rattle.tsb_field_streams.specs.declared.error.FilterError.TheVariants.
 
 use crate::error::FilterError;
 use std::io::Write;
-use tsb_field_log::Rows;
+use tsb_field_log::KnownRows;
 use tsb_lines::{ShortLine, Watched};
 use tsb_log_text::{LogRow, row_line};
 
@@ -17,7 +17,10 @@ use tsb_log_text::{LogRow, row_line};
 const ROWS: usize = 78;
 
 /// Writes rows. The error is `Write`: their first bytes may have gone out.
-pub(crate) fn write_rows<W: Write>(writer: &mut Watched<W>, rows: Rows) -> Result<(), FilterError>
+pub(crate) fn write_rows<W: Write>(
+    writer: &mut Watched<W>,
+    rows: KnownRows,
+) -> Result<(), FilterError>
     ensures whole { OnOk result (Appends (W.contents writer.old.device) (W.contents writer.new.device) (log_text (rows_in rows))) }
     ensures front { AppendsFront (W.contents writer.old.device) (W.contents writer.new.device) (log_text (rows_in rows)) }
     ensures fault { OnErr result (result ≡ Err write) }
@@ -34,7 +37,7 @@ pub(crate) fn write_rows<W: Write>(writer: &mut Watched<W>, rows: Rows) -> Resul
 /// Writes rows, and has the writer pass on what it has taken. The error is `Write`: their first bytes may have gone out.
 pub(crate) fn write_last_rows<W: Write>(
     writer: &mut Watched<W>,
-    rows: Rows,
+    rows: KnownRows,
 ) -> Result<(), FilterError>
     ensures whole { OnOk result (Appends (W.contents writer.old.device) (W.contents writer.new.device) (log_text (rows_in rows))) }
     ensures front { AppendsFront (W.contents writer.old.device) (W.contents writer.new.device) (log_text (rows_in rows)) }
@@ -65,7 +68,7 @@ fn pass_rows_on<W: Write>(writer: &mut Watched<W>) -> Result<(), FilterError>
 
 /// The lines of rows.
 #[tactic(auto, using(crate::proofs::RowLemmas::two_rows))]
-fn rows_text(rows: Rows) -> ShortLine<ROWS>
+fn rows_text(rows: KnownRows) -> ShortLine<ROWS>
     ensures { result ≡ log_text (rows_in rows) }
 {
     let mut text = ShortLine::new();

@@ -10,7 +10,7 @@ ghost use Rattle.tsb_field_streams.specs.Streaming.{Ended, EndedBehind, Finished
 
 use crate::Held;
 use crate::error::FilterError;
-use crate::filter::{Filter, LINE, Reading, Summary, most_held};
+use crate::filter::{Filter, LINE, RowOptions, Summary, most_held};
 use crate::rows::{write_last_rows, write_rows};
 use std::alloc::{AllocError, Global};
 use std::io::{Read, Write};
@@ -207,7 +207,7 @@ impl Stream<'_> {
 /// anything is read or written.
 pub fn log<R: Read, W: Write>(
     alloc: Global,
-    reading: Reading,
+    reading: RowOptions,
     device: Option<&[u8]>,
     mapped: &[Wire],
     reader: &mut Watched<R>,
@@ -231,7 +231,7 @@ pub fn log<R: Read, W: Write>(
 /// A filter of these wires, before the first line. The error is that memory ran out.
 fn filter_of<'a>(
     alloc: Global,
-    reading: Reading,
+    reading: RowOptions,
     device: Option<&'a [u8]>,
     wires: &'a [Wire],
 ) -> Result<Filter<'a>, AllocError>
@@ -250,7 +250,7 @@ fn filter_of<'a>(
 /// A filter of these wires with a street of theirs, before the first line. The error is that memory ran out.
 fn filter_with<'a>(
     alloc: Global,
-    reading: Reading,
+    reading: RowOptions,
     device: Option<&'a [u8]>,
     wires: &'a [Wire],
     used: Vec<bool>,

@@ -2,8 +2,8 @@
 
 use std::alloc::{AllocError, Global};
 use tsb_event_text::{Column, Moment, RowFault, TimeForm, read_moment};
-use tsb_field_log::{Kind, Rows, Street, Wire, wires};
-use tsb_field_streams::{Disorder, Filter, FilterError, Gaps, Held, LeftOut, Reading, Summary};
+use tsb_field_log::{InputKind, KnownRows, Street, Wire, wires};
+use tsb_field_streams::{Disorder, Filter, FilterError, Gaps, Held, LeftOut, RowOptions, Summary};
 use tsb_log_text::row_line;
 
 /// What a filter gives for lines from 07:00:00 on.
@@ -14,7 +14,7 @@ struct Filtered {
     fault: Option<FilterError>,
 }
 
-fn push_rows(text: &mut Vec<u8>, rows: Rows) -> Result<(), AllocError> {
+fn push_rows(text: &mut Vec<u8>, rows: KnownRows) -> Result<(), AllocError> {
     if let Some(row) = rows.first {
         text.extend_from_slice(row_line(row).as_bytes())?;
     }
@@ -38,7 +38,7 @@ fn said(
     mapped: &[Wire],
     lines: &[&[u8]],
 ) -> Result<Filtered, AllocError> {
-    let reading = Reading {
+    let reading = RowOptions {
         from: begin(),
         times: None,
         zone: None,
@@ -161,7 +161,7 @@ fn gives_with_left_out(
 #[test]
 fn what_has_no_input_is_counted(rt: HostRuntime) {
     let mapped = [Wire {
-        kind: Kind::Vehicle,
+        kind: InputKind::Vehicle,
         channel: 17,
         input: 3,
     }];

@@ -2,7 +2,7 @@
 
 use std::alloc::{AllocError, Global};
 use std::test::Fail;
-use tsb_field_log::{InputEvent, Kind, Rows, Street, Wire, is_wired, laws, wires};
+use tsb_field_log::{InputEvent, InputKind, KnownRows, Street, Wire, is_wired, laws, wires};
 use tsb_log_text::{LogRow, row_line};
 use tsb_types::{NumberSet, Row};
 
@@ -11,7 +11,7 @@ const START: u128 = 1_000_000_000;
 
 /// Channel 21 of vehicle detectors leads to detector 3.
 const WIRE: Wire = Wire {
-    kind: Kind::Vehicle,
+    kind: InputKind::Vehicle,
     channel: 21,
     input: 3,
 };
@@ -31,7 +31,7 @@ fn row(tick: u32, vehicles: u16, pedestrians: u16, preempts: u16) -> LogRow {
 fn goes(on: bool, nanos: u128) -> InputEvent {
     InputEvent {
         nanos,
-        kind: Kind::Vehicle,
+        kind: InputKind::Vehicle,
         channel: 21,
         on,
     }
@@ -62,12 +62,12 @@ fn rows_have_39_bytes(rt: HostRuntime) {
     laws::rows_add_up();
 }
 
-fn leads(wires: &[Wire], kind: Kind, channel: u32) -> bool {
+fn leads(wires: &[Wire], kind: InputKind, channel: u32) -> bool {
     is_wired(wires, kind, channel)
 }
 
 /// Whether of the channels of this kind just those up to `most` lead to an input.
-fn leads_up_to(wires: &[Wire], kind: Kind, most: u8) -> bool {
+fn leads_up_to(wires: &[Wire], kind: InputKind, most: u8) -> bool {
     for channel in 1..=most {
         if !leads(wires, kind, channel as u32) {
             return false;
@@ -82,9 +82,9 @@ fn channels_lead_to_their_own_inputs(rt: HostRuntime) -> Result<(), Fail> {
     let all = all.as_slice();
     assert!(rt;
         all.len() == 28
-            && leads_up_to(all, Kind::Vehicle, 16)
-            && leads_up_to(all, Kind::Pedestrian, 8)
-            && leads_up_to(all, Kind::Preempt, 4)
+            && leads_up_to(all, InputKind::Vehicle, 16)
+            && leads_up_to(all, InputKind::Pedestrian, 8)
+            && leads_up_to(all, InputKind::Preempt, 4)
     );
     Ok(())
 }
@@ -92,7 +92,7 @@ fn channels_lead_to_their_own_inputs(rt: HostRuntime) -> Result<(), Fail> {
 /// This channel of preempts leads to this input.
 fn preempt_wire(channel: u32, input: u8) -> Wire {
     Wire {
-        kind: Kind::Preempt,
+        kind: InputKind::Preempt,
         channel,
         input,
     }
@@ -111,14 +111,14 @@ fn mapped_channels_lead_only_there(rt: HostRuntime) -> Result<(), Fail> {
     let all = all.as_slice();
     assert!(rt;
         are_mapped_and_own(all, mapped.as_slice())
-            && leads(all, Kind::Vehicle, 21)
-            && !leads(all, Kind::Pedestrian, 21)
-            && leads(all, Kind::Vehicle, 2)
+            && leads(all, InputKind::Vehicle, 21)
+            && !leads(all, InputKind::Pedestrian, 21)
+            && leads(all, InputKind::Vehicle, 2)
     );
     Ok(())
 }
 
-fn write(text: &mut Vec<u8>, rows: Rows) -> Result<(), AllocError> {
+fn write(text: &mut Vec<u8>, rows: KnownRows) -> Result<(), AllocError> {
     if let Some(row) = rows.first {
         text.extend_from_slice(row_line(row).as_bytes())?;
     }
@@ -177,7 +177,7 @@ fn logs_tell_the_ticks_that_inputs_are_on(rt: HostRuntime) {
 
 /// Whether the street refuses an event past the last tick, and has no row of it.
 fn refuses_the_end(street: &mut Street) -> bool {
-    let none = Rows {
+    let none = KnownRows {
         first: None,
         second: None,
     };

@@ -2,7 +2,7 @@
 
 use std::alloc::Global;
 use tsb_event_text::{TimeForm, Zone, read_moment};
-use tsb_field_log::{Kind, Wire};
+use tsb_field_log::{InputKind, Wire};
 use tsb_words::WordsError;
 use tsb_words::field_files::{Asked, Manner, RecordManner, read_words};
 
@@ -15,7 +15,7 @@ const PLAIN: Manner = Manner {
     may_be_empty: false,
 };
 
-fn wire(kind: Kind, channel: u32, input: u8) -> Wire {
+fn wire(kind: InputKind, channel: u32, input: u8) -> Wire {
     Wire {
         kind,
         channel,
@@ -59,10 +59,10 @@ fn log_words_name_wires(rt: HostRuntime) {
         "4294967295=16",
     ];
     let wires = [
-        wire(Kind::Vehicle, 12, 3),
-        wire(Kind::Vehicle, 4_294_967_295, 16),
-        wire(Kind::Pedestrian, 0, 8),
-        wire(Kind::Preempt, 2, 4),
+        wire(InputKind::Vehicle, 12, 3),
+        wire(InputKind::Vehicle, 4_294_967_295, 16),
+        wire(InputKind::Pedestrian, 0, 8),
+        wire(InputKind::Preempt, 2, 4),
     ];
     let time = b"2026-11-22 07:00:00.1".as_slice();
     assert!(rt; ask_for_log(rt.alloc(), &words, time, None, &wires));

@@ -2,7 +2,7 @@
 //! docs/use/FIELD.md.
 
 use std::alloc::Global;
-use tsb_event_text::{Column, RowFault, SHOWN, Separator, Shown, TimeForm};
+use tsb_event_text::{Column, RowFault, SHOWN, Separator, ShownField, TimeForm};
 use tsb_field_streams::{Disorder, FilterError};
 
 /// The nanoseconds of a second.
@@ -12,11 +12,11 @@ const SECOND: u128 = 1_000_000_000;
 const SEVEN: u128 = 25_200;
 
 /// A field with these bytes, of which a fault shows 40 at most.
-fn shown(field: &[u8]) -> Shown {
+fn shown(field: &[u8]) -> ShownField {
     let first = &field[..field.len().min(SHOWN)];
     let mut bytes = [b' '; SHOWN];
     bytes[..first.len()].copy_from_slice(first);
-    Shown {
+    ShownField {
         bytes,
         count: first.len(),
     }

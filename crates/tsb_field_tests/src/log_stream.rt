@@ -2,10 +2,10 @@
 
 use std::alloc::Global;
 use std::io::{self, ErrorKind, Read, Write};
-use tsb_event_text::{Column, Moment, RowFault, SHOWN, Shown, read_moment};
+use tsb_event_text::{Column, Moment, RowFault, SHOWN, ShownField, read_moment};
 use tsb_field_display::Watched;
-use tsb_field_log::{Kind, Wire};
-use tsb_field_streams::{Disorder, FilterError, LeftOut, Reading, Summary};
+use tsb_field_log::{InputKind, Wire};
+use tsb_field_streams::{Disorder, FilterError, LeftOut, RowOptions, Summary};
 
 /// Gives a text in pieces of this many bytes, and may fail after its last.
 #[derive(Drop)]
@@ -75,8 +75,8 @@ fn begin() -> Moment {
 }
 
 /// How rows are read where words say no more than when tick 1 begins.
-fn usual() -> Reading {
-    Reading {
+fn usual() -> RowOptions {
+    RowOptions {
         from: begin(),
         times: None,
         zone: None,
@@ -95,7 +95,7 @@ fn whole(text: &'static [u8]) -> Pieces {
 /// Reads events up to their end, and writes their log, by devices that are watched.
 fn log<R: Read, W: Write>(
     alloc: Global,
-    reading: Reading,
+    reading: RowOptions,
     device: Option<&[u8]>,
     mapped: &[Wire],
     reader: &mut R,
@@ -184,10 +184,10 @@ const OF_ON: [&[u8]; 7] = [
 ];
 
 /// A field of at most 40 bytes, as a fault shows it.
-fn shown(field: &[u8]) -> Shown {
+fn shown(field: &[u8]) -> ShownField {
     let mut bytes = [b' '; SHOWN];
     bytes[..field.len()].copy_from_slice(field);
-    Shown {
+    ShownField {
         bytes,
         count: field.len(),
     }
@@ -397,7 +397,7 @@ fn what_is_left_out_is_counted(rt: HostRuntime) {
     let text =
         b"7,2026-11-22 07:00:00,82,40\n8,2026-11-22 07:00:00,82,1\n7,2026-11-22 07:00:00,82,17\n7,2026-11-22 07:00:00,1,2\n".as_slice();
     let wire = Wire {
-        kind: Kind::Vehicle,
+        kind: InputKind::Vehicle,
         channel: 40,
         input: 5,
     };

@@ -8,7 +8,7 @@ ghost use Rattle.tsb_heads.specs.Overlaps.{overlap_head};
 ghost use Rattle.tsb_heads.specs.Served.{IsServed};
 ghost use Rattle.tsb_heads.specs.OverlapSets.{HasNone, IsInOne, IsSameAt, aspect_of_overlap};
 
-use crate::overlaps::{Served, overlap_head};
+use crate::overlaps::{ServedPhases, overlap_head};
 use tsb_objects::{Aspect, Checked, NumberSet, Overlap};
 
 /// The sets of overlaps whose heads show each colour.
@@ -59,7 +59,7 @@ fn with_overlap(heads: Overlaps, o: Overlap, aspect: Aspect) -> Overlaps
 
 /// What the heads of overlaps show.
 #[inline(always)]
-pub(crate) fn overlaps_of(plan: &Checked, served: &Served) -> Overlaps
+pub(crate) fn overlaps_of(plan: &Checked, served: &ServedPhases) -> Overlaps
     ensures heads { (s : Shown) → IsServed (checked_plan plan.now) s served.now → (o : ℕ) → 1 ≤ o → o ≤ 4 →
         aspect_of_overlap result o ≡ overlap_head (checked_plan plan.now) s o }
     ensures apart { (n : ℕ) → IsInOne result n }

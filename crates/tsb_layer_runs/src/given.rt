@@ -5,7 +5,7 @@ ghost use Rattle.tsb_phase.specs.Counts.{AreCounts};
 use crate::fault::Fault;
 use crate::numbers::Numbers;
 use tsb_objects::{Called, NumberSet, Orders, PhaseSet, Row, Sequence, Timing};
-use tsb_ring::Conditions;
+use tsb_ring::RingConditions;
 
 impl<'a> Numbers<'a> {
     /// The next number, the vehicle inputs of a row; the others are off.
@@ -60,7 +60,7 @@ impl<'a> Numbers<'a> {
     /// What the rings are given: the intervals that were, the sequence in effect, the phases that may be served next,
     /// those that are ready, over and past their red revert, the omitted ones, and a preempt's target. What the rings
     /// do not read is empty.
-    pub fn ring_conditions(&mut self) -> Result<Conditions, Fault> {
+    pub fn ring_conditions(&mut self) -> Result<RingConditions, Fault> {
         let none = PhaseSet::empty();
         let intervals = self.intervals()?;
         let sequence = Sequence::new(self.number()?).ok_or(Fault::Malformed)?;
@@ -85,7 +85,7 @@ impl<'a> Numbers<'a> {
             omit: self.phases()?,
             target: self.target()?,
         };
-        Ok(Conditions {
+        Ok(RingConditions {
             intervals,
             sequence,
             called,

@@ -10,7 +10,7 @@ use crate::numbers::Numbers;
 use std::alloc::Global;
 use tsb_cells::Reversible;
 use tsb_objects::{Checked, Moves, RingMoves};
-use tsb_ring::{Conditions, RingOrder, Rings};
+use tsb_ring::{RingConditions, RingOrder, Rings};
 
 /// The rings, and which of them is written first next.
 #[derive(Drop)]
@@ -39,11 +39,11 @@ impl Driven for Ringing {
 }
 
 impl Ticked for Ringing {
-    type Given = Conditions;
+    type Given = RingConditions;
 
     type Answer = Moves;
 
-    fn read(numbers: &mut Numbers) -> Result<Conditions, Fault> {
+    fn read(numbers: &mut Numbers) -> Result<RingConditions, Fault> {
         numbers.ring_conditions()
     }
 
@@ -51,7 +51,7 @@ impl Ticked for Ringing {
     #[inline(always)]
     fn tick(
         &mut self,
-        given: &Conditions,
+        given: &RingConditions,
         plan: &Checked,
         out: &mut Changes,
     ) -> Result<Moves, Fault> {
@@ -70,7 +70,7 @@ impl Ticked for Ringing {
     /// side that a crossing goes to, and whether one is completed.
     fn tells(
         &self,
-        _given: &Conditions,
+        _given: &RingConditions,
         answer: &Moves,
         answers: &mut Numbers,
     ) -> Result<(), Fault> {

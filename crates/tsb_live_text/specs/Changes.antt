@@ -1,6 +1,6 @@
 -- Ticks of which only the changes are told: what `changes N` answers.
 use Rattle.std.specs.Prelude.{◌≡◌, ◌⊎◌, ℕ, zero, suc, List, [], ◌∷◌, ◌++◌, Bool, true, false, bytes_eq, drop, take, not, Option, Some, None}
-use Rattle.tsb_bench.specs.tsb_machine.declared.commands.Command.TheVariants.{Apply}
+use Rattle.tsb_bench.specs.tsb_machine.declared.commands.MachineCommand.TheVariants.{Apply}
 use Rattle.tsb_bench.specs.tsb_machine.declared.commands.Answer.TheVariants.{Took, Refused}
 use Rattle.tsb_text.specs.kept.Kept.{last_row}
 use Rattle.tsb_step.specs.declared.inputs.Input.{Input}

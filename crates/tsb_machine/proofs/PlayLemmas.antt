@@ -5,8 +5,8 @@ use Rattle.std.proofs.lemmas.List.Sums.{fold-append}
 use Rattle.std.proofs.lemmas.List.{reverse-append, take_more}
 use Rattle.tsb_history.specs.declared.kinds.Kind.{Kind}
 use Rattle.tsb_types.specs.declared.refusal.Refusal.{Refusal}
-use Rattle.tsb_machine.specs.declared.commands.Command.{Command}
-use Rattle.tsb_machine.specs.declared.commands.Command.TheVariants.{Apply, Undo, Back, Seek, When}
+use Rattle.tsb_machine.specs.declared.commands.MachineCommand.{MachineCommand}
+use Rattle.tsb_machine.specs.declared.commands.MachineCommand.TheVariants.{Apply, Undo, Back, Seek, When}
 use Rattle.tsb_machine.specs.declared.commands.Answer.{Answer}
 use Rattle.tsb_machine.specs.declared.commands.Answer.TheVariants.{Took, Refused, Undone, Moved, Nothing, Changed}
 use Rattle.tsb_machine.specs.Machine.{Machine, replay, run, records_of, back_to, without_newest}
@@ -97,14 +97,14 @@ module _ {State Input Change : Type 0} (m : Machine State Input Change) (start :
 
 module _ {State Input Change Watch Value : Type 0} (m : Machine State Input Change) (start : State) (watched : Watch → State → Value) where
   -- one command more
-  remaining-more : (is : List Input) (cs : List (Command Input Watch)) (ans : List Answer) (c : Command Input Watch) (a : Answer) → AreRightFrom m start watched is cs ans
+  remaining-more : (is : List Input) (cs : List (MachineCommand Input Watch)) (ans : List Answer) (c : MachineCommand Input Watch) (a : Answer) → AreRightFrom m start watched is cs ans
       → remaining_from m start is (cs ++ c ∷ []) (ans ++ a ∷ []) ≡ remaining_after m start (remaining_from m start is cs ans) c a
   remaining-more is [] [] c a h = refl
   remaining-more is [] (b ∷ ans) c a h = absurd h
   remaining-more is (d ∷ cs) [] c a h = absurd h
   remaining-more is (d ∷ cs) (b ∷ ans) c a h = remaining-more (remaining_after m start is d b) cs ans c a h.1
 
-  right-more : (is : List Input) (cs : List (Command Input Watch)) (ans : List Answer) (c : Command Input Watch) (a : Answer) → AreRightFrom m start watched is cs ans → IsRight m start watched (remaining_from m start is cs ans) c a
+  right-more : (is : List Input) (cs : List (MachineCommand Input Watch)) (ans : List Answer) (c : MachineCommand Input Watch) (a : Answer) → AreRightFrom m start watched is cs ans → IsRight m start watched (remaining_from m start is cs ans) c a
       → AreRightFrom m start watched is (cs ++ c ∷ []) (ans ++ a ∷ [])
   right-more is [] [] c a h here = (here, tt)
   right-more is [] (b ∷ ans) c a h here = absurd h
@@ -149,7 +149,7 @@ module _ {State Input Change Watch Value : Type 0} (m : Machine State Input Chan
   answers-no_back w new n ahead same is f = (subst (λ (k : ℕ). k < n) (now-there m start w is f) ahead, subst (λ (v : Whole State Change). Follows m start v is) (sym same) f)
 
   -- a run goes on by one command
-  pub played-more : (w new : Whole State Change) (cs : List (Command Input Watch)) (ans grown : List Answer) (i : ℕ) (d : Command Input Watch) (a : Answer) → i < length cs → AreRight m start watched (take i cs) ans
+  pub played-more : (w new : Whole State Change) (cs : List (MachineCommand Input Watch)) (ans grown : List Answer) (i : ℕ) (d : MachineCommand Input Watch) (a : Answer) → i < length cs → AreRight m start watched (take i cs) ans
       → Follows m start w (remaining m start (take i cs) ans) → Answers m start watched w (get_or cs i d) a new → grown ≡ ans ++ a ∷ []
       → AreRight m start watched (take (i + 1) cs) grown × Follows m start new (remaining m start (take (i + 1) cs) grown)
   played-more w new cs ans grown i d a here right follows answers grows =
@@ -160,7 +160,7 @@ module _ {State Input Change Watch Value : Type 0} (m : Machine State Input Chan
       let goal : AreRight m start watched (take i cs ++ get_or cs i d ∷ []) (ans ++ a ∷ []) × Follows m start new (remaining m start (take i cs ++ get_or cs i d ∷ []) (ans ++ a ∷ [])) =
       (right-more [] (take i cs) ans (get_or cs i d) a right now.0, subst (Follows m start new) (sym there) now.1) in
       subst (λ (bs : List Answer). AreRight m start watched (take (i + 1) cs) bs × Follows m start new (remaining m start (take (i + 1) cs) bs)) (sym grows)
-      (subst (λ (ds : List (Command Input Watch)). AreRight m start watched ds (ans ++ a ∷ []) × Follows m start new (remaining m start ds (ans ++ a ∷ []))) (sym longer) goal)
+      (subst (λ (ds : List (MachineCommand Input Watch)). AreRight m start watched ds (ans ++ a ∷ []) × Follows m start new (remaining m start ds (ans ++ a ∷ []))) (sym longer) goal)
 
 -- all of the commands
 pub played-all : {A : Type 0} (cs : List A) (i : ℕ) → length cs ≤ i → take i cs ≡ cs
@@ -168,7 +168,7 @@ played-all cs i h = take_all i cs h
 
 module _ {State Input Change Watch Value : Type 0} (m : Machine State Input Change) (start : State) (watched : Watch → State → Value) where
   -- a bench that does what it says answers right, and goes on to the inputs that remain
-  pub benches_answer : TellsKinds m → (old new : Whole State Change) (c : Command Input Watch) (a : Answer) → Does m watched old c a new →
+  pub benches_answer : TellsKinds m → (old new : Whole State Change) (c : MachineCommand Input Watch) (a : Answer) → Does m watched old c a new →
       Answers m start watched old c a new
   benches_answer kinds old new (Apply i) Took h =
       let steps : new.state ≡ m.step old.state i = ap (λ (w : Whole State Change). w.state) h.1 in

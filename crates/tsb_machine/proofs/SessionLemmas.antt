@@ -1,8 +1,8 @@
 -- After any commands a bench is where a replay of the inputs that remain leads, and its answers were right.
 use Rattle.std.proofs.Common.{◌≡◌, ℕ, ◌-◌, ◌==◌, Bool, true, false, if◌then◌else◌, List, [], ◌∷◌, refl, sym, ap, subst, ◌∙◌}
 use Rattle.tsb_history.specs.declared.kinds.Kind.{Kind}
-use Rattle.tsb_machine.specs.declared.commands.Command.{Command}
-use Rattle.tsb_machine.specs.declared.commands.Command.TheVariants.{Apply, Undo, Back, Seek, When}
+use Rattle.tsb_machine.specs.declared.commands.MachineCommand.{MachineCommand}
+use Rattle.tsb_machine.specs.declared.commands.MachineCommand.TheVariants.{Apply, Undo, Back, Seek, When}
 use Rattle.tsb_machine.specs.declared.commands.Answer.{Answer}
 use Rattle.tsb_machine.specs.declared.commands.Answer.TheVariants.{Took, Refused, Undone, Moved, Nothing, Changed}
 use Rattle.tsb_machine.specs.Machine.{Machine, replay, AreTaken, records_of, back_to, without_newest}
@@ -46,12 +46,12 @@ module _ {State Input Change : Type 0} (m : Machine State Input Change) (start :
 
 module _ {State Input Change Watch Value : Type 0} (m : Machine State Input Change) (start : State) (watched : Watch → State → Value) where
   -- one command more
-  record IsThere (is : List Input) (c : Command Input Watch) (a : Answer) (new : Whole State Change) : Type 0 where
+  record IsThere (is : List Input) (c : MachineCommand Input Watch) (a : Answer) (new : Whole State Change) : Type 0 where
     right : IsRight m start watched is c a
     there : new ≡ after m start (remaining_after m start is c a)
     kept : IsKept m start (remaining_after m start is c a)
 
-  one-more : TellsKinds m → (is : List Input) (c : Command Input Watch) (a : Answer) (new : Whole State Change) → IsKept m start is →
+  one-more : TellsKinds m → (is : List Input) (c : MachineCommand Input Watch) (a : Answer) (new : Whole State Change) → IsKept m start is →
       Does m watched (after m start is) c a new → IsThere is c a new
   one-more kinds is (Apply i) Took new kept h = record {
     right = h.0;
@@ -87,12 +87,12 @@ module _ {State Input Change Watch Value : Type 0} (m : Machine State Input Chan
   }
   one-more kinds is c a new kept h = absurd h
 
-  record IsThereAfter (is : List Input) (cs : List (Command Input Watch)) (ans : List Answer) (w : Whole State Change) : Type 0 where
+  record IsThereAfter (is : List Input) (cs : List (MachineCommand Input Watch)) (ans : List Answer) (w : Whole State Change) : Type 0 where
     right : AreRightFrom m start watched is cs ans
     there : w ≡ after m start (remaining_from m start is cs ans)
     kept : IsKept m start (remaining_from m start is cs ans)
 
-  all-more : TellsKinds m → (is : List Input) (cs : List (Command Input Watch)) (ans : List Answer) (w : Whole State Change) → IsKept m start is →
+  all-more : TellsKinds m → (is : List Input) (cs : List (MachineCommand Input Watch)) (ans : List Answer) (w : Whole State Change) → IsKept m start is →
       DoAll m watched (after m start is) cs ans w → IsThereAfter is cs ans w
   all-more kinds is [] [] w kept h = record { right = tt; there = h; kept = kept }
   all-more kinds is [] (a ∷ ans) w kept h = absurd h
@@ -103,7 +103,7 @@ module _ {State Input Change Watch Value : Type 0} (m : Machine State Input Chan
       all-more kinds (remaining_after m start is c a) cs ans w one.kept (subst (λ (v : Whole State Change). DoAll m watched v cs ans w) one.there h.2) in
       record { right = (one.right, rest.right); there = rest.there; kept = rest.kept }
 
-  pub sessions_are_replays : TellsKinds m → (cs : List (Command Input Watch)) (ans : List Answer) (w : Whole State Change) →
+  pub sessions_are_replays : TellsKinds m → (cs : List (MachineCommand Input Watch)) (ans : List Answer) (w : Whole State Change) →
       DoAll m watched (after m start []) cs ans w → IsReplayed m start watched cs ans w
   sessions_are_replays kinds cs ans w h =
       let all : IsThereAfter [] cs ans w = all-more kinds [] cs ans w (record { back = tt; taken = tt }) h in

@@ -3,7 +3,7 @@
 --
 -- All are proved, each as the contract of a function that does nothing (src/laws.rt).
 use Rattle.std.specs.Prelude.{◌≡◌, ℕ, suc, ◌≤◌, List, [], ◌∷◌, length, drop, Option}
-use Rattle.tsb_machine.specs.declared.commands.Command.{Command}
+use Rattle.tsb_machine.specs.declared.commands.MachineCommand.{MachineCommand}
 use Rattle.tsb_machine.specs.declared.commands.Answer.{Answer}
 use Rattle.tsb_machine.specs.Machine.{Machine, replay, AreTaken, run, records_of, back_to}
 use Rattle.tsb_machine.specs.Past.{Whole, applied, after, earlier, pasts, sought, IsLeastBack}
@@ -84,7 +84,7 @@ module _ {State Input Change : Type 0} (m : Machine State Input Change) (start :
 module _ {State Input Change Watch Value : Type 0} (m : Machine State Input Change) (start : State) (watched : Watch → State → Value) where
   -- what holds of a session: each answer is right, the whole is that of a replay of the inputs that remain, and each of
   -- these was taken
-  pub record IsReplayed (cs : List (Command Input Watch)) (ans : List Answer) (w : Whole State Change) : Type 0 where
+  pub record IsReplayed (cs : List (MachineCommand Input Watch)) (ans : List Answer) (w : Whole State Change) : Type 0 where
     pub right : AreRight m start watched cs ans
     pub replayed : w ≡ after m start (remaining m start cs ans)
     pub back : GiveBack m start (remaining m start cs ans)
@@ -92,10 +92,10 @@ module _ {State Input Change Watch Value : Type 0} (m : Machine State Input Chan
 
   -- A bench that does what it says answers right where it has come by some inputs, and goes on to those that remain.
   abbrev pub BenchesAnswer : Type 0
-  BenchesAnswer = TellsKinds m → (old new : Whole State Change) (c : Command Input Watch) (a : Answer) →
+  BenchesAnswer = TellsKinds m → (old new : Whole State Change) (c : MachineCommand Input Watch) (a : Answer) →
       Does m watched old c a new → Answers m start watched old c a new
 
   -- So it is after any commands from power-up, where each did what it says.
   abbrev pub SessionsAreReplays : Type 0
-  SessionsAreReplays = TellsKinds m → (cs : List (Command Input Watch)) (ans : List Answer) (w : Whole State Change) →
+  SessionsAreReplays = TellsKinds m → (cs : List (MachineCommand Input Watch)) (ans : List Answer) (w : Whole State Change) →
       DoAll m watched (after m start []) cs ans w → IsReplayed cs ans w

@@ -4,8 +4,8 @@ use Rattle.std.specs.Prelude.{◌≡◌, ◌-◌, ◌<◌, ◌≤◌, List, [], 
 use Rattle.tsb_history.specs.declared.kinds.Kind.{Kind}
 use Rattle.tsb_types.specs.declared.refusal.Refusal.{Refusal}
 use Rattle.tsb_types.specs.declared.refusal.Refusal.TheVariants as refusals
-use Rattle.tsb_machine.specs.declared.commands.Command.{Command}
-use Rattle.tsb_machine.specs.declared.commands.Command.TheVariants.{Apply, Undo, Back, Seek, When}
+use Rattle.tsb_machine.specs.declared.commands.MachineCommand.{MachineCommand}
+use Rattle.tsb_machine.specs.declared.commands.MachineCommand.TheVariants.{Apply, Undo, Back, Seek, When}
 use Rattle.tsb_machine.specs.declared.commands.Answer.{Answer}
 use Rattle.tsb_machine.specs.declared.commands.Answer.TheVariants.{Took, Refused, Undone, Moved, Nothing, Changed}
 use Rattle.tsb_machine.specs.Machine.{Machine, replay, run, records_of, back_to, without_newest}
@@ -17,7 +17,7 @@ use Rattle.tsb_machine.specs.Watches.{TellsLastChange}
 module _ {State Input Change Watch : Type 0} (m : Machine State Input Change) (start : State) where
   -- after a command with this answer: an input that was taken is piled up, undo takes away the newest, back (by n
   -- ticks) and seek (to tick t) go to a tick number; all else leaves them
-  abbrev pub remaining_after : List Input → Command Input Watch → Answer → List Input
+  abbrev pub remaining_after : List Input → MachineCommand Input Watch → Answer → List Input
   remaining_after is (Apply i) Took = i ∷ is
   remaining_after is Undo (Undone k) = without_newest is
   remaining_after is (Back n) Moved = back_to m start (m.now (replay m start is) - n) is
@@ -25,13 +25,13 @@ module _ {State Input Change Watch : Type 0} (m : Machine State Input Change) (s
   remaining_after is c a = is
 
   -- after these commands with these answers in turn, where `is` remained before
-  abbrev pub remaining_from : List Input → List (Command Input Watch) → List Answer → List Input
+  abbrev pub remaining_from : List Input → List (MachineCommand Input Watch) → List Answer → List Input
   remaining_from is [] ans = is
   remaining_from is (c ∷ cs) [] = is
   remaining_from is (c ∷ cs) (a ∷ ans) = remaining_from (remaining_after is c a) cs ans
 
   -- the inputs that were not undone, of a session from power-up
-  abbrev pub remaining : List (Command Input Watch) → List Answer → List Input
+  abbrev pub remaining : List (MachineCommand Input Watch) → List Answer → List Input
   remaining cs ans = remaining_from [] cs ans
 
 -- ## Right answers
@@ -53,7 +53,7 @@ pub record Follows {State Input Change : Type 0} (m : Machine State Input Change
 
 module _ {State Input Change Watch Value : Type 0} (m : Machine State Input Change) (start : State) (watched : Watch → State → Value) where
   -- the answer is right where these inputs remain
-  abbrev pub IsRight : List Input → Command Input Watch → Answer → Type 0
+  abbrev pub IsRight : List Input → MachineCommand Input Watch → Answer → Type 0
   IsRight is (Apply i) Took = m.verdict (replay m start is) i ≡ None
   IsRight is (Apply i) (Refused e) = IsRefusal (m.verdict (replay m start is) i) e
   IsRight is Undo (Undone k) = IsNewestKind m is k
@@ -66,18 +66,18 @@ module _ {State Input Change Watch Value : Type 0} (m : Machine State Input Chan
   IsRight is c a = ⊥
 
   -- as many answers as commands, each right at its place
-  abbrev pub AreRightFrom : List Input → List (Command Input Watch) → List Answer → Type 0
+  abbrev pub AreRightFrom : List Input → List (MachineCommand Input Watch) → List Answer → Type 0
   AreRightFrom is [] [] = Unit {0}
   AreRightFrom is [] (a ∷ ans) = ⊥
   AreRightFrom is (c ∷ cs) [] = ⊥
   AreRightFrom is (c ∷ cs) (a ∷ ans) = IsRight is c a × AreRightFrom (remaining_after m start is c a) cs ans
 
   -- so from power-up, where no input remains before the first command
-  abbrev pub AreRight : List (Command Input Watch) → List Answer → Type 0
+  abbrev pub AreRight : List (MachineCommand Input Watch) → List Answer → Type 0
   AreRight cs ans = AreRightFrom [] cs ans
 
   -- where a bench has come by some inputs, the answer is right, and it goes on to those that remain
-  abbrev pub Answers : Whole State Change → Command Input Watch → Answer → Whole State Change → Type 0
+  abbrev pub Answers : Whole State Change → MachineCommand Input Watch → Answer → Whole State Change → Type 0
   Answers old c a new = (is : List Input) → Follows m start old is → IsRight is c a × Follows m start new (remaining_after m start is c a)
 
 -- ## What a bench does
@@ -89,7 +89,7 @@ IsNewest m (r ∷ rs) k = k ≡ m.kind r
 
 module _ {State Input Change Watch Value : Type 0} (m : Machine State Input Change) (watched : Watch → State → Value) where
   -- at a command that it answers so: when, and what the whole is then; an input that is taken can be taken back
-  abbrev pub Does : Whole State Change → Command Input Watch → Answer → Whole State Change → Type 0
+  abbrev pub Does : Whole State Change → MachineCommand Input Watch → Answer → Whole State Change → Type 0
   Does w (Apply i) Took new = (m.verdict w.state i ≡ None) × (new ≡ applied m i w) × (earlier m new 1 ≡ w)
   Does w (Apply i) (Refused e) new = IsRefusal (m.verdict w.state i) e × (new ≡ w)
   Does w Undo (Undone k) new = IsNewest m w.records k × (new ≡ taken_back m w.state w.records)
@@ -102,7 +102,7 @@ module _ {State Input Change Watch Value : Type 0} (m : Machine State Input Chan
   Does w c a new = ⊥
 
   -- these commands with these answers lead from one whole to another, each doing what it says
-  abbrev pub DoAll : Whole State Change → List (Command Input Watch) → List Answer → Whole State Change → Type 0
+  abbrev pub DoAll : Whole State Change → List (MachineCommand Input Watch) → List Answer → Whole State Change → Type 0
   DoAll w [] [] new = new ≡ w
   DoAll w [] (a ∷ ans) new = ⊥
   DoAll w (c ∷ cs) [] new = ⊥

@@ -5,7 +5,7 @@ use tsb_types::Refusal;
 
 /// A command of a session, of inputs `I` and watched values `W`.
 #[derive(Clone, Copy, PartialEq, Eq)]
-pub enum Command<I, W> {
+pub enum MachineCommand<I, W> {
     /// Takes an input.
     Apply(I),
     /// Takes the newest input back.

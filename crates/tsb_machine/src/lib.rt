@@ -9,4 +9,4 @@
 pub mod commands;
 pub mod laws;
 
-pub use commands::{Answer, Command};
+pub use commands::{Answer, MachineCommand};

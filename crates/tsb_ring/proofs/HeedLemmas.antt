@@ -5,7 +5,7 @@ use Rattle.std.proofs.Math.Bool.{and-false}
 use Rattle.tsb_types.specs.Intervals.{is_green}
 use Rattle.tsb_objects.specs.tsb_plan.Plan.{Plan}
 use Rattle.tsb_ring.specs.declared.want.Want.{Want}
-use Rattle.tsb_ring.specs.declared.found.Found.{Found}
+use Rattle.tsb_ring.specs.declared.found.RingChoice.{RingChoice}
 use Rattle.tsb_ring.specs.Rings.{Ring, Ring1, Ring2, own_ring, State, Given, serving}
 use Rattle.tsb_ring.specs.Wants.{want_of, pick, taken}
 use Rattle.tsb_ring.specs.Crossings.{wants_cross, joins, ring_joins, begins}
@@ -36,7 +36,7 @@ known plan s given r (Some q) w e h n =
       | inr g ↦ inl (n ∙ sym (unserved_want plan s given r q e g))
     ]
 
-found_known : (plan : Plan) (s : State) (given : Given) (r : Ring) (found : Found) → IsFound plan s given r found →
+found_known : (plan : Plan) (s : State) (given : Given) (r : Ring) (found : RingChoice) → IsFound plan s given r found →
     (found.want ≡ want_of plan s given r) ⊎ ((v : Option Want) → joins given (serving plan given r) (s.commitment r) v ≡ false)
 found_known plan s given r found is =
     elim (cases_Bool (is_heeded given (serving plan given r))) [
@@ -44,7 +44,7 @@ found_known plan s given r found is =
       | inr h ↦ known plan s given r (serving plan given r) found.want refl h (is.unheeded h)
     ]
 
-pub begins_found : (plan : Plan) (s : State) (given : Given) (one two : Found) → IsFound plan s given Ring1 one → IsFound plan s given Ring2 two →
+pub begins_found : (plan : Plan) (s : State) (given : Given) (one two : RingChoice) → IsFound plan s given Ring1 one → IsFound plan s given Ring2 two →
     (joins given one.own (s.commitment Ring1) one.want && joins given two.own (s.commitment Ring2) two.want && (wants_cross one.want || wants_cross two.want)) ≡ begins plan s given
 unfolding begins
 begins_found plan s given one two first second = go (found_known plan s given Ring1 one first) (found_known plan s given Ring2 two second)
@@ -59,7 +59,7 @@ begins_found plan s given one two first second = go (found_known plan s given Ri
 
 -- ## Ends
 
-pub leaves_found : (plan : Plan) (s : State) (given : Given) (r : Ring) (found : Found) (p : ℕ) → IsFound plan s given r found → serving plan given r ≡ Some p →
+pub leaves_found : (plan : Plan) (s : State) (given : Given) (r : Ring) (found : RingChoice) (p : ℕ) → IsFound plan s given r found → serving plan given r ≡ Some p →
     (given.ready p && leaves found.want) ≡ (given.ready p && leaves (want_of plan s given (own_ring plan p)))
 leaves_found plan s given r found p is e =
     elim (cases_Bool (given.ready p)) [

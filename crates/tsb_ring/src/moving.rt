@@ -14,8 +14,8 @@ ghost use Rattle.tsb_ring.specs.Crossings.{own_commitment, committed};
 ghost use Rattle.tsb_ring.specs.Next.{is_none_or_over, makes_way, may_start, idle_pick, starting, leaves, ends, clears};
 ghost use Rattle.tsb_ring.specs.Moves.{if_passes, ring_moves};
 
-use crate::conditions::Conditions;
-use crate::found::{Found, Outcome, Turn};
+use crate::conditions::RingConditions;
+use crate::found::{CrossingOutcome, RingChoice, Turn};
 use crate::rings::Rings;
 use crate::want::Want;
 use tsb_objects::{Checked, Phase, RingMoves};
@@ -46,7 +46,7 @@ fn leaves(want: Option<Want>) -> bool
 
 /// Whether the ring with this phase in service is idle or over.
 #[inline(always)]
-fn is_none_or_over(conditions: &Conditions, own: Option<Phase>) -> bool
+fn is_none_or_over(conditions: &RingConditions, own: Option<Phase>) -> bool
     ensures { (plan : Plan) → result ≡ is_none_or_over (given_of plan conditions.now) own }
 {
     match own {
@@ -57,7 +57,7 @@ fn is_none_or_over(conditions: &Conditions, own: Option<Phase>) -> bool
 
 /// Whether the other ring's phase in service makes way for `c`.
 #[inline(always)]
-fn makes_way(plan: &Checked, conditions: &Conditions, c: Phase, across: Option<Phase>) -> bool
+fn makes_way(plan: &Checked, conditions: &RingConditions, c: Phase, across: Option<Phase>) -> bool
     ensures { result ≡ makes_way (checked_plan plan.now) (given_of (checked_plan plan.now) conditions.now) c across }
 {
     match across {
@@ -107,7 +107,7 @@ fn filtered(p: Phase, on: bool) -> Option<Phase>
 
 /// Whether the phase was Green.
 #[inline(always)]
-pub(crate) fn is_green(conditions: &Conditions, p: Phase) -> bool
+pub(crate) fn is_green(conditions: &RingConditions, p: Phase) -> bool
     ensures { result ≡ is_green (interval_of conditions.now.intervals p) }
 {
     conditions.intervals.green.contains(p)
@@ -115,7 +115,12 @@ pub(crate) fn is_green(conditions: &Conditions, p: Phase) -> bool
 
 /// Whether a phase of a ring goes Yellow: it is Green, and a crossing begins, or it is ready and its ring leaves it.
 #[inline(always)]
-fn does_end(conditions: &Conditions, p: Phase, found: &Found, outcome: &Outcome) -> bool
+fn does_end(
+    conditions: &RingConditions,
+    p: Phase,
+    found: &RingChoice,
+    outcome: &CrossingOutcome,
+) -> bool
     ensures { result ≡ (is_green (interval_of conditions.now.intervals p) && (outcome.now.begun || (has conditions.now.timing.ready p && leaves found.now.want))) }
 {
     let leaves = conditions.timing.ready.contains(p) && leaves(found.want);
@@ -125,7 +130,7 @@ fn does_end(conditions: &Conditions, p: Phase, found: &Found, outcome: &Outcome)
 impl Rings {
     /// Whether the commitment that the ring had may start, or, where it had none, whether the ring is idle or over.
     #[inline(always)]
-    pub(crate) fn may_start(&self, plan: &Checked, conditions: &Conditions, turn: &Turn) -> bool
+    pub(crate) fn may_start(&self, plan: &Checked, conditions: &RingConditions, turn: &Turn) -> bool
         requires by { IsBy (cells_of self.now) }
         requires turn { IsTurn (checked_plan plan.now) (state_of self.now) (given_of (checked_plan plan.now) conditions.now) turn.now }
         ensures { result ≡ may_start (checked_plan plan.now) (given_of (checked_plan plan.now) conditions.now) (ring_numbered turn.now.ring) ((state_of self.now).commitment (ring_numbered turn.now.ring)) }
@@ -145,9 +150,9 @@ impl Rings {
     fn committed(
         &self,
         plan: &Checked,
-        conditions: &Conditions,
-        found: &Found,
-        outcome: &Outcome,
+        conditions: &RingConditions,
+        found: &RingChoice,
+        outcome: &CrossingOutcome,
     ) -> Option<Phase>
         requires by { IsBy (cells_of self.now) }
         requires found { IsFound (checked_plan plan.now) (state_of self.now) (given_of (checked_plan plan.now) conditions.now) (ring_numbered found.now.ring) found.now }
@@ -167,9 +172,9 @@ impl Rings {
     fn starting(
         &self,
         plan: &Checked,
-        conditions: &Conditions,
-        found: &Found,
-        outcome: &Outcome,
+        conditions: &RingConditions,
+        found: &RingChoice,
+        outcome: &CrossingOutcome,
     ) -> Option<Phase>
         requires by { IsBy (cells_of self.now) }
         requires found { IsFound (checked_plan plan.now) (state_of self.now) (given_of (checked_plan plan.now) conditions.now) (ring_numbered found.now.ring) found.now }
@@ -194,9 +199,9 @@ impl Rings {
     fn ending(
         &self,
         plan: &Checked,
-        conditions: &Conditions,
-        found: &Found,
-        outcome: &Outcome,
+        conditions: &RingConditions,
+        found: &RingChoice,
+        outcome: &CrossingOutcome,
     ) -> Option<Phase>
         requires found { IsFound (checked_plan plan.now) (state_of self.now) (given_of (checked_plan plan.now) conditions.now) (ring_numbered found.now.ring) found.now }
         requires outcome { IsOutcome (checked_plan plan.now) (state_of self.now) (given_of (checked_plan plan.now) conditions.now) (ring_numbered found.now.ring) outcome.now }
@@ -214,8 +219,8 @@ impl Rings {
     fn clearing(
         &self,
         plan: &Checked,
-        conditions: &Conditions,
-        found: &Found,
+        conditions: &RingConditions,
+        found: &RingChoice,
         is_bound: bool,
         is_starting: bool,
     ) -> Option<Phase>
@@ -238,9 +243,9 @@ impl Rings {
     pub(crate) fn ring_moves(
         &self,
         plan: &Checked,
-        conditions: &Conditions,
-        found: &Found,
-        outcome: &Outcome,
+        conditions: &RingConditions,
+        found: &RingChoice,
+        outcome: &CrossingOutcome,
     ) -> RingMoves
         requires by { IsBy (cells_of self.now) }
         requires found { IsFound (checked_plan plan.now) (state_of self.now) (given_of (checked_plan plan.now) conditions.now) (ring_numbered found.now.ring) found.now }

@@ -9,7 +9,7 @@ ghost use Rattle.tsb_ring.specs.Promises.{given_of};
 ghost use Rattle.tsb_ring.specs.Rings.{in_ring, ring_numbered, serving};
 ghost use Rattle.tsb_ring.specs.Wants.{is_targeted};
 
-use crate::conditions::Conditions;
+use crate::conditions::RingConditions;
 use tsb_objects::{Checked, Phase, PhaseSet, Ring};
 
 /// The phases of a ring.
@@ -23,7 +23,7 @@ pub(crate) fn of_ring(plan: &Checked, r: Ring) -> PhaseSet
 
 /// The phases that were in service.
 #[inline(always)]
-pub(crate) fn in_service(conditions: &Conditions) -> PhaseSet
+pub(crate) fn in_service(conditions: &RingConditions) -> PhaseSet
     ensures { (p : ℕ) → has result p ≡ in_service (interval_of conditions.now.intervals p) }
 {
     let intervals = &conditions.intervals;
@@ -35,7 +35,7 @@ pub(crate) fn in_service(conditions: &Conditions) -> PhaseSet
 
 /// The ring's phase that was in service.
 #[inline(always)]
-pub(crate) fn serving(plan: &Checked, conditions: &Conditions, r: Ring) -> Option<Phase>
+pub(crate) fn serving(plan: &Checked, conditions: &RingConditions, r: Ring) -> Option<Phase>
     ensures { result ≡ serving (checked_plan plan.now) (given_of (checked_plan plan.now) conditions.now) (ring_numbered r) }
 {
     of_ring(plan, r)
@@ -45,7 +45,7 @@ pub(crate) fn serving(plan: &Checked, conditions: &Conditions, r: Ring) -> Optio
 
 /// The phases of a ring that were in service.
 #[inline(always)]
-fn served(plan: &Checked, conditions: &Conditions, r: Ring) -> PhaseSet
+fn served(plan: &Checked, conditions: &RingConditions, r: Ring) -> PhaseSet
     ensures { (p : ℕ) → has result p ≡ (in_ring (checked_plan plan.now) (ring_numbered r) p && in_service (interval_of conditions.now.intervals p)) }
 {
     of_ring(plan, r).intersection(in_service(conditions))
@@ -53,7 +53,7 @@ fn served(plan: &Checked, conditions: &Conditions, r: Ring) -> PhaseSet
 
 /// A preempt's target.
 #[inline(always)]
-pub(crate) fn target(conditions: &Conditions) -> Option<PhaseSet>
+pub(crate) fn target(conditions: &RingConditions) -> Option<PhaseSet>
     ensures { result ≡ conditions.now.orders.target }
 {
     conditions.orders.target
@@ -69,7 +69,7 @@ pub(crate) fn targeted(plan: &Checked, target: PhaseSet) -> PhaseSet
 
 /// The phases that may be left once they are in service: ready, and not among those that a preempt wants served.
 #[inline(always)]
-fn leaving(plan: &Checked, conditions: &Conditions) -> PhaseSet
+fn leaving(plan: &Checked, conditions: &RingConditions) -> PhaseSet
     ensures { (p : ℕ) → has result p ≡ may_leave (checked_plan plan.now) (given_of (checked_plan plan.now) conditions.now) p }
 {
     let ready = conditions.timing.ready;
@@ -81,7 +81,7 @@ fn leaving(plan: &Checked, conditions: &Conditions) -> PhaseSet
 
 /// The phases that were Green and are not ready.
 #[inline(always)]
-fn unready(conditions: &Conditions) -> PhaseSet
+fn unready(conditions: &RingConditions) -> PhaseSet
     ensures { (p : ℕ) → has result p ≡ (is_green (interval_of conditions.now.intervals p) && not (has conditions.now.timing.ready p)) }
 {
     conditions
@@ -92,7 +92,7 @@ fn unready(conditions: &Conditions) -> PhaseSet
 
 /// Whether a ring is bound to what it serves: it serves a phase, and none that it serves may be left.
 #[inline(always)]
-pub(crate) fn is_bound(plan: &Checked, conditions: &Conditions, r: Ring) -> bool
+pub(crate) fn is_bound(plan: &Checked, conditions: &RingConditions, r: Ring) -> bool
     ensures { result ≡ true → IsBound (checked_plan plan.now) (given_of (checked_plan plan.now) conditions.now) (ring_numbered r) }
 {
     let left = served(plan, conditions, r).intersection(leaving(plan, conditions));
@@ -101,7 +101,7 @@ pub(crate) fn is_bound(plan: &Checked, conditions: &Conditions, r: Ring) -> bool
 
 /// Whether a ring waits with what it serves: it serves a phase, and all that it serves are Green and not ready.
 #[inline(always)]
-pub(crate) fn is_unready(plan: &Checked, conditions: &Conditions, r: Ring) -> bool
+pub(crate) fn is_unready(plan: &Checked, conditions: &RingConditions, r: Ring) -> bool
     ensures { result ≡ true → IsUnready (checked_plan plan.now) (given_of (checked_plan plan.now) conditions.now) (ring_numbered r) }
 {
     let others = served(plan, conditions, r).difference(unready(conditions));

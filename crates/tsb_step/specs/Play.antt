@@ -5,7 +5,7 @@ use Rattle.std.specs.Prelude.{ℕ, List}
 use Rattle.tsb_machine.specs.tsb_history.History.{Change}
 use Rattle.tsb_types.specs.declared.watch.Watch.{Watch}
 use Rattle.tsb_objects.specs.tsb_plan.Plan.{Plan}
-use Rattle.tsb_machine.specs.declared.commands.Command.{Command}
+use Rattle.tsb_machine.specs.declared.commands.MachineCommand.{MachineCommand}
 use Rattle.tsb_machine.specs.declared.commands.Answer.{Answer}
 use Rattle.tsb_machine.specs.Machine as machine
 use Rattle.tsb_machine.specs.Play as play
@@ -16,7 +16,7 @@ use Rattle.tsb_step.specs.Watches.{watched}
 
 -- a command of a session
 abbrev pub Cmd : Type 0
-Cmd = Command Input Watch
+Cmd = MachineCommand Input Watch
 
 -- the states of a run, newest first
 abbrev pub run : Plan → List Input → List State

@@ -4,7 +4,7 @@ use Rattle.std.proofs.lemmas.List.{append-nil}
 use Rattle.std.specs.declared.option.Option.{Option}
 use Rattle.std.specs.declared.result.Result.{Result}
 use Rattle.tsb_objects.specs.tsb_types.declared.refusal.Refusal.{Refusal}
-use Rattle.tsb_bench.specs.tsb_machine.declared.commands.Command.TheVariants.{Apply}
+use Rattle.tsb_bench.specs.tsb_machine.declared.commands.MachineCommand.TheVariants.{Apply}
 use Rattle.tsb_bench.specs.tsb_machine.declared.commands.Answer.{Answer}
 use Rattle.tsb_bench.specs.tsb_machine.declared.commands.Answer.TheVariants as answers
 use Rattle.tsb_bench.specs.tsb_machine.declared.commands.Answer.TheVariants.{Refused}

@@ -11,7 +11,7 @@ use Rattle.tsb_objects.specs.tsb_types.declared.refusal.Refusal.TheVariants.{Mem
 use Rattle.tsb_objects.specs.tsb_types.declared.row.Row.{Row}
 use Rattle.tsb_bench.specs.tsb_history.History.{Change, record_size}
 use Rattle.tsb_bench.specs.tsb_history.declared.kinds.Kind.{Kind}
-use Rattle.tsb_bench.specs.tsb_machine.declared.commands.Command.TheVariants.{Apply, Undo, Back, Seek, When}
+use Rattle.tsb_bench.specs.tsb_machine.declared.commands.MachineCommand.TheVariants.{Apply, Undo, Back, Seek, When}
 use Rattle.tsb_bench.specs.tsb_machine.declared.commands.Answer.{Answer}
 use Rattle.tsb_bench.specs.tsb_machine.declared.commands.Answer.TheVariants as answers
 use Rattle.tsb_bench.specs.tsb_machine.declared.commands.Answer.TheVariants.{Refused, Undone, Moved, Nothing, Changed}

@@ -1,7 +1,7 @@
 -- What a command comes to: there is some answer to each, and where nothing is said besides it is a session's.
 use Rattle.std.proofs.Common.{◌≡◌, ℕ, zero, suc, List, [], ◌∷◌, ◌++◌, Option, None, refl, ap, ◌∙◌, inl, inr}
 use Rattle.tsb_objects.specs.tsb_types.declared.refusal.Refusal.{Refusal}
-use Rattle.tsb_bench.specs.tsb_machine.declared.commands.Command.TheVariants as asks
+use Rattle.tsb_bench.specs.tsb_machine.declared.commands.MachineCommand.TheVariants as asks
 use Rattle.tsb_bench.specs.tsb_machine.declared.commands.Answer.{Answer}
 use Rattle.tsb_bench.specs.tsb_machine.declared.commands.Answer.TheVariants.{Changed, Moved, Took}
 use Rattle.tsb_bench.specs.tsb_step.declared.inputs.Input.{Input}

@@ -3,7 +3,7 @@ use Rattle.std.specs.Prelude.{◌≡◌, ◌+◌, List, [], ◌∷◌, ◌++◌,
 use Rattle.tsb_bench.specs.Held.{Held, whole}
 use Rattle.tsb_bench.specs.tsb_machine.declared.commands.Answer.{Answer}
 use Rattle.tsb_bench.specs.tsb_machine.declared.commands.Answer.TheVariants as answers
-use Rattle.tsb_bench.specs.tsb_machine.declared.commands.Command.TheVariants.{Apply}
+use Rattle.tsb_bench.specs.tsb_machine.declared.commands.MachineCommand.TheVariants.{Apply}
 use Rattle.tsb_bench.specs.tsb_step.declared.inputs.Input.{Input}
 use Rattle.tsb_bench.specs.tsb_step.Events.{events_of, usual_after}
 use Rattle.tsb_bench.specs.tsb_step.Play.{Cmd, Follows, IsRight, remaining_after}

@@ -1,7 +1,7 @@
 -- What a command comes to where more may be said than a session says: the events of inputs, and the command itself.
 use Rattle.std.specs.Prelude.{◌≡◌, ◌⊎◌, ℕ, zero, suc, List, [], ◌∷◌, ◌++◌, Bool, false, Option, Some, None, codes, if◌then◌else◌}
 use Rattle.std.specs.Fmt.{decimal}
-use Rattle.tsb_bench.specs.tsb_machine.declared.commands.Command.TheVariants as asks
+use Rattle.tsb_bench.specs.tsb_machine.declared.commands.MachineCommand.TheVariants as asks
 use Rattle.tsb_bench.specs.tsb_machine.declared.commands.Answer.{Answer}
 use Rattle.tsb_bench.specs.tsb_machine.declared.commands.Answer.TheVariants.{Took, Refused, Moved}
 use Rattle.tsb_bench.specs.tsb_step.declared.inputs.Input.{Input}

@@ -1,5 +1,5 @@
 -- What a command asks: ticks, the display, the end, or what the bench is asked once.
-use Rattle.tsb_bench.specs.tsb_machine.declared.commands.Command.TheVariants as asks
+use Rattle.tsb_bench.specs.tsb_machine.declared.commands.MachineCommand.TheVariants as asks
 use Rattle.tsb_bench.specs.tsb_step.Play.{Cmd}
 use Rattle.tsb_bench.specs.tsb_step.declared.inputs.Input.TheVariants as inputs
 use Rattle.tsb_command_text.specs.declared.command.Command.{Command}

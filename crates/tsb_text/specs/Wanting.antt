@@ -3,7 +3,7 @@ use Rattle.std.specs.Prelude.{◌⊎◌, ◌<◌, ◌+◌}
 use Rattle.tsb_bench.specs.Cabinet.{most_cells}
 use Rattle.tsb_bench.specs.Held.{state_of}
 use Rattle.tsb_bench.specs.tsb_history.History.{record_size}
-use Rattle.tsb_bench.specs.tsb_machine.declared.commands.Command.TheVariants.{Apply}
+use Rattle.tsb_bench.specs.tsb_machine.declared.commands.MachineCommand.TheVariants.{Apply}
 use Rattle.tsb_bench.specs.tsb_step.Events.{events_of}
 use Rattle.tsb_bench.specs.tsb_step.Play.{Cmd}
 use Rattle.tsb_bench.specs.tsb_step.Step.{kind_of}

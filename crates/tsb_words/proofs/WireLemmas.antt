@@ -4,7 +4,7 @@ use Rattle.std.proofs.Common.{take, drop, get_or, length, map, arith, append_ass
 use Rattle.std.proofs.lemmas.List.{append-nil, at_drop_all, at_drop_more}
 use Rattle.std.specs.Borrow.{Bor}
 use Rattle.std.proofs.lemmas.Bool.Decides.{eqb_tells}
-use Rattle.tsb_field_log.specs.declared.inputs.Kind.{Kind}
+use Rattle.tsb_field_log.specs.declared.inputs.InputKind.{InputKind}
 use Rattle.tsb_field_log.specs.declared.inputs.Wire.{Wire}
 use Rattle.tsb_words.specs.declared.error.WordsError.{WordsError}
 use Rattle.tsb_words.specs.declared.error.WordsError.TheVariants.{Memory, Bad}
@@ -23,11 +23,11 @@ joined-none before (Some wires) none = absurd (cc)
 -- ## The wires of words, one after another
 
 -- the wires before, and then those of these words
-abbrev pub wires_with : Kind → List Wire → List (Bor (List ℕ)) → Option (List Wire)
+abbrev pub wires_with : InputKind → List Wire → List (Bor (List ℕ)) → Option (List Wire)
 wires_with kind before words = joined (Some before) (wires_of kind (map (λ word. word.now) words))
 
 -- the next word spells a wire
-pub wire-added : (kind : Kind) (before after : List Wire) (words : List (Bor (List ℕ))) (i : ℕ) (d : Bor (List ℕ)) (text : List ℕ) (wire : Wire)
+pub wire-added : (kind : InputKind) (before after : List Wire) (words : List (Bor (List ℕ))) (i : ℕ) (d : Bor (List ℕ)) (text : List ℕ) (wire : Wire)
     → i < length words → text ≡ (get_or words i d).now → Some wire ≡ wire_of kind text → after ≡ before ++ wire ∷ []
     → wires_with kind after (drop (i + 1) words) ≡ wires_with kind before (drop i words)
 wire-added kind before after words i d text wire within same is grown =
@@ -38,7 +38,7 @@ wire-added kind before after words i d text wire within same is grown =
     ∙ sym (at_drop_more (wires_with kind before) words i d within)))
 
 -- the next word spells none
-pub no-wire : (kind : Kind) (first before : List Wire) (words : List (Bor (List ℕ))) (i : ℕ) (d : Bor (List ℕ)) (text : List ℕ)
+pub no-wire : (kind : InputKind) (first before : List Wire) (words : List (Bor (List ℕ))) (i : ℕ) (d : Bor (List ℕ)) (text : List ℕ)
     → i < length words → text ≡ (get_or words i d).now → None ≡ wire_of kind text → wires_with kind before (drop i words) ≡ wires_with kind first words
     → wires_of kind (map (λ word. word.now) words) ≡ None
 no-wire kind first before words i d text within same none so_far =
@@ -48,7 +48,7 @@ no-wire kind first before words i d text within same none so_far =
     ∙ sym (ap (λ (o : Option Wire). joined (Some before) (with_wire o rest)) (none ∙ ap (wire_of kind) same))))
 
 -- there is no next word
-pub no-word : (kind : Kind) (first before : List Wire) (words : List (Bor (List ℕ))) (i : ℕ) → length words ≤ i
+pub no-word : (kind : InputKind) (first before : List Wire) (words : List (Bor (List ℕ))) (i : ℕ) → length words ≤ i
     → wires_with kind before (drop i words) ≡ wires_with kind first words → wires_with kind first words ≡ Some before
 no-word kind first before words i past so_far =
     sym so_far ∙ (at_drop_all (wires_with kind before) words i past ∙ ap (λ (all : List Wire). Some all) (append-nil before))

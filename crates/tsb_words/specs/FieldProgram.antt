@@ -8,7 +8,7 @@ use Rattle.tsb_event_text.specs.TimeForms.{time_form_named, zone_named}
 use Rattle.tsb_event_text.specs.declared.time_forms.TimeForm.{TimeForm}
 use Rattle.tsb_event_text.specs.declared.times.Moment.{Moment}
 use Rattle.tsb_event_text.specs.declared.zones.Zone.{Zone}
-use Rattle.tsb_field_log.specs.declared.inputs.Kind.TheVariants.{Vehicle, Pedestrian, Preempt}
+use Rattle.tsb_field_log.specs.declared.inputs.InputKind.TheVariants.{Vehicle, Pedestrian, Preempt}
 use Rattle.tsb_field_log.specs.declared.inputs.Wire.{Wire}
 use Rattle.tsb_words.specs.declared.field_files.options.TheConstants.{USUAL_WINDOW}
 use Rattle.tsb_words.specs.declared.field_files.Asked.{Asked}

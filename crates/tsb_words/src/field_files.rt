@@ -21,7 +21,7 @@ use options::{form_said, from_said, moment, seconds_said, window_said, zone_said
 use std::alloc::Global;
 use std::convert::AsStr;
 use tsb_event_text::{Moment, TimeForm, Zone, can_be_written};
-use tsb_field_log::{Kind, Wire};
+use tsb_field_log::{InputKind, Wire};
 use wires::add_option;
 pub(crate) use wires::parts;
 
@@ -226,9 +226,13 @@ fn all_wires(alloc: Global, options: &ArgMatches<'_>) -> Result<Vec<Wire>, Words
     ensures { AreSpelled (wires_in (rows_of (found_of options.now))) result }
 {
     let mut wires = Vec::new(alloc);
-    add_option(&mut wires, Kind::Vehicle, options.get_raw("vehicle"))?;
-    add_option(&mut wires, Kind::Pedestrian, options.get_raw("pedestrian"))?;
-    add_option(&mut wires, Kind::Preempt, options.get_raw("preempt"))?;
+    add_option(&mut wires, InputKind::Vehicle, options.get_raw("vehicle"))?;
+    add_option(
+        &mut wires,
+        InputKind::Pedestrian,
+        options.get_raw("pedestrian"),
+    )?;
+    add_option(&mut wires, InputKind::Preempt, options.get_raw("preempt"))?;
     Ok(wires)
 }
 

@@ -1,11 +1,11 @@
 -- Which wires lead to a bench, worked by hand, and mistakes that the definition refuses.
 use Rattle.std.specs.Prelude.{◌≡◌, ℕ, true, false, List, [], ◌∷◌, ◌++◌, length, refl}
-use Rattle.tsb_field_log.specs.declared.inputs.Kind.{Kind}
-use Rattle.tsb_field_log.specs.declared.inputs.Kind.TheVariants.{Vehicle, Preempt}
+use Rattle.tsb_field_log.specs.declared.inputs.InputKind.{InputKind}
+use Rattle.tsb_field_log.specs.declared.inputs.InputKind.TheVariants.{Vehicle, Preempt}
 use Rattle.tsb_field_log.specs.declared.inputs.Wire.{Wire}
 use Rattle.tsb_field_log.specs.Mapping.{is_wired, own_wires, wires_of}
 
-abbrev pub leads : Kind → ℕ → ℕ → Wire
+abbrev pub leads : InputKind → ℕ → ℕ → Wire
 leads kind channel input = record { kind = kind; channel = channel; input = input }
 
 -- preempt channel 2 leads to inputs 3 and 4, and vehicle channel 4 to detector 1

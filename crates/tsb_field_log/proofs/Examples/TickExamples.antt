@@ -3,7 +3,7 @@
 use Rattle.std.specs.Prelude.{◌≡◌, ℕ, Bool, true, false, List, [], ◌∷◌, map, codes, refl}
 use Rattle.tsb_types.specs.Sets.{set_of_list, all_off, number_of_bits}
 use Rattle.tsb_types.specs.declared.row.Row.{Row}
-use Rattle.tsb_field_log.specs.declared.inputs.Kind.TheVariants.{Vehicle}
+use Rattle.tsb_field_log.specs.declared.inputs.InputKind.TheVariants.{Vehicle}
 use Rattle.tsb_field_log.specs.declared.inputs.Wire.{Wire}
 use Rattle.tsb_field_log.specs.declared.inputs.InputEvent.{InputEvent}
 use Rattle.tsb_field_log.specs.Ticks.{is_on_in, row_in}

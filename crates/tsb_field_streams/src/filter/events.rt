@@ -7,13 +7,17 @@ ghost use Rattle.tsb_field_streams.specs.Filtering.{Given, Stand, wire_place, wi
 use super::{Filter, NO_ROWS, count_of};
 use crate::error::FilterError;
 use tsb_event_text::EventRow;
-use tsb_field_log::{InputEvent, Kind, Rows, Signal, Wire};
+use tsb_field_log::{InputEvent, InputKind, KnownRows, Signal, Wire};
 
 impl Filter<'_> {
     ghost use Rattle.tsb_field_streams.specs.Standing.{StandsAt, Takes};
 
     /// Takes what a row says of an input.
-    pub(super) fn take_signal(&mut self, row: EventRow, signal: Signal) -> Result<Rows, FilterError>
+    pub(super) fn take_signal(
+        &mut self,
+        row: EventRow,
+        signal: Signal,
+    ) -> Result<KnownRows, FilterError>
         ensures takes { (g : Given) (s : Stand) → StandsAt g s self.old → s.last ≡ row.moment.nanos
             → Takes g s (with_signal g s row (Some signal)) result self.new }
         ensures own { IfErr result IsOfText }
@@ -34,7 +38,7 @@ impl Filter<'_> {
     }
 
     /// Takes an event on the channel of the wire at this place; it is of the last moment.
-    fn take_wired(&mut self, place: usize, event: InputEvent) -> Result<Rows, FilterError>
+    fn take_wired(&mut self, place: usize, event: InputEvent) -> Result<KnownRows, FilterError>
         ensures takes { (g : Given) (s : Stand) → StandsAt g s self.old → s.last ≡ event.nanos
             → Takes g s (with_event g (with_used s place) event) result self.new }
         ensures own { IfErr result IsOfText }
@@ -54,7 +58,7 @@ impl Filter<'_> {
     }
 
     /// Takes an event of an input, which is of the last moment.
-    fn take_event(&mut self, event: InputEvent) -> Result<Rows, FilterError>
+    fn take_event(&mut self, event: InputEvent) -> Result<KnownRows, FilterError>
         ensures takes { (g : Given) (s : Stand) → StandsAt g s self.old → s.last ≡ event.nanos → Takes g s (with_event g s event) result self.new }
         ensures own { IfErr result IsOfText }
     {
@@ -70,7 +74,7 @@ impl Filter<'_> {
 }
 
 /// The place of the first wire of this kind and from this channel.
-fn wire_place(wires: &[Wire], kind: Kind, channel: u32) -> Option<usize>
+fn wire_place(wires: &[Wire], kind: InputKind, channel: u32) -> Option<usize>
     ensures { result ≡ wire_place wires.now kind channel }
 {
     wires
@@ -79,7 +83,7 @@ fn wire_place(wires: &[Wire], kind: Kind, channel: u32) -> Option<usize>
 }
 
 /// Whether the wire is of this kind, and from this channel.
-fn leads_from(wire: Wire, kind: Kind, channel: u32) -> bool
+fn leads_from(wire: Wire, kind: InputKind, channel: u32) -> bool
     ensures { result ≡ leads_from kind channel wire }
 {
     wire.kind == kind && wire.channel == channel

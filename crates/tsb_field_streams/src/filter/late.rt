@@ -7,7 +7,7 @@ ghost use Rattle.tsb_field_streams.specs.Filtering.{Given, Stand, bound_of, most
 use super::{Filter, NO_ROWS, time_place};
 use crate::error::{Disorder, FilterError};
 use tsb_event_text::EventRow;
-use tsb_field_log::Rows;
+use tsb_field_log::KnownRows;
 
 /// The most rows that are held at a time, where rows are sorted: with 32 bytes each they take 32 MB.
 pub const MOST_HELD: usize = 1_000_000;
@@ -24,7 +24,7 @@ impl Filter<'_> {
         number: u32,
         row: EventRow,
         seconds: u32,
-    ) -> Result<Rows, FilterError>
+    ) -> Result<KnownRows, FilterError>
         ensures takes { (g : Given) (s : Stand) → StandsAt g s self.old → Takes g s (with_late g number s row seconds) result self.new }
         ensures own { IfErr result IsOfText }
     {
@@ -54,7 +54,7 @@ impl Filter<'_> {
     }
 
     /// Takes the first row that is held, where no row that may still come is before it.
-    fn take_due(&mut self, number: u32, seconds: u32) -> Result<Rows, FilterError>
+    fn take_due(&mut self, number: u32, seconds: u32) -> Result<KnownRows, FilterError>
         ensures takes { (g : Given) (s : Stand) → StandsAt g s self.old → Takes g s (with_due g number s seconds) result self.new }
         ensures own { IfErr result IsOfText }
     {
@@ -63,7 +63,7 @@ impl Filter<'_> {
     }
 
     /// Takes a row that was held, where there is one.
-    fn take_given(&mut self, number: u32, given: Option<EventRow>) -> Result<Rows, FilterError>
+    fn take_given(&mut self, number: u32, given: Option<EventRow>) -> Result<KnownRows, FilterError>
         ensures takes { (g : Given) (s : Stand) → StandsAt g s self.old → Takes g s (with_given g number s given) result self.new }
         ensures own { IfErr result IsOfText }
     {
@@ -82,7 +82,7 @@ impl Filter<'_> {
 
     /// Takes the first row that is held, where no line follows; without one it changes nothing. The errors are `PastEnd`
     /// and `LogTooLarge`: a row that is held is never out of order.
-    pub fn take_next(&mut self) -> Result<Rows, FilterError>
+    pub fn take_next(&mut self) -> Result<KnownRows, FilterError>
         ensures takes { (g : Given) (s : Stand) → StandsAt g s self.old → Takes g s (with_next g s) result self.new }
         ensures own { IfErr result IsOfText }
     {

@@ -4,7 +4,7 @@ use Rattle.std.proofs.lemmas.Bool.{lt-ltb, le-ltb}
 use Rattle.tsb_step.specs.tsb_types.declared.refusal.Refusal.{Refusal}
 use Rattle.tsb_step.specs.tsb_types.declared.refusal.Refusal.TheVariants.{Memory, NoSuchObject, OutOfRange, Busy, NotOwner, NotOpen, NotVerified, TooManyEdits, NoSuchPattern, NoSuchPreempt, TickLimit, InService}
 use Rattle.tsb_step.specs.tsb_types.declared.watch.Watch.{Watch}
-use Rattle.tsb_step.specs.tsb_machine.declared.commands.Command.TheVariants.{Apply, Undo, Back, Seek, When}
+use Rattle.tsb_step.specs.tsb_machine.declared.commands.MachineCommand.TheVariants.{Apply, Undo, Back, Seek, When}
 use Rattle.tsb_step.specs.tsb_machine.declared.commands.Answer.{Answer}
 use Rattle.tsb_step.specs.tsb_machine.declared.commands.Answer.TheVariants.{Took, Refused, Undone, Moved, Nothing, Changed}
 use Rattle.tsb_step.specs.tsb_machine.Play.{IsRefusal}

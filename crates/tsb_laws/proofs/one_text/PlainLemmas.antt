@@ -19,7 +19,7 @@ use Rattle.tsb_step.specs.declared.inputs.Input.{Input}
 use Rattle.tsb_step.specs.declared.inputs.Input.TheVariants as inputs
 use Rattle.tsb_step.specs.Signs.{display, local}
 use Rattle.tsb_step.specs.State.{State}
-use Rattle.tsb_step.specs.tsb_machine.declared.commands.Command.TheVariants.{Apply}
+use Rattle.tsb_step.specs.tsb_machine.declared.commands.MachineCommand.TheVariants.{Apply}
 use Rattle.tsb_text.specs.tsb_lines.Digits.{digit}
 use Rattle.tsb_text.specs.tsb_display_text.Line.{letter, pedestrian_letter, tick_field, local_field, preempt_digit, line_of}
 use Rattle.tsb_text.specs.tsb_lines.Lines.{split}

@@ -9,7 +9,7 @@ use Rattle.tsb_step.specs.declared.inputs.Input.{Input}
 use Rattle.tsb_step.specs.declared.inputs.Input.TheVariants as inputs
 use Rattle.tsb_step.specs.Runs.{AreTaken, replay}
 use Rattle.tsb_step.specs.tsb_machine.declared.commands.Answer.TheVariants.{Took}
-use Rattle.tsb_step.specs.tsb_machine.declared.commands.Command.TheVariants.{Apply}
+use Rattle.tsb_step.specs.tsb_machine.declared.commands.MachineCommand.TheVariants.{Apply}
 use Rattle.tsb_step.specs.tsb_plan.Plan.{Plan}
 use Rattle.tsb_text.specs.Answers.{Answers, Asked, Setup, Steps, display_line, next_tick, told}
 use Rattle.tsb_laws.specs.SavedRuns.{AnswersAll, saved_setup}

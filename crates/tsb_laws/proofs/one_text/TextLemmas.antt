@@ -3,7 +3,7 @@ use Rattle.std.proofs.Common.{◌≡◌, ◌⊎◌, ℕ, zero, suc, false, List,
 use Rattle.std.specs.Io.KnownBytes.{Consumes}
 use Rattle.tsb_step.specs.tsb_types.declared.refusal.Refusal.{Refusal}
 use Rattle.tsb_step.specs.tsb_types.declared.refusal.Refusal.TheVariants.{Memory}
-use Rattle.tsb_step.specs.tsb_machine.declared.commands.Command.TheVariants as asks
+use Rattle.tsb_step.specs.tsb_machine.declared.commands.MachineCommand.TheVariants as asks
 use Rattle.tsb_step.specs.tsb_machine.declared.commands.Answer.{Answer}
 use Rattle.tsb_step.specs.tsb_machine.declared.commands.Answer.TheVariants.{Took, Refused}
 use Rattle.tsb_step.specs.declared.inputs.Input.{Input}

@@ -1,7 +1,7 @@
 -- The inputs that remain after commands are inputs of these commands.
 use Rattle.std.proofs.Common.{ℕ, ◌+◌, ◌-◌, ◌<◌, ◌≤◌, ◌==◌, Bool, true, false, if◌then◌else◌, List, [], ◌∷◌, ◌++◌, length, take, get_or, take_all, sym, subst}
 use Rattle.std.proofs.lemmas.List.{take_more}
-use Rattle.tsb_step.specs.tsb_machine.declared.commands.Command.TheVariants as asks
+use Rattle.tsb_step.specs.tsb_machine.declared.commands.MachineCommand.TheVariants as asks
 use Rattle.tsb_step.specs.tsb_machine.declared.commands.Answer.{Answer}
 use Rattle.tsb_step.specs.tsb_machine.declared.commands.Answer.TheVariants as answers
 use Rattle.tsb_step.specs.tsb_history.declared.kinds.Kind.{Kind}

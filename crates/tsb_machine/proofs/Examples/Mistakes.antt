@@ -2,8 +2,8 @@
 -- ticks that set a value.
 use Rattle.std.proofs.Common.{◌≡◌, ◌≢◌, ◌<◌, ℕ, zero, suc, ◌+◌, ◌-◌, ◌==◌, List, [], ◌∷◌, Option, Some, None, if◌then◌else◌, ◌⊎◌, inl, refl, arith}
 use Rattle.tsb_history.specs.declared.kinds.Kind.TheVariants.{Tick}
-use Rattle.tsb_machine.specs.declared.commands.Command.{Command}
-use Rattle.tsb_machine.specs.declared.commands.Command.TheVariants.{Apply, Undo}
+use Rattle.tsb_machine.specs.declared.commands.MachineCommand.{MachineCommand}
+use Rattle.tsb_machine.specs.declared.commands.MachineCommand.TheVariants.{Apply, Undo}
 use Rattle.tsb_machine.specs.declared.commands.Answer.{Answer}
 use Rattle.tsb_machine.specs.declared.commands.Answer.TheVariants.{Took, Undone}
 use Rattle.tsb_machine.specs.Laws.{CountsTicks, GiveBack, TellsKinds}
@@ -107,7 +107,7 @@ would_tell_2 = inl (differ 5 7 (omega arith), refl)
 -- ## An input that was undone remains
 
 -- 7 is taken, then 5, and 5 is undone
-abbrev pub commands : List (Command ℕ (Unit {0}))
+abbrev pub commands : List (MachineCommand ℕ (Unit {0}))
 commands = Apply 7 ∷ Apply 5 ∷ Undo ∷ []
 
 abbrev pub answers : List Answer
@@ -130,7 +130,7 @@ done = (
 remains_7 : remaining clock start commands answers ≡ 7 ∷ []
 remains_7 = refl
 
-abbrev pub taken_in_all : List ℕ → List (Command ℕ (Unit {0})) → List Answer → List ℕ
+abbrev pub taken_in_all : List ℕ → List (MachineCommand ℕ (Unit {0})) → List Answer → List ℕ
 taken_in_all is (Apply i ∷ cs) (Took ∷ ans) = taken_in_all (i ∷ is) cs ans
 taken_in_all is (c ∷ cs) (a ∷ ans) = taken_in_all is cs ans
 taken_in_all is cs ans = is

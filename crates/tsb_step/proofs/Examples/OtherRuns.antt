@@ -15,7 +15,7 @@ use Rattle.tsb_objects.proofs.tsb_rules.TwoLemmas.{two-meets}
 use Rattle.tsb_heads.specs.declared.monitor.Trip.TheVariants.{Conflict}
 use Rattle.tsb_heads.specs.Monitoring.{has_right_of_way}
 use Rattle.tsb_ring.specs.Laws.{IsSymmetric, IsGiven, IsSound}
-use Rattle.tsb_machine.specs.declared.commands.Command.TheVariants.{Apply, Undo}
+use Rattle.tsb_machine.specs.declared.commands.MachineCommand.TheVariants.{Apply, Undo}
 use Rattle.tsb_machine.specs.declared.commands.Answer.{Answer}
 use Rattle.tsb_machine.specs.declared.commands.Answer.TheVariants.{Took, Undone}
 use Rattle.tsb_step.specs.declared.inputs.Input.{Input}

@@ -28,7 +28,7 @@ use Rattle.tsb_heads.specs.Monitoring.{conflict}
 use Rattle.tsb_ring.specs.Rings.{Ring1}
 use Rattle.tsb_transact.specs.declared.desk_state.DeskState.TheVariants.{Done}
 use Rattle.tsb_step.specs.declared.inputs.Input.TheVariants.{Tick, Pattern, Commit}
-use Rattle.tsb_machine.specs.declared.commands.Command.TheVariants.{Apply}
+use Rattle.tsb_machine.specs.declared.commands.MachineCommand.TheVariants.{Apply}
 use Rattle.tsb_machine.specs.declared.commands.Answer.TheVariants.{Took}
 use Rattle.tsb_step.proofs.Examples.Scenes.{opened, button, resting, walking, red, at_barrier, these, all_red}
 use Rattle.tsb_step.proofs.Examples.StepExamples.{edit, editing}

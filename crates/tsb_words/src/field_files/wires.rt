@@ -4,13 +4,13 @@ ghost use Rattle.tsb_words.specs.Wires.{Adds, input_of, parts_of, wire_of, wire_
 
 use crate::error::WordsError;
 use memchr::memchr;
-use tsb_field_log::{Kind, Wire};
+use tsb_field_log::{InputKind, Wire};
 use tsb_lines::number;
 
 /// Adds the wires of an option, if it came.
 pub(crate) fn add_option(
     wires: &mut Vec<Wire>,
-    kind: Kind,
+    kind: InputKind,
     words: Option<&[&str]>,
 ) -> Result<(), WordsError>
     ensures { Adds (wires_of kind (unwrap_or (option_map (λ words. map (λ word. word.now) words.now) words.entry) [])) wires.old.items wires.new.items result }
@@ -22,7 +22,7 @@ pub(crate) fn add_option(
 }
 
 /// Adds the wires of a kind that words spell, each after those before. At an error some of them may have been added.
-fn add_wires(wires: &mut Vec<Wire>, kind: Kind, words: &[&str]) -> Result<(), WordsError>
+fn add_wires(wires: &mut Vec<Wire>, kind: InputKind, words: &[&str]) -> Result<(), WordsError>
     ensures { Adds (wires_of kind (map (λ word. word.now) words.now)) wires.old.items wires.new.items result }
 {
     for word in words {
@@ -37,7 +37,7 @@ fn add_wires(wires: &mut Vec<Wire>, kind: Kind, words: &[&str]) -> Result<(), Wo
 }
 
 /// The wire that a word spells, `CHANNEL=INPUT`.
-fn wire(kind: Kind, word: &[u8]) -> Option<Wire>
+fn wire(kind: InputKind, word: &[u8]) -> Option<Wire>
     ensures { result ≡ wire_of kind word.now }
 {
     let (channel, input) = parts(word)?;
@@ -45,7 +45,7 @@ fn wire(kind: Kind, word: &[u8]) -> Option<Wire>
 }
 
 /// The wire of a channel and an input that digits spell.
-fn wire_between(kind: Kind, channel: &[u8], input: &[u8]) -> Option<Wire>
+fn wire_between(kind: InputKind, channel: &[u8], input: &[u8]) -> Option<Wire>
     ensures { result ≡ wire_with kind (channel.now, input.now) }
 {
     let channel = number(channel)?;
@@ -66,7 +66,7 @@ pub(crate) fn parts(word: &[u8]) -> Option<(&[u8], &[u8])>
 }
 
 /// The input of a kind that digits spell, where a bench has it.
-fn input_number(kind: Kind, digits: &[u8]) -> Option<u8>
+fn input_number(kind: InputKind, digits: &[u8]) -> Option<u8>
     ensures { result ≡ input_of kind digits.now }
 {
     let input = number(digits)?;

@@ -3,7 +3,7 @@
 use Rattle.std.proofs.Common.{◌≡◌, ℕ, suc, ◌<◌, ◌≤◌, false, List, [], ◌∷◌, codes, bytes_eq, refl, arith}
 use Rattle.tsb_step.specs.tsb_history.declared.kinds.Kind.TheVariants as kinds
 use Rattle.tsb_step.specs.tsb_plan.Two.{two}
-use Rattle.tsb_step.specs.tsb_machine.declared.commands.Command.TheVariants.{Undo, Back}
+use Rattle.tsb_step.specs.tsb_machine.declared.commands.MachineCommand.TheVariants.{Undo, Back}
 use Rattle.tsb_step.specs.tsb_machine.declared.commands.Answer.{Answer}
 use Rattle.tsb_step.specs.tsb_machine.declared.commands.Answer.TheVariants.{Took, Undone, Moved, Nothing}
 use Rattle.tsb_step.specs.declared.inputs.Input.{Input}

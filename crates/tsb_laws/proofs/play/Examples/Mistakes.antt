@@ -7,7 +7,7 @@ use Rattle.tsb_step.specs.tsb_plan.declared.object.ObjectId.{ObjectId}
 use Rattle.tsb_step.specs.tsb_plan.Quad.{quad}
 use Rattle.tsb_step.specs.tsb_rules.declared.rules.Rule.TheVariants.{K5}
 use Rattle.tsb_step.specs.tsb_rules.Rules.{first_broken}
-use Rattle.tsb_step.specs.tsb_machine.declared.commands.Command.TheVariants.{Apply}
+use Rattle.tsb_step.specs.tsb_machine.declared.commands.MachineCommand.TheVariants.{Apply}
 use Rattle.tsb_step.specs.tsb_machine.declared.commands.Answer.{Answer}
 use Rattle.tsb_step.specs.tsb_machine.declared.commands.Answer.TheVariants.{Took, Refused}
 use Rattle.tsb_step.specs.declared.inputs.Input.{Input}

@@ -5,7 +5,7 @@ use Rattle.tsb_controller.specs.Whole.{all_put_back}
 use Rattle.tsb_step.specs.Past.{ticks_of}
 use Rattle.tsb_bench.specs.Cabinet.{rows_of}
 use Rattle.tsb_bench.specs.Held.{Held}
-use Rattle.tsb_bench.specs.declared.watched.Watched.{Watched}
+use Rattle.tsb_bench.specs.declared.watched.WatchedLayer.{WatchedLayer}
 use Rattle.tsb_bench.specs.declared.watched.Value.{Value}
 use Rattle.tsb_bench.proofs.HeldLemmas.{are-quiet, sound-held}
 use Rattle.tsb_bench.proofs.WatchedLemmas.{IsAt, at-start, back-held, found, goes-on-same, goes-on-still, goes-quiet, none-left}
@@ -13,11 +13,11 @@ use Rattle.tsb_bench.proofs.bench.Bench.when.Goals as goal
 use Rattle.tsb_bench.proofs.bench.Bench.when.Goals.{else-undo-via-then-undo+else-not-is_same, else-undo-via-else-undo}
 
 -- behind the quiet ticks
-behind : (k : ℕ) (h : Held) (w : Watch) (x : Watched) (tick : ℕ) (value : Value) (was left : List Change) → k ≡ quiet_ticks was → left ≡ drop k was → IsAt h w x tick value was → IsAt h w x (tick - k) value left
+behind : (k : ℕ) (h : Held) (w : Watch) (x : WatchedLayer) (tick : ℕ) (value : Value) (was left : List Change) → k ≡ quiet_ticks was → left ≡ drop k was → IsAt h w x tick value was → IsAt h w x (tick - k) value left
 behind k h w x tick value was left all rest at = subst (λ (rs : List Change). IsAt h w x (tick - k) value rs) (sym rest) (goes-quiet k h w x tick value was (omega (arith, all)) at)
 
 -- there are no more of them than ticks
-within : (k : ℕ) (h : Held) (w : Watch) (x : Watched) (tick : ℕ) (value : Value) (was : List Change) → k ≡ quiet_ticks was → IsAt h w x tick value was → k ≤ tick
+within : (k : ℕ) (h : Held) (w : Watch) (x : WatchedLayer) (tick : ℕ) (value : Value) (was : List Change) → k ≡ quiet_ticks was → IsAt h w x tick value was → k ≤ tick
 within k h w x tick value was all at = (are-quiet k tick at.rows was at.sound (omega (arith, all))).within
 
 -- each turn leaves fewer records

@@ -1,7 +1,7 @@
 use Rattle.std.proofs.Common.{refl, subst}
 use Rattle.tsb_objects.specs.Checked.{checked_plan}
 use Rattle.tsb_phase.specs.Layer as phases
-use Rattle.tsb_ring.specs.declared.conditions.Conditions.{Conditions}
+use Rattle.tsb_ring.specs.declared.conditions.RingConditions.{RingConditions}
 use Rattle.tsb_ring.specs.Layer as rings
 use Rattle.tsb_ring.specs.Promises.{IsDecided}
 use Rattle.tsb_controller.specs.Found.{for_rings}
@@ -14,7 +14,7 @@ carry_out-requires-clause-clearing c =
     clearing c.args.now (checked_plan c.args.plan.now) c.conditions-conditions.result (for_rings c.args.sensed.now c.args.called.now c.tick-timing.result)
     (rings.cells_of c.args.self.now.rings) (phases.cells_of c.args.self.now.phases) (phases.cells_of c.tick-timing.new.self) c.decide-moves.result
     (placed c.args.plan.now) c.requires.rings_by
-    (subst (λ (k : Conditions). IsDecided (checked_plan c.args.plan.now) k (rings.cells_of c.args.self.now.rings) c.decide-moves.result) c.for_rings.ensures c.decide-moves.ensures)
+    (subst (λ (k : RingConditions). IsDecided (checked_plan c.args.plan.now) k (rings.cells_of c.args.self.now.rings) c.decide-moves.result) c.for_rings.ensures c.decide-moves.ensures)
     c.tick-timing.ensures.each c.tick-timing.ensures.over
 
 pub carry_out-requires-clause-apart : goal.carry_out-requires-clause-apart
@@ -34,7 +34,7 @@ returns-clause-moved c = record {
   reverted = c.tick-timing.ensures.red_revert_passed;
   gapped = c.tick-timing.ensures.gapped;
   walks = c.tick-timing.ensures.walks;
-  decided = subst (λ (k : Conditions). IsDecided (checked_plan c.args.plan.now) k (rings.cells_of c.args.self.now.rings) c.decide-moves.result)
+  decided = subst (λ (k : RingConditions). IsDecided (checked_plan c.args.plan.now) k (rings.cells_of c.args.self.now.rings) c.decide-moves.result)
       c.for_rings.ensures c.decide-moves.ensures;
   ones = c.carry_out.ensures.ones;
   carried = c.carry_out.ensures.each;

@@ -17,9 +17,9 @@ use Rattle.tsb_step.specs.MonitorCells.{trip_in}
 use Rattle.tsb_step.specs.Watches as step
 use Rattle.tsb_step.specs.Watches.{watched}
 use Rattle.tsb_controller.specs.Whole.{All, all_in}
-use Rattle.tsb_bench.specs.declared.watched.Watched.TheVariants as layers
+use Rattle.tsb_bench.specs.declared.watched.WatchedLayer.TheVariants as layers
 use Rattle.tsb_bench.specs.Watched.{Holds}
-use Rattle.tsb_bench.proofs.watched.Watched.value.Goals as goal
+use Rattle.tsb_bench.proofs.watched.WatchedLayer.value.Goals as goal
 
 -- the clock by which the layers of these rows are read
 abbrev clock_of : ℕ → All → ℕ
