@@ -37,8 +37,8 @@ pub fn records_go_back()
 /// cells.
 ///
 /// Mistakes: a record with what cells hold after the input, `changes_after` (`gives_back`, `would_stay`); one that
-/// leaves the tick number, `ticks_of_none` (`goes_to_6`, `would_be_at_7`); one that has each entry twice, `told_twice`
-/// (`has_one`, `would_have_two`).
+/// leaves the tick number, `ticks_of_none` of tsb_step (`goes_to_6`, `would_be_at_7`); one that has each entry twice,
+/// `told_twice` (`has_one`, `would_have_two`).
 /// Witness: `all_can_be` of Examples, rows of tick 49 that differ in one cell (`differ`).
 pub fn records_give_back()
     ensures back { RecordsGiveBack }

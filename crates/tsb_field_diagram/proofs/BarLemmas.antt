@@ -1,7 +1,7 @@
 -- What is in force in a line, and bars, item by item.
 use Rattle.std.proofs.Common.{◌≡◌, ◌∙◌, ℕ, ◌+◌, ◌-◌, ◌<◌, ◌≤◌, Bool, true, false, List, [], ◌∷◌, ◌++◌, length, get_or, drop, take, max, refl, sym, ap, arith, append_assoc, append-nil, add-one, drop-cons, length-drop}
 use Rattle.std.proofs.lemmas.Bool.{le-leb, le-ltb, lt-ltb, lt-leb}
-use Rattle.std.proofs.lemmas.List.{drop_all, take_all}
+use Rattle.std.proofs.lemmas.List.{drop_all, take_all, take_rest}
 use Rattle.std.proofs.Math.Seq.{take-suc}
 use Rattle.tsb_field_diagram.specs.declared.band.Mark.{Mark}
 use Rattle.tsb_field_diagram.specs.Bars.{from_tick, before_tick, bars_on, bars_of, bars_text, bar_text, is_same, Bar}
@@ -12,13 +12,9 @@ drop-step xs i d within = rw (add-one, drop-cons xs i d) refl
 take-step : {A : Type 0} (xs : List A) (i : ℕ) (d : A) → i < length xs → take (i + 1) xs ≡ take i xs ++ get_or xs i d ∷ []
 take-step xs i d within = rw add-one (take-suc xs i d within)
 
--- what a slice from a place on has
-pub all-behind : {A : Type 0} (xs : List A) (i : ℕ) → take (length xs - i) (drop i xs) ≡ drop i xs
-all-behind xs i = let e : length (drop i xs) ≡ length xs - i = length-drop i xs in take_all (length xs - i) (drop i xs) (omega (arith, e))
-
 -- the first, and what is after it
 pub first-behind : {A : Type 0} (xs : List A) (x d : A) → 0 < length xs → x ≡ get_or xs 0 d → xs ≡ x ∷ take (length xs - 1) (drop 1 xs)
-first-behind xs x d some is = rw (all-behind xs 1, is) (drop-step xs 0 d some)
+first-behind xs x d some is = rw (take_rest xs 1, is) (drop-step xs 0 d some)
 
 -- ## Before a tick
 
@@ -66,14 +62,14 @@ from-few tick first (x ∷ (y ∷ xs)) few = absurd (omega (arith, few))
 -- where the next begins later
 pub stop-late : {A : Type 0} (tick : A → ℕ) (first : ℕ) (xs : List A) (i : ℕ) (d : A) → i + 1 < length xs → first < tick (get_or xs (i + 1) d) →
     from_tick tick first (drop i xs) ≡ from_tick tick first xs → take (length xs - i) (drop i xs) ≡ from_tick tick first xs
-stop-late tick first xs i d within late held = all-behind xs i ∙ sym (from-here tick first xs i d within late) ∙ held
+stop-late tick first xs i d within late held = take_rest xs i ∙ sym (from-here tick first xs i d within late) ∙ held
 
 -- where there is no next
 pub stop-last : {A : Type 0} (tick : A → ℕ) (first : ℕ) (xs : List A) (i : ℕ) → length xs - i ≤ 1 →
     from_tick tick first (drop i xs) ≡ from_tick tick first xs → take (length xs - i) (drop i xs) ≡ from_tick tick first xs
 stop-last tick first xs i few held =
     let e : length (drop i xs) ≡ length xs - i = length-drop i xs in
-    all-behind xs i ∙ sym (from-few tick first (drop i xs) (omega (arith, e, few))) ∙ held
+    take_rest xs i ∙ sym (from-few tick first (drop i xs) (omega (arith, e, few))) ∙ held
 
 -- ## Bars
 

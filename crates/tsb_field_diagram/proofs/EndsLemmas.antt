@@ -1,7 +1,6 @@
 -- Reading the ends of greens of a text, line by line.
 use Rattle.std.proofs.Common.{◌≡◌, ℕ, ◌+◌, ◌≤◌, List, [], ◌∷◌, ◌++◌, Global, refl, sym, ap, subst, ◌∙◌, Option, Some, None, Result, Ok, Err, append_assoc, append-nil, if◌then◌else◌, length}
 use Rattle.std.proofs.lemmas.Bool.{le-ltb}
-use Rattle.std.specs.Prelude.{MatchOption}
 use Rattle.tsb_lines.specs.Lines.{lines_of}
 use Rattle.tsb_event_text.specs.declared.faults.RowFault.{RowFault}
 use Rattle.tsb_event_text.specs.declared.times.Moment.{Moment}
@@ -66,12 +65,6 @@ no-row from n line lines why is = first from n line lines (Err why) is
 all-read : (ends : List GreenEnd) (from : Moment) (n : ℕ) → with_ends ends (ends_from from n []) ≡ Ok ends
 unfolding ends_from
 all-read ends from n = ap (λ (v : List GreenEnd). Ok v) (append-nil ends)
-
--- the first of the lines, and the others
-pub first-line : {X : Type 0} (behind : Option X) (others : X → List (List ℕ)) (lines : List (List ℕ)) (line : List ℕ)
-    → MatchOption behind (lines ≡ line ∷ []) (λ more. lines ≡ line ∷ others more) → (rest : List (List ℕ)) × (lines ≡ line ∷ rest)
-first-line None others lines line h = ([], h)
-first-line (Some more) others lines line h = (others more, h)
 
 within-limit : (from : Moment) (text : List ℕ) → length text ≤ 67108864 → ends_of from text ≡ ends_from from 1 (lines_of text)
 within-limit from text le = rw (le-ltb 67108864 (length text) le) refl

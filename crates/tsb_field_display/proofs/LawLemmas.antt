@@ -1,5 +1,6 @@
 -- Events come of changes alone, and they tell which heads are lit.
 use Rattle.std.proofs.Common.{◌≡◌, ◌∙◌, ℕ, ◌≤◌, ◌==◌, Bool, true, false, not, ◌&&◌, ◌||◌, List, [], ◌∷◌, ◌++◌, map, filter, Option, Some, None, is_some, if◌then◌else◌, refl, sym, ap, arith, inl, inr}
+use Rattle.std.proofs.Math.Bool.{and-true}
 use Rattle.std.proofs.lemmas.Bool.{cases_eq, cond_both, true≢false, ne_eqb}
 use Rattle.tsb_types.specs.Lists.{run_from, among, is}
 use Rattle.tsb_types.specs.Sets.{has_number}
@@ -99,10 +100,6 @@ lit-told by_code p lit tick code test from within =
     lit-among by_code p lit tick code (numbers_with test)
     ∙ ap (λ (b : Bool). effect (by_code code) b lit)
     (among-filter test p (run_from 1 16) ∙ ap (λ (b : Bool). test p && b) (among-run p 1 16 from (omega (arith, within))) ∙ and-true (test p))
-  where
-    and-true : (b : Bool) → (b && true) ≡ b
-    and-true true = refl
-    and-true false = refl
 
 -- ## What the events of a change say
 

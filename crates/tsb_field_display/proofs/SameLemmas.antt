@@ -2,14 +2,11 @@
 use Rattle.std.proofs.Common.{◌≡◌, ℕ, nat_eq, true, Option, Some, None, refl, ap}
 use Rattle.std.proofs.lemmas.Bool.{and_parts, eqb-true}
 use Rattle.std.specs.Option.{option_eq}
-use Rattle.tsb_types.specs.declared.number_set.NumberSet.{NumberSet}
+use Rattle.tsb_types.proofs.SetLemmas.{same-set}
 use Rattle.tsb_field_display.specs.declared.shown.VehicleHeads.{VehicleHeads}
 use Rattle.tsb_field_display.specs.declared.shown.PedestrianHeads.{PedestrianHeads}
 use Rattle.tsb_field_display.specs.declared.shown.Signals.{Signals}
-use Rattle.tsb_field_display.specs.Shows.{is_same_set, are_same_vehicles, are_same_pedestrians, is_same}
-
-same-set : (s t : NumberSet) → is_same_set s t ≡ true → s ≡ t
-same-set s t e = ap (λ (w : ℕ). let made : NumberSet = record { word = w } in made) (eqb-true s.word t.word e)
+use Rattle.tsb_field_display.specs.Shows.{are_same_vehicles, are_same_pedestrians, is_same}
 
 same-vehicles : (s t : VehicleHeads) → are_same_vehicles s t ≡ true → s ≡ t
 same-vehicles s t e =

@@ -111,11 +111,6 @@ rest-ended s (b ∷ rest) f =
 pub bytes-behind : (s : Stand) (taken more : List ℕ) → with_bytes s (taken ++ more) ≡ with_bytes (with_bytes s taken) more
 bytes-behind s taken more = fold-append with_byte s taken more
 
--- what was taken, and the line after it
-pub line-behind : (taken rest next left bytes : List ℕ) → bytes ≡ taken ++ left → left ≡ rest ++ 10 ∷ next → bytes ≡ (taken ++ (rest ++ 10 ∷ [])) ++ next
-line-behind taken rest next left bytes all cut =
-    all ∙ ap (λ (v : List ℕ). taken ++ v) (cut ∙ sym (append_assoc rest (10 ∷ []) next)) ∙ sym (append_assoc taken (rest ++ 10 ∷ []) next)
-
 -- ## Reading
 
 pub going_start : (i : Option (List ℕ)) (failed : Bool) (stream : Stream) → failed ≡ false → StandsAt start stream → Going failed i i stream 0

@@ -1,12 +1,11 @@
 -- What is shown before the first line, and which colour each head has.
-use Rattle.std.specs.Prelude.{ℕ, ◌==◌, ◌&&◌, nat_eq, Bool, None, if◌then◌else◌}
+use Rattle.std.specs.Prelude.{ℕ, ◌&&◌, nat_eq, Bool, None, if◌then◌else◌}
 use Rattle.std.specs.Option.{option_eq}
-use Rattle.tsb_types.specs.Sets.{has_number, set_of_list}
+use Rattle.tsb_types.specs.Sets.{has_number, is_same_set, set_of_list}
 use Rattle.tsb_types.specs.declared.lamp.Aspect.{Aspect}
 use Rattle.tsb_types.specs.declared.lamp.Aspect.TheVariants.{Dark, Red, Yellow, Green, FlashingRed}
 use Rattle.tsb_types.specs.declared.lamp.PedestrianAspect.{PedestrianAspect}
 use Rattle.tsb_types.specs.declared.lamp.PedestrianAspect.TheVariants as pedestrian_aspects
-use Rattle.tsb_types.specs.declared.number_set.NumberSet.{NumberSet}
 use Rattle.tsb_display_text.specs.tsb_heads.Promises.{IsApart}
 use Rattle.tsb_field_display.specs.declared.shown.VehicleHeads.{VehicleHeads}
 use Rattle.tsb_field_display.specs.declared.shown.PedestrianHeads.{PedestrianHeads}
@@ -45,10 +44,6 @@ pub record AreApart (s : Signals) : Type 0 where
   pub overlaps : IsApart (has_number s.overlaps.greens) (has_number s.overlaps.yellows)
 
 -- ## Whether two show the same
-
--- the same numbers are in both
-abbrev pub is_same_set : NumberSet → NumberSet → Bool
-is_same_set one other = one.word == other.word
 
 -- the same vehicle heads show each colour
 abbrev pub are_same_vehicles : VehicleHeads → VehicleHeads → Bool

@@ -1,35 +1,21 @@
 -- Rows where inputs differ from the row before.
-use Rattle.std.proofs.Common.{◌≡◌, ℕ, ◌+◌, ◌<◌, ◌≤◌, Bool, true, false, eqb, ◌&&◌, zero, suc, List, ◌∷◌, ◌++◌, refl, sym, ap, ◌∙◌, arith, inl, inr}
-use Rattle.std.proofs.lemmas.Bool.{le-leb, and_parts}
+use Rattle.std.proofs.Common.{◌≡◌, ℕ, ◌+◌, ◌<◌, ◌≤◌, Bool, true, false, zero, suc, List, ◌∷◌, ◌++◌, refl, sym, ap, ◌∙◌, arith, inl, inr}
+use Rattle.std.proofs.lemmas.Bool.{le-leb}
 use Rattle.std.proofs.lemmas.Bool.Decides.{leb_tells, eqb_tells}
+use Rattle.tsb_types.specs.Sets.{is_same_row}
 use Rattle.tsb_types.specs.declared.row.Row.{Row}
 use Rattle.tsb_log_text.specs.Logs.{Rises, row_from}
 use Rattle.tsb_log_text.specs.LogText.{AreRows, IsFit}
 use Rattle.tsb_log_text.specs.declared.log.LogRow.{LogRow}
-use Rattle.tsb_field_log.specs.Changes.{same_row, change, changes}
-
-same-word : (a b : ℕ) → eqb a b ≡ true → a ≡ b
-same-word a b e = elim (eqb_tells a b) [ inl z ↦ z.1 | inr z ↦ absurd (let no : eqb a b ≡ false = z.0 in cc) ]
-
-abbrev made : ℕ → ℕ → ℕ → Row
-made x y z = record { vehicles = record { word = x }; pedestrians = record { word = y }; preempts = record { word = z } }
-
--- rows of the same inputs are one
-pub same-is : (a b : Row) → same_row a b ≡ true → a ≡ b
-same-is a b e =
-    let (both, preempts) = and_parts (eqb a.vehicles.word b.vehicles.word && eqb a.pedestrians.word b.pedestrians.word) (eqb a.preempts.word b.preempts.word) e in
-    let (vehicles, pedestrians) = and_parts (eqb a.vehicles.word b.vehicles.word) (eqb a.pedestrians.word b.pedestrians.word) both in
-    let v : a.vehicles.word ≡ b.vehicles.word = same-word a.vehicles.word b.vehicles.word vehicles in
-    let p : a.pedestrians.word ≡ b.pedestrians.word = same-word a.pedestrians.word b.pedestrians.word pedestrians in
-    let n : a.preempts.word ≡ b.preempts.word = same-word a.preempts.word b.preempts.word preempts in
-    ap (λ (w : ℕ). made w a.pedestrians.word a.preempts.word) v ∙ ap (λ (w : ℕ). made b.vehicles.word w a.preempts.word) p ∙ ap (λ (w : ℕ). made b.vehicles.word b.pedestrians.word w) n
+use Rattle.tsb_types.proofs.SetLemmas.{same-row}
+use Rattle.tsb_field_log.specs.Changes.{change, changes}
 
 -- what holds of the rows after a change, where it is one and where it is none
 by-change : (P : List LogRow → Type 0) (tick : ℕ) (before now : Row) (rest : List LogRow) → (now ≡ before → P rest) → P (record { tick = tick; row = now } ∷ rest) → P (change tick before now ++ rest)
-by-change P tick before now rest same other = at (same_row now before) refl
+by-change P tick before now rest same other = at (is_same_row now before) refl
   where
-    at : (b : Bool) → same_row now before ≡ b → P (change tick before now ++ rest)
-    at true e = rw e (same (same-is now before e))
+    at : (b : Bool) → is_same_row now before ≡ b → P (change tick before now ++ rest)
+    at true e = rw e (same (same-row now before e))
     at false e = rw e other
 
 -- ## The row in force

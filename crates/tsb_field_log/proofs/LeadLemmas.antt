@@ -3,6 +3,7 @@ use Rattle.std.proofs.Common.{◌≡◌, ℕ, ◌+◌, ◌^◌, ◌<◌, ◌≤�
 use Rattle.std.proofs.lemmas.Bool.{le-leb, lt-ltb, and_left, and_right}
 use Rattle.std.proofs.lemmas.Bool.Decides.{leb_tells}
 use Rattle.std.proofs.lemmas.List.{drop_all}
+use Rattle.std.proofs.Math.Bool.{and-true}
 use Rattle.std.proofs.Math.Seq.{drop-cons}
 use Rattle.tsb_types.specs.Sets.{has_number, list_of, set_of_list}
 use Rattle.tsb_types.specs.declared.row.Row.{Row}
@@ -42,10 +43,6 @@ switched-push wire lo hi [] e = or-false (is_of wire e && e.on && leb lo e.nanos
 switched-push wire lo hi (x ∷ es) e =
     ap (λ (s : Bool). (is_of wire x && x.on && leb lo x.nanos && ltb x.nanos hi) || s) (switched-push wire lo hi es e)
     ∙ or-assoc (is_of wire x && x.on && leb lo x.nanos && ltb x.nanos hi) (switched_on wire lo hi es) (is_of wire e && e.on && leb lo e.nanos && ltb e.nanos hi)
-
-and-true : (x : Bool) → (x && true) ≡ x
-and-true true = refl
-and-true false = refl
 
 abbrev kept : Wire → Bool → Bool → Bool → Lead
 kept wire on begun raised = record { wire = wire; on = on; begun = begun; raised = raised }

@@ -3,14 +3,14 @@ use Rattle.std.proofs.Common.{◌≡◌, ℕ, ◌+◌, ◌-◌, ◌/◌, ◌<◌
 use Rattle.std.proofs.lemmas.Bool.{le-leb, lt-ltb, eq-eqb}
 use Rattle.std.proofs.lemmas.Bool.Decides.{leb_tells}
 use Rattle.std.specs.Prelude.{option_to_list}
-use Rattle.tsb_types.specs.Sets.{all_off}
+use Rattle.tsb_types.specs.Sets.{all_off, is_same_row}
 use Rattle.tsb_types.specs.declared.row.Row.{Row}
 use Rattle.tsb_log_text.specs.declared.log.LogRow.{LogRow}
 use Rattle.tsb_field_log.specs.declared.inputs.Wire.{Wire}
 use Rattle.tsb_field_log.specs.declared.inputs.InputEvent.{InputEvent}
 use Rattle.tsb_field_log.specs.declared.street.Street.{Street}
 use Rattle.tsb_field_log.specs.Ticks.{begin_of, row_in}
-use Rattle.tsb_field_log.specs.Changes.{same_row, change, changes}
+use Rattle.tsb_field_log.specs.Changes.{change, changes}
 use Rattle.tsb_field_log.specs.Leads.{lead_of, lead_taken, lead_opened, row_of_leads}
 use Rattle.tsb_field_log.specs.Streets.{tick_at, AreBefore, row_before, unwritten, Follows, rows_until}
 use Rattle.tsb_field_log.proofs.LeadLemmas.{leads-push, leads-opened, row-leads, untouched}
@@ -28,7 +28,7 @@ begins-later from tick to le = omega (arith, le)
 
 -- ## Rows of ticks in which nothing changes
 
-same-self : (row : Row) → same_row row row ≡ true
+same-self : (row : Row) → is_same_row row row ≡ true
 same-self row = rw (eq-eqb row.vehicles.word row.vehicles.word refl, eq-eqb row.pedestrians.word row.pedestrians.word refl, eq-eqb row.preempts.word row.preempts.word refl) refl
 
 no-change : (inputs : ℕ → Row) (row : Row) (tick count : ℕ) → ((t : ℕ) → tick ≤ t → inputs t ≡ row) → changes inputs row tick count ≡ []

@@ -1,18 +1,13 @@
 -- The rows of a log of which it is told which inputs are on in each tick: one where they differ from the row before.
-use Rattle.std.specs.Prelude.{ℕ, zero, suc, ◌==◌, ◌&&◌, Bool, List, [], ◌∷◌, ◌++◌, if◌then◌else◌}
-use Rattle.tsb_types.specs.Sets.{all_off}
+use Rattle.std.specs.Prelude.{ℕ, zero, suc, List, [], ◌∷◌, ◌++◌, if◌then◌else◌}
+use Rattle.tsb_types.specs.Sets.{all_off, is_same_row}
 use Rattle.tsb_types.specs.declared.limits.TheConstants.{TICKS}
 use Rattle.tsb_types.specs.declared.row.Row.{Row}
 use Rattle.tsb_log_text.specs.declared.log.LogRow.{LogRow}
 
--- the same inputs are on
-abbrev pub same_row : Row → Row → Bool
-same_row a b =
-    a.vehicles.word == b.vehicles.word && a.pedestrians.word == b.pedestrians.word && a.preempts.word == b.preempts.word
-
 -- the row of a tick, where its inputs differ from those before
 abbrev pub change : ℕ → Row → Row → List LogRow
-change tick before now = if same_row now before then [] else record { tick = tick; row = now } ∷ []
+change tick before now = if is_same_row now before then [] else record { tick = tick; row = now } ∷ []
 
 -- the rows of so many ticks from this one on, in which the inputs of this function are on
 unfoldable pub changes : (ℕ → Row) → Row → ℕ → ℕ → List LogRow

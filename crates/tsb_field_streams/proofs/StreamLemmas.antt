@@ -425,8 +425,3 @@ end-whole g bytes filter rest summary a b c k few whole ok is = (
     taken = whole-taken g k.stand few;
   },
 )
-
--- what was taken, and the line after it
-pub line-behind : (taken rest next left bytes : List ℕ) → bytes ≡ taken ++ left → left ≡ rest ++ 10 ∷ next → bytes ≡ (taken ++ (rest ++ 10 ∷ [])) ++ next
-line-behind taken rest next left bytes all cut =
-    all ∙ ap (λ (v : List ℕ). taken ++ v) (cut ∙ sym (append_assoc rest (10 ∷ []) next)) ∙ sym (append_assoc taken (rest ++ 10 ∷ []) next)

@@ -1,8 +1,8 @@
 -- What the events of a run say. Those of display lines are among them, as are those of inputs, and they give the heads
 -- at its end. Each law here is the contract of a function in src/events.rt.
-use Rattle.std.specs.Prelude.{◌≡◌, ℕ, ◌≤◌, ◌==◌, Bool, true, false, ◌&&◌, List, [], ◌∷◌, ◌++◌, filter, Option, Some, None, is_some, if◌then◌else◌}
+use Rattle.std.specs.Prelude.{◌≡◌, ℕ, ◌≤◌, ◌==◌, Bool, true, false, List, [], ◌∷◌, ◌++◌, filter, Option, Some, None, is_some, if◌then◌else◌}
 use Rattle.tsb_step.specs.tsb_types.Lists.{among}
-use Rattle.tsb_step.specs.tsb_types.Sets.{has_number}
+use Rattle.tsb_step.specs.tsb_types.Sets.{has_number, is_same_row}
 use Rattle.tsb_step.specs.tsb_types.declared.event.Event.{Event}
 use Rattle.tsb_step.specs.tsb_types.declared.row.Row.{Row}
 use Rattle.tsb_step.specs.tsb_heads.Colours as colours
@@ -74,12 +74,6 @@ RunsTellTheHeads = (form : LogForm) (plan : Plan) (is : List Input) → IsConsis
     TellsHeads (read_back (told_along form plan is)) (replay plan is)
 
 -- ## Inputs
-
--- the same inputs are on
-abbrev pub is_same_row : Row → Row → Bool
-is_same_row one other =
-    one.vehicles.word == other.vehicles.word
-    && (one.pedestrians.word == other.pedestrians.word && one.preempts.word == other.preempts.word)
 
 -- a row of a log, where its inputs are not those of the tick before
 abbrev pub if_changed : Row → ℕ → Row → List LogRow

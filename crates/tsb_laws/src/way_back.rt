@@ -37,7 +37,7 @@ pub fn checked_plans_are_held()
 ///
 /// Needs: as `cells_tell_the_state`.
 /// Mistakes: a record of what cells hold after the input (`gives_back`, `would_stay`); one that leaves the tick number,
-/// `ticks_of_none` (`would_be_at_7`).
+/// `ticks_of_none` of tsb_step (`goes_to_6`, `would_be_at_7`).
 /// Witness: `ran` of Witness.
 pub fn pasts_are_the_run()
     ensures back { RecordsTakeBack }

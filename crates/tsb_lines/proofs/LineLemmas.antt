@@ -1,5 +1,6 @@
-use Rattle.std.proofs.Common.{◌≡◌, ℕ, ◌+◌, ◌-◌, ◌<◌, ◌≤◌, List, [], ◌∷◌, ◌++◌, length, refl, ap, ◌∙◌, arith, zero, suc, get_or, take, drop, take_all, length-drop, add-one, inl, inr}
+use Rattle.std.proofs.Common.{◌≡◌, ℕ, ◌+◌, ◌-◌, ◌<◌, ◌≤◌, List, [], ◌∷◌, ◌++◌, Option, Some, None, append_assoc, length, refl, sym, ap, ◌∙◌, arith, zero, suc, get_or, take, drop, take_all, length-drop, add-one, inl, inr}
 use Rattle.std.proofs.lemmas.Bool.Decides.{eqb_tells}
+use Rattle.std.specs.Prelude.{MatchOption}
 use Rattle.tsb_lines.specs.Lines.{without_return, HasNoFeed, onto_first, split, ended, lines_of}
 
 pub without-last : (xs : List ℕ) (n : ℕ) → length xs ≡ suc n → get_or xs n 0 ≡ 13 → take n xs ≡ without_return xs
@@ -142,3 +143,16 @@ length-ended (l ∷ m ∷ ms) = ap suc (length-ended (m ∷ ms))
 -- a text has at most one line more than bytes
 pub length-lines : (xs : List ℕ) → length (lines_of xs) ≤ suc (length xs)
 length-lines xs = let same : length (lines_of xs) ≡ length (split xs) = length-ended (split xs) in let most = length-split xs in omega (arith, same, most)
+
+-- ## A text line by line
+
+-- the first of the lines, and the others
+pub first-line : {X : Type 0} (behind : Option X) (others : X → List (List ℕ)) (lines : List (List ℕ)) (line : List ℕ)
+    → MatchOption behind (lines ≡ line ∷ []) (λ more. lines ≡ line ∷ others more) → (rest : List (List ℕ)) × (lines ≡ line ∷ rest)
+first-line None others lines line h = ([], h)
+first-line (Some more) others lines line h = (others more, h)
+
+-- what was taken, and the line after it
+pub line-behind : (taken rest next left bytes : List ℕ) → bytes ≡ taken ++ left → left ≡ rest ++ 10 ∷ next → bytes ≡ (taken ++ (rest ++ 10 ∷ [])) ++ next
+line-behind taken rest next left bytes all cut =
+    all ∙ ap (λ (v : List ℕ). taken ++ v) (cut ∙ sym (append_assoc rest (10 ∷ []) next)) ∙ sym (append_assoc taken (rest ++ 10 ∷ []) next)

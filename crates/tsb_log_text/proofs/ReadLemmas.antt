@@ -2,7 +2,6 @@ use Rattle.std.proofs.Common.{◌≡◌, ℕ, ◌+◌, ◌<◌, ◌≤◌, List,
 use Rattle.std.proofs.lemmas.Bool.{lt-ltb, le-ltb}
 use Rattle.std.proofs.lemmas.Bool.Decides.{leb_tells}
 use Rattle.tsb_lines.specs.Lines.{is_skipped, lines_of}
-use Rattle.std.specs.Prelude.{MatchOption}
 use Rattle.tsb_log_text.specs.Rows.{row_of}
 use Rattle.tsb_log_text.specs.Logs.{rows_from, row_then, with_rows, log_of, Gives, HasRow, Rises}
 use Rattle.tsb_log_text.specs.Steps.{ReadSo, Stepped}
@@ -84,12 +83,6 @@ taken rows n last line lines r e some lt =
 pub all-read : (rows : List LogRow) (n last : ℕ) → with_rows rows (rows_from n last []) ≡ Ok rows
 unfolding rows_from
 all-read rows n last = ap (λ (v : List LogRow). Ok v) (append-nil rows)
-
--- the first of the lines, and the others
-pub first-line : {X : Type 0} (behind : Option X) (others : X → List (List ℕ)) (lines : List (List ℕ)) (line : List ℕ)
-    → MatchOption behind (lines ≡ line ∷ []) (λ more. lines ≡ line ∷ others more) → (rest : List (List ℕ)) × (lines ≡ line ∷ rest)
-first-line None others lines line h = ([], h)
-first-line (Some more) others lines line h = (others more, h)
 
 within-limit : (text : List ℕ) → length text ≤ 67108864 → log_of text ≡ rows_from 1 0 (lines_of text)
 within-limit text le = rw (le-ltb 67108864 (length text) le) refl

@@ -1,7 +1,7 @@
 -- What tables of a plan are read from: values at numbers from 1 on.
-use Rattle.std.proofs.Common.{◌≡◌, ℕ, zero, suc, ◌≢◌, ◌⊎◌, ◌+◌, ◌<◌, ◌≤◌, ◌==◌, max, nat_le, Bool, true, false, List, None, refl, arith, sym, subst, ◌∙◌, inl, inr}
+use Rattle.std.proofs.Common.{◌≡◌, ℕ, zero, suc, ◌≢◌, ◌⊎◌, ◌+◌, ◌<◌, ◌≤◌, ◌==◌, max, nat_le, true, false, List, None, arith, sym, subst, ◌∙◌, inl, inr}
 use Rattle.std.proofs.lemmas.Bool.{cases_lt, eq-eqb}
-use Rattle.std.proofs.lemmas.Bool.Decides.{nat_tests, eqb_tells}
+use Rattle.std.proofs.lemmas.Bool.Decides.{nat_tests, eqb_tells, same_from_decides}
 use Rattle.tsb_plan.specs.declared.object.Object.{Object}
 use Rattle.tsb_plan.specs.declared.object.Object.TheVariants.{PhaseConcurrency}
 use Rattle.tsb_plan.specs.Objects.{AreInRange, indices, has_index, value_in}
@@ -26,11 +26,6 @@ no-value-behind cells o n behind =
     let outside : has_index o n ≡ false = grind (arith, nat_tests, behind) in
     rw outside (grind (arith, nat_tests))
 
-pub same-tests : (a b : Bool) → (a ≡ true → b ≡ true) → (b ≡ true → a ≡ true) → a ≡ b
-same-tests true b there back = sym (there refl)
-same-tests false true there back = back refl
-same-tests false false there back = refl
-
 -- a list of phases names none that is no phase
 named-outside : (list p : ℕ) → list ≤ 65535 → 16 < p → names list p ≡ false
 named-outside list p fits behind = names-above 16 p list (omega arith) behind
@@ -44,9 +39,9 @@ named-back cells ranged none q (suc k) from within =
       | inl below ↦
           let one : IsPhase (plan_in cells) (suc k) = record { from_one = omega arith; within = omega arith } in
           let other : IsPhase (plan_in cells) q = record { from_one = from; within = within } in
-          same-tests (is_concurrent (plan_in cells) q (suc k)) (is_concurrent (plan_in cells) (suc k) q)
-          (λ named. (together (plan_in cells) none q (suc k) other one named).back)
-          (λ named. (together (plan_in cells) none (suc k) q one other named).back)
+          same_from_decides (is_concurrent (plan_in cells) q (suc k)) (is_concurrent (plan_in cells) (suc k) q)
+          ((λ named. (together (plan_in cells) none q (suc k) other one named).back), (λ named. (together (plan_in cells) none (suc k) q one other named).back))
+          ((λ named. named), (λ named. named))
       | inr above ↦
           let outside : has_index PhaseConcurrency (suc k) ≡ false = grind (arith, nat_tests) in
           named-outside (value_in cells PhaseConcurrency q) (suc k) (ranged.each PhaseConcurrency q) (omega arith)

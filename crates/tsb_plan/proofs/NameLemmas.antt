@@ -1,5 +1,5 @@
 -- Names tell objects apart, so the object that is found by a name is the only one of it.
-use Rattle.std.proofs.Common.{◌≡◌, ℕ, zero, suc, ◌<◌, Bool, true, false, ◌&&◌, List, [], ◌∷◌, length, get_or, Some, None, find, map, bytes_eq, if◌then◌else◌, arith, sym, ◌∙◌, ap, subst, ◌↔◌, refl, Decides, inl, inr}
+use Rattle.std.proofs.Common.{◌≡◌, ℕ, zero, suc, ◌<◌, ◌≤◌, Bool, true, false, ◌&&◌, List, [], ◌∷◌, length, get_or, Some, None, find, map, bytes_eq, if◌then◌else◌, arith, rules, sym, ◌∙◌, ap, subst, ◌↔◌, refl, Decides, inl, inr}
 use Rattle.std.proofs.Math.ListN.{get_or-map}
 use Rattle.std.proofs.lemmas.Bool.{cases_Bool}
 use Rattle.std.proofs.lemmas.Slice.Eq.{bytes_eq-Decides}
@@ -10,6 +10,10 @@ use Rattle.tsb_plan.specs.Names.{name_of, object_named, IsNamed}
 use Rattle.tsb_plan.specs.Objects.{objects, order}
 use Rattle.tsb_plan.specs.Versions.{has_object}
 use Rattle.tsb_plan.proofs.TableLemmas.{at-order, order-below, order-injective, length-objects}
+
+-- no name is long
+pub short-name : (o : Object) → length (name_of o) ≤ 28
+short-name o = search rules
 
 -- the place of the first object with a name
 place_in : List Object → List ℕ → ℕ

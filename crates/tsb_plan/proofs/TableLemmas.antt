@@ -24,6 +24,10 @@ pub total : sum_by indices objects ≡ PLAN_CELLS
 unfolding objects
 total = refl
 
+-- no object has many indices
+pub few-indices : (o : Object) → indices o ≤ 128
+few-indices o = search rules
+
 pub length-objects : length objects ≡ COUNT
 unfolding objects
 length-objects = refl

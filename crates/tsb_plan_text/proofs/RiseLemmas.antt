@@ -1,6 +1,7 @@
 -- The names of an object that was read rise.
 use Rattle.std.proofs.Common.{◌≡◌, ℕ, List, Option, Some, None, option_map, option_and_then, Ordering, Less, Equal, Greater, nat_cmp, arith, ◌∙◌, ap, subst, refl}
 use Rattle.std.proofs.lemmas.Cmp.{nat_list_cmp_total}
+use Rattle.std.proofs.lemmas.Option.{same_Some}
 use Rattle.std.specs.Bool.{⊤}
 use Rattle.std.specs.Cmp.Lexicographic.{slice_cmp}
 use Rattle.std.specs.Ordering.{match_ordering, ordering_reverse}
@@ -71,9 +72,6 @@ map_some : {A B : Type 0} (o : Option A) (f : A → B) (y : B) → option_map f 
 map_some None f y e = absurd (grind (arith, e))
 map_some (Some x) f y e = (x, refl, grind (arith, e))
 
-some_is : {A : Type 0} (a b : A) → Some a ≡ Some b → a ≡ b
-some_is a b e = grind (arith, e)
-
 members_rise : (js : json.Members) (found ms : Members) → of_members js found ≡ Some ms → Rise found → Rise ms
 members_rise json.no_members found ms e h = subst Rise (grind (arith, e)) h
 members_rise (json.member k j js) found ms e h =
@@ -81,10 +79,10 @@ members_rise (json.member k j js) found ms e h =
     members_rise js (put k d.0 found) ms d.2 (rise_put k d.0 found h)
 
 json_rise : (j : json.Json) (d : Data) → of_json j ≡ Some d → RiseIn d
-json_rise json.null d e = subst RiseIn (some_is null d e) tt
-json_rise (json.boolean b) d e = subst RiseIn (some_is (boolean b) d e) tt
+json_rise json.null d e = subst RiseIn (same_Some null d e) tt
+json_rise (json.boolean b) d e = subst RiseIn (same_Some (boolean b) d e) tt
 json_rise (json.number s) d e = subst RiseIn (map_some (number_of s) number d e).2 tt
-json_rise (json.string s) d e = subst RiseIn (some_is (string s) d e) tt
+json_rise (json.string s) d e = subst RiseIn (same_Some (string s) d e) tt
 json_rise (json.array js) d e = subst RiseIn (map_some (of_items js) array d e).2 tt
 json_rise (json.object js) d e =
     let ms = map_some (of_members js no_members) object d e in

@@ -4,6 +4,7 @@ use Rattle.std.proofs.lemmas.Bool.{cases_Bool}
 use Rattle.std.proofs.lemmas.Bool.Decides.{nat_tests}
 use Rattle.std.proofs.lemmas.Fmt.{decimal_injective}
 use Rattle.std.proofs.lemmas.Map.Text.{is_eq-slice_cmp}
+use Rattle.std.proofs.lemmas.Option.{same_Some}
 use Rattle.std.proofs.lemmas.Slice.Eq.{bytes_eq-Decides}
 use Rattle.std.specs.Cmp.Lexicographic.{slice_cmp}
 use Rattle.std.specs.Fmt.{decimal}
@@ -213,10 +214,7 @@ for_before : (o : Object) (i : ℕ) (name : List ℕ) (rest : Members) → name_
 for_before o i name rest same before = ap (in_table i) (get_before (name_of o) rest (subst (λ (k : List ℕ). IsBefore k rest) (sym same) before))
 
 rise_in : (d : Data) (table : Members) → as_object d ≡ Some table → RiseIn d → Rise table
-rise_in (object ms) table e h = subst Rise (some_is ms table e) h
-  where
-    some_is : (a b : Members) → Some a ≡ Some b → a ≡ b
-    some_is a b e = grind (arith, e)
+rise_in (object ms) table e h = subst Rise (same_Some ms table e) h
 rise_in null table e h = absurd (grind (arith, e))
 rise_in (boolean b) table e h = absurd (grind (arith, e))
 rise_in (number n) table e h = absurd (grind (arith, e))

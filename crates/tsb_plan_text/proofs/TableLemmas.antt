@@ -5,8 +5,8 @@ use Rattle.tsb_plan.specs.declared.object.Object.{Object}
 use Rattle.tsb_plan.specs.declared.object.Range.{Range}
 use Rattle.tsb_plan.specs.declared.version.Version.{Version}
 use Rattle.tsb_plan.specs.declared.version.Version.TheVariants.{One, Two, Three}
-use Rattle.tsb_plan.specs.Objects.{indices}
 use Rattle.tsb_plan.specs.Versions.{has_object, range_in, indices_in, greatest_in}
+use Rattle.tsb_plan.proofs.TableLemmas.{few-indices}
 
 -- what a range says of its object
 pub record IsRange (v : Version) (o : Object) (r : Range) : Type 0 where
@@ -21,10 +21,7 @@ range_is v o r e =
       | inr hasnt ↦ absurd (grind (arith, hasnt, e))
     ]
 
-few_of : (o : Object) → indices o ≤ 128
-few_of o = search rules
-
 pub few_indices : (v : Version) (o : Object) → indices_in v o ≤ 128
 few_indices One o = search rules
-few_indices Two o = few_of o
-few_indices Three o = few_of o
+few_indices Two o = few-indices o
+few_indices Three o = few-indices o

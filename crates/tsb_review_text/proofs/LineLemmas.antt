@@ -21,6 +21,7 @@ use Rattle.tsb_review_text.specs.Lines.{also, filled, fraction, part, seconds, v
 use Rattle.tsb_review_text.specs.BreachTemplates.{breach_template}
 use Rattle.tsb_review_text.specs.Templates.{template, wording}
 use Rattle.tsb_lines.proofs.ShortLemmas.{all-of, onto-fitting, said, then}
+use Rattle.tsb_plan.proofs.NameLemmas.{short-name as short-object}
 
 -- one more of a list is written, of those that are left
 pub part-on : (written : ℕ → List ℕ) (end xs : List ℕ) (k : ℕ) (line new all : List ℕ) → k < length xs → Adds LONGEST line (written (get_or xs k 0)) new →

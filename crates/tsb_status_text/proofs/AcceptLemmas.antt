@@ -1,8 +1,8 @@
 -- Each member of a plan's line is accepted: its name is an object's, its indices are, and its values are in range.
-use Rattle.std.proofs.Common.{◌≡◌, ◌∙◌, ℕ, zero, suc, ◌+◌, ◌<◌, ◌≤◌, ◌==◌, ◌||◌, ◌⊎◌, Bool, true, false, List, [], ◌∷◌, if◌then◌else◌, Some, Result, Ok, codes, decimal, bytes_eq, Ordering, Less, Equal, Greater, is_eq, nat_cmp, refl, sym, true≢false, ap, subst, arith, inl, inr}
+use Rattle.std.proofs.Common.{◌≡◌, ◌∙◌, ℕ, zero, suc, ◌+◌, ◌<◌, ◌≤◌, ◌==◌, ◌||◌, ◌⊎◌, Bool, true, false, List, [], ◌∷◌, if◌then◌else◌, Some, Result, Ok, codes, decimal, bytes_eq, Ordering, Less, Equal, Greater, nat_cmp, refl, sym, true≢false, ap, subst, arith, inl, inr}
 use Rattle.std.proofs.lemmas.Bool.{cases_Bool, le-leb}
 use Rattle.std.proofs.lemmas.List.Folds.{list_all_at}
-use Rattle.std.proofs.lemmas.Map.Text.{is_eq-slice_cmp}
+use Rattle.std.proofs.lemmas.Map.Lookups.{exact_bytes}
 use Rattle.std.proofs.lemmas.Slice.Eq.{bytes_eq-Decides}
 use Rattle.std.specs.Bool.{⊤}
 use Rattle.std.specs.List.{list_all}
@@ -11,7 +11,7 @@ use Rattle.std.specs.Ordering.{match_ordering}
 use Rattle.serde_json.specs.Data.{Data, number, unsigned, object, Members, no_members, member, put}
 use Rattle.tsb_objects.specs.tsb_types.Lists.{run_from}
 use Rattle.tsb_plan.proofs.NameLemmas.{named_exact}
-use Rattle.tsb_plan.proofs.TableLemmas.{at-order, order-below, length-objects}
+use Rattle.tsb_plan.proofs.TableLemmas.{at-order, few-indices, order-below, length-objects}
 use Rattle.tsb_plan.specs.declared.object.Object.{Object}
 use Rattle.tsb_plan.specs.declared.object.Object.TheVariants.{PhaseEnabled}
 use Rattle.tsb_plan.specs.declared.version.Version.{Version}
@@ -26,7 +26,6 @@ use Rattle.tsb_plan_text.specs.PlanText.{index_named, whole_number, with_entry, 
 use Rattle.tsb_status_text.specs.PlanLine.{is_all_zeros, version_for}
 use Rattle.tsb_status_text.proofs.FoundLemmas.{data_table, not_version, plan_members, put_entries, put_entry, put_object, put_objects, version_alone, whole_small}
 use Rattle.tsb_status_text.proofs.JsonLemmas.{AreSmall}
-use Rattle.tsb_status_text.proofs.TextLemmas.{few_indices}
 
 -- the plan that a reading gives, with as many phases and sides as one before
 pub record Accepted (r : Result Plan Error) (before : Plan) : Type 0 where
@@ -95,7 +94,7 @@ unfolding with_entry
 entry_accepted v whole o text d p index value =
     let i : ℕ = index.0 in
     let n : ℕ = value.0 in
-    let named : index_named (indices o) text ≡ Some i = index_found (indices o) text i index.1 index.3 index.2 (omega (arith, index.2, few_indices o)) in
+    let named : index_named (indices o) text ≡ Some i = index_found (indices o) text i index.1 index.3 index.2 (omega (arith, index.2, few-indices o)) in
     record { plan = with_value p o (translated v o i) n; is = rw (whole.indices o, named, value.1, whole.values o, le-leb n (greatest o) value.2) refl; phases = refl; sides = refl }
 
 table_accepted : (v : Version) → IsAsInPlan v → (o : Object) (ms : Members) (p : Plan) → IsTable o ms → Accepted (with_table v o ms p) p
@@ -115,16 +114,13 @@ abbrev pub AreMembers : Version → Members → Type 0
 AreMembers v no_members = ⊤
 AreMembers v (member k d ms) = IsMember v k d × AreMembers v ms
 
-equal_is : (k l : List ℕ) → slice_cmp nat_cmp k l ≡ Equal → k ≡ l
-equal_is k l e = (bytes_eq-Decides k l).0 (sym (is_eq-slice_cmp k l) ∙ ap is_eq e)
-
 members_put : (v : Version) (k : List ℕ) (d : Data) (ms : Members) → IsMember v k d → AreMembers v ms → AreMembers v (put k d ms)
 members_put v k d no_members new h = (new, tt)
 members_put v k d (member l e ms) new h = go (members_put v k d ms new h.1) (slice_cmp nat_cmp k l) refl
   where
     go : AreMembers v (put k d ms) → (r : Ordering) → slice_cmp nat_cmp k l ≡ r → AreMembers v (match_ordering r (member k d (member l e ms)) (member l d ms) (member l e (put k d ms)))
     go later Less is = (new, h)
-    go later Equal is = (subst (λ (t : List ℕ). IsMember v t d) (equal_is k l is) new, h.1)
+    go later Equal is = (subst (λ (t : List ℕ). IsMember v t d) (exact_bytes k l is) new, h.1)
     go later Greater is = (h.0, later)
 
 member_accepted : (v : Version) → IsAsInPlan v → (name : List ℕ) (d : Data) (p : Plan) → IsMember v name d → Accepted (with_member v name d p) p

@@ -24,7 +24,6 @@ use Rattle.tsb_plan_text.specs.PlanText.{whole_number}
 use Rattle.tsb_plan_text.specs.PlanTextSays.{number_at, number_for}
 use Rattle.tsb_status_text.specs.PlanLine.{entries, is_all_zeros, members_of, plan_json, table, version_for, with_object}
 use Rattle.tsb_status_text.proofs.JsonLemmas.{AreSmall, few_versions}
-use Rattle.tsb_status_text.proofs.TextLemmas.{few_indices}
 
 -- ## The value
 
@@ -143,7 +142,7 @@ entries_there plan small o a (suc n) i found from below le none =
     ]
 
 table_there : (plan : Plan) → AreSmall plan → (o : Object) (i : ℕ) → 1 ≤ i → i ≤ indices o → at_index i (data_table plan o) ≡ plan.value o i
-table_there plan small o i from to = entries_there plan small o 1 (indices o) i no_members from (omega (arith, to)) (omega (arith, few_indices o)) refl
+table_there plan small o i from to = entries_there plan small o 1 (indices o) i no_members from (omega (arith, to)) (omega (arith, few-indices o)) refl
 
 -- ## At an object and index
 

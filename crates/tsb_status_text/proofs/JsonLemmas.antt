@@ -16,7 +16,8 @@ use Rattle.json.proofs.Printed.Trees.{ArePrintable-json_tokens, value-json_token
 use Rattle.json.proofs.Printed.Utf8.{are_ascii, IsUtf8-are_ascii, IsUtf8-key, IsUtf8-separator}
 use Rattle.serde_json.specs.Read.{read, max_depth, of_json}
 use Rattle.tsb_objects.specs.tsb_types.Lists.{run_from}
-use Rattle.tsb_plan.proofs.TableLemmas.{length-objects}
+use Rattle.tsb_plan.proofs.NameLemmas.{short-name}
+use Rattle.tsb_plan.proofs.TableLemmas.{few-indices, length-objects}
 use Rattle.tsb_plan.specs.declared.object.Object.{Object}
 use Rattle.tsb_plan.specs.declared.version.Version.{Version}
 use Rattle.tsb_plan.specs.declared.version.Version.TheVariants.{One, Two, Three}
@@ -25,7 +26,6 @@ use Rattle.tsb_plan.specs.Objects.{objects, indices}
 use Rattle.tsb_plan.specs.Plan.{Plan}
 use Rattle.tsb_plan.specs.Versions.{number_of}
 use Rattle.tsb_status_text.specs.PlanLine.{entries, is_all_zeros, members_of, plan_json, plan_text, table, version_for, with_object}
-use Rattle.tsb_status_text.proofs.TextLemmas.{few_indices, short_name}
 
 -- each value has at most 16 bits
 abbrev pub AreSmall : Plan → Type 0
@@ -141,7 +141,7 @@ entries_utf8 plan small o a (suc n) le =
 
 table_utf8 : (plan : Plan) → AreSmall plan → (o : Object) → AreUtf8 (members_tokens (table plan o))
 unfolding table
-table_utf8 plan small o = entries_utf8 plan small o 1 (indices o) (omega (arith, few_indices o))
+table_utf8 plan small o = entries_utf8 plan small o 1 (indices o) (omega (arith, few-indices o))
 
 object_utf8 : (b : Bool) (k : List ℕ) (ms rest : Members) → IsUtf8 k → AreUtf8 (members_tokens ms) → AreUtf8 (members_tokens rest) →
     AreUtf8 (members_tokens (if b then rest else member k (object ms) rest))
@@ -208,7 +208,7 @@ entries_room plan small o a (suc n) le =
 
 table_room : (plan : Plan) → AreSmall plan → (o : Object) → room (members_tokens (table plan o)) ≤ 3842
 unfolding table
-table_room plan small o = omega (arith, few_indices o, entries_room plan small o 1 (indices o) (omega (arith, few_indices o)))
+table_room plan small o = omega (arith, few-indices o, entries_room plan small o 1 (indices o) (omega (arith, few-indices o)))
 
 object_room : (b : Bool) (k : List ℕ) (ms rest : Members) → length k ≤ 28 → room (members_tokens ms) ≤ 3842 →
     room (members_tokens (if b then rest else member k (object ms) rest)) ≤ 4100 + room (members_tokens rest)
@@ -219,7 +219,7 @@ members_room : (plan : Plan) → AreSmall plan → (os : List Object) → room (
 unfolding with_object
 members_room plan small [] = omega arith
 members_room plan small (o ∷ os) =
-    let here = object_room (is_all_zeros plan o) (name_of o) (table plan o) (members_of plan os) (short_name o) (table_room plan small o) in
+    let here = object_room (is_all_zeros plan o) (name_of o) (table plan o) (members_of plan os) (short-name o) (table_room plan small o) in
     omega (arith, here, members_room plan small os)
 
 version_room : (n : ℕ) → n ≤ 3 → room (Token.begin_object ∷ Token.key (codes "version") ∷ Token.number (decimal n) ∷ []) ≤ 100

@@ -13,6 +13,8 @@ use Rattle.tsb_plan.specs.Names.{name_of}
 use Rattle.tsb_plan.specs.Objects.{indices, greatest, has_index}
 use Rattle.tsb_plan.specs.Parts.{unless_zero}
 use Rattle.tsb_plan.specs.PlanOf.{put_refusal}
+use Rattle.tsb_plan.proofs.NameLemmas.{short-name}
+use Rattle.tsb_plan.proofs.TableLemmas.{few-indices}
 use Rattle.tsb_plan_text.specs.RuleLines.{rule_name}
 use Rattle.tsb_transact.specs.declared.desk_state.DeskState.{DeskState}
 use Rattle.tsb_transact.specs.declared.edit.Edit.{Edit}
@@ -94,9 +96,6 @@ pub record IsShort (e : Edit) : Type 0 where
   pub index : e.id.index < 1000
   pub value : e.value < 100000
 
-pub short_name : (o : Object) → length (name_of o) ≤ 28
-short_name o = search rules
-
 short_state : (s : DeskState) → length (state_name s) ≤ 11
 short_state s = search rules
 
@@ -113,7 +112,7 @@ edit_room name i v hn hi hv =
 
 short_edit : (e : Edit) → IsShort e → length (edit_bytes e) ≤ 67
 short_edit e h =
-    edit_room (name_of e.id.object) (decimal e.id.index) (decimal e.value) (short_name e.id.object)
+    edit_room (name_of e.id.object) (decimal e.id.index) (decimal e.value) (short-name e.id.object)
     (length-decimal-le 3 e.id.index (omega arith) (omega (arith, h.index)) (omega (arith, h.index)))
     (length-decimal-le 5 e.value (omega arith) (omega (arith, h.value)) (omega (arith, h.value)))
 
@@ -145,10 +144,7 @@ line-short desk owner each few =
 
 -- ## Edits of a desk
 
--- no object has many indices, nor greater values than 16 bits hold
-pub few_indices : (o : Object) → indices o ≤ 128
-few_indices o = search rules
-
+-- no object has greater values than 16 bits hold
 pub greatest_small : (o : Object) → greatest o ≤ 65535
 greatest_small o = search rules
 
@@ -157,7 +153,7 @@ short_taken e taken =
     let has : has_index e.id.object e.id.index ≡ true = grind (arith, taken) in
     let to : e.id.index ≤ indices e.id.object = grind (arith, nat_tests, has) in
     let most : e.value ≤ greatest e.id.object = grind (arith, nat_tests, taken) in
-    record { index = omega (arith, to, few_indices e.id.object); value = omega (arith, most, greatest_small e.id.object) }
+    record { index = omega (arith, to, few-indices e.id.object); value = omega (arith, most, greatest_small e.id.object) }
 
 pub all-short : (es : List Edit) → All (λ e. put_refusal e.id e.value ≡ None) es → All IsShort es
 all-short [] h = All-nil IsShort

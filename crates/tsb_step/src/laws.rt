@@ -98,7 +98,7 @@ pub fn plans_in_memory_are_consistent()
 /// every machine ask for this (tsb_machine).
 ///
 /// Mistakes: a record with what cells hold after the input (`gives_back`, `would_stay` of tsb_laws); one that leaves
-/// the tick number, `ticks_of_none` of tsb_laws (`goes_to_6`, `would_be_at_7`).
+/// the tick number, `ticks_of_none` of LawMistakes (`goes_to_6`, `would_be_at_7`).
 /// Witness: `ran` of tsb_laws, a run after which cells tell the state.
 pub fn records_give_back()
     ensures back { RecordsGiveBack }

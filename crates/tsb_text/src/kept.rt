@@ -1,7 +1,8 @@
 //! The inputs that remain, which can be taken back.
 ghost use Rattle.std.specs.Prelude.{◌≡◌, ◌≤◌, OnErr, OnOk, false};
 ghost use Rattle.tsb_step.specs.Step.{last_tick};
-ghost use Rattle.tsb_text.specs.kept.Kept.{DropsOther, LacksRoom, gone_back, is_same_row, nothing_kept, row_kept, with_input, with_other, with_row};
+ghost use Rattle.tsb_types.specs.Sets.{is_same_row};
+ghost use Rattle.tsb_text.specs.kept.Kept.{DropsOther, LacksRoom, gone_back, nothing_kept, row_kept, with_input, with_other, with_row};
 
 mod changed;
 pub mod laws;

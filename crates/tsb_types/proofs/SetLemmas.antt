@@ -1,10 +1,12 @@
 -- Lists of phases as tests: a list that is made of a test, and sets that have the same members.
-use Rattle.std.proofs.Common.{zero, suc, ◌≡◌, ℕ, ◌+◌, ◌*◌, ◌/◌, ◌%◌, ◌^◌, ◌<◌, ◌≤◌, ◌==◌, Bool, true, false, if◌then◌else◌, refl, arith, sym, ◌∙◌, ap}
+use Rattle.std.proofs.Common.{zero, suc, ◌≡◌, ℕ, ◌+◌, ◌*◌, ◌/◌, ◌%◌, ◌^◌, ◌<◌, ◌≤◌, ◌==◌, Bool, true, false, ◌&&◌, if◌then◌else◌, refl, arith, sym, ◌∙◌, ap}
 use Rattle.std.specs.Int.{bit_at}
+use Rattle.std.proofs.lemmas.Bool.{and_parts, eqb-true}
 use Rattle.std.proofs.lemmas.Nat.Bits.{bit_at_lowest, bit_at-suc, bit_at-zero, bit_at-lt, bit_at_above, same_from_bits_below}
 use Rattle.tsb_types.specs.declared.number_set.NumberSet.{NumberSet}
 use Rattle.tsb_types.specs.declared.phase_set.PhaseSet.{PhaseSet}
-use Rattle.tsb_types.specs.Sets.{names, has_number, has, number_of_bits, list_of}
+use Rattle.tsb_types.specs.declared.row.Row.{Row}
+use Rattle.tsb_types.specs.Sets.{names, has_number, has, is_same_row, is_same_set, number_of_bits, list_of}
 
 -- the lowest bit of a word, and the word without it
 pub lowest : (b : Bool) (m : ℕ) → (((if b then 1 else 0) + 2 * m) % 2 == 1) ≡ b
@@ -91,3 +93,16 @@ same_numbers s t p q same =
 pub same_phases : (s t : PhaseSet) → s.numbers.word < 2 ^ 16 → t.numbers.word < 2 ^ 16 → ((p : ℕ) → has s p ≡ has t p) → s ≡ t
 same_phases s t p q same =
     ap (λ (n : NumberSet). let made : PhaseSet = record { numbers = n } in made) (same_numbers s.numbers t.numbers p q same)
+
+-- what a test finds the same is the same
+pub same-set : (a b : NumberSet) → is_same_set a b ≡ true → a ≡ b
+same-set a b is = ap (λ (w : ℕ). let made : NumberSet = record { word = w } in made) (eqb-true a.word b.word is)
+
+pub same-row : (a b : Row) → is_same_row a b ≡ true → a ≡ b
+same-row a b is =
+    let all = and_parts (is_same_set a.vehicles b.vehicles && is_same_set a.pedestrians b.pedestrians) (is_same_set a.preempts b.preempts) is in
+    let first = and_parts (is_same_set a.vehicles b.vehicles) (is_same_set a.pedestrians b.pedestrians) all.0 in
+    let vehicles : a.vehicles ≡ b.vehicles = same-set a.vehicles b.vehicles first.0 in
+    let pedestrians : a.pedestrians ≡ b.pedestrians = same-set a.pedestrians b.pedestrians first.1 in
+    let preempts : a.preempts ≡ b.preempts = same-set a.preempts b.preempts all.1 in
+    λ j. let there : Row = record { vehicles = vehicles j; pedestrians = pedestrians j; preempts = preempts j } in there

@@ -18,6 +18,10 @@ has_number s n = names s.word n
 abbrev pub set_of_list : ℕ → NumberSet
 set_of_list list = record { word = list }
 
+-- two sets have the same numbers
+abbrev pub is_same_set : NumberSet → NumberSet → Bool
+is_same_set one other = one.word == other.word
+
 -- what grows less with each number that is taken out, by which loops over a set end
 abbrev pub size_of_numbers : NumberSet → ℕ
 size_of_numbers s = s.word
@@ -25,6 +29,12 @@ size_of_numbers s = s.word
 -- all inputs off
 abbrev pub all_off : Row
 all_off = record { vehicles = set_of_list 0; pedestrians = set_of_list 0; preempts = set_of_list 0 }
+
+-- two rows have the same inputs on
+abbrev pub is_same_row : Row → Row → Bool
+is_same_row one other =
+    is_same_set one.vehicles other.vehicles && is_same_set one.pedestrians other.pedestrians
+    && is_same_set one.preempts other.preempts
 
 -- the set has phase p
 abbrev pub has : PhaseSet → ℕ → Bool

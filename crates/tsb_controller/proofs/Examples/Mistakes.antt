@@ -9,8 +9,6 @@ use Rattle.tsb_step.specs.tsb_types.Sets.{number_of_bits}
 use Rattle.tsb_step.specs.tsb_plan.Plan.{Plan, empty}
 use Rattle.tsb_step.specs.tsb_plan.Quad.{quad}
 use Rattle.tsb_cells.specs.Diff.{diff, apply_diff, part, shifted}
-use Rattle.tsb_history.specs.declared.kinds.Kind.{Kind}
-use Rattle.tsb_history.specs.declared.kinds.Kind.TheVariants as kinds
 use Rattle.tsb_heads.specs.declared.monitor.Trip.{Trip}
 use Rattle.tsb_heads.specs.declared.monitor.Trip.TheVariants.{Conflict}
 use Rattle.tsb_heads.specs.Displays.{field}
@@ -21,7 +19,6 @@ use Rattle.tsb_preempt.specs.Cells.{preempts_in, preempts_cells, service_in}
 use Rattle.tsb_transact.specs.Desk.{closed}
 use Rattle.tsb_step.specs.declared.first_cell.TheConstants.{DESK, DETECTORS, CALLS, PHASES, RINGS, COORD, PREEMPTS}
 use Rattle.tsb_step.specs.Cells.{clock}
-use Rattle.tsb_step.specs.Past.{ticks_of}
 use Rattle.tsb_step.specs.State.{State}
 use Rattle.tsb_controller.specs.Passing.{ends_before_phases, is_before_phases}
 use Rattle.tsb_controller.specs.Records.{changes}
@@ -112,16 +109,6 @@ gives_back = refl
 
 would_stay : all_put_back on (changes_after off on) ≡ on
 would_stay = refl
-
--- and one that leaves the tick number
-abbrev pub ticks_of_none : Kind → ℕ
-ticks_of_none k = 0
-
-goes_to_6 : 7 - ticks_of kinds.Tick ≡ 6
-goes_to_6 = refl
-
-would_be_at_7 : 7 - ticks_of_none kinds.Tick ≡ 7
-would_be_at_7 = refl
 
 -- leaving the phases: a record is judged by its first entry, while detector 1 is occupied and the rings cross
 abbrev pub begins_before_phases : List (ℕ × ℕ) → Bool

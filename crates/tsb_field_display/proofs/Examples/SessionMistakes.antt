@@ -72,10 +72,6 @@ first_tick_not from = refl
 
 -- ## The header has code and parameter in the other order
 
-is_usual : header_of (codes "SignalID,Timestamp,EventCode,EventParam") ≡ Some usual_columns
-unfolding header_of header_by
-is_usual = refl
-
 would_change_places : header_of (codes "SignalID,Timestamp,EventParam,EventCode") ≡ Some (record { device = Some 0; time = 1; code = 3; parameter = 2; separator = Comma })
 unfolding header_of header_by
 would_change_places = refl

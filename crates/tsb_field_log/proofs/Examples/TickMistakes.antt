@@ -1,13 +1,13 @@
 -- One-line mistakes, each with an example that tells it from the definition.
 use Rattle.std.specs.Prelude.{◌≡◌, ℕ, zero, suc, ◌+◌, ◌*◌, ◌&&◌, ◌||◌, nat_lt, Bool, true, false, List, [], ◌∷◌, ◌++◌, drop, length, map, if◌then◌else◌, Ok, Err, refl}
-use Rattle.tsb_types.specs.Sets.{all_off, has_number, number_of_bits}
+use Rattle.tsb_types.specs.Sets.{all_off, has_number, is_same_row, number_of_bits}
 use Rattle.tsb_types.specs.declared.row.Row.{Row}
 use Rattle.tsb_log_text.specs.Logs.{log_of, row_at, rows_from}
 use Rattle.tsb_log_text.specs.Rows.{inputs_of, row_of}
 use Rattle.tsb_log_text.specs.declared.error.LogError.TheVariants.{Malformed}
 use Rattle.tsb_log_text.specs.declared.log.LogRow.{LogRow}
 use Rattle.tsb_field_log.specs.declared.inputs.InputEvent.{InputEvent}
-use Rattle.tsb_field_log.specs.Changes.{change, changes, same_row}
+use Rattle.tsb_field_log.specs.Changes.{change, changes}
 use Rattle.tsb_field_log.specs.Inputs.{is_of, on_at, switched_on}
 use Rattle.tsb_log_text.specs.LogText.{log_text, row_line}
 use Rattle.tsb_field_log.specs.Ticks.{begin_of, is_on_in, row_in}
@@ -46,7 +46,7 @@ on_too_long = refl
 abbrev pub changes_of_on : (ℕ → Row) → Row → ℕ → ℕ → List LogRow
 changes_of_on inputs before tick zero = []
 changes_of_on inputs before tick (suc count) =
-    (if same_row (inputs tick) all_off then [] else change tick before (inputs tick))
+    (if is_same_row (inputs tick) all_off then [] else change tick before (inputs tick))
     ++ changes_of_on inputs (inputs tick) (suc tick) count
 
 -- the inputs of ticks 1 to 4

@@ -1,15 +1,16 @@
 -- The events of inputs among those of a run are those of its log.
-use Rattle.std.proofs.Common.{◌≡◌, ◌∙◌, ℕ, ◌==◌, Bool, true, false, ◌&&◌, ◌||◌, if◌then◌else◌, List, [], ◌∷◌, ◌++◌, filter, refl, sym, ap, inl, inr, append_assoc}
-use Rattle.std.proofs.lemmas.Bool.{and_parts, cases_Bool, eqb-true}
+use Rattle.std.proofs.Common.{◌≡◌, ◌∙◌, ℕ, Bool, true, false, ◌||◌, if◌then◌else◌, List, [], ◌∷◌, ◌++◌, filter, refl, sym, ap, inl, inr, append_assoc}
+use Rattle.std.proofs.lemmas.Bool.{cases_Bool}
 use Rattle.std.proofs.lemmas.List.{append-nil}
 use Rattle.std.proofs.lemmas.List.Elements.{filter-append}
 use Rattle.tsb_step.specs.tsb_types.Events.{told, begins, ends}
 use Rattle.tsb_step.specs.tsb_types.Lists.{among}
-use Rattle.tsb_step.specs.tsb_types.Sets.{all_off, has_number}
+use Rattle.tsb_step.specs.tsb_types.Sets.{all_off, has_number, is_same_row}
 use Rattle.tsb_step.specs.tsb_types.declared.event.Event.{Event}
 use Rattle.tsb_step.specs.tsb_types.declared.event.TheConstants as codes
 use Rattle.tsb_step.specs.tsb_types.declared.row.Row.{Row}
 use Rattle.tsb_step.proofs.tsb_types.EventLemmas as none
+use Rattle.tsb_step.proofs.tsb_types.SetLemmas.{same-row}
 use Rattle.tsb_step.specs.tsb_plan.Plan.{Plan}
 use Rattle.tsb_step.specs.declared.inputs.Input.{Input}
 use Rattle.tsb_step.specs.declared.inputs.Input.TheVariants as inputs
@@ -26,7 +27,7 @@ use Rattle.tsb_field_display.specs.Inputs.{events_behind, events_of_row, events_
 use Rattle.tsb_field_display.specs.SessionLaws.{is_of_input}
 use Rattle.tsb_text.specs.kept.Kept.{last_row}
 use Rattle.tsb_text.specs.recording.Along.{noted_after, told_along}
-use Rattle.tsb_laws.specs.Told.{AreSwitchesOff, InputsMakeTheLog, if_changed, is_same_row, log_of}
+use Rattle.tsb_laws.specs.Told.{AreSwitchesOff, InputsMakeTheLog, if_changed, log_of}
 use Rattle.tsb_laws.proofs.events.KeptLemmas.{Kept, both, first-alone, second-alone, all-told, none-of, not-among}
 
 -- ## What is kept of the events of an input
@@ -134,16 +135,6 @@ other-told tick noted v w by_inputs off off_now =
     ∙ (λ i. (none.none-told tick 81 (has_number noted.row.vehicles) i ++ none.none-told tick 82 (has_number noted.row.vehicles) i)
     ++ (none.none-told tick 102 (has_number noted.row.preempts) i ++ none.none-told tick 104 (has_number noted.row.preempts) i))
 
-same-rows : (one other : Row) → is_same_row one other ≡ true → one ≡ other
-same-rows one other e =
-    let parts = and_parts (one.vehicles.word == other.vehicles.word) (one.pedestrians.word == other.pedestrians.word && one.preempts.word == other.preempts.word) e in
-    let rest = and_parts (one.pedestrians.word == other.pedestrians.word) (one.preempts.word == other.preempts.word) parts.1 in
-    λ i. record {
-      vehicles = record { word = eqb-true one.vehicles.word other.vehicles.word parts.0 i };
-      pedestrians = record { word = eqb-true one.pedestrians.word other.pedestrians.word rest.0 i };
-      preempts = record { word = eqb-true one.preempts.word other.preempts.word rest.1 i };
-    }
-
 -- the same inputs again have no event
 no-change : (tick : ℕ) (row : Row) → events_of_row row (record { tick = tick; row = row }) ≡ []
 unfolding events_of_row
@@ -170,13 +161,13 @@ row-append before (row ∷ rows) more = row-append row.row rows more
 -- a row that changes has events, and another has none
 told-if-changed : (last : Row) (tick : ℕ) (row : Row) → events_behind last (if_changed last tick row) ≡ events_of_row last (record { tick = tick; row = row })
 told-if-changed last tick row = elim (cases_Bool (is_same_row last row)) [
-  | inl same ↦ rw same (sym (no-change tick row) ∙ ap (λ (r : Row). events_of_row r (record { tick = tick; row = row })) (sym (same-rows last row same)))
+  | inl same ↦ rw same (sym (no-change tick row) ∙ ap (λ (r : Row). events_of_row r (record { tick = tick; row = row })) (sym (same-row last row same)))
   | inr other ↦ rw other (append-nil (events_of_row last (record { tick = tick; row = row })))
 ]
 
 row-if-changed : (last : Row) (tick : ℕ) (row : Row) → row_after last (if_changed last tick row) ≡ row
 row-if-changed last tick row = elim (cases_Bool (is_same_row last row)) [
-  | inl same ↦ rw same (same-rows last row same)
+  | inl same ↦ rw same (same-row last row same)
   | inr other ↦ rw other refl
 ]
 

@@ -24,6 +24,7 @@ use Rattle.tsb_step.specs.tsb_ring.Next.{idle_pick, starting, new_commitment, ne
 use Rattle.tsb_step.specs.tsb_ring.Moves as ring_moves
 use Rattle.tsb_step.specs.tsb_ring.Moves.{is_ended, is_started}
 use Rattle.tsb_step.specs.tsb_ring.Laws.{IsListed, IsSymmetric}
+use Rattle.tsb_step.proofs.tsb_coord.LocalLemmas.{never_late}
 use Rattle.tsb_step.proofs.tsb_ring.ActLemmas.{starts_alone}
 use Rattle.tsb_step.proofs.tsb_ring.MoveLemmas.{is-Some}
 use Rattle.tsb_step.proofs.tsb_ring.SoundLemmas.{Commits, enters, stands, makes, commits, new_commits}
@@ -190,11 +191,6 @@ few_now plan is few = let same = count_run plan is in omega (arith, same, few)
 
 -- a coordinated phase is forced off at its instant and in its permissive time, and neither late nor by floating
 -- force-off
-never_late : (m : ℕ) (at from : Option ℕ) → is_late m at from None ≡ false
-never_late m None from = refl
-never_late m (Some l) None = refl
-never_late m (Some l) (Some i) = refl
-
 never_forced_late : (plan : Plan) (o at : Option ℕ) (p : ℕ) → is_coordinated_now plan o p ≡ true → is_forced_late plan o at p ≡ false
 never_forced_late plan None at p h = refl
 never_forced_late plan (Some n) at p h =

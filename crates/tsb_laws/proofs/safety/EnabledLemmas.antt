@@ -36,7 +36,7 @@ use Rattle.tsb_laws.proofs.safety.ChoiceLemmas.{pick_enabled, entry_enabled}
 
 -- ## What is callable is enabled, and was not Green
 
-free_of : (plan : Plan) (given : calls.Given) (m : Memories) (p : ℕ) → is_callable plan given m p ≡ true → is_free plan given p ≡ true
+pub free_of : (plan : Plan) (given : calls.Given) (m : Memories) (p : ℕ) → is_callable plan given m p ≡ true → is_free plan given p ≡ true
 unfolding is_callable
 free_of plan given m p h =
     elim (or_cases (is_free plan given p && is_called plan given m p) (is_free plan given p && is_softly_recalled plan given m p) h) [

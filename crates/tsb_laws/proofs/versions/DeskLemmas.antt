@@ -2,7 +2,7 @@
 use Rattle.std.proofs.Common.{suc, ◌≡◌, ℕ, ◌+◌, ◌-◌, ◌*◌, ◌/◌, ◌%◌, ◌<◌, ◌≤◌, ◌==◌, nat_le, nat_lt, Bool, true, false, not, ◌&&◌, if◌then◌else◌, List, [], ◌∷◌, map, length, refl, arith, sym, ◌∙◌, ap, subst, inl, inr}
 use Rattle.std.proofs.Math.Path.{fun_ext}
 use Rattle.std.proofs.lemmas.Bool.{cases_Bool, and_parts, eqb-true}
-use Rattle.std.proofs.lemmas.Bool.Decides.{nat_tests}
+use Rattle.std.proofs.lemmas.Bool.Decides.{nat_tests, same_from_decides}
 use Rattle.tsb_step.specs.tsb_plan.declared.object.Object.{Object}
 use Rattle.tsb_step.specs.tsb_plan.declared.object.ObjectId.{ObjectId}
 use Rattle.tsb_step.specs.tsb_plan.declared.version.Version.TheVariants.{One}
@@ -14,7 +14,6 @@ use Rattle.tsb_step.specs.tsb_transact.declared.edit.Edit.{Edit}
 use Rattle.tsb_step.specs.tsb_transact.Desk.{is_of, has_edit_of, with_edit, with_edits}
 use Rattle.tsb_step.specs.tsb_transact.Commit.{changes, changes_some}
 use Rattle.tsb_laws.specs.Widened.{IsNarrow, is_of_version_1, narrowed, widened_value, widened, widened_id, IsOfTable, AreOfTable, widened_edit}
-use Rattle.tsb_step.proofs.tsb_objects.TableLemmas.{same-tests}
 
 -- ## Indices
 
@@ -49,9 +48,11 @@ is-equal i k e = grind (arith, nat_tests)
 
 row_index-equal : (i k : ℕ) → 1 ≤ i → is_of_version_1 k ≡ true → (row_index i == k) ≡ (i == narrowed k)
 row_index-equal i k from e =
-    same-tests (row_index i == k) (i == narrowed k)
-    (λ h. is-equal i (narrowed k) (sym (row_index-back i from) ∙ ap narrowed (eqb-true (row_index i) k h)))
-    (λ h. is-equal (row_index i) k (ap row_index (eqb-true i (narrowed k) h) ∙ row_index-there k e))
+    same_from_decides (row_index i == k) (i == narrowed k) (
+      (λ h. is-equal i (narrowed k) (sym (row_index-back i from) ∙ ap narrowed (eqb-true (row_index i) k h))),
+      (λ h. is-equal (row_index i) k (ap row_index (eqb-true i (narrowed k) h) ∙ row_index-there k e)),
+    )
+    ((λ h. h), (λ h. h))
 
 row_index-other : (i k : ℕ) → is_of_version_1 k ≡ false → (row_index i == k) ≡ false
 row_index-other i k e =

@@ -1,7 +1,7 @@
 -- A plan text of version 2 is, with another number, one of version 3; and no version gives what came after it.
-use Rattle.std.proofs.Common.{◌≡◌, ℕ, ◌≤◌, nat_lt, Bool, true, false, List, length, Some, Result, Ok, Err, codes, bytes_eq, if◌then◌else◌, Ordering, Less, Equal, Greater, is_eq, nat_cmp, refl, sym, ◌∙◌, true≢false, ap, subst, arith}
+use Rattle.std.proofs.Common.{◌≡◌, ℕ, ◌≤◌, nat_lt, Bool, true, false, List, length, Some, Result, Ok, Err, codes, bytes_eq, if◌then◌else◌, Ordering, Less, Equal, Greater, nat_cmp, refl, sym, ◌∙◌, true≢false, ap, subst, arith}
 use Rattle.std.proofs.lemmas.Bool.{and_parts, le-ltb}
-use Rattle.std.proofs.lemmas.Map.Text.{is_eq-slice_cmp}
+use Rattle.std.proofs.lemmas.Map.Lookups.{exact_bytes}
 use Rattle.std.proofs.lemmas.Slice.Eq.{bytes_eq-Decides}
 use Rattle.std.specs.Cmp.Lexicographic.{slice_cmp}
 use Rattle.std.specs.Ordering.{match_ordering}
@@ -71,9 +71,6 @@ passed-over : (v : Version) (name : List ℕ) (d : Data) (p : Plan) → name ≡
 unfolding with_member
 passed-over v name d p same = rw ((bytes_eq-Decides name (codes "version")).1 same) refl
 
-equal-is : (k l : List ℕ) → slice_cmp nat_cmp k l ≡ Equal → k ≡ l
-equal-is k l e = (bytes_eq-Decides k l).0 (sym (is_eq-slice_cmp k l) ∙ ap is_eq e)
-
 members-renumbered : (d : Data) (ms : Members) (p q : Plan) → with_members Two ms p ≡ Ok q → with_members Three (put (codes "version") d ms) p ≡ Ok q
 members-renumbered d no_members p q e = rw (passed-over Three (codes "version") d p refl) e
 members-renumbered d (member name old rest) p q e = go (λ r f. members-renumbered d rest r q f) (slice_cmp nat_cmp (codes "version") name) refl
@@ -82,7 +79,7 @@ members-renumbered d (member name old rest) p q e = go (λ r f. members-renumber
         with_members Three (match_ordering r (member (codes "version") d (member name old rest)) (member name d rest) (member name old (put (codes "version") d rest))) p ≡ Ok q
     go later Less is = rw (passed-over Three (codes "version") d p refl) (members-later (member name old rest) p q e)
     go later Equal is =
-        let same : name ≡ codes "version" = sym (equal-is (codes "version") name is) in
+        let same : name ≡ codes "version" = sym (exact_bytes (codes "version") name is) in
         let first = then_ok (with_member Two name old p) (with_members Two rest) q e in
         let kept : p ≡ first.0 = if_ok true p first.0 too_large (sym (passed-over Two name old p same) ∙ first.1) in
         rw (passed-over Three name d p same) (members-later rest p q (subst (λ (r : Plan). with_members Two rest r ≡ Ok q) (sym kept) first.2))

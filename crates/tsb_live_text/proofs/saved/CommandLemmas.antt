@@ -17,7 +17,7 @@ use Rattle.tsb_text.specs.tsb_step.tsb_plan.Versions.{has_object}
 use Rattle.tsb_text.specs.tsb_step.tsb_plan.declared.object.Object.{Object}
 use Rattle.tsb_text.specs.tsb_step.tsb_plan.declared.object.ObjectId.{ObjectId}
 use Rattle.tsb_text.specs.tsb_step.tsb_plan.declared.version.TheConstants.Version.{NEWEST}
-use Rattle.tsb_step.proofs.tsb_plan.NameLemmas.{named_exact}
+use Rattle.tsb_step.proofs.tsb_plan.NameLemmas.{named_exact, short-name}
 use Rattle.tsb_text.specs.tsb_types.declared.lamp.Lamp.{Lamp}
 use Rattle.tsb_text.specs.tsb_types.declared.lamp.Lamp.TheVariants as lamps
 use Rattle.tsb_text.specs.tsb_types.declared.lamp.SignalColor.{SignalColor}
@@ -38,7 +38,6 @@ use Rattle.tsb_live_text.specs.saved.Laws.{AreSpelled, CommandsAreRead, IsLamp, 
 use Rattle.tsb_live_text.specs.saved.Saved.{commands_from, input_line, input_text, lamp_line, number_word, pedestrian_word, signal_word, step_text, switch_word}
 use Rattle.tsb_live_text.specs.saved.Says.{are_plain, is_plain}
 use Rattle.tsb_live_text.proofs.saved.PlainLemmas.{Plain, name-plain, number-plain, plain-is, plain-join}
-use Rattle.tsb_status_text.proofs.TextLemmas.{short_name}
 
 -- ## Words
 
@@ -247,7 +246,7 @@ unfolding command_of_five
 set-read s id v h index value =
     line-read (codes "set" ++ 32 ∷ (decimal s ++ 32 ∷ (name_of id.object ++ 32 ∷ (decimal id.index ++ 32 ∷ decimal v))))
     (codes "set" ∷ decimal s ∷ name_of id.object ∷ decimal id.index ∷ decimal v ∷ []) (commands.Set s id v)
-    (set-short (decimal s) (name_of id.object) (decimal id.index) (decimal v) (number-short s (omega (arith, h.1))) (short_name id.object) (number-short id.index index) (number-short v value))
+    (set-short (decimal s) (name_of id.object) (decimal id.index) (decimal v) (number-short s (omega (arith, h.1))) (short-name id.object) (number-short id.index index) (number-short v value))
     refl
     (set-words (decimal s) (name_of id.object) (decimal id.index) (decimal v) (number-word s (omega (arith, h.1))) (name-word id.object) (number-word id.index (omega (arith, index))) (number-word v (omega (arith, value))))
     (λ j. set_of (station-read s h j) (name-found id.object j) (number-read id.index index j) (number-read v value j))

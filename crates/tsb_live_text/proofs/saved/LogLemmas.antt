@@ -1,6 +1,7 @@
 -- The saved log is read as the rows that are kept.
 use Rattle.std.proofs.Common.{◌≡◌, ◌+◌, ◌≤◌, Bool, true, false, List, [], ◌∷◌, ◌++◌, if◌then◌else◌, sym, subst, arith, append-nil}
 use Rattle.json.proofs.Printed.Trees.{document-print}
+use Rattle.tsb_text.specs.tsb_types.Sets.{is_same_row}
 use Rattle.tsb_text.specs.tsb_types.declared.limits.TheConstants.{TICKS}
 use Rattle.tsb_text.specs.tsb_step.tsb_plan.Plan.{Plan}
 use Rattle.tsb_step.specs.declared.inputs.Input.{Input}
@@ -10,15 +11,15 @@ use Rattle.tsb_step.proofs.ClearLemmas.{one_later}
 use Rattle.tsb_log_text.specs.LogText.{AreRows, IsRow}
 use Rattle.tsb_log_text.specs.declared.log.LogRow.{LogRow}
 use Rattle.tsb_log_text.proofs.TextLemmas.{text-read}
-use Rattle.tsb_text.specs.kept.Kept.{is_same_row, kept_of, row_kept}
+use Rattle.tsb_text.specs.kept.Kept.{kept_of, row_kept}
 use Rattle.tsb_text.proofs.BackLemmas.{no-less}
 use Rattle.tsb_text.proofs.kept.LawLemmas.{kept-rise}
-use Rattle.tsb_live_text.specs.saved.Laws.{AreFit, AreTheirJson, LogsAreRead}
+use Rattle.tsb_live_text.specs.saved.Laws.{AreFit, SavedTextsAreJson, LogsAreRead}
 use Rattle.tsb_live_text.specs.saved.Saved.{saved_json, saved_text}
 
-pub their-json : AreTheirJson
+pub saved-are-json : SavedTextsAreJson
 unfolding saved_text
-their-json kept now = document-print (saved_json kept now) (tt, (tt, tt)) (omega arith)
+saved-are-json kept now = document-print (saved_json kept now) (tt, (tt, tt)) (omega arith)
 
 one-more : (rs : List LogRow) (r : LogRow) → AreRows rs → IsRow r → AreRows (rs ++ r ∷ [])
 one-more [] r all is = (is, tt)

@@ -26,8 +26,8 @@ use Rattle.tsb_live_text.specs.saved.Says.{is_plain}
 -- ## JSON
 
 -- the line is JSON, and this value
-abbrev pub AreTheirJson : Type 0
-AreTheirJson = (kept : Keeping) (now : ℕ) → document (saved_text kept now) ≡ Some (saved_json kept now)
+abbrev pub SavedTextsAreJson : Type 0
+SavedTextsAreJson = (kept : Keeping) (now : ℕ) → document (saved_text kept now) ≡ Some (saved_json kept now)
 
 -- ## The log
 

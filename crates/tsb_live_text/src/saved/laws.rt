@@ -1,5 +1,5 @@
 //! What holds of all that is saved, each law the contract of a function that does nothing.
-ghost use Rattle.tsb_live_text.specs.saved.Laws.{AreEasy, AreTheirJson, CommandsAreRead, KeptAreSpelled, LogsAreRead, ReadsAreSpelled, RowsReadAreFit};
+ghost use Rattle.tsb_live_text.specs.saved.Laws.{AreEasy, SavedTextsAreJson, CommandsAreRead, KeptAreSpelled, LogsAreRead, ReadsAreSpelled, RowsReadAreFit};
 ghost use Rattle.tsb_live_text.specs.saved.Taken.{RunsEndAlike};
 
 /// The line of what is saved is JSON: an object with the text of the log and the lines of the commands, each as a string.
@@ -7,7 +7,7 @@ ghost use Rattle.tsb_live_text.specs.saved.Taken.{RunsEndAlike};
 /// Mistake: a line feed is in a string without its escape, `unescaped` (`is_no_json`).
 /// Witness: `line_of_one` of Mistakes, one tick after a pattern.
 pub fn saved_lines_are_json()
-    ensures { AreTheirJson }
+    ensures { SavedTextsAreJson }
 {}
 
 /// The saved log is read as the rows that are kept. So each of its ticks has the row that it was given.

@@ -1,6 +1,6 @@
 -- Why the laws of runs have their premises, and what each would be worth without: for each a mistake, and by computing what
 -- comes of it. What mistakes in the rings' own definitions do to them is in tsb_ring.
-use Rattle.std.specs.Prelude.{◌≡◌, ℕ, true, false, [], ◌∷◌, Some, None, refl}
+use Rattle.std.specs.Prelude.{◌≡◌, ℕ, ◌-◌, true, false, [], ◌∷◌, Some, None, refl}
 use Rattle.tsb_types.specs.Sets.{all_off}
 use Rattle.tsb_types.specs.declared.interval.Interval.TheVariants.{Green}
 use Rattle.tsb_types.specs.declared.lamp.Lamp.TheVariants as lamps
@@ -8,6 +8,8 @@ use Rattle.tsb_types.specs.declared.lamp.SignalColor.TheVariants as signals
 use Rattle.tsb_types.specs.declared.refusal.Refusal.TheVariants.{NotVerified, InService}
 use Rattle.tsb_types.specs.declared.stage.Stage.TheVariants.{Dwell}
 use Rattle.tsb_cells.specs.declared.timer.Timer.TheVariants.{Off, On}
+use Rattle.tsb_machine.specs.tsb_history.declared.kinds.Kind.{Kind}
+use Rattle.tsb_machine.specs.tsb_history.declared.kinds.Kind.TheVariants as kinds
 use Rattle.tsb_objects.specs.tsb_plan.declared.object.Object.{Object}
 use Rattle.tsb_objects.specs.tsb_plan.declared.object.Object.TheVariants.{PhaseConcurrency, PhaseMinRecall, PreemptDwellPhase}
 use Rattle.tsb_objects.specs.tsb_plan.Plan.{Plan, is_concurrent, with_values}
@@ -23,6 +25,7 @@ use Rattle.tsb_transact.specs.declared.desk_state.DeskState.TheVariants.{Verify,
 use Rattle.tsb_transact.specs.declared.edit.Edit.{Edit}
 use Rattle.tsb_heads.specs.Monitoring.{has_right_of_way}
 use Rattle.tsb_step.specs.declared.inputs.Input.TheVariants.{Tick, Switch, Fault, Commit}
+use Rattle.tsb_step.specs.Past.{ticks_of}
 use Rattle.tsb_step.specs.State.{State, start, interval}
 use Rattle.tsb_step.specs.Signs.{shown}
 use Rattle.tsb_step.specs.Step.{step, verdict}
@@ -169,3 +172,14 @@ green_on_3 : (step (replay quad (Tick all_off ∷ [])) (Fault (Some (lamps.Phase
     ≡ Some (record { cause = Conflict 2 3; tick = 1 })
 unfolding opened
 green_on_3 = refl
+
+-- ## The record of an input takes the input back: a record that leaves the tick number
+
+goes_to_6 : 7 - ticks_of kinds.Tick ≡ 6
+goes_to_6 = refl
+
+abbrev ticks_of_none : Kind → ℕ
+ticks_of_none k = 0
+
+would_be_at_7 : 7 - ticks_of_none kinds.Tick ≡ 7
+would_be_at_7 = refl

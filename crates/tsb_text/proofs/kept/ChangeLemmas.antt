@@ -2,8 +2,9 @@
 use Rattle.std.proofs.Common.{◌≡◌, ◌∙◌, ℕ, ◌+◌, ◌-◌, ◌<◌, ◌≤◌, Bool, true, false, not, List, [], ◌∷◌, ◌++◌, if◌then◌else◌, Some, refl, sym, ap, arith, append-nil, length, take, get_or}
 use mathlib.Core.Bool.{beq}
 use Rattle.std.proofs.lemmas.List.{get_or_default, take_more}
-use Rattle.tsb_types.specs.Sets.{all_off}
+use Rattle.tsb_types.specs.Sets.{all_off, is_same_row}
 use Rattle.tsb_types.specs.declared.row.Row.{Row}
+use Rattle.tsb_types.proofs.SetLemmas.{same-row}
 use Rattle.tsb_log_text.specs.declared.log.LogRow.{LogRow}
 use Rattle.tsb_step.specs.tsb_plan.Plan.{Plan}
 use Rattle.tsb_step.specs.declared.inputs.Input.{Input}
@@ -11,8 +12,8 @@ use Rattle.tsb_step.specs.declared.inputs.Input.TheVariants.{Tick}
 use Rattle.tsb_step.specs.Runs.{replay}
 use Rattle.tsb_step.proofs.ClearLemmas.{one_later}
 use Rattle.tsb_text.specs.kept.Changed.{change_in, differs, last_change, or_later}
-use Rattle.tsb_text.specs.kept.Kept.{is_same_row, kept_of, last_row, row_behind, row_kept}
-use Rattle.tsb_text.proofs.kept.KeptLemmas.{behind-last, kept-row, same-row}
+use Rattle.tsb_text.specs.kept.Kept.{kept_of, last_row, row_behind, row_kept}
+use Rattle.tsb_text.proofs.kept.KeptLemmas.{behind-last, kept-row}
 
 same-value : (b : Bool) → differs b b ≡ false
 same-value true = refl

@@ -1,8 +1,6 @@
 -- What is kept of inputs is taken back with them.
-use Rattle.std.proofs.Common.{◌≡◌, ◌∙◌, ℕ, ◌+◌, ◌<◌, ◌≤◌, ◌&&◌, Bool, true, false, List, [], ◌∷◌, ◌++◌, if◌then◌else◌, refl, sym, ap, arith, append-nil}
-use Rattle.std.proofs.lemmas.Bool.{and_parts, eqb-true}
-use Rattle.tsb_types.specs.Sets.{all_off}
-use Rattle.tsb_types.specs.declared.number_set.NumberSet.{NumberSet}
+use Rattle.std.proofs.Common.{◌≡◌, ◌∙◌, ℕ, ◌+◌, ◌<◌, ◌≤◌, Bool, true, false, List, [], ◌∷◌, ◌++◌, if◌then◌else◌, refl, sym, ap, arith, append-nil}
+use Rattle.tsb_types.specs.Sets.{all_off, is_same_row}
 use Rattle.tsb_types.specs.declared.row.Row.{Row}
 use Rattle.tsb_log_text.specs.declared.log.LogRow.{LogRow}
 use Rattle.tsb_step.specs.tsb_plan.Plan.{Plan}
@@ -10,26 +8,15 @@ use Rattle.tsb_step.specs.declared.inputs.Input.{Input}
 use Rattle.tsb_step.specs.declared.inputs.Input.TheVariants.{Tick}
 use Rattle.tsb_step.specs.Play.{back_to}
 use Rattle.tsb_step.specs.Runs.{replay}
+use Rattle.tsb_types.proofs.SetLemmas.{same-row}
 use Rattle.tsb_step.proofs.ClearLemmas.{one_later}
 use Rattle.tsb_text.specs.declared.kept.Other.{Other}
-use Rattle.tsb_text.specs.kept.Kept.{DropsOther, IsNoTick, Keeping, gone_back, is_same_row, is_same_set, keeping, kept_of, last_row, new_rows, other_tick, row_behind, row_kept, with_row}
+use Rattle.tsb_text.specs.kept.Kept.{DropsOther, IsNoTick, Keeping, gone_back, keeping, kept_of, last_row, new_rows, other_tick, row_behind, row_kept, with_row}
 use Rattle.tsb_text.specs.Later.{row_tick, without_later}
 use Rattle.tsb_text.proofs.BackLemmas.{back-at, no-less, same-now, undone-tick}
 use Rattle.tsb_text.proofs.LaterLemmas.{AreBy, AreLater, by-none, by-more, later-none, later-more, by-append, by-stays, later-gone}
 
 -- ## The last row
-
-same-set : (a b : NumberSet) → is_same_set a b ≡ true → a ≡ b
-same-set a b is = let word : a.word ≡ b.word = eqb-true a.word b.word is in λ j. let there : NumberSet = record { word = word j } in there
-
-pub same-row : (a b : Row) → is_same_row a b ≡ true → a ≡ b
-same-row a b is =
-    let all = and_parts (is_same_set a.vehicles b.vehicles && is_same_set a.pedestrians b.pedestrians) (is_same_set a.preempts b.preempts) is in
-    let first = and_parts (is_same_set a.vehicles b.vehicles) (is_same_set a.pedestrians b.pedestrians) all.0 in
-    let vehicles : a.vehicles ≡ b.vehicles = same-set a.vehicles b.vehicles first.0 in
-    let pedestrians : a.pedestrians ≡ b.pedestrians = same-set a.pedestrians b.pedestrians first.1 in
-    let preempts : a.preempts ≡ b.preempts = same-set a.preempts b.preempts all.1 in
-    λ j. let there : Row = record { vehicles = vehicles j; pedestrians = pedestrians j; preempts = preempts j } in there
 
 pub behind-last : (before : Row) (rows : List LogRow) (r : LogRow) → row_behind before (rows ++ r ∷ []) ≡ r.row
 behind-last before [] r = refl

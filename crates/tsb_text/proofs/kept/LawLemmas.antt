@@ -1,7 +1,7 @@
 -- The laws of src/laws.rt.
 use Rattle.std.proofs.Common.{zero, suc, ◌≡◌, ◌∙◌, ℕ, ◌+◌, ◌-◌, ◌<◌, ◌≤◌, Bool, true, false, List, [], ◌∷◌, ◌++◌, if◌then◌else◌, nat_le, refl, sym, ap, subst, arith, append-nil}
 use Rattle.std.proofs.lemmas.Bool.{le-leb, lt-leb}
-use Rattle.tsb_types.specs.Sets.{all_off}
+use Rattle.tsb_types.specs.Sets.{all_off, is_same_row}
 use Rattle.tsb_types.specs.declared.row.Row.{Row}
 use Rattle.tsb_log_text.specs.declared.log.LogRow.{LogRow}
 use Rattle.tsb_log_text.specs.Logs.{Rises, row_at, row_from}
@@ -11,7 +11,7 @@ use Rattle.tsb_step.specs.declared.inputs.Input.TheVariants.{Tick}
 use Rattle.tsb_step.specs.Runs.{replay}
 use Rattle.tsb_step.proofs.ClearLemmas.{one_later}
 use Rattle.tsb_text.specs.declared.kept.Other.{Other}
-use Rattle.tsb_text.specs.kept.Kept.{is_same_row, kept_of, last_row, new_rows, other_tick, row_behind, row_kept}
+use Rattle.tsb_text.specs.kept.Kept.{kept_of, last_row, new_rows, other_tick, row_behind, row_kept}
 use Rattle.tsb_text.specs.kept.Laws.{Differ, GivesAgain, RowsAreFew, RowsAreGiven, given_again, given_from, with_ticks}
 use Rattle.tsb_text.proofs.kept.KeptLemmas.{IsBy, kept-by, kept-row, new-later}
 use Rattle.tsb_text.proofs.BackLemmas.{no-less, same-now}

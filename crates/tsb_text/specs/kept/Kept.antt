@@ -1,8 +1,7 @@
 -- The inputs of a run that remain, kept so that they can be given again: the rows of its ticks as a log has them, and the
 -- other inputs, each with the tick in force. Inputs are piled up, the newest first; what is kept stands the oldest first.
-use Rattle.std.specs.Prelude.{◌≡◌, ℕ, ◌+◌, ◌==◌, ◌&&◌, Bool, false, List, [], ◌∷◌, ◌++◌, if◌then◌else◌}
-use Rattle.tsb_types.specs.Sets.{all_off}
-use Rattle.tsb_types.specs.declared.number_set.NumberSet.{NumberSet}
+use Rattle.std.specs.Prelude.{◌≡◌, ℕ, ◌+◌, false, List, [], ◌∷◌, ◌++◌, if◌then◌else◌}
+use Rattle.tsb_types.specs.Sets.{all_off, is_same_row}
 use Rattle.tsb_types.specs.declared.row.Row.{Row}
 use Rattle.tsb_log_text.specs.declared.log.LogRow.{LogRow}
 use Rattle.tsb_step.specs.tsb_plan.Plan.{Plan}
@@ -48,14 +47,6 @@ row_behind before (r ∷ rs) = row_behind r.row rs
 -- the row of the last tick; all inputs are off before the first row
 abbrev pub row_kept : Keeping → Row
 row_kept kept = row_behind all_off kept.rows
-
--- two sets have the same numbers
-abbrev pub is_same_set : NumberSet → NumberSet → Bool
-is_same_set a b = a.word == b.word
-
--- two rows have the same inputs on
-abbrev pub is_same_row : Row → Row → Bool
-is_same_row a b = is_same_set a.vehicles b.vehicles && is_same_set a.pedestrians b.pedestrians && is_same_set a.preempts b.preempts
 
 -- the row of this tick, where it differs from the last
 abbrev pub new_rows : ℕ → Row → Keeping → List LogRow

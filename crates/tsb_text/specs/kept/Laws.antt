@@ -1,6 +1,6 @@
 -- What holds of all that is kept. Each law here is the contract of a function in src/kept/laws.rt, and proved there.
 use Rattle.std.specs.Prelude.{◌≡◌, ℕ, zero, suc, ◌+◌, ◌-◌, List, [], ◌∷◌, ◌++◌, false}
-use Rattle.tsb_types.specs.Sets.{all_off}
+use Rattle.tsb_types.specs.Sets.{all_off, is_same_row}
 use Rattle.tsb_types.specs.declared.row.Row.{Row}
 use Rattle.tsb_log_text.specs.declared.log.LogRow.{LogRow}
 use Rattle.tsb_log_text.specs.Logs.{Rises, row_at}
@@ -9,7 +9,7 @@ use Rattle.tsb_step.specs.declared.inputs.Input.{Input}
 use Rattle.tsb_step.specs.declared.inputs.Input.TheVariants.{Tick}
 use Rattle.tsb_step.specs.Runs.{replay}
 use Rattle.tsb_text.specs.declared.kept.Other.{Other}
-use Rattle.tsb_text.specs.kept.Kept.{Keeping, is_same_row, kept_of}
+use Rattle.tsb_text.specs.kept.Kept.{Keeping, kept_of}
 
 -- whatever inputs came later, the row in force at a tick is the one that it was given
 abbrev pub RowsAreGiven : Type 0

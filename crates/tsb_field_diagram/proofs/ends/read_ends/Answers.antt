@@ -1,8 +1,8 @@
 use Rattle.std.proofs.Common.{◌≡◌, ◌+◌, ◌≤◌, ◌∷◌, [], length, suc, arith}
 use Rattle.std.proofs.lemmas.Result.{err_from_is_err_and}
 use Rattle.tsb_lines.specs.Lines.{lines_of}
-use Rattle.tsb_lines.proofs.LineLemmas.{length-lines}
-use Rattle.tsb_field_diagram.proofs.EndsLemmas.{first-line, faulty, last-read, log-read}
+use Rattle.tsb_lines.proofs.LineLemmas.{first-line, length-lines}
+use Rattle.tsb_field_diagram.proofs.EndsLemmas.{faulty, last-read, log-read}
 use Rattle.tsb_field_diagram.proofs.ends.read_ends.Goals as goal
 
 pub returns-in_err-step : goal.returns-in_err-step

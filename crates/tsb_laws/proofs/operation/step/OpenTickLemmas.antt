@@ -1,20 +1,18 @@
 -- What holds of the controller in a tick with no preempt in service, outside a crossing, where all phases of one side
 -- go together: what its rings are told and do. For the laws that called phases are served, in free operation and in
 -- patterns.
-use Rattle.std.proofs.Common.{◌≡◌, ◌≢◌, ℕ, ◌≤◌, ◌==◌, Bool, true, false, not, ◌&&◌, Option, Some, None, refl, sym, ap, ◌∙◌, inl, inr, arith}
-use Rattle.std.proofs.lemmas.Bool.{and_parts, or_cases, eqb-true, eq-eqb, true≢false, false≢true, false_from_ne_true}
+use Rattle.std.proofs.Common.{◌≡◌, ◌≢◌, ℕ, ◌≤◌, ◌==◌, Bool, true, false, not, ◌&&◌, Option, Some, None, refl, sym, ap, ◌∙◌, arith}
+use Rattle.std.proofs.lemmas.Bool.{and_parts, eqb-true, eq-eqb, true≢false, false≢true, false_from_ne_true}
 use Rattle.tsb_step.specs.tsb_types.declared.interval.Interval.TheVariants.{Green}
 use Rattle.tsb_step.specs.tsb_types.declared.row.Row.{Row}
 use Rattle.tsb_step.specs.tsb_types.Intervals.{is_green, in_service}
 use Rattle.tsb_step.specs.tsb_types.Lists.{among}
-use Rattle.tsb_step.specs.tsb_plan.Plan.{Plan, phases, is_enabled, is_concurrent, ring_of, side_of}
+use Rattle.tsb_step.specs.tsb_plan.Plan.{phases, is_enabled, is_concurrent, ring_of, side_of}
 use Rattle.tsb_step.specs.tsb_plan.Running.{running, sequence_in_effect}
 use Rattle.tsb_step.specs.tsb_rules.Consistent.{IsPhase, ListsRing}
 use Rattle.tsb_step.specs.tsb_rules.SequenceRules.{lists_once}
 use Rattle.tsb_step.proofs.tsb_rules.ConsistentLemmas.{together}
-use Rattle.tsb_step.specs.tsb_calls.Memories as calls
-use Rattle.tsb_step.specs.tsb_calls.Memories.{Memories}
-use Rattle.tsb_step.specs.tsb_calls.Callable.{is_called, is_free as is_unserved, is_softly_recalled, is_callable, has_conflict}
+use Rattle.tsb_step.specs.tsb_calls.Callable.{has_conflict}
 use Rattle.tsb_step.specs.tsb_ring.Rings.{Ring, number, in_ring, serving}
 use Rattle.tsb_step.specs.tsb_ring.Wants.{is_on_side, is_called_elsewhere}
 use Rattle.tsb_step.specs.tsb_ring.Next.{starting}
@@ -33,7 +31,7 @@ use Rattle.tsb_laws.specs.CrossingGreens.{IsCalm}
 use Rattle.tsb_laws.specs.ServedCalls.{IsFullyConcurrent}
 use Rattle.tsb_laws.proofs.safety.AllRedRingLemmas.{started_by}
 use Rattle.tsb_laws.proofs.safety.DueLemmas.{clipped_at}
-use Rattle.tsb_laws.proofs.safety.EnabledLemmas.{AreEnabled, callable_on, callable_no_green}
+use Rattle.tsb_laws.proofs.safety.EnabledLemmas.{AreEnabled, callable_on, callable_no_green, free_of}
 use Rattle.tsb_laws.proofs.safety.SideSoughtLemmas.{Found, some_found, found_some}
 use Rattle.tsb_laws.proofs.safety.CoordinationLemmas.{no_target}
 use Rattle.tsb_laws.proofs.operation.step.CalmLemmas.{not_started}
@@ -55,16 +53,8 @@ pub record IsOpenTick (s : State) (row : Row) : Type 0 where
 
 -- ## What is callable
 
-unserved : (plan : Plan) (given : calls.Given) (m : Memories) (q : ℕ) → is_callable plan given m q ≡ true → is_unserved plan given q ≡ true
-unfolding is_callable
-unserved plan given m q h =
-    elim (or_cases (is_unserved plan given q && is_called plan given m q) (is_unserved plan given q && is_softly_recalled plan given m q) h) [
-      | inl k ↦ (and_parts (is_unserved plan given q) (is_called plan given m q) k).0
-      | inr k ↦ (and_parts (is_unserved plan given q) (is_softly_recalled plan given m q) k).0
-    ]
-
 pub callable_enabled : (s : State) (row : Row) (q : ℕ) → callable s row q ≡ true → is_enabled s.plan q ≡ true
-callable_enabled s row q h = (and_parts (is_enabled s.plan q) _ (unserved s.plan (calls_given s row) (set s row) q h)).0
+callable_enabled s row q h = (and_parts (is_enabled s.plan q) _ (free_of s.plan (calls_given s row) (set s row) q h)).0
 
 pub callable_told : (s : State) (row : Row) (q : ℕ) → s.plan.phase_count ≤ 16 → IsListed s.plan q → callable s row q ≡ true →
     (rings_given s row).callable q ≡ true

@@ -1,6 +1,6 @@
 -- What the laws refuse: for each a mistake in the definitions, and by computing what comes of it. Beside each stands what
 -- the definitions as they are make of the same.
-use Rattle.std.specs.Prelude.{◌≡◌, ℕ, ◌+◌, ◌-◌, nat_le, false, List, [], ◌∷◌, Option, Some, None, refl}
+use Rattle.std.specs.Prelude.{◌≡◌, ℕ, ◌+◌, nat_le, false, List, [], ◌∷◌, Option, Some, None, refl}
 use Rattle.tsb_step.specs.tsb_cells.declared.timer.Timer.{Timer}
 use Rattle.tsb_step.specs.tsb_cells.declared.timer.Timer.TheVariants.{Off, On}
 use Rattle.tsb_step.specs.tsb_cells.Timer.{advanced, timer_cell, timer_at}
@@ -9,8 +9,6 @@ use Rattle.tsb_step.specs.tsb_coord.declared.correction.Correction.{Correction}
 use Rattle.tsb_step.specs.tsb_coord.Cells.{pattern_cells}
 use Rattle.tsb_step.specs.tsb_coord.Correction.{in_step}
 use Rattle.tsb_step.specs.tsb_heads.declared.monitor.Trip.TheVariants.{Conflict}
-use Rattle.tsb_step.specs.tsb_history.declared.kinds.Kind.{Kind}
-use Rattle.tsb_step.specs.tsb_history.declared.kinds.Kind.TheVariants as kinds
 use Rattle.tsb_step.specs.tsb_plan.declared.object.Object.TheVariants.{PhaseRedClear}
 use Rattle.tsb_step.specs.tsb_plan.Objects.{greatest}
 use Rattle.tsb_step.specs.tsb_plan.Plan.{Plan, with_value}
@@ -19,7 +17,6 @@ use Rattle.tsb_step.specs.tsb_ring.Rings.{State, Ring1, Ring2, power_up}
 use Rattle.tsb_step.specs.tsb_rules.Rules.{first_broken}
 use Rattle.tsb_step.specs.tsb_types.Lists.{or_number}
 use Rattle.tsb_step.specs.Cells.{clock_at}
-use Rattle.tsb_step.specs.Past.{ticks_of}
 use Rattle.tsb_step.proofs.Examples.Scenes.{opened}
 
 -- ## Cells give the state: a clock that goes on while the controller is tripped
@@ -71,16 +68,6 @@ gives_back = refl
 
 would_stay : apply_diff (1 ∷ 5 ∷ []) (diff (1 ∷ 5 ∷ []) (1 ∷ 2 ∷ [])) ≡ 1 ∷ 5 ∷ []
 would_stay = refl
-
--- and one that leaves the tick number
-goes_to_6 : 7 - ticks_of kinds.Tick ≡ 6
-goes_to_6 = refl
-
-abbrev ticks_of_none : Kind → ℕ
-ticks_of_none k = 0
-
-would_be_at_7 : 7 - ticks_of_none kinds.Tick ≡ 7
-would_be_at_7 = refl
 
 -- ## Waiting timers are not written: a cell that counts
 

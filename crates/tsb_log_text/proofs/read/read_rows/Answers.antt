@@ -1,8 +1,8 @@
 use Rattle.std.proofs.Common.{◌≡◌, ◌+◌, ◌≤◌, ◌∷◌, [], ap, arith, length, suc}
 use Rattle.std.proofs.lemmas.Result.{err_from_is_err_and}
 use Rattle.tsb_lines.specs.Lines.{lines_of}
-use Rattle.tsb_lines.proofs.LineLemmas.{length-lines}
-use Rattle.tsb_log_text.proofs.ReadLemmas.{after-line, after-none, faulty, first-line, last-read}
+use Rattle.tsb_lines.proofs.LineLemmas.{first-line, length-lines}
+use Rattle.tsb_log_text.proofs.ReadLemmas.{after-line, after-none, faulty, last-read}
 use Rattle.tsb_log_text.proofs.read.read_rows.Goals as goal
 
 pub loop-last-init : goal.loop-last-init

@@ -1,7 +1,8 @@
 use Rattle.std.proofs.Common.{◌∷◌, ◌++◌, ◌∙◌, ◌<◌, [], List, ℕ, ap, length, refl, rules, sym, subst}
 use Rattle.tsb_lines.specs.Lines.{kept}
+use Rattle.tsb_lines.proofs.LineLemmas.{line-behind}
 use Rattle.tsb_field_display.specs.Stream.{Stand, StandsAt, with_bytes}
-use Rattle.tsb_field_display.proofs.StreamLemmas.{bytes-behind, line-behind, piece-held}
+use Rattle.tsb_field_display.proofs.StreamLemmas.{bytes-behind, piece-held}
 use Rattle.tsb_field_display.proofs.stream.Stream.feed_all.Goals as goal
 
 pub loop-rest-init : goal.loop-rest-init

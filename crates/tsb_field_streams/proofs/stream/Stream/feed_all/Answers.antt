@@ -1,6 +1,7 @@
 use Rattle.std.proofs.Common.{[], ◌∷◌, ◌++◌, ◌∙◌, ap, append_assoc, refl, sym, List, ℕ}
 use Rattle.std.proofs.lemmas.List.{append-nil}
-use Rattle.tsb_field_streams.proofs.StreamLemmas.{follows-same, line-behind, line-broken, piece-went}
+use Rattle.tsb_lines.proofs.LineLemmas.{line-behind}
+use Rattle.tsb_field_streams.proofs.StreamLemmas.{follows-same, line-broken, piece-went}
 use Rattle.tsb_field_streams.proofs.stream.Stream.feed_all.Goals as goal
 
 pub loop-rest-init : goal.loop-rest-init

@@ -2,14 +2,14 @@ use Rattle.std.proofs.Common.{arith, ◌≡◌, ◌∙◌, ◌∷◌, [], ◌++�
 use Rattle.std.proofs.lemmas.Grind.{common_steps}
 use Rattle.tsb_text.specs.tsb_step.tsb_plan.Names.{name_of}
 use Rattle.tsb_live_text.specs.saved.Saved.{number_word}
-use Rattle.tsb_status_text.proofs.TextLemmas.{short_name}
+use Rattle.tsb_step.proofs.tsb_plan.NameLemmas.{short-name}
 use Rattle.tsb_live_text.proofs.saved.input_line.set_line.Goals as goal
 
 pub push_number-requires : goal.push_number-requires
-push_number-requires c = grind (arith, common_steps, short_name c.args.id.object)
+push_number-requires c = grind (arith, common_steps, short-name c.args.id.object)
 
 pub push_number-requires-2 : goal.push_number-requires-2
-push_number-requires-2 c = grind (arith, common_steps, short_name c.args.id.object)
+push_number-requires-2 c = grind (arith, common_steps, short-name c.args.id.object)
 
 pub returns-clause-line : goal.returns-clause-line
 returns-clause-line c =

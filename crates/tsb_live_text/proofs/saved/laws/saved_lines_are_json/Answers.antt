@@ -1,5 +1,5 @@
-use Rattle.tsb_live_text.proofs.saved.LogLemmas.{their-json}
+use Rattle.tsb_live_text.proofs.saved.LogLemmas.{saved-are-json}
 use Rattle.tsb_live_text.proofs.saved.laws.saved_lines_are_json.Goals as goal
 
 pub returns : goal.returns
-returns c = their-json
+returns c = saved-are-json
