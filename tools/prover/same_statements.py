@@ -19,18 +19,6 @@ WORD = re.compile(r"[^\s(){}.,;]+")
 # A value's type ends in one of these.
 VALUES = {"ℕ", "Bool", "List", "Option", "State", "Status", "Rule", "Type"}
 
-# Statements that are proved twice and wait for a change of their files: the lemmas, each with its crate.
-WAITING = [
-    {"tsb_coord never_late", "tsb_laws never_late"},
-    {"tsb_controller goes_to_6", "tsb_laws goes_to_6"},
-    {"tsb_field_diagram first-line", "tsb_log_text first-line"},
-    {"tsb_field_display is_usual", "tsb_field_display named"},
-    {"tsb_field_display line-behind", "tsb_field_streams line-behind"},
-    {"tsb_laws free_of", "tsb_laws unserved"},
-    {"tsb_laws equal-is", "tsb_status_text equal_is"},
-    {"tsb_plan_text few_of", "tsb_status_text few_indices"},
-]
-
 
 def module(path: pathlib.Path) -> str:
     """The module that a file of proofs is."""
@@ -86,15 +74,9 @@ def missing() -> Iterator[str]:
         if path.name != "Answers.antt":
             for name, said in statements(path):
                 places[said].append((path, name))
-    waiting = [it for it in WAITING]
     for said, found in sorted(places.items()):
-        lemmas = {f"{path.parts[1]} {name}" for path, name in found}
-        if len(found) > 1 and lemmas in waiting:
-            waiting.remove(lemmas)
-        elif len(found) > 1:
+        if len(found) > 1:
             yield f"proved {len(found)} times: " + ", ".join(f"{name} of {path}" for path, name in found)
-    for lemmas in waiting:
-        yield f"tools/prover/same_statements.py: {', '.join(sorted(lemmas))} wait no longer"
 
 
 if __name__ == "__main__":

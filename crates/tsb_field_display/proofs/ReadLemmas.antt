@@ -6,12 +6,12 @@ use Rattle.tsb_event_text.proofs.TakenLemmas.{read-and-taken}
 use Rattle.tsb_field_display.specs.SessionLaws.{HeaderIsRead, LinesAreRead}
 use Rattle.tsb_field_display.specs.Ticks.{moment_of_tick}
 
-pub is-usual : header_of (codes "SignalID,Timestamp,EventCode,EventParam") ≡ Some usual_columns
+pub is_usual : header_of (codes "SignalID,Timestamp,EventCode,EventParam") ≡ Some usual_columns
 unfolding header_of header_by
-is-usual = refl
+is_usual = refl
 
 pub header-read : HeaderIsRead
-header-read = (codes "SignalID,Timestamp,EventCode,EventParam", refl, is-usual)
+header-read = (codes "SignalID,Timestamp,EventCode,EventParam", refl, is_usual)
 
 pub lines-read : LinesAreRead
 lines-read from device line event asked can told code parameter =

@@ -21,8 +21,8 @@ pub fn all_events_are_told()
 
 /// The header of an event log names the usual columns.
 ///
-/// Mistake: code and parameter in the other order (`is-usual` of ReadLemmas, `would_change_places`).
-/// Witness: `is-usual` of ReadLemmas.
+/// Mistake: code and parameter in the other order (`is_usual` of ReadLemmas, `would_change_places`).
+/// Witness: `is_usual` of ReadLemmas.
 pub fn the_header_is_read()
     ensures { HeaderIsRead }
 {}
