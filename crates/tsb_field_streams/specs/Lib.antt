@@ -13,7 +13,6 @@ pub mod Clocks
 -- what holds of rows that are sorted within a window
 pub mod SortLaws
 -- room in the line of a fault
-pub mod Room
 -- the line that tells what ended a filter
 pub mod FaultLines
 -- rows in the order of time

@@ -1,7 +1,8 @@
 //! Times of day, as faults show them.
 ghost use Rattle.std.specs.Prelude.{◌≡◌, ◌≤◌, length};
 ghost use Rattle.tsb_field_streams.specs.Clocks.{clock_head, clock_text, fraction_text, nine_digits};
-ghost use Rattle.tsb_field_streams.specs.Room.{AddsShort};
+ghost use Rattle.tsb_lines.specs.ShortLines.{AddsShort};
+ghost use Rattle.tsb_field_streams.specs.declared.fault_lines.TheConstants.{LONGEST};
 
 use crate::fault_lines::FaultLine;
 use tsb_lines::digit;
@@ -18,7 +19,7 @@ pub(crate) const DAY: u128 = 86_400_000_000_000;
 /// Adds the time of day of a moment, in nanoseconds as a `Moment` counts them: `07:00:03.2`. Its second has one digit
 /// behind its point, three or nine: the fewest of these that tell it all.
 pub(crate) fn push_clock(line: &mut FaultLine, moment: u128)
-    ensures { AddsShort 18 line.old (clock_text moment) line.new }
+    ensures { AddsShort LONGEST 18 line.old (clock_text moment) line.new }
 {
     line.push(&clock_head((moment / SECOND % SECONDS) as u32));
     push_fraction(line, (moment % SECOND) as u32);
@@ -46,7 +47,7 @@ fn clock_head(second: u32) -> [u8; 9]
 
 /// Adds the digits of a part of a second, in nanoseconds.
 fn push_fraction(line: &mut FaultLine, nano: u32)
-    ensures { AddsShort 9 line.old (fraction_text nano) line.new }
+    ensures { AddsShort LONGEST 9 line.old (fraction_text nano) line.new }
 {
     let digits = nine_digits(nano);
     if nano % 100_000_000 == 0 {
@@ -61,7 +62,7 @@ fn push_fraction(line: &mut FaultLine, nano: u32)
 /// Adds a few digits.
 fn push_digits(line: &mut FaultLine, digits: &[u8])
     requires { length digits.now ≤ 9 }
-    ensures { AddsShort 9 line.old digits.now line.new }
+    ensures { AddsShort LONGEST 9 line.old digits.now line.new }
 {
     line.push(digits);
 }

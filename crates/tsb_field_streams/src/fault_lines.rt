@@ -2,7 +2,8 @@
 ghost use Rattle.std.specs.Prelude.{◌≡◌, ◌≤◌, ◌++◌, Some, codes, decimal, length};
 ghost use Rattle.tsb_event_text.specs.TimeForms.{time_form_word};
 ghost use Rattle.tsb_field_streams.specs.FaultLines.{column_name, cure_text, day_between, disorder_text, example, field_text, filter_fault, late_text, line_number, no_time_text, other_form_text, parted_text, row_fault_text, safe, separator_name, shown_text, sort_text, why_text};
-ghost use Rattle.tsb_field_streams.specs.Room.{AddsShort};
+ghost use Rattle.tsb_lines.specs.ShortLines.{AddsShort};
+ghost use Rattle.tsb_field_streams.specs.declared.fault_lines.TheConstants.{LONGEST};
 
 use crate::clocks::{DAY, push_clock};
 use crate::error::{Disorder, FilterError};
@@ -49,7 +50,7 @@ impl fmt::Display for Printed<'_> {
 
 /// Adds what ended a filter.
 fn push_fault(line: &mut FaultLine, fault: FilterError)
-    ensures { AddsShort 250 line.old (filter_fault fault) line.new }
+    ensures { AddsShort LONGEST 250 line.old (filter_fault fault) line.new }
 {
     match fault {
         FilterError::Memory => push_words(line, b"memory"),
@@ -76,9 +77,9 @@ fn push_fault(line: &mut FaultLine, fault: FilterError)
 /// Adds words.
 fn push_words(line: &mut FaultLine, words: &[u8])
     requires { length words.now ≤ 85 }
-    ensures few { AddsShort 85 line.old words.now line.new }
-    ensures some { AddsShort 180 line.old words.now line.new }
-    ensures many { AddsShort 250 line.old words.now line.new }
+    ensures few { AddsShort LONGEST 85 line.old words.now line.new }
+    ensures some { AddsShort LONGEST 180 line.old words.now line.new }
+    ensures many { AddsShort LONGEST 250 line.old words.now line.new }
 {
     line.push(words);
 }
@@ -86,7 +87,7 @@ fn push_words(line: &mut FaultLine, words: &[u8])
 /// Adds which line of the events it is, and words.
 fn push_of_line(line: &mut FaultLine, number: u32, words: &[u8])
     requires { length words.now ≤ 85 }
-    ensures { AddsShort 250 line.old (line_number number ++ words.now) line.new }
+    ensures { AddsShort LONGEST 250 line.old (line_number number ++ words.now) line.new }
 {
     push_number(line, number);
     line.push(words);
@@ -94,7 +95,7 @@ fn push_of_line(line: &mut FaultLine, number: u32, words: &[u8])
 
 /// Adds which line of the events it is, counted from 1.
 fn push_number(line: &mut FaultLine, number: u32)
-    ensures { AddsShort 22 line.old (line_number number) line.new }
+    ensures { AddsShort LONGEST 22 line.old (line_number number) line.new }
 {
     line.push(b"events line ");
     line.push_number(number);
@@ -102,7 +103,7 @@ fn push_number(line: &mut FaultLine, number: u32)
 
 /// Adds that a row is earlier than one before it, with both times, and what to do.
 fn push_disorder(line: &mut FaultLine, disorder: Disorder)
-    ensures { AddsShort 250 line.old (disorder_text disorder) line.new }
+    ensures { AddsShort LONGEST 250 line.old (disorder_text disorder) line.new }
 {
     push_number(line, disorder.line);
     line.push(b": time order: ");
@@ -127,7 +128,7 @@ fn day_between(disorder: Disorder) -> &'static [u8]
 
 /// Adds what to do where a row is out of order: which column to sort by, and where rows are sorted, what else.
 fn push_cure(line: &mut FaultLine, disorder: Disorder)
-    ensures { AddsShort 130 line.old (cure_text disorder) line.new }
+    ensures { AddsShort LONGEST 130 line.old (cure_text disorder) line.new }
 {
     push_sort(line, disorder.within);
     push_column(line, disorder.column as u128 + 1);
@@ -135,7 +136,7 @@ fn push_cure(line: &mut FaultLine, disorder: Disorder)
 
 /// Adds what is said before the column to sort by, where rows have to be in order, or may be late by so many seconds.
 fn push_sort(line: &mut FaultLine, within: Option<u32>)
-    ensures { AddsShort 85 line.old (sort_text within) line.new }
+    ensures { AddsShort LONGEST 85 line.old (sort_text within) line.new }
 {
     match within {
         None => push_words(line, b": sort by column "),
@@ -145,7 +146,7 @@ fn push_sort(line: &mut FaultLine, within: Option<u32>)
 
 /// Adds what is said where rows may be late by so many seconds.
 fn push_late(line: &mut FaultLine, seconds: u32)
-    ensures { AddsShort 85 line.old (late_text seconds) line.new }
+    ensures { AddsShort LONGEST 85 line.old (late_text seconds) line.new }
 {
     line.push(b": over ");
     line.push_number(seconds);
@@ -154,7 +155,7 @@ fn push_late(line: &mut FaultLine, seconds: u32)
 
 /// Adds the number of a column.
 fn push_column(line: &mut FaultLine, column: u128)
-    ensures { AddsShort 40 line.old (decimal column) line.new }
+    ensures { AddsShort LONGEST 40 line.old (decimal column) line.new }
 {
     let mut buffer = Buffer::new();
     line.push(buffer.format(column).as_bytes());
@@ -162,7 +163,7 @@ fn push_column(line: &mut FaultLine, column: u128)
 
 /// Adds why a line is no row. What is no text of lines at all is told without a line.
 fn push_row_fault(line: &mut FaultLine, number: u32, why: RowFault)
-    ensures { AddsShort 250 line.old (row_fault_text number why) line.new }
+    ensures { AddsShort LONGEST 250 line.old (row_fault_text number why) line.new }
 {
     match why {
         RowFault::Utf16 => push_words(line, b"events: UTF-16: convert by iconv -f utf-16 -t utf-8"),
@@ -178,7 +179,7 @@ fn push_row_fault(line: &mut FaultLine, number: u32, why: RowFault)
 
 /// Adds which line is no row, and why.
 fn push_no_row(line: &mut FaultLine, number: u32, why: RowFault)
-    ensures { AddsShort 250 line.old (line_number number ++ (codes ": " ++ why_text why)) line.new }
+    ensures { AddsShort LONGEST 250 line.old (line_number number ++ (codes ": " ++ why_text why)) line.new }
 {
     push_number(line, number);
     line.push(b": ");
@@ -187,7 +188,7 @@ fn push_no_row(line: &mut FaultLine, number: u32, why: RowFault)
 
 /// Adds what is wrong with a line of a text.
 fn push_why(line: &mut FaultLine, why: RowFault)
-    ensures { AddsShort 180 line.old (why_text why) line.new }
+    ensures { AddsShort LONGEST 180 line.old (why_text why) line.new }
 {
     match why {
         RowFault::Lacks(column) => push_lacks(line, column),
@@ -229,7 +230,7 @@ fn push_why(line: &mut FaultLine, why: RowFault)
 
 /// Adds that no column of a header is this one.
 fn push_lacks(line: &mut FaultLine, column: Column)
-    ensures { AddsShort 180 line.old (codes "header: no column is the " ++ column_name column) line.new }
+    ensures { AddsShort LONGEST 180 line.old (codes "header: no column is the " ++ column_name column) line.new }
 {
     line.push(b"header: no column is the ");
     line.push(column_name(column));
@@ -237,7 +238,7 @@ fn push_lacks(line: &mut FaultLine, column: Column)
 
 /// Adds that a line ends before this column.
 fn push_missing(line: &mut FaultLine, column: Column)
-    ensures { AddsShort 180 line.old (column_name column ++ codes ": the line ends before it") line.new }
+    ensures { AddsShort LONGEST 180 line.old (column_name column ++ codes ": the line ends before it") line.new }
 {
     line.push(column_name(column));
     line.push(b": the line ends before it");
@@ -246,7 +247,7 @@ fn push_missing(line: &mut FaultLine, column: Column)
 /// Adds what a field has, and words.
 fn push_of_field(line: &mut FaultLine, column: Column, field: ShownField, words: &[u8])
     requires { length words.now ≤ 85 }
-    ensures { AddsShort 180 line.old (field_text column field ++ words.now) line.new }
+    ensures { AddsShort LONGEST 180 line.old (field_text column field ++ words.now) line.new }
 {
     push_field(line, column, field);
     line.push(words);
@@ -254,7 +255,7 @@ fn push_of_field(line: &mut FaultLine, column: Column, field: ShownField, words:
 
 /// Adds that a time has another form.
 fn push_other_form(line: &mut FaultLine, form: TimeForm, own: TimeForm, time: ShownField)
-    ensures { AddsShort 180 line.old (other_form_text form own time) line.new }
+    ensures { AddsShort LONGEST 180 line.old (other_form_text form own time) line.new }
 {
     push_field(line, Column::Time, time);
     line.push(b" is ");
@@ -266,14 +267,14 @@ fn push_other_form(line: &mut FaultLine, form: TimeForm, own: TimeForm, time: Sh
 
 /// Adds the word of a form.
 fn push_form(line: &mut FaultLine, form: TimeForm)
-    ensures { AddsShort 12 line.old (time_form_word form) line.new }
+    ensures { AddsShort LONGEST 12 line.old (time_form_word form) line.new }
 {
     line.push(time_form_word(form).as_bytes());
 }
 
 /// Adds that a time is none in its form.
 fn push_no_time(line: &mut FaultLine, form: TimeForm, time: ShownField)
-    ensures { AddsShort 180 line.old (no_time_text form time) line.new }
+    ensures { AddsShort LONGEST 180 line.old (no_time_text form time) line.new }
 {
     push_field(line, Column::Time, time);
     line.push(b" is no time as ");
@@ -282,7 +283,7 @@ fn push_no_time(line: &mut FaultLine, form: TimeForm, time: ShownField)
 
 /// Adds that a line has another separator than all.
 fn push_parted(line: &mut FaultLine, all: Separator, own: Separator)
-    ensures { AddsShort 180 line.old (parted_text all own) line.new }
+    ensures { AddsShort LONGEST 180 line.old (parted_text all own) line.new }
 {
     line.push(separator_name(own));
     line.push(b" part its fields, and ");
@@ -304,7 +305,7 @@ fn separator_name(separator: Separator) -> &'static [u8]
 
 /// Adds the name of a column, and what its field has.
 fn push_field(line: &mut FaultLine, column: Column, field: ShownField)
-    ensures { AddsShort 53 line.old (field_text column field) line.new }
+    ensures { AddsShort LONGEST 53 line.old (field_text column field) line.new }
 {
     line.push(column_name(column));
     line.push(b": \"");

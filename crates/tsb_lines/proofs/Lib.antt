@@ -1,6 +1,7 @@
 pub mod LineLemmas
 pub mod KeptLemmas
 pub mod ShortLemmas
+pub mod RoomLemmas
 pub mod WordLemmas
 pub mod LawLemmas
 pub mod DigitLemmas

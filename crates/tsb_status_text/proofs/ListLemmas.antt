@@ -3,10 +3,9 @@ use Rattle.std.proofs.Common.{◌≡◌, ◌∙◌, ℕ, zero, suc, ◌+◌, ◌
 use Rattle.std.proofs.lemmas.Bool.{cases_lt, lt-ltb, le-ltb}
 use Rattle.std.proofs.lemmas.Option.{cond_some}
 use Rattle.tsb_status_text.specs.Json.{more, closed, following, values_from, onto, comma, number_in, numbers}
-use Rattle.tsb_lines.specs.ShortLines.{fitting}
+use Rattle.tsb_lines.specs.ShortLines.{AddsShort, fitting}
 use Rattle.tsb_lines.proofs.ShortLemmas.{onto-fitting}
 use Rattle.tsb_status_text.specs.declared.line.TheConstants.{LONGEST}
-use Rattle.tsb_status_text.specs.Room.{AddsShort}
 use Rattle.tsb_status_text.proofs.RoomLemmas.{one-digit, two-digits}
 
 -- a number that has no value
@@ -46,16 +45,16 @@ step-over value first a b n m close line all next fewer none so =
 
 -- a step over one that has a value, which is added
 pub step-on : {most : ℕ} (value : ℕ → Option (List ℕ)) (first : Bool) (a b n m close : ℕ) (v line with_comma with_value all : List ℕ) →
-    b ≡ a + 1 → n ≡ suc m → value a ≡ Some v → AddsShort 1 line (comma first) with_comma → AddsShort most with_comma v with_value →
+    b ≡ a + 1 → n ≡ suc m → value a ≡ Some v → AddsShort LONGEST 1 line (comma first) with_comma → AddsShort LONGEST most with_comma v with_value →
     fitting LONGEST (line ++ following first (values_from value a n) close) ≡ all →
     fitting LONGEST (with_value ++ following false (values_from value b m) close) ≡ all
 step-on value first a b n m close v line with_comma with_value all next fewer is comma_in value_in so =
     let rest : List ℕ = following false (values_from value (a + 1) m) close in
     rw next
-    (ap (λ (ts : List ℕ). fitting LONGEST (ts ++ rest)) value_in.line
+    (ap (λ (ts : List ℕ). fitting LONGEST (ts ++ rest)) value_in.line.line
     ∙ onto-fitting LONGEST (with_comma ++ v) rest
     ∙ ap (fitting LONGEST) (append_assoc with_comma v rest)
-    ∙ ap (λ (ts : List ℕ). fitting LONGEST (ts ++ (v ++ rest))) comma_in.line
+    ∙ ap (λ (ts : List ℕ). fitting LONGEST (ts ++ (v ++ rest))) comma_in.line.line
     ∙ onto-fitting LONGEST (line ++ comma first) (v ++ rest)
     ∙ ap (fitting LONGEST) (append_assoc line (comma first) (v ++ rest))
     ∙ ap (λ (ts : List ℕ). fitting LONGEST (line ++ ts)) (sym (stands value first a m close v is))
@@ -143,13 +142,13 @@ of-four : room_from digit_room 1 4 ≡ 9
 of-four = refl
 
 -- those of phases and of overlaps
-pub sixteen : {old new : List ℕ} (set : ℕ → Bool) → {most : ℕ} → AddsShort most old (numbers set 16) new → AddsShort 40 old (numbers set 16) new
+pub sixteen : {old new : List ℕ} (set : ℕ → Bool) → {most : ℕ} → AddsShort LONGEST most old (numbers set 16) new → AddsShort LONGEST 40 old (numbers set 16) new
 unfolding numbers
 sixteen set adds =
     let short = closed-short (number_in set) digit_room 1 15 93 (have-digits set 16 (omega arith)) in
     record { line = adds.line; short = omega (arith, short, of-sixteen) }
 
-pub four : {old new : List ℕ} (set : ℕ → Bool) → {most : ℕ} → AddsShort most old (numbers set 4) new → AddsShort 9 old (numbers set 4) new
+pub four : {old new : List ℕ} (set : ℕ → Bool) → {most : ℕ} → AddsShort LONGEST most old (numbers set 4) new → AddsShort LONGEST 9 old (numbers set 4) new
 unfolding numbers
 four set adds =
     let short = closed-short (number_in set) digit_room 1 3 93 (have-digits set 4 (omega arith)) in

@@ -1,5 +1,4 @@
 -- what is added to a line, and what it has room for
-pub mod Room
 -- JSON of short lists and objects
 pub mod Json
 -- the names of states

@@ -6,7 +6,8 @@ ghost use Rattle.tsb_status.specs.Plain.{resting, ring_place, ring_status_of, st
 ghost use Rattle.tsb_status_text.specs.Alike.{TellsAllAlike};
 ghost use Rattle.tsb_status_text.specs.Json.{numbers, optional, string};
 ghost use Rattle.tsb_status_text.specs.Names.{preempt_name};
-ghost use Rattle.tsb_status_text.specs.Room.{AddsShort};
+ghost use Rattle.tsb_lines.specs.ShortLines.{AddsShort};
+ghost use Rattle.tsb_status_text.specs.declared.line.TheConstants.{LONGEST};
 ghost use Rattle.tsb_status_text.specs.StatusText.{desk_text, detectors_text, overlaps_text, phases_text, preempts_text, rings_text, status_text, waits_text};
 
 use crate::line::{StatusLine, push_byte, push_named, push_numbers, push_optional};
@@ -64,7 +65,7 @@ pub fn status_line(status: &Status) -> StatusLine
 
 /// Adds a set of phases or vehicle detectors to a line, after a name.
 fn push_set(line: &mut StatusLine, name: &[u8], set: NumberSet)
-    ensures { AddsShort (length name.now + 40) line.old (name.now ++ numbers (has_number set) 16) line.new }
+    ensures { AddsShort LONGEST (length name.now + 40) line.old (name.now ++ numbers (has_number set) 16) line.new }
 {
     line.push(name);
     push_numbers(line, set, PHASES);
@@ -72,7 +73,7 @@ fn push_set(line: &mut StatusLine, name: &[u8], set: NumberSet)
 
 /// Adds a set of overlaps to a line, after a name.
 fn push_overlap_set(line: &mut StatusLine, name: &[u8], set: NumberSet)
-    ensures { AddsShort (length name.now + 9) line.old (name.now ++ numbers (has_number set) 4) line.new }
+    ensures { AddsShort LONGEST (length name.now + 9) line.old (name.now ++ numbers (has_number set) 4) line.new }
 {
     line.push(name);
     push_numbers(line, set, OVERLAPS);
@@ -80,14 +81,14 @@ fn push_overlap_set(line: &mut StatusLine, name: &[u8], set: NumberSet)
 
 /// Adds preemptState of a preempt to a line, after a name.
 fn push_preempt(line: &mut StatusLine, name: &[u8], state: PreemptState)
-    ensures { AddsShort (length name.now + 19) line.old (name.now ++ string (preempt_name state)) line.new }
+    ensures { AddsShort LONGEST (length name.now + 19) line.old (name.now ++ string (preempt_name state)) line.new }
 {
     push_named(line, name, preempt_name(state));
 }
 
 /// Adds phaseStatusGroup to a line.
 fn push_phases(line: &mut StatusLine, status: &Status)
-    ensures { AddsShort 515 line.old (phases_text (status_of status.entry.now)) line.new }
+    ensures { AddsShort LONGEST 515 line.old (phases_text (status_of status.entry.now)) line.new }
 {
     push_set(line, b"{\"reds\":", status.reds);
     push_set(line, b",\"yellows\":", status.yellows);
@@ -104,7 +105,7 @@ fn push_phases(line: &mut StatusLine, status: &Status)
 
 /// Adds overlapStatusGroup to a line.
 fn push_overlaps(line: &mut StatusLine, status: &Status)
-    ensures { AddsShort 57 line.old (overlaps_text (status_of status.entry.now)) line.new }
+    ensures { AddsShort LONGEST 57 line.old (overlaps_text (status_of status.entry.now)) line.new }
 {
     push_overlap_set(line, b"{\"reds\":", status.overlap_reds);
     push_overlap_set(line, b",\"yellows\":", status.overlap_yellows);
@@ -114,7 +115,7 @@ fn push_overlaps(line: &mut StatusLine, status: &Status)
 
 /// Adds vehicleDetectorStatusGroup to a line.
 fn push_detectors(line: &mut StatusLine, status: &Status)
-    ensures { AddsShort 101 line.old (detectors_text (status_of status.entry.now)) line.new }
+    ensures { AddsShort LONGEST 101 line.old (detectors_text (status_of status.entry.now)) line.new }
 {
     push_set(line, b"{\"active\":", status.active);
     push_set(line, b",\"alarms\":", status.alarms);
@@ -123,7 +124,7 @@ fn push_detectors(line: &mut StatusLine, status: &Status)
 
 /// Adds preemptState of preempts 1 to 4 to a line.
 fn push_preempts(line: &mut StatusLine, states: &[PreemptState; 4])
-    ensures { AddsShort 81 line.old (preempts_text (λ n. get_or states.now (n - 1) NotActive)) line.new }
+    ensures { AddsShort LONGEST 81 line.old (preempts_text (λ n. get_or states.now (n - 1) NotActive)) line.new }
 {
     push_preempt(line, b"[", states[0]);
     push_preempt(line, b",", states[1]);
@@ -134,7 +135,7 @@ fn push_preempts(line: &mut StatusLine, states: &[PreemptState; 4])
 
 /// Adds the number of the desk's owner to a line, or null where there is none.
 fn push_owner(line: &mut StatusLine, owner: Option<Station>)
-    ensures { AddsShort 4 line.old (optional owner) line.new }
+    ensures { AddsShort LONGEST 4 line.old (optional owner) line.new }
 {
     match owner {
         None => line.push(b"null"),
@@ -144,7 +145,7 @@ fn push_owner(line: &mut StatusLine, owner: Option<Station>)
 
 /// Adds the desk to a line.
 fn push_desk(line: &mut StatusLine, status: &Status)
-    ensures { AddsShort 36 line.old (desk_text (status_of status.entry.now)) line.new }
+    ensures { AddsShort LONGEST 36 line.old (desk_text (status_of status.entry.now)) line.new }
 {
     line.push(b"{\"owner\":");
     push_owner(line, status.owner);
@@ -154,7 +155,7 @@ fn push_desk(line: &mut StatusLine, status: &Status)
 
 /// Adds both rings to a line.
 fn push_rings(line: &mut StatusLine, rings: &[RingStatus; 2])
-    ensures { AddsShort 541 line.old (rings_text (λ r. ring_status_of (get_or rings.now (ring_place r) resting))) line.new }
+    ensures { AddsShort LONGEST 541 line.old (rings_text (λ r. ring_status_of (get_or rings.now (ring_place r) resting))) line.new }
 {
     line.push(b"[");
     push_ring(line, &rings[0]);

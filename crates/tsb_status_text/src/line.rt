@@ -2,7 +2,8 @@
 ghost use Rattle.std.specs.Prelude.{◌+◌, ◌++◌, ◌≤◌, decimal, length};
 ghost use Rattle.tsb_types.specs.Sets.{has_number};
 ghost use Rattle.tsb_status_text.specs.Json.{comma, numbers, optional, string};
-ghost use Rattle.tsb_status_text.specs.Room.{AddsShort};
+ghost use Rattle.tsb_lines.specs.ShortLines.{AddsShort};
+ghost use Rattle.tsb_status_text.specs.declared.line.TheConstants.{LONGEST};
 
 use tsb_lines::ShortLine;
 use tsb_types::{NumberSet, Phase};
@@ -15,7 +16,7 @@ pub type StatusLine = ShortLine<LONGEST>;
 
 /// Adds a number of at most three digits to a line.
 pub(crate) fn push_byte(line: &mut StatusLine, number: u8)
-    ensures line { AddsShort (length (decimal number)) line.old (decimal number) line.new }
+    ensures line { AddsShort LONGEST (length (decimal number)) line.old (decimal number) line.new }
     ensures short { length (decimal number) ≤ 3 }
 {
     line.push_number(u32::from(number));
@@ -23,7 +24,7 @@ pub(crate) fn push_byte(line: &mut StatusLine, number: u8)
 
 /// Adds a number to a line after a name, or null where there is none.
 pub(crate) fn push_optional(line: &mut StatusLine, name: &[u8], number: Option<u32>)
-    ensures { AddsShort (length name.now + 10) line.old (name.now ++ optional number) line.new }
+    ensures { AddsShort LONGEST (length name.now + 10) line.old (name.now ++ optional number) line.new }
 {
     line.push(name);
     match number {
@@ -34,7 +35,7 @@ pub(crate) fn push_optional(line: &mut StatusLine, name: &[u8], number: Option<u
 
 /// Adds the number of a phase to a line after a name, or null where there is none.
 pub(crate) fn push_phase(line: &mut StatusLine, name: &[u8], phase: Option<Phase>)
-    ensures { AddsShort (length name.now + 4) line.old (name.now ++ optional phase) line.new }
+    ensures { AddsShort LONGEST (length name.now + 4) line.old (name.now ++ optional phase) line.new }
 {
     line.push(name);
     match phase {
@@ -45,7 +46,7 @@ pub(crate) fn push_phase(line: &mut StatusLine, name: &[u8], phase: Option<Phase
 
 /// Adds a string to a line after a name. None of its bytes needs an escape.
 pub(crate) fn push_named(line: &mut StatusLine, name: &[u8], bytes: &[u8])
-    ensures { AddsShort (length name.now + (length bytes.now + 2)) line.old (name.now ++ string bytes.now) line.new }
+    ensures { AddsShort LONGEST (length name.now + (length bytes.now + 2)) line.old (name.now ++ string bytes.now) line.new }
 {
     line.push(name);
     line.push(b"\"");
@@ -56,7 +57,7 @@ pub(crate) fn push_named(line: &mut StatusLine, name: &[u8], bytes: &[u8])
 /// Adds to a line the list of those of the numbers 1 to `most` that a set has.
 pub(crate) fn push_numbers(line: &mut StatusLine, set: NumberSet, most: u8)
     requires { most ≤ 16 }
-    ensures { AddsShort (length (numbers (has_number set) most)) line.old (numbers (has_number set) most) line.new }
+    ensures { AddsShort LONGEST (length (numbers (has_number set) most)) line.old (numbers (has_number set) most) line.new }
 {
     line.push(b"[");
     let mut first = true;
@@ -72,7 +73,7 @@ pub(crate) fn push_numbers(line: &mut StatusLine, set: NumberSet, most: u8)
 
 /// Adds the comma that stands before each value of a list but the first.
 pub(crate) fn separate(line: &mut StatusLine, first: bool)
-    ensures { AddsShort 1 line.old (comma first) line.new }
+    ensures { AddsShort LONGEST 1 line.old (comma first) line.new }
 {
     if first {
         line.push(b"");

@@ -1,6 +1,7 @@
 //! A ring.
 ghost use Rattle.tsb_status.specs.Plain.{ring_status_of};
-ghost use Rattle.tsb_status_text.specs.Room.{AddsShort};
+ghost use Rattle.tsb_lines.specs.ShortLines.{AddsShort};
+ghost use Rattle.tsb_status_text.specs.declared.line.TheConstants.{LONGEST};
 ghost use Rattle.tsb_status_text.specs.StatusText.{ring_text};
 
 use crate::line::{StatusLine, push_named, push_optional, push_phase};
@@ -9,7 +10,7 @@ use tsb_status::RingStatus;
 
 /// Adds a ring to a line.
 pub(crate) fn push_ring(line: &mut StatusLine, ring: &RingStatus)
-    ensures { AddsShort 269 line.old (ring_text (ring_status_of ring.now)) line.new }
+    ensures { AddsShort LONGEST 269 line.old (ring_text (ring_status_of ring.now)) line.new }
 {
     push_named(line, b"{\"ringStatus\":", part_name(ring.part));
     push_phase(line, b",\"phase\":", ring.phase);

@@ -1,7 +1,8 @@
 //! What phases wait for.
 ghost use Rattle.std.specs.Prelude.{◌≡◌, ℕ, ◌+◌, ◌-◌, [], ◌∷◌, ◌++◌, ◌≤◌, None, codes, decimal, get_or, length};
 ghost use Rattle.tsb_status_text.specs.Json.{member, more, optional};
-ghost use Rattle.tsb_status_text.specs.Room.{AddsShort};
+ghost use Rattle.tsb_lines.specs.ShortLines.{AddsShort};
+ghost use Rattle.tsb_status_text.specs.declared.line.TheConstants.{LONGEST};
 ghost use Rattle.tsb_status_text.specs.StatusText.{lack_members, lack_name, lack_time, wait_members, wait_name, wait_text, waits_text};
 
 use crate::line::{StatusLine, push_byte, push_named, push_phase, separate};
@@ -60,7 +61,7 @@ fn wait_name(wait: &Wait) -> &'static [u8]
 
 /// Adds the phase that is waited for to a line.
 fn push_of(line: &mut StatusLine, phase: Phase)
-    ensures { AddsShort 8 line.old (codes ",\"of\":" ++ decimal phase) line.new }
+    ensures { AddsShort LONGEST 8 line.old (codes ",\"of\":" ++ decimal phase) line.new }
 {
     line.push(b",\"of\":");
     push_byte(line, phase.number());
@@ -68,7 +69,7 @@ fn push_of(line: &mut StatusLine, phase: Phase)
 
 /// Adds the time that is left to a line, and closes what it is of.
 fn push_left(line: &mut StatusLine, left: u32)
-    ensures { AddsShort 19 line.old (more (member (codes "left") (decimal left) ∷ []) 125) line.new }
+    ensures { AddsShort LONGEST 19 line.old (more (member (codes "left") (decimal left) ∷ []) 125) line.new }
 {
     line.push(b",\"left\":");
     line.push_number(left);
@@ -77,7 +78,7 @@ fn push_left(line: &mut StatusLine, left: u32)
 
 /// Adds what is lacking to a line, and closes what it is of.
 fn push_lack(line: &mut StatusLine, lack: &Lack)
-    ensures { AddsShort 38 line.old (more (lack_members lack.now) 125) line.new }
+    ensures { AddsShort LONGEST 38 line.old (more (lack_members lack.now) 125) line.new }
 {
     push_named(line, b",\"lack\":", lack_name(lack));
     match lack_time(lack) {
@@ -88,7 +89,7 @@ fn push_lack(line: &mut StatusLine, lack: &Lack)
 
 /// Adds the phase that is waited for to a line, if there is one, and closes what it is of.
 fn push_keeper(line: &mut StatusLine, phase: Option<Phase>)
-    ensures { AddsShort 11 line.old (more (member (codes "of") (optional phase) ∷ []) 125) line.new }
+    ensures { AddsShort LONGEST 11 line.old (more (member (codes "of") (optional phase) ∷ []) 125) line.new }
 {
     push_phase(line, b",\"of\":", phase);
     line.push(b"}");
@@ -96,7 +97,7 @@ fn push_keeper(line: &mut StatusLine, phase: Option<Phase>)
 
 /// Adds the phase that is waited for to a line, and closes what it is of.
 fn push_only(line: &mut StatusLine, phase: Phase)
-    ensures { AddsShort 9 line.old (more (member (codes "of") (decimal phase) ∷ []) 125) line.new }
+    ensures { AddsShort LONGEST 9 line.old (more (member (codes "of") (decimal phase) ∷ []) 125) line.new }
 {
     push_of(line, phase);
     line.push(b"}");
@@ -104,7 +105,7 @@ fn push_only(line: &mut StatusLine, phase: Phase)
 
 /// Adds the phase that is waited for to a line, with the time that is left, and closes what they are of.
 fn push_clearing(line: &mut StatusLine, phase: Phase, left: u32)
-    ensures { AddsShort 27 line.old
+    ensures { AddsShort LONGEST 27 line.old
         (more (member (codes "of") (decimal phase) ∷ member (codes "left") (decimal left) ∷ []) 125) line.new }
 {
     push_of(line, phase);
@@ -113,7 +114,7 @@ fn push_clearing(line: &mut StatusLine, phase: Phase, left: u32)
 
 /// Adds the preempt that is waited for to a line, and closes what it is of.
 fn push_preempt(line: &mut StatusLine, preempt: Preempt)
-    ensures { AddsShort 15 line.old (more (member (codes "preempt") (decimal preempt) ∷ []) 125) line.new }
+    ensures { AddsShort LONGEST 15 line.old (more (member (codes "preempt") (decimal preempt) ∷ []) 125) line.new }
 {
     line.push(b",\"preempt\":");
     push_byte(line, preempt.number());
@@ -122,7 +123,7 @@ fn push_preempt(line: &mut StatusLine, preempt: Preempt)
 
 /// Adds a green that is waited for to a line, with what it lacks, and closes what they are of.
 fn push_green(line: &mut StatusLine, phase: Phase, lack: &Lack)
-    ensures { AddsShort 46 line.old (more (member (codes "of") (decimal phase) ∷ lack_members lack.now) 125) line.new }
+    ensures { AddsShort LONGEST 46 line.old (more (member (codes "of") (decimal phase) ∷ lack_members lack.now) 125) line.new }
 {
     push_of(line, phase);
     push_lack(line, lack);
@@ -130,7 +131,7 @@ fn push_green(line: &mut StatusLine, phase: Phase, lack: &Lack)
 
 /// Adds the parts of a wait to a line, and closes it.
 fn push_members(line: &mut StatusLine, wait: &Wait)
-    ensures { AddsShort (51 - length (wait_name wait.now)) line.old (more (wait_members wait.now) 125) line.new }
+    ensures { AddsShort LONGEST (51 - length (wait_name wait.now)) line.old (more (wait_members wait.now) 125) line.new }
 {
     match wait {
         Wait::Flash => line.push(b"}"),
@@ -152,7 +153,7 @@ fn push_members(line: &mut StatusLine, wait: &Wait)
 
 /// Adds to a line what a phase waits for.
 fn push_wait(line: &mut StatusLine, phase: u8, wait: &Wait)
-    ensures { AddsShort (69 + length (decimal phase)) line.old (wait_text phase wait.now) line.new }
+    ensures { AddsShort LONGEST (69 + length (decimal phase)) line.old (wait_text phase wait.now) line.new }
 {
     line.push(b"{\"phase\":");
     push_byte(line, phase);
@@ -162,7 +163,7 @@ fn push_wait(line: &mut StatusLine, phase: u8, wait: &Wait)
 
 /// Adds to a line what phases 1 to 16 wait for, those that do.
 pub(crate) fn push_waits(line: &mut StatusLine, waits: &[Option<Wait>; 16])
-    ensures { AddsShort 1144 line.old (waits_text (λ p. get_or waits.now (p - 1) None)) line.new }
+    ensures { AddsShort LONGEST 1144 line.old (waits_text (λ p. get_or waits.now (p - 1) None)) line.new }
 {
     line.push(b"[");
     let mut first = true;

@@ -1,5 +1,6 @@
 use Rattle.std.proofs.Common.{◌≤◌, ℕ, List, arith, length, subst, sym}
-use Rattle.tsb_field_streams.proofs.RoomLemmas.{at-most, part, then}
+use Rattle.tsb_lines.proofs.RoomLemmas.{at-most, then}
+use Rattle.tsb_field_streams.proofs.RoomLemmas.{part}
 use Rattle.tsb_field_streams.proofs.clocks.push_clock.Goals as goal
 
 pub returns : goal.returns

@@ -1,5 +1,5 @@
 use Rattle.std.proofs.Common.{arith}
-use Rattle.tsb_field_streams.proofs.RoomLemmas.{at-most, then}
+use Rattle.tsb_lines.proofs.RoomLemmas.{at-most, then}
 use Rattle.tsb_field_streams.proofs.fault_lines.push_cure.Goals as goal
 
 pub returns : goal.returns

@@ -1,5 +1,6 @@
 use Rattle.std.proofs.Common.{arith, refl}
-use Rattle.tsb_field_streams.proofs.RoomLemmas.{at-most, part, then}
+use Rattle.tsb_lines.proofs.RoomLemmas.{at-most, then}
+use Rattle.tsb_field_streams.proofs.RoomLemmas.{part}
 use Rattle.tsb_field_streams.proofs.fault_lines.push_lacks.Goals as goal
 
 pub returns : goal.returns

@@ -1,5 +1,6 @@
 use Rattle.std.proofs.Common.{arith, codes}
-use Rattle.tsb_status_text.proofs.RoomLemmas.{at-most, named-as, part, then}
+use Rattle.tsb_lines.proofs.RoomLemmas.{at-most, then}
+use Rattle.tsb_status_text.proofs.RoomLemmas.{named-as, part}
 use Rattle.tsb_status_text.specs.StatusText.{desk_text}
 use Rattle.tsb_status_text.proofs.groups.push_desk.Goals as goal
 

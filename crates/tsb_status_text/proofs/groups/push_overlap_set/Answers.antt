@@ -1,5 +1,6 @@
 use Rattle.std.proofs.Common.{arith}
-use Rattle.tsb_status_text.proofs.RoomLemmas.{at-most, part, then}
+use Rattle.tsb_lines.proofs.RoomLemmas.{at-most, then}
+use Rattle.tsb_status_text.proofs.RoomLemmas.{part}
 use Rattle.tsb_types.specs.Sets.{has_number}
 use Rattle.tsb_status_text.proofs.ListLemmas.{four}
 use Rattle.tsb_status_text.proofs.groups.push_overlap_set.Goals as goal

@@ -1,5 +1,6 @@
 use Rattle.std.proofs.Common.{arith}
-use Rattle.tsb_status_text.proofs.RoomLemmas.{at-most, number-as, part}
+use Rattle.tsb_lines.proofs.RoomLemmas.{at-most}
+use Rattle.tsb_status_text.proofs.RoomLemmas.{number-as, part}
 use Rattle.tsb_status_text.proofs.groups.push_owner.Goals as goal
 
 pub returns-in-None : goal.returns-in-None

@@ -1,5 +1,6 @@
 use Rattle.std.proofs.Common.{arith}
-use Rattle.tsb_status_text.proofs.RoomLemmas.{at-most, named-as}
+use Rattle.tsb_lines.proofs.RoomLemmas.{at-most}
+use Rattle.tsb_status_text.proofs.RoomLemmas.{named-as}
 use Rattle.tsb_status_text.proofs.groups.push_preempt.Goals as goal
 
 pub returns : goal.returns

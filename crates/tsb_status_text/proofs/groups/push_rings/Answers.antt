@@ -1,5 +1,6 @@
 use Rattle.std.proofs.Common.{arith, ap}
-use Rattle.tsb_status_text.proofs.RoomLemmas.{at-most, part, text-as, then}
+use Rattle.tsb_lines.proofs.RoomLemmas.{at-most, then}
+use Rattle.tsb_status_text.proofs.RoomLemmas.{part, text-as}
 use Rattle.tsb_status_text.specs.StatusText.{rings_text, ring_text}
 use Rattle.std.proofs.lemmas.List.{get_or_default}
 use Rattle.tsb_status.specs.declared.status.RingStatus.{RingStatus}

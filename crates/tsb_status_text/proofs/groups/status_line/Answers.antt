@@ -1,6 +1,7 @@
 use Rattle.std.proofs.Common.{◌∙◌, arith, codes}
 use Rattle.tsb_status_text.specs.StatusText.{status_text}
-use Rattle.tsb_status_text.proofs.RoomLemmas.{named-as, part, then, whole}
+use Rattle.tsb_lines.proofs.RoomLemmas.{then}
+use Rattle.tsb_status_text.proofs.RoomLemmas.{named-as, part, whole}
 use Rattle.tsb_status_text.proofs.AlikeLemmas.{text-same}
 use Rattle.tsb_status_text.proofs.groups.status_line.Goals as goal
 

@@ -1,6 +1,7 @@
 use Rattle.std.proofs.Common.{◌≡◌, ℕ, arith, ap, length, decimal}
 use Rattle.std.proofs.lemmas.Fmt.{length-decimal-le}
-use Rattle.tsb_status_text.proofs.RoomLemmas.{at-most, number-as, part}
+use Rattle.tsb_lines.proofs.RoomLemmas.{at-most}
+use Rattle.tsb_status_text.proofs.RoomLemmas.{number-as, part}
 use Rattle.tsb_status_text.proofs.line.push_byte.Goals as goal
 
 pub returns-clause-line : goal.returns-clause-line

@@ -1,6 +1,7 @@
 use Rattle.std.proofs.Common.{◌≡◌, ◌∙◌, Some, None, arith, codes, sym}
 use Rattle.tsb_status_text.specs.StatusText.{lack_time}
-use Rattle.tsb_status_text.proofs.RoomLemmas.{at-most, named-as, part, then}
+use Rattle.tsb_lines.proofs.RoomLemmas.{at-most, then}
+use Rattle.tsb_status_text.proofs.RoomLemmas.{named-as, part}
 use Rattle.tsb_status_text.proofs.waits.push_lack.Goals as goal
 
 pub returns-in-None : goal.returns-in-None

@@ -1,5 +1,6 @@
 use Rattle.std.proofs.Common.{arith}
-use Rattle.tsb_status_text.proofs.RoomLemmas.{at-most, part}
+use Rattle.tsb_lines.proofs.RoomLemmas.{at-most}
+use Rattle.tsb_status_text.proofs.RoomLemmas.{part}
 use Rattle.tsb_status_text.proofs.waits.push_members.Goals as goal
 
 pub returns-in-Flash : goal.returns-in-Flash

@@ -1,5 +1,6 @@
 use Rattle.std.proofs.Common.{arith}
-use Rattle.tsb_status_text.proofs.RoomLemmas.{at-most, number-as, part, then, two-digits}
+use Rattle.tsb_lines.proofs.RoomLemmas.{at-most, then}
+use Rattle.tsb_status_text.proofs.RoomLemmas.{number-as, part, two-digits}
 use Rattle.tsb_status_text.proofs.waits.push_of.Goals as goal
 
 pub returns : goal.returns

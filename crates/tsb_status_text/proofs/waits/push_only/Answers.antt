@@ -1,5 +1,6 @@
 use Rattle.std.proofs.Common.{arith}
-use Rattle.tsb_status_text.proofs.RoomLemmas.{at-most, part, then}
+use Rattle.tsb_lines.proofs.RoomLemmas.{at-most, then}
+use Rattle.tsb_status_text.proofs.RoomLemmas.{part}
 use Rattle.tsb_status_text.proofs.waits.push_only.Goals as goal
 
 pub returns : goal.returns
