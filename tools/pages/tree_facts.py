@@ -17,7 +17,7 @@ from collections.abc import Iterator
 from tools.pages import written
 from tools.pages.laws import laws
 
-TYPE = re.compile(r"^pub(?:\([^)]*\))? (?:struct|enum|trait) (\w+)", re.M)
+TYPE = re.compile(r"^(?:pub(?:\([^)]*\))? )?(?:struct|enum|trait) (\w+)", re.M)
 FILE = re.compile(r"(?<![\w./])((?:[\w-]+/)*[\w-]+\.(?:rt|antt|md|py|json|log|edit))\b")
 NUMBER = re.compile(r"\b([\d,]*\d|[a-z]+) (crates|edits|laws|objects|cells)\b")
 CELLS = re.compile(r"^pub const CELLS: usize = (\d+);", re.M)
@@ -62,7 +62,7 @@ OTHERS = {
 
 
 def types_in_two_crates() -> Iterator[str]:
-    """Names of public types in more crates than are known."""
+    """Names of types in more crates than are known."""
     crates: dict[str, set[str]] = collections.defaultdict(set)
     for path in pathlib.Path("crates").glob("*/src/**/*.rt"):
         if path.parts[1] not in UNPROVED:

@@ -14,7 +14,7 @@ use tsb_types::Preempt;
 /// What the heads showed in a line, and that line. Its tick number ends in 0 here, and it has no preempt and no local
 /// counter.
 #[derive(Clone, Copy)]
-struct Shown {
+struct LastLine {
     heads: Display,
     /// The tick number with a 0 for its last digit.
     round: u32,
@@ -26,7 +26,7 @@ struct Shown {
 /// line, so clauses see nothing of it.
 #[derive(Drop)]
 pub struct LineMaker {
-    last: Option<Shown>,
+    last: Option<LastLine>,
 }
 
 impl Model for LineMaker {
@@ -76,7 +76,7 @@ impl LineMaker {
             }
         }
         let line = self.other_line(round, heads);
-        self.last = Some(Shown {
+        self.last = Some(LastLine {
             heads: *heads,
             round,
             line,

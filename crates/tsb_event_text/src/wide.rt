@@ -50,7 +50,7 @@ pub fn wide_row(
 
 /// The fields of a row, or `None` for one that a line lacks.
 #[derive(Clone, Copy)]
-struct Found<'a> {
+struct FoundFields<'a> {
     device: Option<&'a [u8]>,
     time: Option<&'a [u8]>,
     code: Option<&'a [u8]>,
@@ -77,7 +77,7 @@ fn wide_in(
 ) -> Option<WideRow>
     ensures { result ≡ wide_in columns times zone (option_map (λ device. device.now) asked.entry) (fields_of mark line.now) }
 {
-    let found = Found {
+    let found = FoundFields {
         device: device_in(mark, line, columns.device),
         time: field_in(mark, line, columns.time),
         code: field_in(mark, line, columns.code),
@@ -91,7 +91,7 @@ fn wide_with(
     asked: Option<&[u8]>,
     times: Option<TimeForm>,
     zone: Option<Zone>,
-    found: Found<'_>,
+    found: FoundFields<'_>,
 ) -> Option<WideRow>
     ensures { result
         ≡ wide_with (option_map (λ text. text.now) asked.entry) times zone (option_map (λ text. text.now) found.entry.device) (option_map (λ text. text.now) found.entry.time) (option_map (λ text. text.now) found.entry.code) (option_map (λ text. text.now) found.entry.parameter) }

@@ -13,7 +13,7 @@ use Rattle.tsb_lines.proofs.LineLemmas.{feedless-more, length-return, split-alon
 use Rattle.tsb_lines.proofs.StreamLemmas.{consumes-kept, consumes-more, consumes-nothing}
 use Rattle.tsb_field_display.specs.declared.error.ReplayError.TheVariants.{Memory, Read}
 use Rattle.tsb_field_display.specs.declared.shown.Shown.{Shown}
-use Rattle.tsb_field_display.specs.declared.stream.Stream.{Stream}
+use Rattle.tsb_field_display.specs.declared.stream.DisplayStream.{DisplayStream}
 use Rattle.tsb_field_display.specs.Reading.{is_display, shown_of}
 use Rattle.tsb_field_display.specs.Remaining.{Keeps}
 use Rattle.tsb_field_display.specs.Stream.{GoesOn, Going, ReplayRead, Stand, StandsAt, shown_in, shown_lines, start, with_byte, with_bytes, with_held, with_line, with_shown}
@@ -113,11 +113,11 @@ bytes-behind s taken more = fold-append with_byte s taken more
 
 -- ## Reading
 
-pub going_start : (i : Option (List ℕ)) (failed : Bool) (stream : Stream) → failed ≡ false → StandsAt start stream → Going failed i i stream 0
+pub going_start : (i : Option (List ℕ)) (failed : Bool) (stream : DisplayStream) → failed ≡ false → StandsAt start stream → Going failed i i stream 0
 going_start i failed stream well stands = record { well = well; bytes = []; taken = consumes-nothing i; stands = stands; many = omega arith }
 
 -- a read that there may be more after brought a byte
-pub going_next : (more failed : Bool) (i l : Option (List ℕ)) (stream : Stream) (reads : ℕ) → more ≡ true → GoesOn more failed i l stream reads → Going failed i l stream (reads + 1)
+pub going_next : (more failed : Bool) (i l : Option (List ℕ)) (stream : DisplayStream) (reads : ℕ) → more ≡ true → GoesOn more failed i l stream reads → Going failed i l stream (reads + 1)
 going_next more failed i l stream reads is on = record {
   well = on.going.well;
   bytes = on.going.bytes;
@@ -127,23 +127,23 @@ going_next more failed i l stream reads is on = record {
 }
 
 -- bytes more
-more-stands : (old new : Stream) (bytes more : List ℕ) → StandsAt (with_bytes start bytes) old → ((s : Stand) → StandsAt s old → StandsAt (with_bytes s more) new) → StandsAt (with_bytes start (bytes ++ more)) new
+more-stands : (old new : DisplayStream) (bytes more : List ℕ) → StandsAt (with_bytes start bytes) old → ((s : Stand) → StandsAt s old → StandsAt (with_bytes s more) new) → StandsAt (with_bytes start (bytes ++ more)) new
 more-stands old new bytes more stands step = subst (λ (s : Stand). StandsAt s new) (sym (fold-append with_byte start bytes more)) (step (with_bytes start bytes) stands)
 
 -- a read failed
-pub read_failed : (was failed : Bool) (i l m : Option (List ℕ)) (stream : Stream) (reads : ℕ) → Going was i l stream reads → KeepsBytes l m → failed ≡ true → ReplayRead (Err Read) failed i m
+pub read_failed : (was failed : Bool) (i l m : Option (List ℕ)) (stream : DisplayStream) (reads : ℕ) → Going was i l stream reads → KeepsBytes l m → failed ≡ true → ReplayRead (Err Read) failed i m
 read_failed was failed i l m stream reads going still is = record { bytes = going.bytes; taken = consumes-kept i l m going.bytes going.taken still; so = inl is }
 
 -- so many bytes were read that no read more is made
-pub read_endless : (failed : Bool) (i l : Option (List ℕ)) (stream : Stream) (reads : ℕ) → 18446744073709551615 ≤ reads → Going failed i l stream reads → ReplayRead (Err Read) failed i l
+pub read_endless : (failed : Bool) (i l : Option (List ℕ)) (stream : DisplayStream) (reads : ℕ) → 18446744073709551615 ≤ reads → Going failed i l stream reads → ReplayRead (Err Read) failed i l
 read_endless failed i l stream reads all going = record { bytes = going.bytes; taken = going.taken; so = inr (let many = going.many in omega (arith, all, many)) }
 
 -- there was no memory for what was read
-pub read_wanting : (was failed : Bool) (i l m : Option (List ℕ)) (stream : Stream) (reads : ℕ) (bytes : List ℕ) → Going was i l stream reads → Consumes l m bytes → failed ≡ was → ReplayRead (Err Memory) failed i m
+pub read_wanting : (was failed : Bool) (i l m : Option (List ℕ)) (stream : DisplayStream) (reads : ℕ) (bytes : List ℕ) → Going was i l stream reads → Consumes l m bytes → failed ≡ was → ReplayRead (Err Memory) failed i m
 read_wanting was failed i l m stream reads bytes going taken still =
     record { bytes = going.bytes ++ bytes; taken = consumes-more i l m going.bytes bytes going.taken taken; so = still ∙ going.well }
 
-pub read_end : (failed : Bool) (i l : Option (List ℕ)) (old new : Stream) (reads : ℕ) → Going failed i l old reads → IsAtEnd l → ((s : Stand) → StandsAt s old → StandsAt (with_line s) new)
+pub read_end : (failed : Bool) (i l : Option (List ℕ)) (old new : DisplayStream) (reads : ℕ) → Going failed i l old reads → IsAtEnd l → ((s : Stand) → StandsAt s old → StandsAt (with_line s) new)
     → ReplayRead (Ok new.replay) failed i l
 read_end failed i l old new reads going end ends = record {
   bytes = going.bytes;
@@ -156,11 +156,11 @@ read_end failed i l old new reads going end ends = record {
 }
 
 -- there was no memory for the last line
-pub end_wanting : (failed : Bool) (i l : Option (List ℕ)) (stream : Stream) (reads : ℕ) → Going failed i l stream reads → ReplayRead (Err Memory) failed i l
+pub end_wanting : (failed : Bool) (i l : Option (List ℕ)) (stream : DisplayStream) (reads : ℕ) → Going failed i l stream reads → ReplayRead (Err Memory) failed i l
 end_wanting failed i l stream reads going = record { bytes = going.bytes; taken = going.taken; so = going.well }
 
 -- the bytes of one read more, of which none is the end
-pub going_on : (was failed : Bool) (i l m : Option (List ℕ)) (old new : Stream) (reads count : ℕ) (bytes : List ℕ) → Going was i l old reads → failed ≡ was → Consumes l m bytes
+pub going_on : (was failed : Bool) (i l m : Option (List ℕ)) (old new : DisplayStream) (reads count : ℕ) (bytes : List ℕ) → Going was i l old reads → failed ≡ was → Consumes l m bytes
     → ((s : Stand) → StandsAt s old → StandsAt (with_bytes s bytes) new) → count ≡ length bytes → (count ≡ 0 → IsAtEnd m) → GoesOn (not (count == 0)) failed i m new reads
 going_on was failed i l m old new reads count bytes going still taken stands long end = record {
   going = record {

@@ -7,7 +7,7 @@ use Rattle.tsb_field_display.specs.declared.error.ReplayError.{ReplayError}
 use Rattle.tsb_field_display.specs.declared.error.ReplayError.TheVariants.{Memory, Read}
 use Rattle.tsb_field_display.specs.declared.replay.Replay.{Replay}
 use Rattle.tsb_field_display.specs.declared.shown.Shown.{Shown}
-use Rattle.tsb_field_display.specs.declared.stream.Stream.{Stream}
+use Rattle.tsb_field_display.specs.declared.stream.DisplayStream.{DisplayStream}
 use Rattle.tsb_field_display.specs.declared.stream.TheConstants.{KEPT}
 use Rattle.tsb_field_display.specs.Reading.{shown_of}
 use Rattle.tsb_field_display.specs.Remaining.{Keeps}
@@ -74,12 +74,12 @@ abbrev pub with_bytes : Stand → List ℕ → Stand
 with_bytes s bytes = fold with_byte s bytes
 
 -- a stream has come to this
-pub record StandsAt (s : Stand) (stream : Stream) : Type 0 where
+pub record StandsAt (s : Stand) (stream : DisplayStream) : Type 0 where
   pub shown : Keeps stream.replay s.shown
   pub held : stream.line ≡ s.held
 
 -- these bytes were read so far, by so many reads at least, none of which has failed, and a stream has taken them
-pub record Going (failed : Bool) (input left : Option (List ℕ)) (stream : Stream) (reads : ℕ) : Type 0 where
+pub record Going (failed : Bool) (input left : Option (List ℕ)) (stream : DisplayStream) (reads : ℕ) : Type 0 where
   pub well : failed ≡ false
   pub bytes : List ℕ
   pub taken : Consumes input left bytes
@@ -88,7 +88,7 @@ pub record Going (failed : Bool) (input left : Option (List ℕ)) (stream : Stre
   pub many : reads ≤ length bytes
 
 -- one read more was taken: there may be more, or it was the end
-pub record GoesOn (more failed : Bool) (input left : Option (List ℕ)) (stream : Stream) (reads : ℕ) : Type 0 where
+pub record GoesOn (more failed : Bool) (input left : Option (List ℕ)) (stream : DisplayStream) (reads : ℕ) : Type 0 where
   pub going : Going failed input left stream reads
   pub end : more ≡ false → IsAtEnd left
   pub grows : more ≡ true → suc reads ≤ length going.bytes

@@ -22,17 +22,17 @@ const CHUNK: usize = 4096;
 /// What is known after some bytes: the replay of the lines that have ended, and the bytes of the line that has not,
 /// or the first bytes of a long one.
 #[derive(Drop)]
-struct Stream {
+struct DisplayStream {
     replay: Replay,
     line: KeptLine<KEPT>,
 }
 
-impl Stream {
+impl DisplayStream {
     /// A stream before its first byte.
-    fn new(alloc: Global) -> Stream
+    fn new(alloc: Global) -> DisplayStream
         ensures { StandsAt start result }
     {
-        Stream {
+        DisplayStream {
             replay: Replay::new(alloc),
             line: KeptLine::new(),
         }
@@ -115,7 +115,7 @@ pub fn read_replay<R: Read>(alloc: Global, reader: &mut Watched<R>) -> Result<Re
     requires reads { reader.old.failed ≡ false }
     ensures { ReplayRead result reader.new.failed (R.remaining reader.old.device) (R.remaining reader.new.device) }
 {
-    let mut stream = Stream::new(alloc);
+    let mut stream = DisplayStream::new(alloc);
     let mut chunk = [0; CHUNK];
     for _read in 0..u64::MAX {
         if !stream.take_read(reader, &mut chunk)? {

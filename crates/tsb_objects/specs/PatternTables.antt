@@ -3,14 +3,14 @@ use Rattle.std.specs.Prelude.{◌≡◌, ℕ, ◌+◌, ◌-◌, ◌*◌, ◌%◌
 use Rattle.tsb_plan.specs.Parts.{cycle, is_used, unless_zero}
 use Rattle.tsb_plan.specs.Plan.{Plan}
 use Rattle.tsb_plan.specs.Running.{is_coordinated_now, is_omitted_now, is_on_minimum_recall, is_on_maximum_recall, is_on_pedestrian_recall}
-use Rattle.tsb_objects.specs.declared.pattern_tables.Asked.{Asked}
-use Rattle.tsb_objects.specs.declared.pattern_tables.Asked.TheVariants.{Coordinated, Omitted, MinimumRecall, MaximumRecall, PedestrianRecall, PedestrianRecycle}
+use Rattle.tsb_objects.specs.declared.pattern_tables.PatternQuestion.{PatternQuestion}
+use Rattle.tsb_objects.specs.declared.pattern_tables.PatternQuestion.TheVariants.{Coordinated, Omitted, MinimumRecall, MaximumRecall, PedestrianRecall, PedestrianRecycle}
 use Rattle.tsb_objects.specs.declared.pattern_tables.PatternTables.{PatternTables}
 use Rattle.tsb_objects.specs.Instants.{force_off, late_end, counted_on, yields_for, may_recycle, waiting_point}
 use Rattle.tsb_types.specs.Sets.{names}
 
 -- what is asked of phase p while a pattern runs, or in free operation
-abbrev pub is_so : Asked → Plan → Option ℕ → ℕ → Bool
+abbrev pub is_so : PatternQuestion → Plan → Option ℕ → ℕ → Bool
 is_so Coordinated plan runs p = is_coordinated_now plan runs p
 is_so Omitted plan runs p = is_omitted_now plan runs p
 is_so MinimumRecall plan runs p = is_on_minimum_recall plan runs p
@@ -19,7 +19,7 @@ is_so PedestrianRecall plan runs p = is_on_pedestrian_recall plan runs p
 is_so PedestrianRecycle plan runs p = may_recycle plan runs p
 
 -- word 0 is of free operation, word n of pattern n; each is the list of the phases that pass
-abbrev pub AreInEffect : Plan → Asked → List ℕ → Type 0
+abbrev pub AreInEffect : Plan → PatternQuestion → List ℕ → Type 0
 AreInEffect plan asked words =
     (k p : ℕ) → k < 17 → 1 ≤ p → p ≤ 16 → names (slice_index words k) p ≡ is_so asked plan (unless_zero k) p
 

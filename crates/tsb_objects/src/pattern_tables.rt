@@ -20,7 +20,7 @@ pub(crate) const NEVER: u16 = 65535;
 
 /// What a table of the pattern that runs asks of a phase.
 #[derive(Clone, Copy)]
-enum Asked {
+enum PatternQuestion {
     Coordinated,
     Omitted,
     MinimumRecall,
@@ -61,12 +61,12 @@ impl PatternTables {
     {
         let words = instants(plan);
         PatternTables {
-            coordinated: in_effect(plan, Asked::Coordinated),
-            omitted: in_effect(plan, Asked::Omitted),
-            minimum_recall: in_effect(plan, Asked::MinimumRecall),
-            maximum_recall: in_effect(plan, Asked::MaximumRecall),
-            pedestrian_recall: in_effect(plan, Asked::PedestrianRecall),
-            pedestrian_recycle: in_effect(plan, Asked::PedestrianRecycle),
+            coordinated: in_effect(plan, PatternQuestion::Coordinated),
+            omitted: in_effect(plan, PatternQuestion::Omitted),
+            minimum_recall: in_effect(plan, PatternQuestion::MinimumRecall),
+            maximum_recall: in_effect(plan, PatternQuestion::MaximumRecall),
+            pedestrian_recall: in_effect(plan, PatternQuestion::PedestrianRecall),
+            pedestrian_recycle: in_effect(plan, PatternQuestion::PedestrianRecycle),
             instants: words,
             ends: ends(plan, &words),
             waiting_points: waiting_points(plan, &words),
@@ -94,17 +94,17 @@ fn runs_at(k: usize) -> Option<Pattern>
 }
 
 /// Whether a phase passes the test while the pattern of word `k` runs.
-fn is_so(plan: &Plan, k: usize, asked: Asked, phase: Phase) -> bool
+fn is_so(plan: &Plan, k: usize, asked: PatternQuestion, phase: Phase) -> bool
     requires { k < 17 }
     ensures { result ≡ is_so asked (plan_of plan.now) (unless_zero k) phase }
 {
     match asked {
-        Asked::Coordinated => plan.is_coordinated_now(runs_at(k), phase),
-        Asked::Omitted => plan.is_omitted_now(runs_at(k), phase),
-        Asked::MinimumRecall => plan.is_on_minimum_recall(runs_at(k), phase),
-        Asked::MaximumRecall => plan.is_on_maximum_recall(runs_at(k), phase),
-        Asked::PedestrianRecall => plan.is_on_pedestrian_recall(runs_at(k), phase),
-        Asked::PedestrianRecycle => {
+        PatternQuestion::Coordinated => plan.is_coordinated_now(runs_at(k), phase),
+        PatternQuestion::Omitted => plan.is_omitted_now(runs_at(k), phase),
+        PatternQuestion::MinimumRecall => plan.is_on_minimum_recall(runs_at(k), phase),
+        PatternQuestion::MaximumRecall => plan.is_on_maximum_recall(runs_at(k), phase),
+        PatternQuestion::PedestrianRecall => plan.is_on_pedestrian_recall(runs_at(k), phase),
+        PatternQuestion::PedestrianRecycle => {
             plan.recycles_walk(phase) && plan.is_coordinated_now(runs_at(k), phase)
         }
     }
@@ -122,7 +122,7 @@ fn joined(set: PhaseSet, p: Phase, on: bool) -> PhaseSet
 
 /// The phases that pass the test while the pattern of word `k` runs.
 #[inline(always)]
-fn phases_so(plan: &Plan, k: usize, asked: Asked) -> PhaseSet
+fn phases_so(plan: &Plan, k: usize, asked: PatternQuestion) -> PhaseSet
     requires { k < 17 }
     ensures { (p : ℕ) → 1 ≤ p → p ≤ 16 → has result p ≡ is_so asked (plan_of plan.now) (unless_zero k) p }
 {
@@ -148,7 +148,7 @@ fn has_split(plan: &Plan, k: usize) -> bool
 /// The phases that pass the test while the pattern of word `k` runs, as a list: without a split table those of free
 /// operation, which the caller hands in.
 #[inline(always)]
-fn list_so(plan: &Plan, k: usize, asked: Asked, free: u16) -> u16
+fn list_so(plan: &Plan, k: usize, asked: PatternQuestion, free: u16) -> u16
     requires word { k < 17 }
     requires free { (p : ℕ) → 1 ≤ p → p ≤ 16 → names free p ≡ is_so asked (plan_of plan.now) None p }
     ensures { (p : ℕ) → 1 ≤ p → p ≤ 16 → names result p ≡ is_so asked (plan_of plan.now) (unless_zero k) p }
@@ -163,7 +163,7 @@ fn list_so(plan: &Plan, k: usize, asked: Asked, free: u16) -> u16
 /// The phases that pass the test, in free operation and in each pattern. It is inlined, so that the compiler settles
 /// the test before the loops.
 #[inline(always)]
-fn in_effect(plan: &Plan, asked: Asked) -> [u16; 17]
+fn in_effect(plan: &Plan, asked: PatternQuestion) -> [u16; 17]
     ensures full { length result ≡ 17 }
     ensures told { AreInEffect (plan_of plan.now) asked result }
 {

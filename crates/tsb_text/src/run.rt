@@ -27,12 +27,12 @@ const _: () = prove!(KEPT == LINE + 2);
 
 /// A bench that does what lines ask.
 #[derive(Drop)]
-struct Machine<'a> {
+struct SessionRun<'a> {
     course: Course<'a>,
     lines: LineMaker,
 }
 
-impl Answers for Machine<'_> {
+impl Answers for SessionRun<'_> {
     ghost use Rattle.tsb_text.specs.Obeyed.{StandsPlain};
     ghost use Rattle.tsb_text.specs.Replies.{Stand, says};
 
@@ -116,7 +116,7 @@ pub fn session<R: Read, W: Write>(
         return Err(SessionError::Memory);
     };
     let rows = Rows::OfLog { log, place: 0 };
-    let mut machine = Machine {
+    let mut machine = SessionRun {
         course: Course::new(alloc, bench, rows, Mode::Plain),
         lines: LineMaker::new(),
     };

@@ -3,7 +3,7 @@ use Rattle.tsb_lines.specs.Lines.{kept}
 use Rattle.tsb_lines.proofs.LineLemmas.{line-behind}
 use Rattle.tsb_field_display.specs.Stream.{Stand, StandsAt, with_bytes}
 use Rattle.tsb_field_display.proofs.StreamLemmas.{bytes-behind, piece-held}
-use Rattle.tsb_field_display.proofs.stream.Stream.feed_all.Goals as goal
+use Rattle.tsb_field_display.proofs.stream.DisplayStream.feed_all.Goals as goal
 
 pub loop-rest-init : goal.loop-rest-init
 loop-rest-init c = ([], refl, λ s stands. stands)

@@ -1,6 +1,6 @@
 use Rattle.std.proofs.Common.{◌≡◌, ◌++◌, ℕ, List, length}
 use Rattle.tsb_field_display.specs.Stream.{Stand, StandsAt, with_bytes}
-use Rattle.tsb_field_display.proofs.stream.Stream.feed_all.Given as goal
+use Rattle.tsb_field_display.proofs.stream.DisplayStream.feed_all.Given as goal
 
 -- what was taken so far are whole lines
 abbrev pub invariant-loop-rest : goal.invariant-loop-rest

@@ -1,6 +1,6 @@
 use Rattle.std.proofs.lemmas.Result.{err_from_is_err_and}
 use Rattle.tsb_text.proofs.ReplyLemmas.{bad-fault, done-fault, done-said}
-use Rattle.tsb_text.proofs.run.MachineAnswers.answer.Goals as goal
+use Rattle.tsb_text.proofs.run.SessionRunAnswers.answer.Goals as goal
 
 pub returns-in_err-say-in-Bad-clause-answered : goal.returns-in_err-say-in-Bad-clause-answered
 returns-in_err-say-in-Bad-clause-answered g c stand here = let p = err_from_is_err_and c.from_residual.result c.from_residual.ensures.1 in

@@ -1,5 +1,5 @@
 use Rattle.tsb_field_display.proofs.StreamLemmas.{end_wanting, read_end}
-use Rattle.tsb_field_display.proofs.stream.Stream.finish.Goals as goal
+use Rattle.tsb_field_display.proofs.stream.DisplayStream.finish.Goals as goal
 
 pub returns-in_default : goal.returns-in_default
 returns-in_default c failed input left reads going end = end_wanting failed input left c.args.self reads going

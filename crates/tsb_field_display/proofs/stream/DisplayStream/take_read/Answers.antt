@@ -1,6 +1,6 @@
 use Rattle.std.proofs.Common.{rules, take}
 use Rattle.tsb_field_display.proofs.StreamLemmas.{going_on, read_failed, read_wanting}
-use Rattle.tsb_field_display.proofs.stream.Stream.take_read.Goals as goal
+use Rattle.tsb_field_display.proofs.stream.DisplayStream.take_read.Goals as goal
 
 pub returns-in-Err : goal.returns-in-Err
 returns-in-Err g c input reads going = read_failed _ _ input _ _ c.args.self.now reads going c.in-Err.ensures.bytes c.in-Err.ensures.blame

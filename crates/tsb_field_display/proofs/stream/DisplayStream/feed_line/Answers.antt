@@ -2,7 +2,7 @@ use Rattle.std.proofs.Common.{◌++◌, ◌∙◌, ap, sym, subst, OnOk}
 use Rattle.tsb_lines.specs.Lines.{kept}
 use Rattle.tsb_field_display.specs.Stream.{Stand, StandsAt}
 use Rattle.tsb_field_display.proofs.StreamLemmas.{rest-ended}
-use Rattle.tsb_field_display.proofs.stream.Stream.feed_line.Goals as goal
+use Rattle.tsb_field_display.proofs.stream.DisplayStream.feed_line.Goals as goal
 
 pub returns : goal.returns
 returns c s stands =
