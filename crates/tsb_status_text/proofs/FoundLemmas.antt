@@ -13,7 +13,7 @@ use Rattle.serde_json.proofs.Numbers.{number_of-decimal}
 use Rattle.serde_json.proofs.Views.{get_member-put, get_member-put_other}
 use Rattle.tsb_objects.specs.tsb_types.Lists.{or_number, run_from}
 use Rattle.tsb_plan.proofs.NameLemmas.{names-apart}
-use Rattle.tsb_plan.proofs.TableLemmas.{at-order, order-below, length-objects}
+use Rattle.tsb_plan.proofs.TableLemmas.{at-order, few-indices, order-below, length-objects}
 use Rattle.tsb_plan.specs.declared.object.Object.{Object}
 use Rattle.tsb_plan.specs.declared.object.Object.TheVariants.{PhaseEnabled}
 use Rattle.tsb_plan.specs.Names.{name_of}

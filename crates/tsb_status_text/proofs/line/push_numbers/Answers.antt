@@ -31,8 +31,10 @@ loop-k-preserved c =
 
 pub returns : goal.returns
 returns c = record {
-  line =
-      step-end (number_in (has_number c.args.set)) c.loop-k.first (c.loop-k.k + 1) (c.args.most - c.loop-k.k) 93 c.loop-k.line c.push-2.new.self _
-      (omega arith) c.push-2.ensures.line.line c.loop-k.invariant;
+  line = record {
+    line =
+        step-end (number_in (has_number c.args.set)) c.loop-k.first (c.loop-k.k + 1) (c.args.most - c.loop-k.k) 93 c.loop-k.line c.push-2.new.self _
+        (omega arith) c.push-2.ensures.line.line c.loop-k.invariant;
+  };
   short = omega arith;
 }

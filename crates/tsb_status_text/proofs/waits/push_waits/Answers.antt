@@ -57,8 +57,10 @@ unfolding waits_text
 returns c =
     let value = wait_in (wait_at c.args.waits.now) in
     record {
-      line =
-          step-end value c.loop-k.first (c.loop-k.k + 1) (16 - c.loop-k.k) 93 c.loop-k.line c.push-2.new.self _
-          (omega (arith, c.loop-k-test.false)) c.push-2.ensures.line.line c.loop-k.invariant.told;
+      line = record {
+        line =
+            step-end value c.loop-k.first (c.loop-k.k + 1) (16 - c.loop-k.k) 93 c.loop-k.line c.push-2.new.self _
+            (omega (arith, c.loop-k-test.false)) c.push-2.ensures.line.line c.loop-k.invariant.told;
+      };
       short = waits-short value (λ p v from below is. c.loop-k.invariant.short p v from (omega (arith, below, c.loop-k-test.false)) is);
     }
