@@ -480,12 +480,21 @@ def test_no_draft_has_greens_that_meet(tmp_path: Path) -> None:
     words = "--grid --grid.number 3 --grid.length 200 -L 1 --no-turnarounds false"
     words += " --default-junction-type traffic_light"
     net = made_net(tmp_path, words)
-    met, foes = 0, 0
+    met, foes, shared = 0, 0, 0
     for name in (it.getID() for it in read_net(net).getTrafficLights()):
         draft = propose(net, name)
         at = Intersection.of(net, name, draft.mapping, draft.plan)
         turns = {it.index: it.turn for it in at.light.links}
         foes += len(at.light.foes)
+        # each is named for its lane, whether or not it meets another in this net
+        straight = {it.from_edge for it in at.light.links if it.turn == "s"}
+        turned = (it for it in at.light.links if it.turn == "t")
+        back = {it.index for it in turned if it.from_edge in straight}
+        assert back.isdisjoint(it for of in draft.mapping.phases.values() for it in of)
+        shared += len(back)
+        for link in back:
+            said = f"link {link} turns back from a lane that it shares: permissive with"
+            assert any(it.startswith(said) for it in draft.notes)
         for phase, links in draft.mapping.permissive.items():
             for link in (it for it in links if turns[it] == "t"):
                 phases = {**draft.mapping.phases}
@@ -495,7 +504,7 @@ def test_no_draft_has_greens_that_meet(tmp_path: Path) -> None:
                     Intersection.of(net, name, own, draft.plan)
                     continue
                 met += 1
-    assert met > 3 and foes > 20
+    assert met > 3 and foes > 20 and shared > 3
 
 
 def test_foes_by_hand(cars: Path) -> None:
