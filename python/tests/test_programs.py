@@ -1,6 +1,7 @@
 """How programs are found, and what is raised where they are not there or have died."""
 
 import os
+import re
 import signal
 import subprocess
 import sys
@@ -135,3 +136,40 @@ def test_the_list_of_what_there_is(tmp_path: Path) -> None:
     assert all(f"  {it} " in done.stdout for it in ("panel", "sumo", "sweep"))
     bad = subprocess.run([*words, "walk"], capture_output=True, text=True, check=False)
     assert bad.returncode == 2 and "no command walk" in bad.stderr
+
+
+# The packages of Debian that not all commands need, each with its module.
+MODULES = {
+    "python3-aiohttp": "aiohttp", "python3-jinja2": "jinja2",
+    "python3-matplotlib": "matplotlib", "python3-dask": "dask",
+    "python3-distributed": "distributed", "python3-selenium": "selenium",
+    "python3-pytest": "pytest", "python3-hypothesis": "hypothesis",
+    "sumo-tools": "sumolib",
+}  # fmt: skip
+ALL_OF = """import importlib, pkgutil, sys
+sys.modules.update(dict.fromkeys(sys.argv[2:]))
+found = importlib.import_module(f"tsb.{sys.argv[1]}")
+for it in pkgutil.iter_modules(getattr(found, "__path__", [])):
+    importlib.import_module(f"{found.__name__}.{it.name}")
+"""
+
+
+@pytest.mark.parametrize("command", ["panel", "report", "sweep", "new"])
+def test_a_command_needs_what_is_installed_for_it(command: str) -> None:
+    """`python/setup.sh COMMAND` installs it, and no other package is imported."""
+    text = (programs.REPOSITORY / "python/setup.sh").read_text()
+    said = re.search(rf'\[{command}\]="([^"]*)"|\[{command}\]=(\S+)', text)
+    assert said is not None
+    installed = (said[1] or said[2] or "").split()
+    others = [it for name, it in MODULES.items() if name not in installed]
+    assert len(others) < len(MODULES) or command in ("sweep", "new")
+    words = [sys.executable, "-c", ALL_OF, command, *others]
+    done = subprocess.run(words, capture_output=True, text=True)
+    assert (done.returncode, done.stderr) == (0, "")
+
+
+def test_what_is_no_command_installs_nothing() -> None:
+    words = [str(programs.REPOSITORY / "python/setup.sh"), "panel", "walk"]
+    done = subprocess.run(words, capture_output=True, text=True)
+    assert done.returncode == 2 and not done.stdout
+    assert done.stderr.startswith("python/setup.sh: there is no command walk: ")

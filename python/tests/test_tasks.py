@@ -1,7 +1,11 @@
 """The runs of a sweep and its words, at their boundaries: in this process, or in one."""
 
 import inspect
+import os
+import resource
 import signal
+import subprocess
+import sys
 import warnings
 from collections.abc import Iterator
 from dataclasses import replace
@@ -235,8 +239,15 @@ def test_what_is_told_of_a_day(
     # a device has no gap that it was not there for
     assert tried(replace(both, device="8"), str(tmp_path), "z", [told]) == (None, ())
     asked: Any = {"seconds": 10, "device": "7"}
-    with pytest.warns(UserWarning, match=f"^2026-11-22.csv: {gap}"):
-        sweep([day.plan], [path], ["greens"], one, **asked)
+    other = tmp_path / "other.json"
+    other.write_bytes(Path(day.plan).read_bytes())
+    with pytest.warns(UserWarning) as warned:
+        sweep([day.plan, other], [path], ["greens"], one, **asked)
+    # each is told once, however many runs have it, and of the line that asked
+    left, paused = (str(it.message) for it in warned)
+    assert left.startswith("2026-11-22.csv: left out: ")
+    assert paused.startswith(f"2026-11-22.csv: {gap}")
+    assert {it.filename for it in warned} == {__file__}
     words = [day.plan, "--days", str(path), "--seconds", "10", "--out", str(tmp_path)]
     assert main([*words, "--device", "7", "--workers", "1"]) == 0
     assert f"2026-11-22.csv: {gap}" in capsys.readouterr().err
@@ -357,13 +368,13 @@ def test_what_a_sweep_is_refused_by(day: Day, traffic: Traffic, tmp_path: Path) 
     with pytest.raises(Error, match="the same run comes twice"):
         Runs([seed, seed], ["trips"], out)
     for members in ("plan", "source"):
-        first, second = (tmp_path / it / "x.log" for it in ("a", "b"))
-        for it in (first, second):
+        every = [tmp_path / it / "x.log" for it in "abcdefgh"]
+        for it in every:
             it.parent.mkdir(exist_ok=True)
             it.write_bytes(Path(day.plan).read_bytes())
         what = {"plan": "plans", "source": "days"}[members]
-        message = f"two {what} of one name: {first} and {second}: rename one"
-        for names in ((first, second), (second, first)):
+        message = f"two {what} of one name: {every[0]} and {every[1]}: rename one"
+        for names in (every, every[:2], every[::-1]):
             tasks = [replace(day, **{members: str(it)}) for it in names]
             with pytest.raises(Error) as told_of:
                 Runs([*tasks], ["splits"], out)
@@ -372,6 +383,11 @@ def test_what_a_sweep_is_refused_by(day: Day, traffic: Traffic, tmp_path: Path) 
     found = Runs([day, seed], [told, "splits"], out)
     assert found.missing == list(found.names) and len(found.missing) == 2
     assert out.is_dir() and found.table().empty
+    # parts of files that a process left go
+    part = out / f".{'0' * 32}.part"
+    part.write_bytes(b"some")
+    os.utime(part, (1, 1))
+    assert Runs([day], [told], out).missing and not part.exists()
     assert Runs([seed], ["trips"], out).missing  # (a folder that is there)
 
 
@@ -475,3 +491,54 @@ def test_the_command_on_traffic(traffic: Traffic, tmp_path: Path) -> None:
 def test_processes_of_ones_own() -> None:
     with _client(None, 1) as client:
         assert client._free and len(client._all) == 1
+
+
+def test_a_summary_that_a_full_disk_does_not_take(
+    plan: Path, log: Path, tmp_path: Path, capsys: pytest.CaptureFixture[str]
+) -> None:
+    """It is as it was, and the line names it."""
+    out = tmp_path / "out"
+    words = [str(plan), "--days", str(log), "--out", str(out), "--seconds", "60"]
+    assert main([*words, "--workers", "1"]) == 0
+    path = out / "all_runs.txt"
+    size = path.stat().st_size
+    path.write_text("before\n")
+    for most, said in ((size - 1, "File too large; it is as it was\n"), (size, "")):
+        done = subprocess.run(
+            [sys.executable, "-m", "tsb", "sweep", *words],
+            capture_output=True, text=True,
+            # (nor is a part of a compiled module kept)
+            env={**os.environ, "PYTHONDONTWRITEBYTECODE": "1"},
+            preexec_fn=lambda: resource.setrlimit(resource.RLIMIT_FSIZE, (most, most)),
+        )  # fmt: skip
+        assert done.returncode == bool(said) and done.stderr.endswith(said)
+        assert (path.read_text() == "before\n") == bool(said)
+
+
+SCRIPT = """import sys
+from tsb import measures, sweep
+def mine(events, plan): return measures.greens(events)
+if __name__ == "__main__":
+    table = sweep.sweep(sys.argv[1:2], sys.argv[2:3], [mine], seconds=60)
+    print(set(table["measure"]), len(table) > 0)
+"""
+SESSION = """import sys
+from tsb import measures, sweep
+if __name__ == "__main__":
+    found = sweep.sweep(sys.argv[1:2], sys.argv[2:3], [measures.preempts], seconds=60)
+    print("preempt" in found.columns)
+"""
+
+
+def test_measures_that_processes_find(plan: Path, log: Path, tmp_path: Path) -> None:
+    """Those of a script that is run, and in a session those of a module."""
+    script = tmp_path / "script.py"
+    script.write_text(SCRIPT)
+    for words, said in (
+        ([str(script)], "{'mine'} True\n"), (["-c", SESSION], "True\n"),
+    ):  # fmt: skip
+        done = subprocess.run(
+            [sys.executable, *words, str(plan), str(log)],
+            capture_output=True, text=True,
+        )
+        assert (done.stdout, done.stderr) == (said, "")

@@ -44,7 +44,7 @@ def find(name: str) -> Path:
     if is_unproved():
         path = Path(os.environ["TSB_UNPROVED"]) / f"unproved_{name}"
         if not path.is_file():
-            raise NoProgram(f"there is no program {path}: tools/look builds it")
+            raise NoProgram(f"there is no program {path} yet: tools/look builds it")
         return path
     for it in filter(None, os.environ.get("TSB_BIN", "").split(os.pathsep)):
         if not Path(it).is_dir():

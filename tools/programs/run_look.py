@@ -11,6 +11,7 @@ import signal
 import subprocess
 import sys
 import tempfile
+import time
 import urllib.request
 from collections.abc import Callable
 
@@ -93,24 +94,44 @@ def a_report_says_that_it_is_unproved(room: pathlib.Path) -> bool:
     return done.returncode == 0 and "<title>UNPROVED: " in page and "<h1>UNPROVED: " in page
 
 
-def the_panel_says_that_it_is_unproved(room: pathlib.Path) -> bool:
-    """Beside its address, and in the state that its page shows; Ctrl-C ends it."""
+def panel(room: pathlib.Path) -> tuple[bool, str]:
+    """Whether a panel says beside its address that it is unproved, serves its page, and ends by Ctrl-C; and what was said
+    on standard error. Ctrl-C goes to all processes of a terminal."""
     with subprocess.Popen([LOOK, "panel"], cwd=room, env={**os.environ, "TSB_UNPROVED": str(room)},
-                          stdout=subprocess.PIPE, stderr=subprocess.DEVNULL, text=True) as running:
-        assert running.stdout is not None
+                          stdout=subprocess.PIPE, stderr=subprocess.PIPE, text=True, start_new_session=True) as running:
+        assert running.stdout is not None and running.stderr is not None
         address = re.search(r"^UNPROVED: .*(http://127\.0\.0\.1:\d+/\S+)$", running.stdout.readline())
         is_served = False
         if address:
             with urllib.request.urlopen(address[1], timeout=SECONDS) as page:
                 is_served = b"tsb panel" in page.read()
-        running.send_signal(signal.SIGINT)
-        return running.wait(SECONDS) == 0 and is_served
+        os.killpg(running.pid, signal.SIGINT)
+        return running.wait(SECONDS) == 0 and is_served, running.stderr.read()
+
+
+def the_panel_says_that_it_is_unproved(room: pathlib.Path) -> bool:
+    """Beside its address; nothing is built."""
+    is_well, said = panel(room)
+    return is_well and MARK.fullmatch(said) is not None
+
+
+def a_panel_waits_for_its_bench_alone(room: pathlib.Path) -> bool:
+    """What its page exports by is built meanwhile, and that ends with the panel."""
+    of = unproved.program("tsb_field").with_suffix(".of")
+    was = of.read_text()
+    of.write_text("another")
+    is_well, said = panel(room)
+    until = time.monotonic() + SECONDS
+    while list(room.glob("tsb-look-*")) and time.monotonic() < until:
+        time.sleep(0.1)
+    of.write_text(was)
+    return is_well and "building tsb_field meanwhile" in said and not list(room.glob("tsb-look-*"))
 
 
 CASES: list[Callable[[pathlib.Path], bool]] = [
     a_missing_file_builds_nothing, other_words_are_refused, the_session_is_the_readmes, it_is_kept,
     other_sources_are_built_anew, a_live_run_answers, files_are_those_of_the_user, a_report_says_that_it_is_unproved,
-    the_panel_says_that_it_is_unproved,
+    the_panel_says_that_it_is_unproved, a_panel_waits_for_its_bench_alone,
 ]
 
 
