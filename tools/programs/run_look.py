@@ -24,9 +24,15 @@ BUILD, SECONDS = 1800, 300
 MARK = re.compile(r"unproved: [a-z_, ]+, built without a proof for a look; `tools/build` makes the proved programs\n")
 
 
-def look(room: pathlib.Path, *words: str, text: str = "", seconds: int = SECONDS) -> subprocess.CompletedProcess[str]:
-    """Runs tools/look in a folder of its own."""
-    return subprocess.run([LOOK, *words], cwd=room, env={**os.environ, "TSB_UNPROVED": str(room)}, input=text,
+# What tools/look was given.
+RAN: set[tuple[str, ...]] = set()
+
+
+def look(room: pathlib.Path, *words: str, text: str = "", seconds: int = SECONDS,
+         folder: pathlib.Path | None = None) -> subprocess.CompletedProcess[str]:
+    """Runs tools/look in a folder of its own, or in this one."""
+    RAN.add(words)
+    return subprocess.run([LOOK, *words], cwd=folder or room, env={**os.environ, "TSB_UNPROVED": str(room)}, input=text,
                           capture_output=True, text=True, timeout=seconds)
 
 
@@ -94,9 +100,32 @@ def a_report_says_that_it_is_unproved(room: pathlib.Path) -> bool:
     return done.returncode == 0 and "<title>UNPROVED: " in page and "<h1>UNPROVED: " in page
 
 
+def an_example_is_reviewed(room: pathlib.Path) -> bool:
+    """From the top of the repository."""
+    done = look(room, "field", "review", "examples/tee.json", folder=TOP)
+    return done.returncode == 0 and MARK.fullmatch(done.stderr) is not None
+
+
+def a_session_and_a_check_of_ones_own(room: pathlib.Path) -> bool:
+    """The lines in which a head changed, and all of the others."""
+    shutil.copy(TOP / "examples/preempt_and_undo.log", room / "own.log")
+    played = look(room, "own.json", "own.log", text="step 60\nwhen stage\n")
+    checked = look(room, "check", "own.json")
+    return (played.returncode, checked.returncode, checked.stdout) == (0, 0, "plan ok\n") and played.stdout == (
+        "0000001 RGRRRGRR-------- -D-------------- G--- 0 ----\n"
+        "0000051 RYRRRYRR-------- -D-------------- Y--- 0 ----\nnever\n")
+
+
+def each_command_of_the_readme_was_run(_room: pathlib.Path) -> bool:
+    """By a case above."""
+    said = re.findall(r"^tools/look( [a-z/._ ]+?)?(?: +#.*)?$", (TOP / "README.md").read_text(), re.M)
+    return len(said) >= 4 and {tuple(it.split()) for it in said} <= RAN
+
+
 def panel(room: pathlib.Path) -> tuple[bool, str]:
     """Whether a panel says beside its address that it is unproved, serves its page, and ends by Ctrl-C; and what was said
     on standard error. Ctrl-C goes to all processes of a terminal."""
+    RAN.add(("panel",))
     with subprocess.Popen([LOOK, "panel"], cwd=room, env={**os.environ, "TSB_UNPROVED": str(room)},
                           stdout=subprocess.PIPE, stderr=subprocess.PIPE, text=True, start_new_session=True) as running:
         assert running.stdout is not None and running.stderr is not None
@@ -132,6 +161,7 @@ CASES: list[Callable[[pathlib.Path], bool]] = [
     a_missing_file_builds_nothing, other_words_are_refused, the_session_is_the_readmes, it_is_kept,
     other_sources_are_built_anew, a_live_run_answers, files_are_those_of_the_user, a_report_says_that_it_is_unproved,
     the_panel_says_that_it_is_unproved, a_panel_waits_for_its_bench_alone,
+    an_example_is_reviewed, a_session_and_a_check_of_ones_own, each_command_of_the_readme_was_run,
 ]
 
 
