@@ -255,6 +255,23 @@ def test_the_command(
     assert set(table["plan"]) == {"quad"} and set(table["measure"]) == {"terminations"}
 
 
+def unread() -> None:
+    """What reads the measure that no process can read."""
+    raise ValueError("nobody reads it")
+
+
+class Unread:
+    """A measure that no process can read."""
+
+    __name__ = "unread"
+
+    def __call__(self, events: pd.DataFrame, plan: Plan) -> pd.DataFrame:
+        return events
+
+    def __reduce__(self) -> Any:
+        return unread, ()
+
+
 def test_the_command_on_a_cluster_that_runs_already(
     dask: Any, plans: list[Path], days: list[Path], tmp_path: Path
 ) -> None:
@@ -268,6 +285,8 @@ def test_the_command_on_a_cluster_that_runs_already(
     out = tmp_path / "failed"
     with pytest.raises(SweepFailed, match="ValueError: it has a delay"):
         sweep(plans, days[:1], [none_with_delays], dask, out=out, **HOURS)
+    with pytest.raises(SweepFailed, match="ValueError: nobody reads it"):
+        sweep(plans, days[:1], [Unread()], dask, out=out, **HOURS)
 
 
 def test_a_run_is_safe_to_run_twice(

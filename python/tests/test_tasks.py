@@ -243,7 +243,7 @@ def test_what_is_told_of_a_day(
     other.write_bytes(Path(day.plan).read_bytes())
     with pytest.warns(UserWarning) as warned:
         sweep([day.plan, other], [path], ["greens"], one, **asked)
-    # each is told once, however many runs have it, and of the line that asked
+    # each comes once, however many runs have it, and names the line that asked
     left, paused = (str(it.message) for it in warned)
     assert left.startswith("2026-11-22.csv: left out: ")
     assert paused.startswith(f"2026-11-22.csv: {gap}")

@@ -102,6 +102,7 @@ EQUAL = {
     "tasks _measured: if not measures: return -> if False: return": "it gives nothing in any case",
     "tasks one_run: True -> False": "rows are written without their numbers",
     "tasks _log: 2 -> 3": "it names a line of the package in any case",
+    "sweep run: done.close() -> pass": "what it left off has nothing to put away",
     "report.numbers _cycle_lengths: False -> True": NAMED,
     "report.numbers _cycle_lengths: ticks < it.end -> ticks <= it.end": ANYWAY,
     "report.numbers _waited: on.min() -> on.max()": "a phase has one wait at most that goes on",
