@@ -388,10 +388,27 @@ def manner_runs():
         yield logged(text, CAR_LOG, "--count", errors=errors)
         yield logged(text, CAR_LOG, "--count", "--sort", errors=errors)
         yield logged(text, CAR_LOG)
+    devices = b"devices: %b in these rows:%b (name one by --device)\n"
     other = CAR + b"8,2026-11-22 07:00:30,1,1\n" + told("07:01:04 1 1")
-    yield logged(other, CAR_LOG, "--count", errors=read % (4, b"07:00:01.0", b"07:01:04.0", 1))
+    yield logged(other, CAR_LOG, "--count", errors=read % (4, b"07:00:01.0", b"07:01:04.0", 1) + devices % (b"2", b' "7" "8"'))
     yield logged(other, CAR_LOG, "--count", "--device=7",
                  errors=LEFT % (1, 0, 0) + read % (3, b"07:00:01.0", b"07:01:04.0", 1) + gaps % (1, b"07:00:03.0", b"07:01:04.0"))
+    # Devices are named as they come, the first eight of them, by their first 40 bytes as a fault shows them.
+    nine, long = [b"%d" % it for it in range(9)], b"9" * 40
+    for of, number, named in [
+        ([b"8"], b"2", [b"7", b"8"]), ([b"7", b"7 ", b" 7"], b"", []), ([b"07", b"7", b"07"], b"2", [b"7", b"07"]),
+        (nine[:8], b"8", [b"7", *nine[:7]]), (nine, b"9 or more", [b"7", *nine[:7]]),
+        ([b'"8, Main"', b'"8 Main"', b"\xc3\xa9", b"\x1b"], b"5", [b"7", b"8, Main", b"8 Main", b"??", b"?"]),
+        ([long, long + b"1", long + b"2", b""], b"3", [b"7", long, b""]),
+    ]:
+        line = devices % (number, b"".join(b' "%b"' % it for it in named)) if named else b""
+        text = CAR + b"".join(b"%b,2026-11-22 07:00:05,1,1\n" % it for it in of)
+        counted = read % (2 + len(of), b"07:00:01.0", b"07:00:05.0", 1) + line
+        yield logged(text, CAR_LOG, "--count", errors=counted)
+        yield logged(text, CAR_LOG, "--count", "--sort", errors=counted)
+        yield logged(text, CAR_LOG)
+    headed = b"Timestamp,EventId,Parameter\n2026-11-22 07:00:01,82,2\n2026-11-22 07:00:03,81,2\n"
+    yield logged(headed, CAR_LOG, "--count", errors=read % (2, b"07:00:01.0", b"07:00:03.0", 1))
     late = told("07:01:03 1 1") + CAR
     yield logged(late, CAR_LOG, "--count", "--sort-within=62",
                  errors=read % (3, b"07:00:01.0", b"07:01:03.0", 1) + gaps % (1, b"07:00:03.0", b"07:01:03.0"))

@@ -51,6 +51,8 @@ MOST_HELD = 1_000_000
 TOO_MANY = b" line %d: over 1000000 rows to sort: give a smaller --sort-within, or a --device"
 
 # What is printed where no row counts, and where no input has an event from tick 1 on.
+DEVICES = b"devices: %b in these rows:%b (name one by --device)\n"
+NAMED = 8
 GAPS = b"gaps: %d of a minute or more without a row that counts, the longest from %b to %b\n"
 NO_ROW = b"events: no row counts (give --allow-empty where that is right)\n"
 NO_EVENT = b"events: no event of an input from --from on (give --allow-empty where that is right)\n"
@@ -388,11 +390,11 @@ def order_fault(count, at, last, place, window=None):
 class Read:
     """What was read: the events of inputs, the moments of the rows that count, how many rows are of other devices, how
     many events are of channels without an input, how many lines are passed over, whether there is a header or a row, and
-    the form of times where the first row says it."""
+    the form of times where the first row says it, and the devices of rows, as they come."""
 
     def __init__(self):
         self.events, self.moments, self.others, self.lost, self.passed = [], [], 0, 0, 0
-        self.is_found, self.form = False, None
+        self.is_found, self.form, self.devices = False, None, []
 
 
 def taken(lines, begin, device, wires, form=None, zone=None, window=None, is_all=True):
@@ -443,6 +445,9 @@ def taken(lines, begin, device, wires, form=None, zone=None, window=None, is_all
             fault(told if told.startswith(b": ") else b" line %d: %b" % (count, told))
         of, form, at, code, channel = wide
         read.form = None if is_named else form
+        named = of.strip(b" ")[:40]
+        if named not in read.devices:
+            read.devices.append(named)
         if not counts:
             read.others += 1
             continue
@@ -464,8 +469,16 @@ def taken(lines, begin, device, wires, form=None, zone=None, window=None, is_all
     return read
 
 
-def counted(read):
-    """The lines of how much was read, and of the gaps in it."""
+def of_devices(devices):
+    """The line of devices, where there are two or more."""
+    if len(devices) < 2:
+        return b""
+    names = b"".join(b' "%b"' % re.sub(rb'[^ !#-~]', b"?", it) for it in devices[:NAMED])
+    return DEVICES % (b"%d" % len(devices) if len(devices) <= NAMED else b"9 or more", names)
+
+
+def counted(read, device):
+    """The lines of how much was read, of the gaps in it, and of several devices where none is asked for."""
     if not read.moments:
         return b"read: 0 rows\n"
     channels = {(kind, channel) for _, kind, channel, _ in read.events}
@@ -475,7 +488,7 @@ def counted(read):
     if gaps:
         longest = max(gaps, key=lambda pair: pair[1] - pair[0])
         told += GAPS % (len(gaps), *map(time_text, longest))
-    return told
+    return told + (of_devices(read.devices) if device is None else b"")
 
 
 def log(text, begin, device=None, mapped=(), form=None, zone=None, is_counted=False, may_be_empty=False, window=None):
@@ -489,7 +502,7 @@ def log(text, begin, device=None, mapped=(), form=None, zone=None, is_counted=Fa
     if read.others or read.lost or read.passed:
         told += f"left out: {read.others} rows of other devices, {read.lost} events of channels without an input, " \
                 f"{read.passed} lines that are no rows\n".encode()
-    told += counted(read) if is_counted else b""
+    told += counted(read, device) if is_counted else b""
     is_heard = may_be_empty or any(at >= begin for at, *_ in read.events)
     told += b"" if is_heard else NO_EVENT if read.moments else NO_ROW
     return 0 if is_heard else 1, log_of_events(begin, wires, read.events), told

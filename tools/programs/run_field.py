@@ -183,6 +183,7 @@ def random_export(chance, is_late=False):
     suffix = chance.choice(SUFFIXES.get(form, [""]))
     space, zeros, point = chance.choice(["", "", " "]), chance.choice(["", "", ".0", ".00"]), chance.choice("..,")
     device = chance.choice(["7", "7", "7", "7, Main", "7;Main", "7\tM"])
+    several = chance.choice([1, 1, 2, 7, 8, 9])
     day = chance.choice([0, 0, 0, -17 * 86_400, 86_400])
     now = BEGIN + day * field_rules.SECOND
     front = header.replace(b",", mark.encode())
@@ -195,7 +196,7 @@ def random_export(chance, is_late=False):
             channel = chance.choice(["NULL", "-1", ""])
         at = now - chance.choice(LATENESS) * 10 ** 8 if is_late else now
         time = random_time(chance, at, form, suffix, point)
-        said = [chance.choice([device, device, "8"]), time, f"{code}{zeros}", channel]
+        said = [chance.choice([device, device, "8", str(8 + chance.randrange(several))]), time, f"{code}{zeros}", channel]
         lines.append(row_text(chance, said, places, width, space, mark).encode())
         spoilt = chance.randrange(120)
         if spoilt < 8:

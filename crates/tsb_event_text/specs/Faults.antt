@@ -71,6 +71,15 @@ shown_of field = record {
   count = length (front_of field);
 }
 
+-- the device of a row as it is shown: nothing, where there is none
+abbrev pub device_shown : Option (List ℕ) → ShownField
+device_shown None = shown_of []
+device_shown (Some device) = shown_of (trimmed device)
+
+-- the device of a line, with its columns in these places
+abbrev pub device_of : Columns → List ℕ → ShownField
+device_of columns line = device_shown (device_in (fields_of (mark_of columns.separator) line) columns.device)
+
 -- a text has a mark of a day: a hyphen, a slash, or a point before its clock
 abbrev pub is_dated : List ℕ → Bool
 is_dated time = has_byte 45 time || (has_byte 47 time || has_byte 46 (before 58 time))

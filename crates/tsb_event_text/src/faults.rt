@@ -1,7 +1,7 @@
 //! Why a line is no row.
 ghost use Rattle.std.specs.Prelude.{◌≡◌, option_map};
 ghost use Rattle.tsb_event_text.specs.Fields.{fields_of, is_field};
-ghost use Rattle.tsb_event_text.specs.Faults.{are_columns, begins, fault_of, form_fault, form_or, has_no_second, has_more, has_some_fields, has_some_more, header_fault, is_dated, is_named, is_named_in, is_open, is_other, is_packed, is_place, is_preface, is_utf16, is_xml, line_fault, parts_fault, row_fault_of, shown_of, three_fault, time_at, time_fault};
+ghost use Rattle.tsb_event_text.specs.Faults.{are_columns, begins, device_of, device_shown, fault_of, form_fault, form_or, has_no_second, has_more, has_some_fields, has_some_more, header_fault, is_dated, is_named, is_named_in, is_open, is_other, is_packed, is_place, is_preface, is_utf16, is_xml, line_fault, parts_fault, row_fault_of, shown_of, three_fault, time_at, time_fault};
 
 use crate::columns::{Column, Columns, Separator, place};
 use crate::events::has_byte;
@@ -74,6 +74,23 @@ pub fn row_fault(line: &[u8], columns: Columns, times: Option<TimeForm>) -> RowF
         return RowFault::Binary;
     }
     line_fault(line, columns, times)
+}
+
+/// The device of a row, with its columns in these places, as it is shown: nothing, where no column has it.
+pub fn device_of(line: &[u8], columns: Columns) -> ShownField
+    ensures { result ≡ device_of columns line.now }
+{
+    device_shown(device_in(columns.separator.mark(), line, columns.device))
+}
+
+/// A device as it is shown: nothing, where there is none.
+fn device_shown(device: Option<&[u8]>) -> ShownField
+    ensures { result ≡ device_shown (option_map (λ device. device.now) device.entry) }
+{
+    match device {
+        Some(device) => front(trimmed(device)),
+        None => front(b""),
+    }
 }
 
 /// Whether a line is one that a maker writes before the header: it names no time and no code, each separator in it leaves

@@ -20,7 +20,7 @@ mod zones;
 
 pub use columns::{Column, Columns, Separator, header};
 pub use events::{LONGEST_DEVICE, append_event, can_be_written, event_line};
-pub use faults::{RowFault, SHOWN, ShownField, is_preface, row_fault};
+pub use faults::{RowFault, SHOWN, ShownField, device_of, is_preface, row_fault};
 pub use rows::{EventRow, event_row};
 pub use texts::TimeText;
 pub use time_forms::{TimeForm, form_of, is_ambiguous, moment_in, time_form_named, time_form_word};

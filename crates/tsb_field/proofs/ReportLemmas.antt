@@ -12,3 +12,8 @@ four-pieces t u v w x a b c d empty first second third fourth =
 pub five-pieces : (t u v w x y a b c d e : List ℕ) → t ≡ [] → u ≡ t ++ a → v ≡ u ++ b → w ≡ v ++ c → x ≡ w ++ d → y ≡ x ++ e → y ≡ a ++ (b ++ (c ++ (d ++ e)))
 five-pieces t u v w x y a b c d e empty first second third fourth fifth =
     fifth ∙ (ap (λ (s : List ℕ). s ++ e) fourth ∙ (append_assoc w d e ∙ four-pieces t u v w (w ++ (d ++ e)) a b c (d ++ e) empty first second third refl))
+
+pub six-pieces : (t u v w x y z a b c d e f : List ℕ) → t ≡ [] → u ≡ t ++ a → v ≡ u ++ b → w ≡ v ++ c → x ≡ w ++ d → y ≡ x ++ e → z ≡ y ++ f
+    → z ≡ a ++ (b ++ (c ++ (d ++ (e ++ f))))
+six-pieces t u v w x y z a b c d e f empty first second third fourth fifth sixth =
+    sixth ∙ (ap (λ (s : List ℕ). s ++ f) fifth ∙ (append_assoc x e f ∙ five-pieces t u v w x (x ++ (e ++ f)) a b c d (e ++ f) empty first second third fourth refl))

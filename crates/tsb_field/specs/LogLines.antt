@@ -5,6 +5,7 @@ use Rattle.tsb_event_text.specs.Times.{moment_of}
 use Rattle.tsb_event_text.specs.Written.{IsWritten}
 use Rattle.tsb_event_text.specs.declared.time_forms.TimeForm.{TimeForm}
 use Rattle.tsb_event_text.specs.declared.time_forms.TimeForm.TheVariants.{YearFirst}
+use Rattle.tsb_field_streams.specs.Devices.{devices_text}
 use Rattle.tsb_field_streams.specs.declared.filter.gaps.Gaps.{Gaps}
 use Rattle.tsb_field_streams.specs.declared.filter.LeftOut.{LeftOut}
 use Rattle.tsb_field_streams.specs.declared.filter.Summary.{Summary}
@@ -116,4 +117,6 @@ status_of manner summary = if manner.may_be_empty || summary.heard then 0 else 1
 abbrev pub IsReport : Manner → Summary → List ℕ → Type 0
 IsReport manner summary text =
     (counted : List ℕ) × (gaps : List ℕ) × IsCounted manner.counts summary counted × AreGaps manner.counts summary.gaps gaps
-    × (text ≡ form_line manner.times summary.times ++ (left_out_text summary.left_out ++ (counted ++ (gaps ++ verdict_line manner summary))))
+    × (text
+    ≡ form_line manner.times summary.times
+    ++ (left_out_text summary.left_out ++ (counted ++ (gaps ++ (devices_text manner.counts summary.devices ++ verdict_line manner summary)))))

@@ -5,7 +5,7 @@ ghost use Rattle.tsb_field.specs.LogLines.{AreGaps, IsCount, IsCounted, IsGapsLi
 
 use std::alloc::{AllocError, Global};
 use tsb_event_text::{Moment, TimeForm, time_form_word, time_text};
-use tsb_field_streams::{Gaps, LeftOut, Summary};
+use tsb_field_streams::{Gaps, LeftOut, Summary, append_devices};
 use tsb_program::Status;
 use tsb_words::field_files::Manner;
 
@@ -45,6 +45,7 @@ pub(crate) fn report(alloc: Global, manner: Manner, summary: Summary) -> Result<
     append_left_out(alloc, &mut text, summary.left_out)?;
     text.extend_from_slice(&counted)?;
     text.extend_from_slice(&gaps)?;
+    append_devices(&mut text, manner.counts, &summary.devices)?;
     text.extend_from_slice(verdict_line(manner, summary))?;
     Ok(text)
 }

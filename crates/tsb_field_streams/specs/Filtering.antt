@@ -29,11 +29,14 @@ use Rattle.tsb_field_streams.specs.Order.{first_before, first_of, placed, rest_b
 use Rattle.tsb_field_streams.specs.declared.error.Disorder.{Disorder}
 use Rattle.tsb_field_streams.specs.declared.error.FilterError.{FilterError}
 use Rattle.tsb_field_streams.specs.declared.error.FilterError.TheVariants.{LongLine, Malformed, TimeOrder, TooManyRows, PastEnd, LogTooLarge}
+use Rattle.tsb_field_streams.specs.declared.filter.devices.Devices.{Devices}
 use Rattle.tsb_field_streams.specs.declared.filter.gaps.Gaps.{Gaps}
 use Rattle.tsb_field_streams.specs.declared.filter.Summary.{Summary}
 use Rattle.tsb_field_streams.specs.declared.filter.TheConstants.{LINE, MOST_ROWS}
 use Rattle.tsb_field_streams.specs.declared.filter.gaps.TheConstants.{GAP}
 use Rattle.tsb_field_streams.specs.declared.filter.late.TheConstants.{MOST_HELD}
+use Rattle.tsb_field_streams.specs.Devices.{with_some_device}
+use Rattle.tsb_field_streams.specs.declared.filter.devices.TheConstants.{NO_DEVICES}
 
 -- what a filter is asked for: the moment at which tick 1 begins, the device whose rows count, the form of times, the zone
 -- by which moments are told, how many seconds a row may be behind the latest one above it where rows are sorted, and the
@@ -47,7 +50,7 @@ pub record Given : Type 0 where
   pub wires : List Wire
 
 -- what is known after some lines: where the columns stand, the form of times, how many rows counted, the moments of the
--- first and the last of them, the gaps between them, for each wire whether it is the first of its channel and had an event,
+-- first and the last of them, the gaps between them, the devices of rows where none is asked for, for each wire whether it is the first of its channel and had an event,
 -- how many rows were of other devices, how many events had no wire and how many lines were passed over, and the events of inputs. Where rows are
 -- sorted, all this is told of those that were taken: others are held, in the order of time, and the latest row was of this
 -- moment
@@ -58,6 +61,7 @@ pub record Stand : Type 0 where
   pub first : ℕ
   pub last : ℕ
   pub gaps : Gaps
+  pub devices : Devices
   pub used : List Bool
   pub others : ℕ
   pub unwired : ℕ
@@ -75,6 +79,7 @@ start g = record {
   first = 0;
   last = 0;
   gaps = record { count = 0; begin = 0; end = 0 };
+  devices = NO_DEVICES;
   used = replicate (length g.wires) false;
   others = 0;
   unwired = 0;
@@ -236,6 +241,10 @@ parameter_or false None = Some 0
 abbrev pub parameter_of : WideRow → Option ℕ
 parameter_of row = parameter_or (row.ours && is_there (signal_of row.code)) row.parameter
 
+-- the device of a row on this line is known, where none is asked for
+abbrev pub with_noted : Given → Stand → Columns → List ℕ → Stand
+with_noted g s columns text = record s { devices = with_some_device g.device s.devices columns text }
+
 -- a row as exports have it, with this parameter
 abbrev pub with_parameter : Given → ℕ → Stand → RowFault → WideRow → Option ℕ → Result Stand FilterError
 with_parameter g number s why row None = Err (Malformed number why)
@@ -251,12 +260,12 @@ with_wide g number s why (Some row) = with_parameter g number s why row (paramet
 abbrev pub with_other_line : Given → ℕ → Stand → Columns → List ℕ → Result Stand FilterError
 with_other_line g number s columns text =
     if is_passed text then with_passed s
-    else with_wide g number s (fault_of columns s.times text) (wide_of columns s.times g.zone g.device text)
+    else with_wide g number (with_noted g s columns text) (fault_of columns s.times text) (wide_of columns s.times g.zone g.device text)
 
 -- a plain row, where a line spells one
 abbrev pub with_some_row : Given → ℕ → Stand → Columns → List ℕ → Option EventRow → Result Stand FilterError
 with_some_row g number s columns text None = with_other_line g number s columns text
-with_some_row g number s columns text (Some row) = with_formed g number s YearFirst row
+with_some_row g number s columns text (Some row) = with_formed g number (with_noted g s columns text) YearFirst row
 
 -- times may have the plain form: they do, or no form is known yet
 abbrev pub may_be_plain : Option TimeForm → Bool
@@ -319,7 +328,7 @@ abbrev pub is_heard : ℕ → List InputEvent → Bool
 is_heard from events = nat_lt 0 (last_tick from events)
 
 -- what was read by some lines: what was left out, the form of times, the rows that counted with the moments of the first and
--- the last of them and the gaps between them, how many channels that lead to an input had an event, and whether an input had one from tick 1 on
+-- the last of them and the gaps between them, the devices of rows, how many channels that lead to an input had an event, and whether an input had one from tick 1 on
 abbrev pub summary_at : Given → Stand → Summary
 summary_at g s = record {
   left_out = record { of_other_devices = s.others; without_input = s.unwired; passed = s.passed; found = is_there s.columns };
@@ -328,6 +337,7 @@ summary_at g s = record {
   first = s.first;
   last = s.last;
   gaps = s.gaps;
+  devices = s.devices;
   channels = how_many s.used;
   heard = is_heard g.from s.events;
 }

@@ -314,7 +314,7 @@ fn push_field(line: &mut FaultLine, column: Column, field: ShownField)
 }
 
 /// What a field has, as it can be shown.
-fn shown(field: ShownField) -> ArrayVec<u8, SHOWN>
+pub(crate) fn shown(field: ShownField) -> ArrayVec<u8, SHOWN>
     ensures text { result.items ≡ shown_text field }
     ensures short { length result.items ≤ 40 }
 {

@@ -7,23 +7,26 @@ ghost use Rattle.tsb_field_log.specs.Pushed.{rows_before};
 ghost use Rattle.tsb_field_log.specs.Ticks.{row_in};
 ghost use Rattle.tsb_field_log.specs.Taken.{HasTaken};
 ghost use Rattle.tsb_field_streams.specs.Holding.{held_rows, most_rows};
-ghost use Rattle.tsb_field_streams.specs.Filtering.{Given, Stand, how_many, may_be_plain, most_held, parameter_of, start, summary_at, text_of, time_place, with_count, with_counted, with_first, with_formed, with_header, with_in_order, with_line, with_other_line, with_passed, with_row, with_row_line, with_text, with_wide, without_mark};
+ghost use Rattle.tsb_field_streams.specs.Filtering.{Given, Stand, how_many, may_be_plain, most_held, parameter_of, start, summary_at, text_of, time_place, with_count, with_counted, with_first, with_formed, with_header, with_in_order, with_line, with_noted, with_other_line, with_passed, with_row, with_row_line, with_text, with_wide, without_mark};
 ghost use Rattle.tsb_field_streams.specs.Blame.{IsOfText};
 ghost use Rattle.tsb_field_streams.specs.declared.error.FilterError.TheVariants.{LogTooLarge};
 
+mod devices;
 mod events;
 mod gaps;
 mod late;
 
 use crate::Held;
 use crate::error::{Disorder, FilterError};
+pub use devices::{Devices, MOST_NAMED, append_devices};
+use devices::{NO_DEVICES, with_device};
 pub use gaps::Gaps;
 use gaps::{NO_GAPS, first_moment, gaps_before};
 pub use late::MOST_HELD;
 pub(crate) use late::most_held;
 use tsb_event_text::{
-    Column, Columns, EventRow, Moment, RowFault, TimeForm, WideRow, Zone, event_row, header,
-    is_passed, is_preface, row_fault, wide_row,
+    Column, Columns, EventRow, Moment, RowFault, TimeForm, WideRow, Zone, device_of, event_row,
+    header, is_passed, is_preface, row_fault, wide_row,
 };
 use tsb_field_log::{KnownRows, Signal, Street, Wire};
 use tsb_lines::is_skipped;
@@ -75,6 +78,8 @@ pub struct Summary {
     pub last: u128,
     /// In how many gaps no row counted.
     pub gaps: Gaps,
+    /// The devices of rows; none where one was asked for.
+    pub devices: Devices,
     /// How many channels that lead to an input had an event, also before tick 1.
     pub channels: usize,
     /// Whether an input had an event from the moment on at which tick 1 begins.
@@ -100,6 +105,8 @@ pub struct Filter<'a> {
     /// The moment of the last row that counted, in nanoseconds, and 0 before any.
     last: u128,
     gaps: Gaps,
+    /// The devices of rows; none where one is asked for.
+    devices: Devices,
     /// For each wire whether it is the first of its channel and had an event.
     used: Vec<bool>,
     /// How many rows of the log are known.
@@ -146,6 +153,7 @@ impl<'a> Filter<'a> {
             first: 0,
             last: 0,
             gaps: NO_GAPS,
+            devices: NO_DEVICES,
             used,
             rows: 0,
             left_out: LeftOut {
@@ -267,8 +275,20 @@ impl<'a> Filter<'a> {
             return self.take_other_line(number, columns, text);
         }
         match event_row(text, columns, self.device) {
-            Some(row) => self.take_formed(number, TimeForm::YearFirst, row),
+            Some(row) => {
+                self.note_device(columns, text);
+                self.take_formed(number, TimeForm::YearFirst, row)
+            }
             None => self.take_other_line(number, columns, text),
+        }
+    }
+
+    /// Knows the device of a row, where none is asked for.
+    fn note_device(&mut self, columns: Columns, text: &[u8])
+        ensures stands { (g : Given) (s : Stand) → StandsAt g s self.old → StandsAt g (with_noted g s columns text.now) self.new }
+    {
+        if self.device.is_none() {
+            self.devices = with_device(self.devices, device_of(text, columns));
         }
     }
 
@@ -287,7 +307,10 @@ impl<'a> Filter<'a> {
         }
         let times = self.times;
         match wide_row(text, columns, times, self.reading.zone, self.device) {
-            Some(row) => self.take_wide(number, columns, text, row),
+            Some(row) => {
+                self.note_device(columns, text);
+                self.take_wide(number, columns, text, row)
+            }
             None => Err(FilterError::Malformed(number, row_fault(text, columns, times))),
         }
     }
@@ -423,6 +446,7 @@ impl<'a> Filter<'a> {
             first: self.first,
             last: self.last,
             gaps: self.gaps,
+            devices: self.devices,
             channels: how_many(self.used.as_slice()),
             heard: self.street.has_begun(),
         }

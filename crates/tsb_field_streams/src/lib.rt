@@ -13,7 +13,10 @@ mod stream;
 
 pub use error::{Disorder, FilterError};
 pub use fault_lines::{FaultLine, LONGEST};
-pub use filter::{Filter, Gaps, LINE, LeftOut, MOST_HELD, MOST_ROWS, RowOptions, Summary};
+pub use filter::{
+    Devices, Filter, Gaps, LINE, LeftOut, MOST_HELD, MOST_NAMED, MOST_ROWS, RowOptions, Summary,
+    append_devices,
+};
 pub use held::Held;
 pub use laws::late_rows_tell_what_sorted_rows_tell;
 pub use order_laws::sorted_rows_are_in_order;

@@ -1,9 +1,11 @@
 //! Lines of events and the rows of the log that they make known. Expected values are worked by hand from the rules.
 
 use std::alloc::{AllocError, Global};
-use tsb_event_text::{Column, Moment, RowFault, TimeForm, read_moment};
+use tsb_event_text::{Column, Moment, RowFault, SHOWN, ShownField, TimeForm, read_moment};
 use tsb_field_log::{InputKind, KnownRows, Street, Wire, wires};
-use tsb_field_streams::{Disorder, Filter, FilterError, Gaps, Held, LeftOut, RowOptions, Summary};
+use tsb_field_streams::{
+    Devices, Disorder, Filter, FilterError, Gaps, Held, LeftOut, MOST_NAMED, RowOptions, Summary,
+};
 use tsb_log_text::row_line;
 
 /// What a filter gives for lines from 07:00:00 on.
@@ -269,9 +271,50 @@ fn of_rows(times: Option<TimeForm>, rows: u32, first: u128, last: u128) -> Summa
             begin: 0,
             end: 0,
         },
+        devices: devices(b"7"),
         channels: 0,
         heard: false,
     }
+}
+
+/// Devices of one byte each, in this order.
+fn devices(of: &[u8]) -> Devices {
+    let mut names = [ShownField {
+        bytes: [b' '; SHOWN],
+        count: 0,
+    }; MOST_NAMED];
+    for k in 0..of.len().min(MOST_NAMED) {
+        names[k].bytes[0] = of[k];
+        names[k].count = 1;
+    }
+    Devices {
+        names,
+        count: of.len().min(MOST_NAMED),
+        more: of.len() > MOST_NAMED,
+    }
+}
+
+/// Whether devices are named once each, as they come, and no more than there is room for.
+fn devices_are_named(alloc: Global) -> bool {
+    let rows = [
+        b"7,2026-11-22 07:00:01,1,2".as_slice(),
+        b"8,2026-11-22 07:00:01,1,2",
+        b"7,2026-11-22 07:00:01,1,2",
+        b" 8 ,2026-11-22 07:00:01,1,2",
+        b"5,2026-11-22 07:00:01,1,2",
+        b"4,2026-11-22 07:00:01,1,2",
+        b"3,2026-11-22 07:00:01,1,2",
+        b"2,2026-11-22 07:00:01,1,2",
+        b"1,2026-11-22 07:00:01,1,2",
+        b"0,2026-11-22 07:00:01,1,2",
+        b"6,2026-11-22 07:00:01,1,2",
+        b"9,2026-11-22 07:00:01,1,2",
+    ];
+    let mut eight = of_rows(Some(TimeForm::YearFirst), 10, 1, 1);
+    eight.devices = devices(b"78543210");
+    let mut more = of_rows(Some(TimeForm::YearFirst), 12, 1, 1);
+    more.devices = devices(b"7854321069");
+    reads(alloc, &rows[..10], eight) && reads(alloc, &rows, more)
 }
 
 /// Whether rows of any code count, and channels with events of inputs.
@@ -324,10 +367,11 @@ fn tick_1_begins_what_is_heard(alloc: Global) -> bool {
 #[test]
 fn what_was_read_is_counted(rt: HostRuntime) {
     assert!(rt; rows_and_channels_count(rt.alloc()) && gaps_have_a_minute(rt.alloc()));
-    assert!(rt; tick_1_begins_what_is_heard(rt.alloc()));
+    assert!(rt; tick_1_begins_what_is_heard(rt.alloc()) && devices_are_named(rt.alloc()));
     let mut nothing = of_rows(None, 0, 0, 0);
     nothing.first = 0;
     nothing.last = 0;
+    nothing.devices = devices(b"");
     assert!(rt;
         reads(
             rt.alloc(),
