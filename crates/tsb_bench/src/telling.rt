@@ -33,13 +33,15 @@ use tsb_step::log_form::Noted;
 /// What is kept of the cabinet as it was before an input.
 #[derive(Clone, Copy)]
 pub(crate) struct Before {
+    /// The tick number then.
+    tick: u32,
     /// What the log saw.
     seen: Seen,
     /// What it saw of the selected pattern.
     selected: Selected,
     /// The layers.
     controller: Controller,
-    /// The tick number, or that of the trip, at which timers are read.
+    /// That tick number, or that of the trip, at which timers are read.
     clock: u32,
     /// The Green phases whose minimum green the next tick completes.
     completed: PhaseSet,
@@ -158,9 +160,11 @@ impl Cabinet {
         requires shut { IsShut self.now }
         requires limit { tick ≤ last_tick }
         requires by { AreAllBy tick (rows_of self.now) }
-        ensures { IsBefore tick (rows_of self.now) result }
+        ensures tick { result.tick ≡ tick }
+        ensures before { IsBefore tick (rows_of self.now) result }
     {
         Before {
+            tick,
             seen: self.view(tick),
             selected: self.selected(),
             controller: self.controller,
@@ -169,28 +173,32 @@ impl Cabinet {
         }
     }
 
-    /// What ended the greens that the tick after tick number `tick` ended. The cabinet is as it is after the tick.
-    fn causes(&self, before: &Before, tick: u32, row: &Row) -> Causes
-        requires was { (a : All) × IsBefore tick a before.now × AreAllBy tick a × IsAllowed tick a (inputs.Tick row.now) × (plan_in a.plan ≡ plan_in (rows_of self.now).plan) }
-        ensures { (a : All) (now : ℕ) → IsBefore tick a before.now → AreAllBy tick a → all_in now (rows_of self.now) ≡ step (all_in tick a) (inputs.Tick row.now)
-            → AreEnds (all_in tick a) row.now result }
+    /// What ended the greens that a tick with the inputs of `row` ended. The cabinet is as it is after the tick.
+    fn causes(&self, before: &Before, row: &Row) -> Causes
+        requires was { (a : All) × IsBefore before.now.tick a before.now × AreAllBy before.now.tick a × IsAllowed before.now.tick a (inputs.Tick row.now)
+            × (plan_in a.plan ≡ plan_in (rows_of self.now).plan) }
+        ensures { (a : All) (now : ℕ) → IsBefore before.now.tick a before.now → AreAllBy before.now.tick a
+            → all_in now (rows_of self.now) ≡ step (all_in before.now.tick a) (inputs.Tick row.now) → AreEnds (all_in before.now.tick a) row.now result }
     {
         if before.seen.flashes {
             return Causes::none();
         }
         let intervals = self.controller.phases().intervals();
         let yellow = intervals.yellow.difference(intervals.green);
-        before.controller.causes(yellow, tick + 1, row, &self.plan)
+        before
+            .controller
+            .causes(yellow, before.tick + 1, row, &self.plan)
     }
 
-    /// What the tick after tick number `tick` found, with the inputs of `row` on, where the log has noted this before. The
-    /// cabinet is as it is after the tick.
-    fn found(&self, before: &Before, tick: u32, row: &Row, noted: &Noted) -> Found
-        requires was { (a : All) × IsBefore tick a before.now × AreAllBy tick a × IsAllowed tick a (inputs.Tick row.now) × (plan_in a.plan ≡ plan_in (rows_of self.now).plan) }
-        ensures { (a : All) (now : ℕ) → IsBefore tick a before.now → AreAllBy tick a → all_in now (rows_of self.now) ≡ step (all_in tick a) (inputs.Tick row.now)
-            → IsFound noted.now (all_in tick a) row.now result }
+    /// What a tick with the inputs of `row` found, where the log has noted this before. The cabinet is as it is after the
+    /// tick.
+    fn found(&self, before: &Before, row: &Row, noted: &Noted) -> Found
+        requires was { (a : All) × IsBefore before.now.tick a before.now × AreAllBy before.now.tick a × IsAllowed before.now.tick a (inputs.Tick row.now)
+            × (plan_in a.plan ≡ plan_in (rows_of self.now).plan) }
+        ensures { (a : All) (now : ℕ) → IsBefore before.now.tick a before.now → AreAllBy before.now.tick a
+            → all_in now (rows_of self.now) ≡ step (all_in before.now.tick a) (inputs.Tick row.now) → IsFound noted.now (all_in before.now.tick a) row.now result }
     {
-        let causes = self.causes(before, tick, row);
+        let causes = self.causes(before, row);
         Found {
             minimum: NumberSet::from_list(before.completed.list()),
             gap: causes.gap,
@@ -198,33 +206,26 @@ impl Cabinet {
             force_off: causes.force_off,
             noted: *noted,
             row: *row,
-            zero: before.controller.comes_to_zero(tick, &self.plan),
-            yields: NumberSet::from_list(before.controller.yields(tick, &self.plan).list()),
+            zero: before.controller.comes_to_zero(before.tick, &self.plan),
+            yields: NumberSet::from_list(before.controller.yields(before.tick, &self.plan).list()),
             served: before.controller.is_served(before.clock, row, &self.plan),
         }
     }
 
-    /// Tells the events of an input that was taken at tick number `tick`; the cabinet is as it is after it, at tick
-    /// number `now`.
-    fn tell(
-        &self,
-        before: &Before,
-        tick: u32,
-        now: u32,
-        input: &Input,
-        noted: &Noted,
-        events: &mut Events,
-    )
-        requires was { (a : All) × IsBefore tick a before.now × AreAllBy tick a × IsAllowed tick a input.now × (all_in now (rows_of self.now) ≡ step (all_in tick a) input.now) }
+    /// Writes the events of an input to `events`, in place of what was there. The cabinet is as it is after the input, at
+    /// tick number `now`.
+    fn tell(&self, before: &Before, now: u32, input: &Input, noted: &Noted, events: &mut Events)
+        requires was { (a : All) × IsBefore before.now.tick a before.now × AreAllBy before.now.tick a × IsAllowed before.now.tick a input.now
+            × (all_in now (rows_of self.now) ≡ step (all_in before.now.tick a) input.now) }
         requires limit { now ≤ last_tick }
         requires by { AreAllBy now (rows_of self.now) }
-        ensures { (a : All) → IsBefore tick a before.now → AreAllBy tick a → all_in now (rows_of self.now) ≡ step (all_in tick a) input.now
-            → events.new.items ≡ events_of noted.now (all_in tick a) input.now }
+        ensures { (a : All) → IsBefore before.now.tick a before.now → AreAllBy before.now.tick a
+            → all_in now (rows_of self.now) ≡ step (all_in before.now.tick a) input.now → events.new.items ≡ events_of noted.now (all_in before.now.tick a) input.now }
     {
         let seen = self.view(now);
         match input {
             Input::Tick(row) => {
-                let found = self.found(before, tick, row, noted);
+                let found = self.found(before, row, noted);
                 tick_events(events, now, &before.seen, &seen, &found);
             }
             _ => {
@@ -277,8 +278,7 @@ impl Bench {
             Ok(()) => {}
             Err(refusal) => return Err(refusal),
         }
-        self.cabinet
-            .tell(&before, tick, self.tick, &input, noted, events);
+        self.cabinet.tell(&before, self.tick, &input, noted, events);
         Ok(())
     }
 }

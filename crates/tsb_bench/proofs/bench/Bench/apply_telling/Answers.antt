@@ -30,9 +30,9 @@ pub tell-requires-clause-limit : goal.tell-requires-clause-limit
 tell-requires-clause-limit c = (sound-held _ _ _ c.self-2.invariant.1).limit
 
 pub tell-requires-clause-was : goal.tell-requires-clause-was
-tell-requires-clause-was c = (
+tell-requires-clause-was c = rw c.before-before.ensures.tick (
   rows_of c.self.inside.cabinet,
-  c.before-before.ensures,
+  c.before-before.ensures.before,
   (sound-held _ _ _ c.self.invariant.1).by,
   ap (λ (h : Held). verdict (state_of h) c.args.input) c.self.view_is ∙ c.in-Ok.ensures.allowed,
   ap (λ (h : Held). state_of h) c.self-2.view_is ∙ c.in-Ok.ensures.state ∙ ap (λ (h : Held). step (state_of h) c.args.input) (sym c.self.view_is),
@@ -40,6 +40,6 @@ tell-requires-clause-was c = (
 
 pub returns-clause-told : goal.returns-clause-told
 returns-clause-told c =
-    c.tell.ensures (rows_of c.self.inside.cabinet) c.before-before.ensures (sound-held _ _ _ c.self.invariant.1).by
+    (rw c.before-before.ensures.tick at c.tell.ensures) (rows_of c.self.inside.cabinet) c.before-before.ensures.before (sound-held _ _ _ c.self.invariant.1).by
     (ap (λ (h : Held). state_of h) c.self-2.view_is ∙ c.in-Ok.ensures.state ∙ ap (λ (h : Held). step (state_of h) c.args.input) (sym c.self.view_is))
     ∙ ap (λ (h : Held). events_of c.args.noted.now (state_of h) c.args.input) c.self.view_is

@@ -26,31 +26,31 @@ returns-then-before c a now before by stepped = record {
   force_off = λ p from to. c.none.ensures.force_off p ∙ sym (rw (ends p) refl);
 }
   where
-    ends : (p : ℕ) → ends_freely (all_in c.args.tick a) c.args.row.now (step (all_in c.args.tick a) (inputs.Tick c.args.row.now)) p ≡ false
-    ends p = tripped-ends-none (all_in c.args.tick a) c.args.row.now p (sym before.tripped ∙ c.if-before.true)
+    ends : (p : ℕ) → ends_freely (all_in c.args.before.now.tick a) c.args.row.now (step (all_in c.args.before.now.tick a) (inputs.Tick c.args.row.now)) p ≡ false
+    ends p = tripped-ends-none (all_in c.args.before.now.tick a) c.args.row.now p (sym before.tripped ∙ c.if-before.true)
 
 pub overflow_add-tick : goal.overflow_add-tick
-overflow_add-tick c = let was = c.requires.was in let least = tick-below c.args.tick was.0 c.args.row.now was.3 in omega (arith, least)
+overflow_add-tick c = let was = c.requires.was in let least = tick-below c.args.before.now.tick was.0 c.args.row.now was.3 in omega (arith, least)
 
 pub causes-requires-clause-in_time : goal.causes-requires-clause-in_time
-causes-requires-clause-in_time c = let was = c.requires.was in let least = tick-below c.args.tick was.0 c.args.row.now was.3 in omega (arith, least)
+causes-requires-clause-in_time c = let was = c.requires.was in let least = tick-below c.args.before.now.tick was.0 c.args.row.now was.3 in omega (arith, least)
 
 -- the controller has not tripped
 pub causes-requires-clause-by : goal.causes-requires-clause-by
 causes-requires-clause-by c =
     let was = c.requires.was in
-    let number : c.args.tick ≡ c.args.tick + 1 - 1 = omega arith in
+    let number : c.args.before.now.tick ≡ c.args.before.now.tick + 1 - 1 = omega arith in
     let none : trip_in was.0.monitor ≡ None = is-none (trip_in was.0.monitor) (sym was.1.tripped ∙ c.if-before.false) in
     subst (λ (n : ℕ). AreBy n (layers.rows_of c.args.before.now.controller)) number
-    (subst (λ (r : Rows). AreBy c.args.tick r) (sym was.1.layers)
-    (subst (λ (o : Option Tripped). AreBy (clock_at c.args.tick o) was.0.layers) none was.2.layers))
+    (subst (λ (r : Rows). AreBy c.args.before.now.tick r) (sym was.1.layers)
+    (subst (λ (o : Option Tripped). AreBy (clock_at c.args.before.now.tick o) was.0.layers) none was.2.layers))
 
 pub returns : goal.returns
 unfolding checked_plan plan_of
 returns c a now before by stepped =
-    causes-told c.args.tick now a (rows_of c.args.self.now) c.args.row.now (checked_plan c.args.self.now.plan) (layers.rows_of c.args.before.now.controller) c.difference-yellow.result c.causes.result
+    causes-told c.args.before.now.tick now a (rows_of c.args.self.now) c.args.row.now (checked_plan c.args.self.now.plan) (layers.rows_of c.args.before.now.controller) c.difference-yellow.result c.causes.result
     (is-none (trip_in a.monitor) (sym before.tripped ∙ c.if-before.false))
-    (plan-stays c.args.tick now a (rows_of c.args.self.now) c.args.row.now stepped) before.layers stepped
+    (plan-stays c.args.before.now.tick now a (rows_of c.args.self.now) c.args.row.now stepped) before.layers stepped
     (λ p from to. c.difference-yellow.ensures p ∙ yellow-set c.intervals-intervals.result p
     ∙ ap is_yellow (intervals (clock_at now (all_in now (rows_of c.args.self.now)).trip) p from to))
     c.causes.ensures

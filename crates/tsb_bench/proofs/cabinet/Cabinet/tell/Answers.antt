@@ -18,14 +18,14 @@ pub found-found-requires : goal.found-found-requires
 unfolding checked_plan plan_of
 found-found-requires c =
     let was = c.requires.was in
-    let stepped = was.4 ∙ ap (step (all_in c.args.tick was.0)) c.in-Tick.is in
+    let stepped = was.4 ∙ ap (step (all_in c.args.before.now.tick was.0)) c.in-Tick.is in
     record {
       was = (
         was.0,
         was.1,
         was.2,
-        subst (IsAllowed c.args.tick was.0) c.in-Tick.is was.3,
-        sym (plan-stays c.args.tick c.args.now was.0 (rows_of c.args.self.now) c.in-Tick.row stepped),
+        subst (IsAllowed c.args.before.now.tick was.0) c.in-Tick.is was.3,
+        sym (plan-stays c.args.before.now.tick c.args.now was.0 (rows_of c.args.self.now) c.in-Tick.row stepped),
       );
     }
 
@@ -39,7 +39,7 @@ returns-in-Tick c a before by stepped =
     ∙ ap (λ (i : Input). events_of c.args.noted.now s i) (sym c.in-Tick.is)
   where
     s : State
-    s = all_in c.args.tick a
+    s = all_in c.args.before.now.tick a
 
     f : Found
     f = found c.args.noted.now s c.in-Tick.row (step s (inputs.Tick c.in-Tick.row))
@@ -53,12 +53,12 @@ returns-in_default c a before by stepped =
     c.other_events.ensures
     ∙ others-same c.args.now c.args.noted.now (view_of c.args.before.now.seen) (view s) (view_of c.view-seen.result) (view after)
     (selected_of c.args.before.now.selected) (selected s) (selected_of c.selected.result) (selected after)
-    before.seen c.view-seen.ensures.sees (before.selected c.args.tick) (c.selected.ensures c.args.now)
+    before.seen c.view-seen.ensures.sees (before.selected c.args.before.now.tick) (c.selected.ensures c.args.now)
     ∙ sym (other-told c.args.noted.now s after c.args.input.now c.in_default.not-Tick)
     ∙ ap (events_between c.args.noted.now s c.args.input.now) stepped
   where
     s : State
-    s = all_in c.args.tick a
+    s = all_in c.args.before.now.tick a
 
     after : State
     after = all_in c.args.now (rows_of c.args.self.now)
