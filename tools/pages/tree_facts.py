@@ -40,15 +40,8 @@ LAYERS = {"desk": "tsb_transact", "detectors": "tsb_detect", "calls": "tsb_calls
 # the crate. Types of tests, comparisons and times are not looked at.
 TWICE = {
     "Cause": {"tsb_phase", "tsb_program"},
-    "Kind": {"tsb_field_diagram", "tsb_history"},
-    "Mark": {"tsb_field_diagram", "tsb_text"},
-    "Next": {"tsb_plan_notes", "tsb_status"},
-    "Place": {"tsb_breaches", "tsb_review"},
     "Refusal": {"tsb_program", "tsb_types"},
-    "Shape": {"tsb_breaches", "tsb_review"},
-    "Sought": {"tsb_review", "tsb_rules"},
     "Status": {"tsb_program", "tsb_status"},
-    "Stop": {"tsb_plan_notes", "tsb_text"},
 }
 UNPROVED = {"tsb_tests", "tsb_field_tests", "tsb_layer_runs", "tsb_runs"}
 

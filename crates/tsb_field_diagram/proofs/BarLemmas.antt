@@ -3,7 +3,7 @@ use Rattle.std.proofs.Common.{◌≡◌, ◌∙◌, ℕ, ◌+◌, ◌-◌, ◌<�
 use Rattle.std.proofs.lemmas.Bool.{le-leb, le-ltb, lt-ltb, lt-leb}
 use Rattle.std.proofs.lemmas.List.{drop_all, take_all, take_rest}
 use Rattle.std.proofs.Math.Seq.{take-suc}
-use Rattle.tsb_field_diagram.specs.declared.band.Mark.{Mark}
+use Rattle.tsb_field_diagram.specs.declared.band.BandMark.{BandMark}
 use Rattle.tsb_field_diagram.specs.Bars.{from_tick, before_tick, bars_on, bars_of, bars_text, bar_text, is_same, Bar}
 
 pub drop-step : {A : Type 0} (xs : List A) (i : ℕ) (d : A) → i < length xs → drop i xs ≡ get_or xs i d ∷ drop (i + 1) xs
@@ -73,13 +73,13 @@ stop-last tick first xs i few held =
 
 -- ## Bars
 
-pub bars-stay : {A : Type 0} (tick : A → ℕ) (shown : A → Mark) (begin end : ℕ) (now : Mark) (xs : List A) (i : ℕ) (d : A) → i < length xs →
+pub bars-stay : {A : Type 0} (tick : A → ℕ) (shown : A → BandMark) (begin end : ℕ) (now : BandMark) (xs : List A) (i : ℕ) (d : A) → i < length xs →
     is_same (shown (get_or xs i d)) now ≡ true →
     bars_on tick shown begin now end (drop i xs) ≡ bars_on tick shown begin now end (drop (i + 1) xs)
 unfolding bars_on
 bars-stay tick shown begin end now xs i d within same = rw (drop-step xs i d within, same) refl
 
-pub bars-change : {A : Type 0} (place : ℕ) (tick : A → ℕ) (shown : A → Mark) (begin end : ℕ) (now : Mark) (xs : List A) (i : ℕ) (d : A) → i < length xs →
+pub bars-change : {A : Type 0} (place : ℕ) (tick : A → ℕ) (shown : A → BandMark) (begin end : ℕ) (now : BandMark) (xs : List A) (i : ℕ) (d : A) → i < length xs →
     is_same (shown (get_or xs i d)) now ≡ false →
     bars_text place (bars_on tick shown begin now end (drop i xs))
     ≡ bar_text place begin (tick (get_or xs i d)) now
@@ -87,17 +87,17 @@ pub bars-change : {A : Type 0} (place : ℕ) (tick : A → ℕ) (shown : A → M
 unfolding bars_on bars_text
 bars-change place tick shown begin end now xs i d within other = rw (drop-step xs i d within, other) refl
 
-pub bars-last : {A : Type 0} (place : ℕ) (tick : A → ℕ) (shown : A → Mark) (begin end : ℕ) (now : Mark) →
+pub bars-last : {A : Type 0} (place : ℕ) (tick : A → ℕ) (shown : A → BandMark) (begin end : ℕ) (now : BandMark) →
     bars_text place (bars_on tick shown begin now end []) ≡ bar_text place begin end now
 unfolding bars_on bars_text
 bars-last place tick shown begin end now = append-nil (bar_text place begin end now)
 
-pub bars-first : {A : Type 0} (place : ℕ) (tick : A → ℕ) (shown : A → Mark) (first end : ℕ) (x : A) (xs : List A) →
+pub bars-first : {A : Type 0} (place : ℕ) (tick : A → ℕ) (shown : A → BandMark) (first end : ℕ) (x : A) (xs : List A) →
     bars_text place (bars_of tick shown first end (x ∷ xs)) ≡ bars_text place (bars_on tick shown (max first (tick x)) (shown x) end xs)
 unfolding bars_of
 bars-first place tick shown first end x xs = refl
 
-pub bars-none : {A : Type 0} (place : ℕ) (tick : A → ℕ) (shown : A → Mark) (first end : ℕ) (xs : List A) → length xs ≡ 0 →
+pub bars-none : {A : Type 0} (place : ℕ) (tick : A → ℕ) (shown : A → BandMark) (first end : ℕ) (xs : List A) → length xs ≡ 0 →
     bars_text place (bars_of tick shown first end xs) ≡ []
 unfolding bars_of bars_text
 bars-none place tick shown first end [] none = refl
@@ -106,32 +106,32 @@ bars-none place tick shown first end (x ∷ xs) none = absurd (omega (arith, non
 -- ## Turns of a loop over items
 
 -- where the next shows the same
-pub turn-same : {A : Type 0} (place : ℕ) (tick : A → ℕ) (shown : A → Mark) (end : ℕ) (xs : List A) (i : ℕ) (d : A) → i < length xs →
-    (begin begin_new : ℕ) (now now_new next : Mark) (text text_new all : List ℕ) (same : Bool) →
+pub turn-same : {A : Type 0} (place : ℕ) (tick : A → ℕ) (shown : A → BandMark) (end : ℕ) (xs : List A) (i : ℕ) (d : A) → i < length xs →
+    (begin begin_new : ℕ) (now now_new next : BandMark) (text text_new all : List ℕ) (same : Bool) →
     next ≡ shown (get_or xs i d) → same ≡ is_same next now → same ≡ true → text_new ≡ text → begin_new ≡ begin → now_new ≡ now →
     text ++ bars_text place (bars_on tick shown begin now end (drop i xs)) ≡ all →
     text_new ++ bars_text place (bars_on tick shown begin_new now_new end (drop (i + 1) xs)) ≡ all
 turn-same place tick shown end xs i d within begin begin_new now now_new next text text_new all same next-is told is text-is begin-is now-is held =
-    let one : is_same (shown (get_or xs i d)) now ≡ true = ap (λ (m : Mark). is_same m now) (sym next-is) ∙ sym told ∙ is in
+    let one : is_same (shown (get_or xs i d)) now ≡ true = ap (λ (m : BandMark). is_same m now) (sym next-is) ∙ sym told ∙ is in
     rw (text-is, begin-is, now-is) (ap (λ (bs : List Bar). text ++ bars_text place bs) (sym (bars-stay tick shown begin end now xs i d within one)) ∙ held)
 
 -- where it shows another mark
-pub turn-other : {A : Type 0} (place : ℕ) (tick : A → ℕ) (shown : A → Mark) (end : ℕ) (xs : List A) (i : ℕ) (d : A) → i < length xs →
-    (begin begin_new : ℕ) (now now_new next : Mark) (text text_new all : List ℕ) (same : Bool) →
+pub turn-other : {A : Type 0} (place : ℕ) (tick : A → ℕ) (shown : A → BandMark) (end : ℕ) (xs : List A) (i : ℕ) (d : A) → i < length xs →
+    (begin begin_new : ℕ) (now now_new next : BandMark) (text text_new all : List ℕ) (same : Bool) →
     next ≡ shown (get_or xs i d) → same ≡ is_same next now → same ≡ false →
     text_new ≡ text ++ bar_text place begin (tick (get_or xs i d)) now → begin_new ≡ tick (get_or xs i d) → now_new ≡ next →
     text ++ bars_text place (bars_on tick shown begin now end (drop i xs)) ≡ all →
     text_new ++ bars_text place (bars_on tick shown begin_new now_new end (drop (i + 1) xs)) ≡ all
 turn-other place tick shown end xs i d within begin begin_new now now_new next text text_new all same next-is told is text-is begin-is now-is held =
-    let one : is_same (shown (get_or xs i d)) now ≡ false = ap (λ (m : Mark). is_same m now) (sym next-is) ∙ sym told ∙ is in
+    let one : is_same (shown (get_or xs i d)) now ≡ false = ap (λ (m : BandMark). is_same m now) (sym next-is) ∙ sym told ∙ is in
     let mark-is : now_new ≡ shown (get_or xs i d) = now-is ∙ next-is in
     rw (text-is, begin-is, mark-is)
     (append_assoc text (bar_text place begin (tick (get_or xs i d)) now) _
     ∙ ap (λ (ts : List ℕ). text ++ ts) (sym (bars-change place tick shown begin end now xs i d within one)) ∙ held)
 
 -- where none is left
-pub turn-last : {A : Type 0} (place : ℕ) (tick : A → ℕ) (shown : A → Mark) (first end : ℕ) (whole xs : List A) (i : ℕ) (x : A) → length xs ≤ i →
-    (begin begin_old : ℕ) (now now_old : Mark) (text text_new old : List ℕ) →
+pub turn-last : {A : Type 0} (place : ℕ) (tick : A → ℕ) (shown : A → BandMark) (first end : ℕ) (whole xs : List A) (i : ℕ) (x : A) → length xs ≤ i →
+    (begin begin_old : ℕ) (now now_old : BandMark) (text text_new old : List ℕ) →
     whole ≡ x ∷ xs → begin_old ≡ max first (tick x) → now_old ≡ shown x →
     text ++ bars_text place (bars_on tick shown begin now end (drop i xs)) ≡ old ++ bars_text place (bars_on tick shown begin_old now_old end xs) →
     text_new ≡ text ++ bar_text place begin end now →

@@ -2,20 +2,20 @@
 use Rattle.std.proofs.Common.{◌≡◌, ◌≢◌, ◌∙◌, ℕ, ◌<◌, ◌≤◌, max, Bool, true, false, leb, ltb, eqb, if◌then◌else◌, List, [], ◌∷◌, ◌⊎◌, refl, sym, ap, arith, inl, inr}
 use Rattle.std.proofs.lemmas.Bool.{le-leb, lt-leb, lt-ltb, le-ltb, eq-eqb}
 use Rattle.std.proofs.lemmas.Bool.Decides.{leb_tells, eqb_tells}
-use Rattle.tsb_field_diagram.specs.declared.band.Mark.{Mark}
-use Rattle.tsb_field_diagram.specs.declared.band.Mark.TheVariants.{Dark, Green, Yellow, Red, Flashing, Walk, Clearance, DontWalk, Served, On}
+use Rattle.tsb_field_diagram.specs.declared.band.BandMark.{BandMark}
+use Rattle.tsb_field_diagram.specs.declared.band.BandMark.TheVariants.{Dark, Green, Yellow, Red, Flashing, Walk, Clearance, DontWalk, Served, On}
 use Rattle.tsb_field_diagram.specs.Bars.{Bar, bars_on, bars_of, from_tick, before_tick, in_line, is_same, number_of}
 use Rattle.tsb_field_diagram.specs.Laws.{IsBefore, Rises, in_force, Fill, DifferFrom, Differ, Tell, AreStretches}
 
 -- ## Marks
 
-mark_of : ℕ → Mark
+mark_of : ℕ → BandMark
 mark_of n =
     if eqb n 0 then Dark else (if eqb n 1 then Green else (if eqb n 2 then Yellow else (if eqb n 3 then Red else
     (if eqb n 4 then Flashing else (if eqb n 5 then Walk else (if eqb n 6 then Clearance else (if eqb n 7 then DontWalk else
     (if eqb n 8 then Served else On))))))))
 
-marked : (m : Mark) → mark_of (number_of m) ≡ m
+marked : (m : BandMark) → mark_of (number_of m) ≡ m
 unfolding mark_of
 marked Dark = refl
 marked Green = refl
@@ -28,14 +28,14 @@ marked DontWalk = refl
 marked Served = refl
 marked On = refl
 
-same-mark : (a b : Mark) → is_same a b ≡ true → a ≡ b
+same-mark : (a b : BandMark) → is_same a b ≡ true → a ≡ b
 same-mark a b e =
     elim (eqb_tells (number_of a) (number_of b)) [
       | inl told ↦ sym (marked a) ∙ ap mark_of told.1 ∙ marked b
       | inr told ↦ absurd (let no : is_same a b ≡ false = told.0 in cc)
     ]
 
-other-mark : (a b : Mark) → is_same a b ≡ false → a ≢ b
+other-mark : (a b : BandMark) → is_same a b ≡ false → a ≢ b
 other-mark a b e is = let yes : is_same a b ≡ true = eq-eqb (number_of a) (number_of b) (ap number_of is) in cc
 
 -- ## What is in force
@@ -110,7 +110,7 @@ fill-ends : (begin end : ℕ) (bars : List Bar) → Fill begin bars end → begi
 fill-ends begin end [] fill = omega (arith, fill)
 fill-ends begin end (b ∷ bs) fill = let rest : b.end ≤ end = fill-ends b.end end bs fill.1.1 in omega (arith, fill.0, fill.1.0, rest)
 
-fills : {A : Type 0} (tick : A → ℕ) (shown : A → Mark) (begin : ℕ) (now : Mark) (end : ℕ) (xs : List A) → begin < end → IsBefore tick begin xs →
+fills : {A : Type 0} (tick : A → ℕ) (shown : A → BandMark) (begin : ℕ) (now : BandMark) (end : ℕ) (xs : List A) → begin < end → IsBefore tick begin xs →
     Rises tick xs → AreBefore tick end xs → Fill begin (bars_on tick shown begin now end xs) end
 unfolding bars_on
 fills tick shown begin now end [] lt before rises within = (refl, (lt, refl))
@@ -120,7 +120,7 @@ fills tick shown begin now end (y ∷ ys) lt before rises within =
       | inr e ↦ rw e (refl, (before, fills tick shown (tick y) (shown y) end ys within.0 rises.0 rises.1 within.1))
     ]
 
-differs_from : {A : Type 0} (tick : A → ℕ) (shown : A → Mark) (begin : ℕ) (now : Mark) (end : ℕ) (xs : List A) (other : Mark) → now ≢ other →
+differs_from : {A : Type 0} (tick : A → ℕ) (shown : A → BandMark) (begin : ℕ) (now : BandMark) (end : ℕ) (xs : List A) (other : BandMark) → now ≢ other →
     DifferFrom other (bars_on tick shown begin now end xs)
 unfolding bars_on
 differs_from tick shown begin now end [] other apart = (apart, tt)
@@ -130,7 +130,7 @@ differs_from tick shown begin now end (y ∷ ys) other apart =
       | inr e ↦ rw e (apart, differs_from tick shown (tick y) (shown y) end ys now (other-mark (shown y) now e))
     ]
 
-differs : {A : Type 0} (tick : A → ℕ) (shown : A → Mark) (begin : ℕ) (now : Mark) (end : ℕ) (xs : List A) → Differ (bars_on tick shown begin now end xs)
+differs : {A : Type 0} (tick : A → ℕ) (shown : A → BandMark) (begin : ℕ) (now : BandMark) (end : ℕ) (xs : List A) → Differ (bars_on tick shown begin now end xs)
 unfolding bars_on
 differs tick shown begin now end [] = tt
 differs tick shown begin now end (y ∷ ys) =
@@ -140,7 +140,7 @@ differs tick shown begin now end (y ∷ ys) =
     ]
 
 -- bars tell what is shown, where it is the same from their begin on
-tell-as : (f g : ℕ → Mark) (begin end : ℕ) (bars : List Bar) → Fill begin bars end → ((t : ℕ) → begin ≤ t → t < end → f t ≡ g t) → Tell f bars → Tell g bars
+tell-as : (f g : ℕ → BandMark) (begin end : ℕ) (bars : List Bar) → Fill begin bars end → ((t : ℕ) → begin ≤ t → t < end → f t ≡ g t) → Tell f bars → Tell g bars
 tell-as f g begin end [] fill same told = tt
 tell-as f g begin end (b ∷ bs) fill same told =
     let ends : b.end ≤ end = fill-ends b.end end bs fill.1.1 in
@@ -150,8 +150,8 @@ tell-as f g begin end (b ∷ bs) fill same told =
       tell-as f g b.end end bs fill.1.1 (λ t from below. same t (omega (arith, starts, some, from)) below) told.1,
     )
 
-tells : {A : Type 0} (tick : A → ℕ) (shown : A → Mark) (begin : ℕ) (x : A) (end : ℕ) (xs : List A) → begin < end → IsBefore tick begin xs →
-    Rises tick xs → AreBefore tick end xs → (now : Mark) → shown x ≡ now → Tell (λ t. shown (in_force tick x xs t)) (bars_on tick shown begin now end xs)
+tells : {A : Type 0} (tick : A → ℕ) (shown : A → BandMark) (begin : ℕ) (x : A) (end : ℕ) (xs : List A) → begin < end → IsBefore tick begin xs →
+    Rises tick xs → AreBefore tick end xs → (now : BandMark) → shown x ≡ now → Tell (λ t. shown (in_force tick x xs t)) (bars_on tick shown begin now end xs)
 unfolding bars_on
 tells tick shown begin x end [] lt before rises within now is = ((λ t from below. sym is), tt)
 tells tick shown begin x end (y ∷ ys) lt before rises within now is =
@@ -185,13 +185,13 @@ before-both : {A : Type 0} (tick : A → ℕ) (one other : ℕ) (xs : List A) �
 before-both tick one other [] first second = tt
 before-both tick one other (x ∷ xs) first second = omega (arith, first, second)
 
-stretches-as : (begin other end : ℕ) (f g : ℕ → Mark) (bars : List Bar) → other ≡ begin → ((t : ℕ) → begin ≤ t → t < end → f t ≡ g t) →
+stretches-as : (begin other end : ℕ) (f g : ℕ → BandMark) (bars : List Bar) → other ≡ begin → ((t : ℕ) → begin ≤ t → t < end → f t ≡ g t) →
     AreStretches begin end f bars → AreStretches other end g bars
 stretches-as begin other end f g bars is same held =
     record { fill = rw is held.fill; differ = held.differ; tell = tell-as f g begin end bars held.fill same held.tell }
 
 -- where the next item begins after the first tick of the line
-from-here : {A : Type 0} (tick : A → ℕ) (shown : A → Mark) (first end : ℕ) (x : A) (xs : List A) → Rises tick (x ∷ xs) → first < end → tick x < end →
+from-here : {A : Type 0} (tick : A → ℕ) (shown : A → BandMark) (first end : ℕ) (x : A) (xs : List A) → Rises tick (x ∷ xs) → first < end → tick x < end →
     IsBefore tick first xs →
     AreStretches (max first (tick x)) end (λ t. shown (in_force tick x xs t)) (bars_of tick shown first end (before_tick tick end (x ∷ xs)))
 unfolding before_tick bars_of
@@ -212,7 +212,7 @@ from-here tick shown first end x xs rises lt reached later =
           (tells tick shown (max first (tick x)) x end cut begins next rest within (shown x) refl);
     }
 
-pub stretches : {A : Type 0} (tick : A → ℕ) (shown : A → Mark) (first end : ℕ) (x : A) (xs : List A) → Rises tick (x ∷ xs) → first < end → tick x < end →
+pub stretches : {A : Type 0} (tick : A → ℕ) (shown : A → BandMark) (first end : ℕ) (x : A) (xs : List A) → Rises tick (x ∷ xs) → first < end → tick x < end →
     AreStretches (max first (tick x)) end (λ t. shown (in_force tick x xs t)) (bars_of tick shown first end (in_line tick first end (x ∷ xs)))
 unfolding from_tick
 stretches tick shown first end x [] rises lt reached = from-here tick shown first end x [] rises lt reached tt
@@ -232,7 +232,7 @@ stretches tick shown first end x (y ∷ ys) rises lt reached =
           rw late (from-here tick shown first end x (y ∷ ys) rises lt reached told.1)
     ]
 
-pub none-reached : {A : Type 0} (tick : A → ℕ) (shown : A → Mark) (first end : ℕ) (x : A) (xs : List A) → Rises tick (x ∷ xs) → first < end → end ≤ tick x →
+pub none-reached : {A : Type 0} (tick : A → ℕ) (shown : A → BandMark) (first end : ℕ) (x : A) (xs : List A) → Rises tick (x ∷ xs) → first < end → end ≤ tick x →
     bars_of tick shown first end (in_line tick first end (x ∷ xs)) ≡ []
 unfolding from_tick before_tick bars_of
 none-reached tick shown first end x [] rises lt beyond = let late : ltb (tick x) end ≡ false = le-ltb (tick x) end beyond in rw late refl

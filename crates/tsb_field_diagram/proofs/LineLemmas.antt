@@ -5,6 +5,7 @@ use Rattle.std.proofs.lemmas.Bool.Decides.{leb_tells}
 use Rattle.tsb_field_display.specs.declared.shown.Shown.{Shown}
 use Rattle.tsb_log_text.specs.declared.log.LogRow.{LogRow}
 use Rattle.tsb_field_diagram.specs.declared.band.Band.{Band}
+use Rattle.tsb_field_diagram.specs.declared.line.Scale.{Scale}
 use Rattle.tsb_field_diagram.specs.Bands.{tick_of_change, tick_of_row}
 use Rattle.tsb_field_diagram.specs.Bars.{from_tick}
 use Rattle.tsb_field_diagram.specs.Lines.{label_text, labels_text, band_text, bands_text, mark_text, marks_text, first_tick, line_text, lines_text}
@@ -35,17 +36,16 @@ pub marks-none : (bands : ℕ) (clock : Option ℕ) (seconds begin step k : ℕ)
 unfolding marks_text
 marks-none bands clock seconds begin step k = refl
 
-pub lines-more : (bands : List Band) (clock : Option ℕ) (seconds last : ℕ) (changes : List Shown) (rows : List LogRow) (k n : ℕ) →
-    lines_text bands clock seconds last changes rows k (suc n)
-    ≡ line_text bands clock seconds last k (from_tick tick_of_change (first_tick seconds k) changes) (from_tick tick_of_row (first_tick seconds k) rows)
-    ++ lines_text bands clock seconds last changes rows (k + 1) n
+pub lines-more : (bands : List Band) (scale : Scale) (changes : List Shown) (rows : List LogRow) (k n : ℕ) →
+    lines_text bands scale changes rows k (suc n)
+    ≡ line_text bands scale k (from_tick tick_of_change (first_tick scale.seconds k) changes) (from_tick tick_of_row (first_tick scale.seconds k) rows)
+    ++ lines_text bands scale changes rows (k + 1) n
 unfolding lines_text
-lines-more bands clock seconds last changes rows k n = refl
+lines-more bands scale changes rows k n = refl
 
-pub lines-none : (bands : List Band) (clock : Option ℕ) (seconds last : ℕ) (changes : List Shown) (rows : List LogRow) (k : ℕ) →
-    lines_text bands clock seconds last changes rows k 0 ≡ []
+pub lines-none : (bands : List Band) (scale : Scale) (changes : List Shown) (rows : List LogRow) (k : ℕ) → lines_text bands scale changes rows k 0 ≡ []
 unfolding lines_text
-lines-none bands clock seconds last changes rows k = refl
+lines-none bands scale changes rows k = refl
 
 -- what is in force from a tick on, of what is from an earlier one on
 pub from-from : {A : Type 0} (tick : A → ℕ) (first later : ℕ) (xs : List A) → first ≤ later → from_tick tick later (from_tick tick first xs) ≡ from_tick tick later xs

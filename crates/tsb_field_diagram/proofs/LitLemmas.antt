@@ -2,16 +2,16 @@
 use Rattle.std.proofs.Common.{◌≡◌, ℕ, ◌+◌, suc, List, [], ◌++◌, refl}
 use Rattle.tsb_field_display.specs.declared.shown.Shown.{Shown}
 use Rattle.tsb_log_text.specs.declared.log.LogRow.{LogRow}
-use Rattle.tsb_field_diagram.specs.declared.band.Kind.{Kind}
-use Rattle.tsb_field_diagram.specs.declared.band.Kind.TheVariants as kinds
+use Rattle.tsb_field_diagram.specs.declared.band.BandKind.{BandKind}
+use Rattle.tsb_field_diagram.specs.declared.band.BandKind.TheVariants as kinds
 use Rattle.tsb_field_diagram.specs.Lit.{band_if, bands_on, phases_on}
 
-pub bands-more : (changes : List Shown) (rows : List LogRow) (kind : Kind) (k n : ℕ) →
+pub bands-more : (changes : List Shown) (rows : List LogRow) (kind : BandKind) (k n : ℕ) →
     bands_on changes rows kind k (suc n) ≡ band_if changes rows kind (k + 1) ++ bands_on changes rows kind (k + 1) n
 unfolding bands_on
 bands-more changes rows kind k n = refl
 
-pub bands-none : (changes : List Shown) (rows : List LogRow) (kind : Kind) (k : ℕ) → bands_on changes rows kind k 0 ≡ []
+pub bands-none : (changes : List Shown) (rows : List LogRow) (kind : BandKind) (k : ℕ) → bands_on changes rows kind k 0 ≡ []
 unfolding bands_on
 bands-none changes rows kind k = refl
 

@@ -11,17 +11,17 @@ use Rattle.tsb_field_display.specs.declared.shown.VehicleHeads.{VehicleHeads}
 use Rattle.tsb_log_text.specs.declared.log.LogRow.{LogRow}
 use Rattle.tsb_types.specs.declared.row.Row.{Row}
 use Rattle.tsb_field_diagram.specs.declared.band.Band.{Band}
-use Rattle.tsb_field_diagram.specs.declared.band.Kind.{Kind}
-use Rattle.tsb_field_diagram.specs.declared.band.Kind.TheVariants as kinds
-use Rattle.tsb_field_diagram.specs.declared.band.Mark.{Mark}
-use Rattle.tsb_field_diagram.specs.declared.band.Mark.TheVariants as marks
+use Rattle.tsb_field_diagram.specs.declared.band.BandKind.{BandKind}
+use Rattle.tsb_field_diagram.specs.declared.band.BandKind.TheVariants as kinds
+use Rattle.tsb_field_diagram.specs.declared.band.BandMark.{BandMark}
+use Rattle.tsb_field_diagram.specs.declared.band.BandMark.TheVariants as marks
 
 -- a set of numbers from 1 to 16 has the number
 abbrev pub shows : NumberSet → ℕ → Bool
 shows set n = nat_le 1 n && (nat_le n 16 && has_number set n)
 
 -- what a vehicle head shows
-abbrev pub vehicle_mark : ℕ → VehicleHeads → Mark
+abbrev pub vehicle_mark : ℕ → VehicleHeads → BandMark
 vehicle_mark n heads =
     if shows heads.greens n then marks.Green else
     (if shows heads.yellows n then marks.Yellow else
@@ -29,26 +29,26 @@ vehicle_mark n heads =
     (if shows heads.flashing n then marks.Flashing else marks.Dark)))
 
 -- what a pedestrian head shows
-abbrev pub pedestrian_mark : ℕ → PedestrianHeads → Mark
+abbrev pub pedestrian_mark : ℕ → PedestrianHeads → BandMark
 pedestrian_mark n heads =
     if shows heads.walks n then marks.Walk else
     (if shows heads.clearances n then marks.Clearance else
     (if shows heads.dont_walks n then marks.DontWalk else marks.Dark))
 
 -- what the band of a preempt shows
-abbrev pub served_mark : ℕ → Option ℕ → Mark
+abbrev pub served_mark : ℕ → Option ℕ → BandMark
 served_mark n preempt = if is n preempt then marks.Served else marks.Dark
 
 -- what the band of flash shows
-abbrev pub flash_mark : Bool → Mark
+abbrev pub flash_mark : Bool → BandMark
 flash_mark flash = if flash then marks.Flashing else marks.Dark
 
 -- what the band of an input shows
-abbrev pub on_mark : Bool → Mark
+abbrev pub on_mark : Bool → BandMark
 on_mark on = if on then marks.On else marks.Dark
 
 -- what a band of this kind and number shows of signals: nothing where it is that of an input
-abbrev pub signal_mark : Kind → ℕ → Signals → Mark
+abbrev pub signal_mark : BandKind → ℕ → Signals → BandMark
 signal_mark kinds.Preempt n s = served_mark n s.preempt
 signal_mark kinds.Flash n s = flash_mark (is_in_flash s)
 signal_mark kinds.Vehicle n s = vehicle_mark n s.vehicles
@@ -59,7 +59,7 @@ signal_mark kinds.PedestrianInput n s = marks.Dark
 signal_mark kinds.PreemptInput n s = marks.Dark
 
 -- what it shows of inputs: nothing where it is not that of an input
-abbrev pub input_mark : Kind → ℕ → Row → Mark
+abbrev pub input_mark : BandKind → ℕ → Row → BandMark
 input_mark kinds.Preempt n row = marks.Dark
 input_mark kinds.Flash n row = marks.Dark
 input_mark kinds.Vehicle n row = marks.Dark
@@ -70,11 +70,11 @@ input_mark kinds.PedestrianInput n row = on_mark (shows row.pedestrians n)
 input_mark kinds.PreemptInput n row = on_mark (shows row.preempts n)
 
 -- what a band shows of a display line
-abbrev pub mark_in_change : Band → Shown → Mark
+abbrev pub mark_in_change : Band → Shown → BandMark
 mark_in_change band shown = signal_mark band.kind band.number shown.signals
 
 -- and of a row of a log
-abbrev pub mark_in_row : Band → LogRow → Mark
+abbrev pub mark_in_row : Band → LogRow → BandMark
 mark_in_row band row = input_mark band.kind band.number row.row
 
 -- the tick of a display line

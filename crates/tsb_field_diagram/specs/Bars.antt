@@ -1,8 +1,8 @@
 -- The bars of a band: the stretches in which it shows one mark, from one tick to another. A stretch in which it is
 -- dark is a bar like the others, but has no text.
 use Rattle.std.specs.Prelude.{ℕ, ◌+◌, ◌-◌, ◌*◌, ◌==◌, nat_le, nat_lt, max, Bool, if◌then◌else◌, List, [], ◌∷◌, ◌++◌, codes}
-use Rattle.tsb_field_diagram.specs.declared.band.Mark.{Mark}
-use Rattle.tsb_field_diagram.specs.declared.band.Mark.TheVariants.{Dark, Green, Yellow, Red, Flashing, Walk, Clearance, DontWalk, Served, On}
+use Rattle.tsb_field_diagram.specs.declared.band.BandMark.{BandMark}
+use Rattle.tsb_field_diagram.specs.declared.band.BandMark.TheVariants.{Dark, Green, Yellow, Red, Flashing, Walk, Clearance, DontWalk, Served, On}
 use Rattle.tsb_field_diagram.specs.Text.{attribute_text}
 
 -- ## What is in force in a line
@@ -25,7 +25,7 @@ in_line tick first end xs = before_tick tick end (from_tick tick first xs)
 -- ## Bars
 
 -- a mark, as a number
-abbrev pub number_of : Mark → ℕ
+abbrev pub number_of : BandMark → ℕ
 number_of Dark = 0
 number_of Green = 1
 number_of Yellow = 2
@@ -38,35 +38,35 @@ number_of Served = 8
 number_of On = 9
 
 -- the marks are one
-abbrev pub is_same : Mark → Mark → Bool
+abbrev pub is_same : BandMark → BandMark → Bool
 is_same one other = number_of one == number_of other
 
 -- a bar: from its first tick to before its end
 pub record Bar : Type 0 where
   pub begin : ℕ
   pub end : ℕ
-  pub mark : Mark
+  pub mark : BandMark
 
 -- one of this mark, from this tick to before that
-abbrev pub bar : ℕ → ℕ → Mark → Bar
+abbrev pub bar : ℕ → ℕ → BandMark → Bar
 bar begin end mark = record { begin = begin; end = end; mark = mark }
 
 -- the bars to the end, where one of this mark has begun, and these items follow
-unfoldable pub bars_on : {A : Type 0} → (A → ℕ) → (A → Mark) → ℕ → Mark → ℕ → List A → List Bar
+unfoldable pub bars_on : {A : Type 0} → (A → ℕ) → (A → BandMark) → ℕ → BandMark → ℕ → List A → List Bar
 bars_on tick shown begin now end [] = bar begin end now ∷ []
 bars_on tick shown begin now end (x ∷ xs) =
     if is_same (shown x) now then bars_on tick shown begin now end xs
     else bar begin (tick x) now ∷ bars_on tick shown (tick x) (shown x) end xs
 
 -- the bars of items, of which the first is in force from the first tick of a line on, or begins later
-unfoldable pub bars_of : {A : Type 0} → (A → ℕ) → (A → Mark) → ℕ → ℕ → List A → List Bar
+unfoldable pub bars_of : {A : Type 0} → (A → ℕ) → (A → BandMark) → ℕ → ℕ → List A → List Bar
 bars_of tick shown first end [] = []
 bars_of tick shown first end (x ∷ xs) = bars_on tick shown (max first (tick x)) (shown x) end xs
 
 -- ## Their text
 
 -- a shape of this mark, up to where it begins
-abbrev pub shape_of : Mark → List ℕ
+abbrev pub shape_of : BandMark → List ℕ
 shape_of Dark = []
 shape_of Green = codes "<rect class=\"g\" height=\"12\" x=\""
 shape_of Yellow = codes "<rect class=\"y\" height=\"12\" x=\""
@@ -79,7 +79,7 @@ shape_of Served = codes "<rect class=\"p\" height=\"8\" x=\""
 shape_of On = codes "<rect class=\"o\" height=\"4\" x=\""
 
 -- how far it stands below the top of its band
-abbrev pub inset_of : Mark → ℕ
+abbrev pub inset_of : BandMark → ℕ
 inset_of Dark = 0
 inset_of Green = 2
 inset_of Yellow = 2
@@ -92,13 +92,13 @@ inset_of Served = 4
 inset_of On = 6
 
 -- the text of a shape in the band at this place, the first at place 0
-abbrev pub shape_text : ℕ → ℕ → ℕ → Mark → List ℕ
+abbrev pub shape_text : ℕ → ℕ → ℕ → BandMark → List ℕ
 shape_text place begin end mark =
     attribute_text (shape_of mark) begin ++ (attribute_text (codes " y=\"") (16 * place + inset_of mark)
     ++ (attribute_text (codes " width=\"") (end - begin) ++ codes "/>\n"))
 
 -- the text of a bar: none where the band is dark
-abbrev pub bar_text : ℕ → ℕ → ℕ → Mark → List ℕ
+abbrev pub bar_text : ℕ → ℕ → ℕ → BandMark → List ℕ
 bar_text place begin end mark = if is_same mark Dark then [] else shape_text place begin end mark
 
 -- of the bars of a band

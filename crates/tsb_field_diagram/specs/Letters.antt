@@ -3,8 +3,8 @@
 -- They are drawn over all lines. A green that ends at a tick was lit last in the tick before it.
 use Rattle.std.specs.Prelude.{ℕ, ◌+◌, ◌-◌, ◌*◌, ◌/◌, ◌%◌, ◌==◌, nat_le, Bool, true, false, ◌&&◌, if◌then◌else◌, List, [], ◌∷◌, ◌++◌, codes, length}
 use Rattle.tsb_field_diagram.specs.declared.band.Band.{Band}
-use Rattle.tsb_field_diagram.specs.declared.band.Kind.{Kind}
-use Rattle.tsb_field_diagram.specs.declared.band.Kind.TheVariants as kinds
+use Rattle.tsb_field_diagram.specs.declared.band.BandKind.{BandKind}
+use Rattle.tsb_field_diagram.specs.declared.band.BandKind.TheVariants as kinds
 use Rattle.tsb_field_diagram.specs.declared.ends.GreenEnd.{GreenEnd}
 use Rattle.tsb_field_diagram.specs.declared.ends.Why.{Why}
 use Rattle.tsb_field_diagram.specs.declared.ends.Why.TheVariants.{Gap, Maximum, ForceOff}
@@ -37,7 +37,7 @@ letter_text count seconds given place =
     ++ (codes ">" ++ (letter_of given.why ++ codes "</text>\n")))
 
 -- a band of this kind is of heads of phases
-abbrev pub is_head : Kind → Bool
+abbrev pub is_head : BandKind → Bool
 is_head kinds.Vehicle = true
 is_head kinds.Preempt = false
 is_head kinds.Flash = false

@@ -12,6 +12,8 @@ pub mod Lines
 pub mod Letters
 -- the ends of greens in an event log
 pub mod Ends
+-- what a diagram is made of
+pub mod Given
 -- a diagram as a whole
 pub mod Page
 -- what holds of bars, told without how they are found

@@ -4,8 +4,9 @@ use Rattle.tsb_types.specs.Lists.{or_number}
 use Rattle.tsb_field_display.specs.declared.shown.Shown.{Shown}
 use Rattle.tsb_log_text.specs.declared.log.LogRow.{LogRow}
 use Rattle.tsb_field_diagram.specs.declared.band.Band.{Band}
-use Rattle.tsb_field_diagram.specs.declared.band.Kind.{Kind}
-use Rattle.tsb_field_diagram.specs.declared.band.Kind.TheVariants as kinds
+use Rattle.tsb_field_diagram.specs.declared.band.BandKind.{BandKind}
+use Rattle.tsb_field_diagram.specs.declared.band.BandKind.TheVariants as kinds
+use Rattle.tsb_field_diagram.specs.declared.line.Scale.{Scale}
 use Rattle.tsb_field_diagram.specs.Text.{attribute_text, clock_text, named_text, number_text}
 use Rattle.tsb_field_diagram.specs.Bands.{mark_in_change, mark_in_row, tick_of_change, tick_of_row}
 use Rattle.tsb_field_diagram.specs.Bars.{bars_of, bars_text, from_tick, before_tick}
@@ -31,7 +32,7 @@ height_of bands = 16 * bands
 -- ## Labels
 
 -- what a band is called
-abbrev pub name_of : Kind → ℕ → List ℕ
+abbrev pub name_of : BandKind → ℕ → List ℕ
 name_of kinds.Preempt n = named_text (codes "preempt ") n
 name_of kinds.Flash n = codes "flash"
 name_of kinds.Vehicle n = number_text n
@@ -159,24 +160,28 @@ head_text bands clock seconds k =
     ++ (codes ">\n<text class=\"b\" x=\"4\" y=\"12\">" ++ (line_clock clock seconds k ++ codes "</text>\n")))
 
 -- the bars of line k, of what is in force from its first tick on
-abbrev pub plot_text : List Band → ℕ → ℕ → ℕ → List Shown → List LogRow → List ℕ
-plot_text bands seconds last k changes rows =
-    frame_text (height_of (length bands)) (first_tick seconds k) (10 * seconds)
-    ++ (bands_text (first_tick seconds k) (end_tick seconds last k)
-    (before_tick tick_of_change (end_tick seconds last k) changes)
-    (before_tick tick_of_row (end_tick seconds last k) rows) 0 bands
+abbrev pub plot_text : List Band → Scale → ℕ → List Shown → List LogRow → List ℕ
+plot_text bands scale k changes rows =
+    frame_text (height_of (length bands)) (first_tick scale.seconds k) (10 * scale.seconds)
+    ++ (bands_text (first_tick scale.seconds k) (end_tick scale.seconds scale.last k)
+    (before_tick tick_of_change (end_tick scale.seconds scale.last k) changes)
+    (before_tick tick_of_row (end_tick scale.seconds scale.last k) rows) 0 bands
     ++ codes "</svg>\n")
 
 -- line k, of what is in force from its first tick on
-unfoldable pub line_text : List Band → Option ℕ → ℕ → ℕ → ℕ → List Shown → List LogRow → List ℕ
-line_text bands clock seconds last k changes rows =
-    head_text (length bands) clock seconds k ++ (labels_text 0 bands ++ (axis_text (length bands) clock seconds k
-    ++ (plot_text bands seconds last k changes rows ++ codes "</svg>\n")))
+unfoldable pub line_text : List Band → Scale → ℕ → List Shown → List LogRow → List ℕ
+line_text bands scale k changes rows =
+    head_text (length bands) scale.clock scale.seconds k ++ (labels_text 0 bands ++ (axis_text (length bands) scale.clock scale.seconds k
+    ++ (plot_text bands scale k changes rows ++ codes "</svg>\n")))
 
 -- so many lines, from line k on
-unfoldable pub lines_text : List Band → Option ℕ → ℕ → ℕ → List Shown → List LogRow → ℕ → ℕ → List ℕ
-lines_text bands clock seconds last changes rows k zero = []
-lines_text bands clock seconds last changes rows k (suc count) =
-    line_text bands clock seconds last k (from_tick tick_of_change (first_tick seconds k) changes)
-    (from_tick tick_of_row (first_tick seconds k) rows)
-    ++ lines_text bands clock seconds last changes rows (k + 1) count
+unfoldable pub lines_text : List Band → Scale → List Shown → List LogRow → ℕ → ℕ → List ℕ
+lines_text bands scale changes rows k zero = []
+lines_text bands scale changes rows k (suc count) =
+    line_text bands scale k (from_tick tick_of_change (first_tick scale.seconds k) changes)
+    (from_tick tick_of_row (first_tick scale.seconds k) rows)
+    ++ lines_text bands scale changes rows (k + 1) count
+
+-- all of them
+abbrev pub all_lines : List Band → Scale → List Shown → List LogRow → List ℕ
+all_lines bands scale changes rows = lines_text bands scale changes rows 0 (line_count scale.seconds scale.last)

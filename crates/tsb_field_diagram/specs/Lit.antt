@@ -4,9 +4,9 @@ use Rattle.std.specs.List.{list_any}
 use Rattle.tsb_field_display.specs.declared.shown.Shown.{Shown}
 use Rattle.tsb_log_text.specs.declared.log.LogRow.{LogRow}
 use Rattle.tsb_field_diagram.specs.declared.band.Band.{Band}
-use Rattle.tsb_field_diagram.specs.declared.band.Kind.{Kind}
-use Rattle.tsb_field_diagram.specs.declared.band.Kind.TheVariants as kinds
-use Rattle.tsb_field_diagram.specs.declared.band.Mark.TheVariants.{Dark}
+use Rattle.tsb_field_diagram.specs.declared.band.BandKind.{BandKind}
+use Rattle.tsb_field_diagram.specs.declared.band.BandKind.TheVariants as kinds
+use Rattle.tsb_field_diagram.specs.declared.band.BandMark.TheVariants.{Dark}
 use Rattle.tsb_field_diagram.specs.Bands.{mark_in_change, mark_in_row}
 use Rattle.tsb_field_diagram.specs.Bars.{is_same}
 
@@ -23,15 +23,15 @@ abbrev pub is_ever : List Shown → List LogRow → Band → Bool
 is_ever changes rows band = is_ever_shown changes band || is_ever_on rows band
 
 -- the band of this kind and number
-abbrev pub band : Kind → ℕ → Band
+abbrev pub band : BandKind → ℕ → Band
 band kind number = record { kind = kind; number = number }
 
 -- that band, if it ever shows something
-unfoldable pub band_if : List Shown → List LogRow → Kind → ℕ → List Band
+unfoldable pub band_if : List Shown → List LogRow → BandKind → ℕ → List Band
 band_if changes rows kind number = if is_ever changes rows (band kind number) then band kind number ∷ [] else []
 
 -- those of a kind, of so many numbers after this one
-unfoldable pub bands_on : List Shown → List LogRow → Kind → ℕ → ℕ → List Band
+unfoldable pub bands_on : List Shown → List LogRow → BandKind → ℕ → ℕ → List Band
 bands_on changes rows kind before zero = []
 bands_on changes rows kind before (suc count) =
     band_if changes rows kind (before + 1) ++ bands_on changes rows kind (before + 1) count

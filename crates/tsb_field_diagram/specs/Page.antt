@@ -1,17 +1,16 @@
 -- A diagram as a whole: its head with title and legend, and its lines.
 use Rattle.std.specs.Prelude.{ℕ, ◌+◌, ◌*◌, ◌/◌, ◌%◌, min, max, List, ◌++◌, codes, length, Option, Some, None}
 use Rattle.tsb_types.specs.Lists.{or_number}
-use Rattle.tsb_field_display.specs.declared.shown.Shown.{Shown}
-use Rattle.tsb_log_text.specs.declared.log.LogRow.{LogRow}
 use Rattle.tsb_field_diagram.specs.declared.band.Band.{Band}
+use Rattle.tsb_field_diagram.specs.declared.line.Scale.{Scale}
 use Rattle.tsb_event_text.specs.declared.times.Moment.{Moment}
-use Rattle.tsb_field_diagram.specs.declared.ends.GreenEnd.{GreenEnd}
+use Rattle.tsb_field_diagram.specs.Given.{Form, Session}
 use Rattle.tsb_field_diagram.specs.Text.{escaped, named_text}
 use Rattle.tsb_field_diagram.specs.Bands.{tick_of_row}
 use Rattle.tsb_field_diagram.specs.Bars.{before_tick}
 use Rattle.tsb_field_diagram.specs.Letters.{ends_text}
 use Rattle.tsb_field_diagram.specs.Lit.{bands_of}
-use Rattle.tsb_field_diagram.specs.Lines.{line_count, line_top, lines_text}
+use Rattle.tsb_field_diagram.specs.Lines.{all_lines, line_count, line_top}
 
 -- the classes of its shapes
 unfoldable pub style_text : List ℕ
@@ -80,20 +79,27 @@ page_height bands seconds last = line_top bands (line_count seconds last)
 abbrev pub line_seconds : ℕ → ℕ
 line_seconds asked = min (max asked 1) 86400
 
--- the diagram of these bands, and of these ends of greens
-unfoldable pub picture_text : List ℕ → List Band → Option ℕ → ℕ → ℕ → List Shown → List LogRow → List GreenEnd → List ℕ
-picture_text title bands clock seconds last changes rows ends =
-    page_head title seconds (page_height (length bands) seconds last)
-    ++ (lines_text bands clock seconds last changes rows 0 (line_count seconds last)
-    ++ (ends_text bands seconds last ends ++ codes "</svg>\n"))
+-- the diagram of these bands
+unfoldable pub picture_text : List ℕ → List Band → Scale → Session → List ℕ
+picture_text title bands scale session =
+    page_head title scale.seconds (page_height (length bands) scale.seconds scale.last)
+    ++ (all_lines bands scale session.changes session.rows
+    ++ (ends_text bands scale.seconds scale.last session.ends ++ codes "</svg>\n"))
 
 -- the time of day at which tick 1 begins, in tenths of a second, where its moment is known
 abbrev pub clock_of : Option Moment → Option ℕ
 clock_of None = None
 clock_of (Some moment) = Some (moment.nanos / 100000000 % 864000)
 
--- the phase diagram of a session: an input has a band where it is on up to the last tick
-abbrev pub diagram_text : List ℕ → ℕ → Option Moment → List Shown → Option ℕ → List LogRow → List GreenEnd → List ℕ
-diagram_text title asked from changes last rows ends =
-    picture_text title (bands_of changes (before_tick tick_of_row (or_number last 0 + 1) rows)) (clock_of from) (line_seconds asked)
-    (or_number last 0) changes rows ends
+-- how lines are laid out, up to this tick
+abbrev pub scale_of : Form → ℕ → Scale
+scale_of form last = record { clock = clock_of form.from; seconds = line_seconds form.seconds; last = last }
+
+-- the bands of what is ever lit, or on up to this tick
+abbrev pub bands_until : Session → ℕ → List Band
+bands_until session last = bands_of session.changes (before_tick tick_of_row (last + 1) session.rows)
+
+-- the phase diagram of a session
+abbrev pub diagram_text : Form → Session → List ℕ
+diagram_text form session =
+    picture_text form.title (bands_until session (or_number session.last 0)) (scale_of form (or_number session.last 0)) session

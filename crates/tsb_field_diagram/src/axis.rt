@@ -27,7 +27,7 @@ pub(crate) fn append_axis(
 {
     let begin = begin_of(clock, seconds, line);
     let end = begin + 10 * u64::from(seconds);
-    append_marks(text, bands, clock, seconds, begin, end, step_of(seconds))
+    append_marks(text, bands, clock, seconds, begin, end)
 }
 
 /// The tenth of a second, of those that the axis counts, at which a line begins.
@@ -40,7 +40,7 @@ pub(crate) fn begin_of(clock: Option<u32>, seconds: u32, line: u32) -> u64
     start + u64::from(line) * (10 * u64::from(seconds))
 }
 
-/// Adds to a text the marks from one tenth of a second to before another.
+/// Adds to a text the marks from one tenth of a second to before another, in a line of this many seconds.
 fn append_marks(
     text: &mut Vec<u8>,
     bands: usize,
@@ -48,14 +48,13 @@ fn append_marks(
     seconds: u32,
     begin: u64,
     end: u64,
-    step: u32,
 ) -> Result<(), AllocError>
     requires some { 1 ≤ seconds }
-    requires step { 1 ≤ step }
     requires begin { begin < 2 ^ 63 }
     requires end { end < 2 ^ 63 }
-    ensures { OnOk result (text.new.items ≡ text.old.items ++ marks_between bands clock seconds begin end step) }
+    ensures { OnOk result (text.new.items ≡ text.old.items ++ marks_between bands clock seconds begin end (step_of seconds)) }
 {
+    let step = step_of(seconds);
     let from = marks_before(begin, step);
     let until = marks_before(end, step);
     for index in from..until {

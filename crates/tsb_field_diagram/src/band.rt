@@ -13,7 +13,7 @@ pub(crate) const BAND: u128 = 16;
 
 /// What a band is about.
 #[derive(Clone, Copy)]
-pub enum Kind {
+pub enum BandKind {
     /// A preempt in service.
     Preempt,
     /// Flash.
@@ -36,14 +36,14 @@ pub enum Kind {
 #[derive(Clone, Copy)]
 pub struct Band {
     /// What it is about.
-    pub kind: Kind,
+    pub kind: BandKind,
     /// Which one, from 1. That of flash is 1.
     pub number: u8,
 }
 
 /// What a band shows at a tick.
 #[derive(Clone, Copy)]
-pub enum Mark {
+pub enum BandMark {
     /// Nothing: the head is dark, the input is off, no such preempt is in service.
     Dark,
     /// Green.
@@ -67,96 +67,96 @@ pub enum Mark {
 }
 
 /// What a band shows of a display line: nothing where it is the band of an input.
-pub(crate) fn mark_in_change(band: Band, shown: &Shown) -> Mark
+pub(crate) fn mark_in_change(band: Band, shown: &Shown) -> BandMark
     ensures { result ≡ mark_in_change band shown.now }
 {
     let signals = &shown.signals;
     match band.kind {
-        Kind::Preempt => served_mark(band.number, signals.preempt),
-        Kind::Flash => flash_mark(signals),
-        Kind::Vehicle => vehicle_mark(band.number, &signals.vehicles),
-        Kind::Pedestrian => pedestrian_mark(band.number, &signals.pedestrians),
-        Kind::Overlap => vehicle_mark(band.number, &signals.overlaps),
-        _ => Mark::Dark,
+        BandKind::Preempt => served_mark(band.number, signals.preempt),
+        BandKind::Flash => flash_mark(signals),
+        BandKind::Vehicle => vehicle_mark(band.number, &signals.vehicles),
+        BandKind::Pedestrian => pedestrian_mark(band.number, &signals.pedestrians),
+        BandKind::Overlap => vehicle_mark(band.number, &signals.overlaps),
+        _ => BandMark::Dark,
     }
 }
 
 /// What a band shows of a row of inputs: nothing where it is not the band of an input.
-pub(crate) fn mark_in_row(band: Band, row: &LogRow) -> Mark
+pub(crate) fn mark_in_row(band: Band, row: &LogRow) -> BandMark
     ensures { result ≡ mark_in_row band row.now }
 {
     match band.kind {
-        Kind::VehicleInput => on_mark(shows(row.row.vehicles, band.number)),
-        Kind::PedestrianInput => on_mark(shows(row.row.pedestrians, band.number)),
-        Kind::PreemptInput => on_mark(shows(row.row.preempts, band.number)),
-        _ => Mark::Dark,
+        BandKind::VehicleInput => on_mark(shows(row.row.vehicles, band.number)),
+        BandKind::PedestrianInput => on_mark(shows(row.row.pedestrians, band.number)),
+        BandKind::PreemptInput => on_mark(shows(row.row.preempts, band.number)),
+        _ => BandMark::Dark,
     }
 }
 
 /// What a vehicle head shows.
-fn vehicle_mark(number: u8, heads: &VehicleHeads) -> Mark
+fn vehicle_mark(number: u8, heads: &VehicleHeads) -> BandMark
     ensures { result ≡ vehicle_mark number heads.now }
 {
     if shows(heads.greens, number) {
-        Mark::Green
+        BandMark::Green
     } else if shows(heads.yellows, number) {
-        Mark::Yellow
+        BandMark::Yellow
     } else if shows(heads.reds, number) {
-        Mark::Red
+        BandMark::Red
     } else if shows(heads.flashing, number) {
-        Mark::Flashing
+        BandMark::Flashing
     } else {
-        Mark::Dark
+        BandMark::Dark
     }
 }
 
 /// What a pedestrian head shows.
-fn pedestrian_mark(number: u8, heads: &PedestrianHeads) -> Mark
+fn pedestrian_mark(number: u8, heads: &PedestrianHeads) -> BandMark
     ensures { result ≡ pedestrian_mark number heads.now }
 {
     if shows(heads.walks, number) {
-        Mark::Walk
+        BandMark::Walk
     } else if shows(heads.clearances, number) {
-        Mark::Clearance
+        BandMark::Clearance
     } else if shows(heads.dont_walks, number) {
-        Mark::DontWalk
+        BandMark::DontWalk
     } else {
-        Mark::Dark
+        BandMark::Dark
     }
 }
 
 /// What the band of a preempt shows.
-fn served_mark(number: u8, preempt: Option<u8>) -> Mark
+fn served_mark(number: u8, preempt: Option<u8>) -> BandMark
     ensures { result ≡ served_mark number preempt }
 {
     match preempt {
         Some(served) => {
             if served == number {
-                Mark::Served
+                BandMark::Served
             } else {
-                Mark::Dark
+                BandMark::Dark
             }
         }
-        None => Mark::Dark,
+        None => BandMark::Dark,
     }
 }
 
 /// What the band of flash shows.
-fn flash_mark(signals: &Signals) -> Mark
+fn flash_mark(signals: &Signals) -> BandMark
     ensures { result ≡ flash_mark (is_in_flash signals.now) }
 {
     if signals.is_in_flash() {
-        Mark::Flashing
+        BandMark::Flashing
     } else {
-        Mark::Dark
+        BandMark::Dark
     }
 }
 
 /// What the band of an input shows.
-fn on_mark(on: bool) -> Mark
+fn on_mark(on: bool) -> BandMark
     ensures { result ≡ on_mark on }
 {
-    if on { Mark::On } else { Mark::Dark }
+    if on { BandMark::On } else { BandMark::Dark }
 }
 
 /// Whether a number is in a set: only 1 to 16 can be.

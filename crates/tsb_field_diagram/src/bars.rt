@@ -1,11 +1,11 @@
 //! The bars of a band in a line of a diagram.
 ghost use Rattle.std.specs.Prelude.{◌≡◌, ℕ, ◌++◌, ◌+◌, ◌-◌, OnOk};
 ghost use Rattle.tsb_field_diagram.specs.declared.band.Band.{Band};
-ghost use Rattle.tsb_field_diagram.specs.declared.band.Mark.{Mark};
+ghost use Rattle.tsb_field_diagram.specs.declared.band.BandMark.{BandMark};
 ghost use Rattle.tsb_field_diagram.specs.Bands.{mark_in_change, mark_in_row, tick_of_change, tick_of_row};
 ghost use Rattle.tsb_field_diagram.specs.Bars.{bar_text, bars_of, bars_text, before_tick, from_tick, inset_of, is_same, number_of, shape_of};
 
-use crate::band::{BAND, Band, Mark, mark_in_change, mark_in_row};
+use crate::band::{BAND, Band, BandMark, mark_in_change, mark_in_row};
 use crate::write::{append, append_attribute};
 use std::alloc::AllocError;
 use tsb_field_display::Shown;
@@ -17,14 +17,14 @@ pub(crate) trait InForce {
     ghost tick_of: { Self → ℕ };
 
     /// What a band shows of it.
-    ghost mark_of: { Band → Self → Mark };
+    ghost mark_of: { Band → Self → BandMark };
 
     /// The tick from which it is in force.
     fn tick(&self) -> u32
         ensures { result ≡ tick_of self.now };
 
     /// What a band shows of it.
-    fn mark(&self, band: Band) -> Mark
+    fn mark(&self, band: Band) -> BandMark
         ensures { result ≡ mark_of band self.now };
 }
 
@@ -37,7 +37,7 @@ impl InForce for Shown {
         self.tick
     }
 
-    fn mark(&self, band: Band) -> Mark {
+    fn mark(&self, band: Band) -> BandMark {
         mark_in_change(band, self)
     }
 }
@@ -51,7 +51,7 @@ impl InForce for LogRow {
         self.tick
     }
 
-    fn mark(&self, band: Band) -> Mark {
+    fn mark(&self, band: Band) -> BandMark {
         mark_in_row(band, self)
     }
 }
@@ -109,27 +109,27 @@ pub(crate) fn append_bars<T: InForce>(
 }
 
 /// Whether two marks are the same.
-pub(crate) fn is_same(one: Mark, other: Mark) -> bool
+pub(crate) fn is_same(one: BandMark, other: BandMark) -> bool
     ensures { result ≡ is_same one other }
 {
     number_of(one) == number_of(other)
 }
 
 /// A mark, as a number.
-fn number_of(mark: Mark) -> u8
+fn number_of(mark: BandMark) -> u8
     ensures { result ≡ number_of mark }
 {
     match mark {
-        Mark::Dark => 0,
-        Mark::Green => 1,
-        Mark::Yellow => 2,
-        Mark::Red => 3,
-        Mark::Flashing => 4,
-        Mark::Walk => 5,
-        Mark::Clearance => 6,
-        Mark::DontWalk => 7,
-        Mark::Served => 8,
-        Mark::On => 9,
+        BandMark::Dark => 0,
+        BandMark::Green => 1,
+        BandMark::Yellow => 2,
+        BandMark::Red => 3,
+        BandMark::Flashing => 4,
+        BandMark::Walk => 5,
+        BandMark::Clearance => 6,
+        BandMark::DontWalk => 7,
+        BandMark::Served => 8,
+        BandMark::On => 9,
     }
 }
 
@@ -139,11 +139,11 @@ fn append_bar(
     place: usize,
     begin: u64,
     end: u64,
-    mark: Mark,
+    mark: BandMark,
 ) -> Result<(), AllocError>
     ensures { OnOk result (text.new.items ≡ text.old.items ++ bar_text place begin end mark) }
 {
-    if is_same(mark, Mark::Dark) {
+    if is_same(mark, BandMark::Dark) {
         return Ok(());
     }
     append_attribute(text, shape_of(mark), u128::from(begin))?;
@@ -153,34 +153,34 @@ fn append_bar(
 }
 
 /// A shape of a mark, up to where it begins.
-fn shape_of(mark: Mark) -> &'static [u8]
+fn shape_of(mark: BandMark) -> &'static [u8]
     ensures { result.now ≡ shape_of mark }
 {
     match mark {
-        Mark::Dark => b"",
-        Mark::Green => b"<rect class=\"g\" height=\"12\" x=\"",
-        Mark::Yellow => b"<rect class=\"y\" height=\"12\" x=\"",
-        Mark::Red => b"<rect class=\"r\" height=\"3\" x=\"",
-        Mark::Flashing => b"<rect class=\"f\" height=\"6\" x=\"",
-        Mark::Walk => b"<rect class=\"w\" height=\"8\" x=\"",
-        Mark::Clearance => b"<rect class=\"c\" height=\"8\" x=\"",
-        Mark::DontWalk => b"<rect class=\"d\" height=\"1\" x=\"",
-        Mark::Served => b"<rect class=\"p\" height=\"8\" x=\"",
-        Mark::On => b"<rect class=\"o\" height=\"4\" x=\"",
+        BandMark::Dark => b"",
+        BandMark::Green => b"<rect class=\"g\" height=\"12\" x=\"",
+        BandMark::Yellow => b"<rect class=\"y\" height=\"12\" x=\"",
+        BandMark::Red => b"<rect class=\"r\" height=\"3\" x=\"",
+        BandMark::Flashing => b"<rect class=\"f\" height=\"6\" x=\"",
+        BandMark::Walk => b"<rect class=\"w\" height=\"8\" x=\"",
+        BandMark::Clearance => b"<rect class=\"c\" height=\"8\" x=\"",
+        BandMark::DontWalk => b"<rect class=\"d\" height=\"1\" x=\"",
+        BandMark::Served => b"<rect class=\"p\" height=\"8\" x=\"",
+        BandMark::On => b"<rect class=\"o\" height=\"4\" x=\"",
     }
 }
 
 /// How far a shape of a mark is below the top of its band.
-fn inset_of(mark: Mark) -> u128
+fn inset_of(mark: BandMark) -> u128
     ensures { result ≡ inset_of mark }
 {
     match mark {
-        Mark::Dark => 0,
-        Mark::Green | Mark::Yellow => 2,
-        Mark::Red => 7,
-        Mark::Flashing => 5,
-        Mark::Walk | Mark::Clearance | Mark::Served => 4,
-        Mark::DontWalk => 8,
-        Mark::On => 6,
+        BandMark::Dark => 0,
+        BandMark::Green | BandMark::Yellow => 2,
+        BandMark::Red => 7,
+        BandMark::Flashing => 5,
+        BandMark::Walk | BandMark::Clearance | BandMark::Served => 4,
+        BandMark::DontWalk => 8,
+        BandMark::On => 6,
     }
 }

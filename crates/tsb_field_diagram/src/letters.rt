@@ -3,7 +3,7 @@ ghost use Rattle.std.specs.Prelude.{◌≡◌, ◌≤◌, ◌<◌, ◌++◌, ◌
 ghost use Rattle.tsb_field_diagram.specs.Letters.{end_text, ends_text, is_drawn, is_head, letter_among, letter_end, letter_foot, letter_in, letter_of, letter_text, letters_text, meaning_text};
 
 use crate::axis::{LEFT, WIDTH};
-use crate::band::{BAND, Band, Kind};
+use crate::band::{BAND, Band, BandKind};
 use crate::ends::{GreenEnd, Why};
 use crate::line::line_top;
 use crate::write::{append, append_attribute};
@@ -120,11 +120,11 @@ fn append_in(
 }
 
 /// Whether bands of this kind are of heads of phases.
-fn is_head(kind: Kind) -> bool
+fn is_head(kind: BandKind) -> bool
     ensures { result ≡ is_head kind }
 {
     match kind {
-        Kind::Vehicle => true,
+        BandKind::Vehicle => true,
         _ => false,
     }
 }

@@ -14,4 +14,4 @@ mod title;
 mod write;
 
 pub use ends::{EndsError, GreenEnd, LIMIT, Why, read_ends};
-pub use page::diagram_text;
+pub use page::{DiagramForm, DiagramSession, diagram_text};

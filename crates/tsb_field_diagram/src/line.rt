@@ -1,9 +1,9 @@
 //! The lines of a diagram.
 ghost use Rattle.std.specs.Prelude.{◌≡◌, ◌≤◌, ◌<◌, ◌++◌, ◌*◌, ◌^◌, OnOk};
-ghost use Rattle.tsb_field_diagram.specs.Lines.{band_text, bands_text, end_tick, first_tick, frame_text, head_text, height_of, label_text, labels_text, line_clock, line_count, line_height, line_text, line_top, lines_text, name_of, plot_text};
+ghost use Rattle.tsb_field_diagram.specs.Lines.{all_lines, band_text, bands_text, end_tick, first_tick, frame_text, head_text, height_of, label_text, labels_text, line_clock, line_count, line_height, line_text, line_top, name_of, plot_text};
 
 use crate::axis::{append_axis, begin_of};
-use crate::band::{BAND, Band, Kind};
+use crate::band::{BAND, Band, BandKind};
 use crate::bars::{append_bars, before_tick, from_tick};
 use crate::write::{append, append_attribute, append_clock, append_named, append_number};
 use std::alloc::AllocError;
@@ -13,28 +13,37 @@ use tsb_log_text::LogRow;
 /// How far from the top the lines begin.
 pub(crate) const TOP: u128 = 64;
 
+/// How ticks are laid out in lines.
+#[derive(Clone, Copy)]
+pub(crate) struct Scale {
+    /// The time of day at which tick 1 begins, in tenths of a second, or `None` where time counts from tick 1.
+    pub(crate) clock: Option<u32>,
+    /// How many seconds a line shows, 1 to 86,400.
+    pub(crate) seconds: u32,
+    /// The last tick that is drawn, 0 where none is.
+    pub(crate) last: u32,
+}
+
 /// Adds the lines of a diagram to a text.
 pub(crate) fn append_lines(
     text: &mut Vec<u8>,
     bands: &[Band],
-    clock: Option<u32>,
-    seconds: u32,
-    last: u32,
+    scale: Scale,
     changes: &[Shown],
     rows: &[LogRow],
 ) -> Result<(), AllocError>
-    requires some { 1 ≤ seconds }
-    requires most { seconds ≤ 86400 }
-    ensures { OnOk result (text.new.items ≡ text.old.items ++ lines_text bands.now clock seconds last changes.now rows.now 0 (line_count seconds last)) }
+    requires some { 1 ≤ scale.seconds }
+    requires most { scale.seconds ≤ 86400 }
+    ensures { OnOk result (text.new.items ≡ text.old.items ++ all_lines bands.now scale changes.now rows.now) }
 {
     let mut changes = changes;
     let mut rows = rows;
-    let count = line_count(seconds, last);
+    let count = line_count(scale.seconds, scale.last);
     for line in 0..count {
-        let first = first_tick(seconds, line);
+        let first = first_tick(scale.seconds, line);
         changes = from_tick(changes, first);
         rows = from_tick(rows, first);
-        append_line(text, bands, clock, seconds, last, line, changes, rows)?;
+        append_line(text, bands, scale, line, changes, rows)?;
     }
     Ok(())
 }
@@ -103,21 +112,19 @@ fn end_tick(seconds: u32, last: u32, line: u32) -> u64
 fn append_line(
     text: &mut Vec<u8>,
     bands: &[Band],
-    clock: Option<u32>,
-    seconds: u32,
-    last: u32,
+    scale: Scale,
     line: u32,
     changes: &[Shown],
     rows: &[LogRow],
 ) -> Result<(), AllocError>
-    requires some { 1 ≤ seconds }
-    requires most { seconds ≤ 86400 }
-    ensures { OnOk result (text.new.items ≡ text.old.items ++ line_text bands.now clock seconds last line changes.now rows.now) }
+    requires some { 1 ≤ scale.seconds }
+    requires most { scale.seconds ≤ 86400 }
+    ensures { OnOk result (text.new.items ≡ text.old.items ++ line_text bands.now scale line changes.now rows.now) }
 {
-    append_head(text, bands.len(), clock, seconds, line)?;
+    append_head(text, bands.len(), scale.clock, scale.seconds, line)?;
     append_labels(text, bands)?;
-    append_axis(text, bands.len(), clock, seconds, line)?;
-    append_plot(text, bands, seconds, last, line, changes, rows)?;
+    append_axis(text, bands.len(), scale.clock, scale.seconds, line)?;
+    append_plot(text, bands, scale, line, changes, rows)?;
     append(text, b"</svg>\n")
 }
 
@@ -164,21 +171,21 @@ fn append_label(text: &mut Vec<u8>, place: usize, band: Band) -> Result<(), Allo
 }
 
 /// Adds the name of a band to a text.
-fn append_name(text: &mut Vec<u8>, kind: Kind, number: u128) -> Result<(), AllocError>
+fn append_name(text: &mut Vec<u8>, kind: BandKind, number: u128) -> Result<(), AllocError>
     ensures { OnOk result (text.new.items ≡ text.old.items ++ name_of kind number) }
 {
     match kind {
-        Kind::Preempt => append_named(text, b"preempt ", number),
-        Kind::Flash => append(text, b"flash"),
-        Kind::Vehicle => append_number(text, number),
-        Kind::Pedestrian => {
+        BandKind::Preempt => append_named(text, b"preempt ", number),
+        BandKind::Flash => append(text, b"flash"),
+        BandKind::Vehicle => append_number(text, number),
+        BandKind::Pedestrian => {
             append_number(text, number)?;
             append(text, b" ped")
         }
-        Kind::Overlap => append_named(text, b"overlap ", number),
-        Kind::VehicleInput => append_named(text, b"detector ", number),
-        Kind::PedestrianInput => append_named(text, b"ped detector ", number),
-        Kind::PreemptInput => append_named(text, b"preempt input ", number),
+        BandKind::Overlap => append_named(text, b"overlap ", number),
+        BandKind::VehicleInput => append_named(text, b"detector ", number),
+        BandKind::PedestrianInput => append_named(text, b"ped detector ", number),
+        BandKind::PreemptInput => append_named(text, b"preempt input ", number),
     }
 }
 
@@ -186,20 +193,19 @@ fn append_name(text: &mut Vec<u8>, kind: Kind, number: u128) -> Result<(), Alloc
 fn append_plot(
     text: &mut Vec<u8>,
     bands: &[Band],
-    seconds: u32,
-    last: u32,
+    scale: Scale,
     line: u32,
     changes: &[Shown],
     rows: &[LogRow],
 ) -> Result<(), AllocError>
-    requires { seconds ≤ 86400 }
-    ensures { OnOk result (text.new.items ≡ text.old.items ++ plot_text bands.now seconds last line changes.now rows.now) }
+    requires { scale.seconds ≤ 86400 }
+    ensures { OnOk result (text.new.items ≡ text.old.items ++ plot_text bands.now scale line changes.now rows.now) }
 {
-    let first = first_tick(seconds, line);
-    let end = end_tick(seconds, last, line);
+    let first = first_tick(scale.seconds, line);
+    let end = end_tick(scale.seconds, scale.last, line);
     let changes = before_tick(changes, end);
     let rows = before_tick(rows, end);
-    append_frame(text, bands.len(), first, seconds)?;
+    append_frame(text, bands.len(), first, scale.seconds)?;
     append_bands(text, bands, first, end, changes, rows)?;
     append(text, b"</svg>\n")?;
     Ok(())

@@ -2,7 +2,7 @@
 ghost use Rattle.std.specs.Prelude.{◌≡◌, ◌++◌, IfOk, OnOk};
 ghost use Rattle.tsb_field_diagram.specs.Lit.{band_if, bands_of, bands_on, is_ever, is_ever_on, is_ever_shown, phases_on};
 
-use crate::band::{Band, Kind, Mark, mark_in_change, mark_in_row};
+use crate::band::{Band, BandKind, BandMark, mark_in_change, mark_in_row};
 use crate::bars::is_same;
 use std::alloc::{AllocError, Global};
 use tsb_field_display::Shown;
@@ -21,20 +21,20 @@ pub(crate) fn bands(
     ensures { IfOk result (λ bands. bands.items ≡ bands_of changes.now rows.now) }
 {
     let mut bands = Vec::new(alloc);
-    add_all(&mut bands, Kind::Preempt, 4, changes, rows)?;
-    add_all(&mut bands, Kind::Flash, 1, changes, rows)?;
+    add_all(&mut bands, BandKind::Preempt, 4, changes, rows)?;
+    add_all(&mut bands, BandKind::Flash, 1, changes, rows)?;
     add_phases(&mut bands, changes, rows)?;
-    add_all(&mut bands, Kind::Overlap, 4, changes, rows)?;
-    add_all(&mut bands, Kind::VehicleInput, 16, changes, rows)?;
-    add_all(&mut bands, Kind::PedestrianInput, 8, changes, rows)?;
-    add_all(&mut bands, Kind::PreemptInput, 4, changes, rows)?;
+    add_all(&mut bands, BandKind::Overlap, 4, changes, rows)?;
+    add_all(&mut bands, BandKind::VehicleInput, 16, changes, rows)?;
+    add_all(&mut bands, BandKind::PedestrianInput, 8, changes, rows)?;
+    add_all(&mut bands, BandKind::PreemptInput, 4, changes, rows)?;
     Ok(bands)
 }
 
 /// Adds the bands of a kind, from number 1 to this one.
 fn add_all(
     bands: &mut Vec<Band>,
-    kind: Kind,
+    kind: BandKind,
     count: u8,
     changes: &[Shown],
     rows: &[LogRow],
@@ -52,8 +52,8 @@ fn add_phases(bands: &mut Vec<Band>, changes: &[Shown], rows: &[LogRow]) -> Resu
     ensures { OnOk result (bands.new.items ≡ bands.old.items ++ phases_on changes.now rows.now 0 16) }
 {
     for before in 0..PHASES {
-        add(bands, Kind::Vehicle, before + 1, changes, rows)?;
-        add(bands, Kind::Pedestrian, before + 1, changes, rows)?;
+        add(bands, BandKind::Vehicle, before + 1, changes, rows)?;
+        add(bands, BandKind::Pedestrian, before + 1, changes, rows)?;
     }
     Ok(())
 }
@@ -62,7 +62,7 @@ fn add_phases(bands: &mut Vec<Band>, changes: &[Shown], rows: &[LogRow]) -> Resu
 #[tactic(auto, unfolding(crate::specs::Lit::band_if))]
 fn add(
     bands: &mut Vec<Band>,
-    kind: Kind,
+    kind: BandKind,
     number: u8,
     changes: &[Shown],
     rows: &[LogRow],
@@ -87,7 +87,7 @@ fn is_ever(band: Band, changes: &[Shown], rows: &[LogRow]) -> bool
 fn is_ever_shown(band: Band, changes: &[Shown]) -> bool
     ensures { result ≡ is_ever_shown changes.now band }
 {
-    changes.iter().any(|change| !is_same(mark_in_change(band, change), Mark::Dark))
+    changes.iter().any(|change| !is_same(mark_in_change(band, change), BandMark::Dark))
 }
 
 /// Whether rows ever show something in a band.
@@ -95,5 +95,5 @@ fn is_ever_on(band: Band, rows: &[LogRow]) -> bool
     ensures { result ≡ is_ever_on rows.now band }
 {
     rows.iter()
-        .any(|row| !is_same(mark_in_row(band, row), Mark::Dark))
+        .any(|row| !is_same(mark_in_row(band, row), BandMark::Dark))
 }

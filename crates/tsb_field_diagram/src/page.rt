@@ -2,17 +2,18 @@
 ghost use Rattle.std.specs.Prelude.{◌≡◌, ◌≤◌, ◌++◌, IfOk, OnOk};
 ghost use Rattle.tsb_types.specs.Lists.{or_number};
 ghost use Rattle.tsb_field_diagram.specs.Text.{named_text};
-ghost use Rattle.tsb_field_diagram.specs.Page.{classes_text, clearance_text, clock_of, diagram_text, flash_text, legend_text, line_seconds, names_text, opening_text, page_head, page_height, picture_text, shapes_text, style_text, titles_text, yellow_text};
+ghost use Rattle.tsb_field_diagram.specs.Page.{bands_until, classes_text, clearance_text, clock_of, diagram_text, flash_text, legend_text, line_seconds, names_text, opening_text, page_head, page_height, picture_text, scale_of, shapes_text, style_text, titles_text, yellow_text};
 
 use crate::band::Band;
 use crate::bars::before_tick;
 use crate::ends::GreenEnd;
 use crate::letters::append_ends;
-use crate::line::{append_lines, line_count, line_top};
+use crate::line::{Scale, append_lines, line_count, line_top};
 use crate::lit::bands;
 use crate::title::append_title;
 use crate::write::{append, append_named};
 use std::alloc::{AllocError, Global};
+use std::marker::Model;
 use tsb_event_text::Moment;
 use tsb_field_display::Shown;
 use tsb_log_text::LogRow;
@@ -26,45 +27,99 @@ const TENTH: u128 = 100_000_000;
 /// The tenths of a second that a day has.
 const TENTHS: u128 = 864_000;
 
-/// The phase diagram of a session, as a picture in SVG.
+/// How a diagram is laid out.
+#[derive(Drop)]
+pub struct DiagramForm<'a> {
+    /// UTF-8 text above the lines. What has a meaning in XML is escaped. A character that XML forbids becomes `?`, such
+    /// as U+FFFE, U+FFFF and each control but the tab and ends of lines.
+    pub title: &'a [u8],
+    /// How many seconds a line shows, 1 to 86,400: 0 is taken as 1, and more as 86,400.
+    pub seconds_per_line: u32,
+    /// The moment at which tick 1 begins, where the axis has the time of day; `None` where it begins at time 0.
+    pub from: Option<Moment>,
+}
+
+impl<'a> Model for DiagramForm<'a> {
+    ghost use Rattle.tsb_field_diagram.specs.Given.{Form};
+
+    ghost Value = { Form };
+
+    ghost view = { λ form. record { title = form.title.now; seconds = form.seconds_per_line; from = form.from } };
+}
+
+/// What a diagram draws of a session. A tick is a tenth of a second.
+#[derive(Drop)]
+pub struct DiagramSession<'a> {
+    /// The first display line and those that show something other than the line before, whose ticks rise. What one
+    /// shows holds up to the next, and what the last one shows up to the last tick.
+    pub changes: &'a [Shown],
+    /// The last tick. Where it is `None` or 0, the picture has no lines.
+    pub last_tick: Option<u32>,
+    /// The rows of a log of inputs, whose ticks rise. An input that is on in a row is on until the next row. There may be
+    /// none.
+    pub rows: &'a [LogRow],
+    /// Ends of greens, each with a letter at the end of its green: G, M or F.
+    pub ends: &'a [GreenEnd],
+}
+
+impl<'a> Model for DiagramSession<'a> {
+    ghost use Rattle.tsb_field_diagram.specs.Given.{Session};
+
+    ghost Value = { Session };
+
+    ghost view = { λ session. record {
+      changes = session.changes.now;
+      last = session.last_tick;
+      rows = session.rows.now;
+      ends = session.ends.now;
+    } };
+}
+
+/// The phase diagram of a session, as a picture in SVG. The error is that memory ran out.
 ///
-/// `changes` are the first display line and those that show something other than the line before, whose ticks rise;
-/// what one shows holds up to the next, and what the last one shows up to tick `last`. Where `last` is `None` or 0, the
-/// picture has no lines. `rows` are those of a log of inputs, whose ticks rise: an input that is on in a row is on
-/// until the next row. There may be none. A tick is a tenth of a second, and tick 1 begins at time 0, or where `from` is
-/// given, at this moment: the axis then has the time of day.
-///
-/// A line has `seconds_per_line` seconds, 1 to 86,400: 0 is taken as 1, and more as 86,400. Each line has from top to
-/// bottom, where they are ever lit, or on up to tick `last`, the preempts in service, flash, the head of each phase with its pedestrian
-/// head below it, the overlaps, vehicle detectors, pedestrian detectors and preempt inputs; below them it has an axis
-/// of seconds, with the clock at minutes. A bar begins at its tick and is its ticks wide. Where a head is dark there is
-/// no bar. `ends` are ends of greens, each with a letter at the end of its green: G, M or F. A line below the legend says
-/// what they mean, where there are any.
-///
-/// `title` is UTF-8 text: what has a meaning in XML is escaped, and a character that XML forbids becomes `?`, such as
-/// U+FFFE, U+FFFF and each control but the tab and ends of lines. The form of the picture is "profile". The error is
-/// that memory ran out.
+/// Each line has from top to bottom what is ever lit, or on up to the last tick: the preempts in service, flash, the head
+/// of each phase with its pedestrian head below it, the overlaps, vehicle detectors, pedestrian detectors and preempt
+/// inputs. Below them it has an axis of seconds, with the clock at minutes. A bar begins at its tick and is its ticks
+/// wide. Where a head is dark there is no bar. Where there are ends of greens, a line below the legend says what their
+/// letters mean. The form of the picture is "profile".
 pub fn diagram_text(
     alloc: Global,
-    title: &[u8],
-    seconds_per_line: u32,
-    from: Option<Moment>,
-    changes: &[Shown],
-    last: Option<u32>,
-    rows: &[LogRow],
-    ends: &[GreenEnd],
+    form: &DiagramForm<'_>,
+    session: &DiagramSession<'_>,
 ) -> Result<Vec<u8>, AllocError>
-    ensures { IfOk result (λ text. text.items ≡ diagram_text title.now seconds_per_line from changes.now last rows.now ends.now) }
+    ensures { IfOk result (λ text. text.items ≡ diagram_text form.now session.now) }
 {
-    let clock = clock_of(from);
-    let seconds = line_seconds(seconds_per_line);
-    let last = last.unwrap_or(0);
-    let bands = bands(alloc, changes, before_tick(rows, u64::from(last) + 1))?;
+    let last = session.last_tick.unwrap_or(0);
+    let scale = scale_of(form, last);
+    let bands = bands_until(alloc, session, last)?;
     let mut text = Vec::new(alloc);
-    append_picture(
-        &mut text, title, &bands, clock, seconds, last, changes, rows, ends,
-    )?;
+    append_picture(&mut text, form.title, &bands, scale, session)?;
     Ok(text)
+}
+
+/// How the lines of a diagram are laid out, up to this tick.
+fn scale_of(form: &DiagramForm<'_>, last: u32) -> Scale
+    ensures same { result ≡ scale_of form.now last }
+    ensures some { 1 ≤ result.seconds }
+    ensures most { result.seconds ≤ 86400 }
+{
+    Scale {
+        clock: clock_of(form.from),
+        seconds: line_seconds(form.seconds_per_line),
+        last,
+    }
+}
+
+/// The bands of what is ever lit, or on up to this tick.
+fn bands_until(
+    alloc: Global,
+    session: &DiagramSession<'_>,
+    last: u32,
+) -> Result<Vec<Band>, AllocError>
+    ensures { IfOk result (λ bands. bands.items ≡ bands_until session.now last) }
+{
+    let rows = before_tick(session.rows, u64::from(last) + 1);
+    bands(alloc, session.changes, rows)
 }
 
 /// The time of day at which tick 1 begins, in tenths of a second, where its moment is known.
@@ -91,21 +146,17 @@ fn append_picture(
     text: &mut Vec<u8>,
     title: &[u8],
     bands: &[Band],
-    clock: Option<u32>,
-    seconds: u32,
-    last: u32,
-    changes: &[Shown],
-    rows: &[LogRow],
-    ends: &[GreenEnd],
+    scale: Scale,
+    session: &DiagramSession<'_>,
 ) -> Result<(), AllocError>
-    requires some { 1 ≤ seconds }
-    requires most { seconds ≤ 86400 }
-    ensures { OnOk result (text.new.items ≡ text.old.items ++ picture_text title.now bands.now clock seconds last changes.now rows.now ends.now) }
+    requires some { 1 ≤ scale.seconds }
+    requires most { scale.seconds ≤ 86400 }
+    ensures { OnOk result (text.new.items ≡ text.old.items ++ picture_text title.now bands.now scale session.now) }
 {
-    let height = page_height(bands.len(), seconds, last);
-    append_page_head(text, title, seconds, height)?;
-    append_lines(text, bands, clock, seconds, last, changes, rows)?;
-    append_ends(text, bands, seconds, last, ends)?;
+    let height = page_height(bands.len(), scale.seconds, scale.last);
+    append_page_head(text, title, scale.seconds, height)?;
+    append_lines(text, bands, scale, session.changes, session.rows)?;
+    append_ends(text, bands, scale.seconds, scale.last, session.ends)?;
     append(text, b"</svg>\n")
 }
 

@@ -2,7 +2,9 @@
 
 use std::alloc::{AllocError, Global};
 use tsb_event_text::{Moment, read_moment};
-use tsb_field_diagram::{EndsError, GreenEnd, Why, diagram_text, read_ends};
+use tsb_field_diagram::{
+    DiagramForm, DiagramSession, EndsError, GreenEnd, Why, diagram_text, read_ends,
+};
 use tsb_field_display::{Replay, Shown, read_line};
 use tsb_log_text::LogRow;
 use tsb_types::{NumberSet, Row};
@@ -218,22 +220,40 @@ fn lines_of(
     last: u32,
     rows: &[LogRow],
 ) -> Result<Vec<u8>, AllocError> {
-    let text = diagram_text(
-        alloc,
-        b"Main",
-        seconds,
-        None,
+    let form = form_of(b"Main", seconds);
+    let session = DiagramSession {
         changes,
-        Some(last),
+        last_tick: Some(last),
         rows,
-        &[],
-    )?;
+        ends: &[],
+    };
+    let text = diagram_text(alloc, &form, &session)?;
     Vec::from_slice(alloc, behind_lines(text.as_slice(), 11))
+}
+
+/// Lines of so many seconds under this title, by time from tick 1.
+fn form_of(title: &[u8], seconds_per_line: u32) -> DiagramForm<'_> {
+    DiagramForm {
+        title,
+        seconds_per_line,
+        from: None,
+    }
+}
+
+/// Nothing that is lit or on, up to this tick if there is one.
+fn nothing_until(last_tick: Option<u32>) -> DiagramSession<'static> {
+    DiagramSession {
+        changes: &[],
+        last_tick,
+        rows: &[],
+        ends: &[],
+    }
 }
 
 /// Whether the diagram of no change, up to this tick if there is one, is its title and its legend.
 fn is_empty(alloc: Global, last: Option<u32>) -> bool {
-    match diagram_text(alloc, b"<\"a'b\">\x01\t&", 60, None, &[], last, &[], &[]) {
+    let form = form_of(b"<\"a'b\">\x01\t&", 60);
+    match diagram_text(alloc, &form, &nothing_until(last)) {
         Ok(text) => text.as_slice() == EMPTY,
         Err(_) => false,
     }
@@ -246,7 +266,7 @@ fn a_diagram_of_no_line_has_a_title_and_a_legend(rt: HostRuntime) {
 
 /// Whether this is the second line of a diagram with the title.
 fn has_title(alloc: Global, title: &[u8], line: &[u8]) -> bool {
-    match diagram_text(alloc, title, 60, None, &[], None, &[], &[]) {
+    match diagram_text(alloc, &form_of(title, 60), &nothing_until(None)) {
         Ok(text) => behind_lines(text.as_slice(), 1).starts_with(line),
         Err(_) => false,
     }
@@ -315,16 +335,18 @@ fn moment(text: &[u8]) -> Moment {
 
 /// Whether a diagram of ten seconds from this moment on, of nothing that is lit, has these lines.
 fn has_clock(alloc: Global, replay: &Replay, from: Moment, wanted: &[u8]) -> bool {
-    match diagram_text(
-        alloc,
-        b"Main",
-        10,
-        Some(from),
-        replay.changes(),
-        Some(20),
-        &[],
-        &[],
-    ) {
+    let form = DiagramForm {
+        title: b"Main",
+        seconds_per_line: 10,
+        from: Some(from),
+    };
+    let session = DiagramSession {
+        changes: replay.changes(),
+        last_tick: Some(20),
+        rows: &[],
+        ends: &[],
+    };
+    match diagram_text(alloc, &form, &session) {
         Ok(text) => behind_lines(text.as_slice(), 11) == wanted,
         Err(_) => false,
     }
@@ -345,16 +367,13 @@ fn end(tick: u32, phase: u32, why: Why) -> GreenEnd {
 
 /// Whether a diagram of these ends ends so.
 fn has_letters(alloc: Global, replay: &Replay, ends: &[GreenEnd], wanted: &[u8]) -> bool {
-    match diagram_text(
-        alloc,
-        b"Main",
-        1,
-        None,
-        replay.changes(),
-        Some(25),
-        &[],
+    let session = DiagramSession {
+        changes: replay.changes(),
+        last_tick: Some(25),
+        rows: &[],
         ends,
-    ) {
+    };
+    match diagram_text(alloc, &form_of(b"Main", 1), &session) {
         Ok(text) => text.as_slice().ends_with(wanted),
         Err(_) => false,
     }
@@ -378,16 +397,13 @@ fn a_letter_stands_where_its_green_ends(rt: HostRuntime) -> Result<(), AllocErro
 /// Whether a diagram up to tick 25 has a band of an input that comes on at this tick.
 fn has_band(alloc: Global, replay: &Replay, tick: u32) -> bool {
     let rows = [row(tick, 4, 0, 0)];
-    match diagram_text(
-        alloc,
-        b"Main",
-        60,
-        None,
-        replay.changes(),
-        Some(25),
-        &rows,
-        &[],
-    ) {
+    let session = DiagramSession {
+        changes: replay.changes(),
+        last_tick: Some(25),
+        rows: &rows,
+        ends: &[],
+    };
+    match diagram_text(alloc, &form_of(b"Main", 60), &session) {
         Ok(text) => text
             .as_slice()
             .windows(10)

@@ -1,22 +1,22 @@
 -- The bars of a band in a line, computed, and one-line mistakes, each with the part of the laws that refuses it.
 use Rattle.std.proofs.Common.{◌≡◌, ℕ, ◌-◌, List, [], ◌∷◌, map, filter, nat_le, refl, arith}
-use Rattle.tsb_field_diagram.specs.declared.band.Mark.{Mark}
-use Rattle.tsb_field_diagram.specs.declared.band.Mark.TheVariants.{Green, Red, Yellow}
+use Rattle.tsb_field_diagram.specs.declared.band.BandMark.{BandMark}
+use Rattle.tsb_field_diagram.specs.declared.band.BandMark.TheVariants.{Green, Red, Yellow}
 use Rattle.tsb_field_diagram.specs.Bars.{Bar, bar, bars_of, bars_on, before_tick, from_tick, in_line}
 use Rattle.tsb_field_diagram.specs.Laws.{Differ, Fill, Rises}
 
 -- what a head shows from a tick on
 pub record Change : Type 0 where
   pub tick : ℕ
-  pub mark : Mark
+  pub mark : BandMark
 
 abbrev tick_of : Change → ℕ
 tick_of change = change.tick
 
-abbrev mark_of : Change → Mark
+abbrev mark_of : Change → BandMark
 mark_of change = change.mark
 
-abbrev change : ℕ → Mark → Change
+abbrev change : ℕ → BandMark → Change
 change tick mark = record { tick = tick; mark = mark }
 
 -- another head changes at tick 31, and this one stays green

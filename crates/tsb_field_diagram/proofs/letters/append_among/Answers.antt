@@ -1,6 +1,6 @@
 use Rattle.std.proofs.Common.{length}
 use Rattle.tsb_field_diagram.specs.declared.band.Band.{Band}
-use Rattle.tsb_field_diagram.specs.declared.band.Kind.TheVariants as kinds
+use Rattle.tsb_field_diagram.specs.declared.band.BandKind.TheVariants as kinds
 use Rattle.tsb_field_diagram.specs.Letters.{letter_among, letter_in}
 use Rattle.tsb_field_diagram.proofs.CountLemmas.{place-more, place-end}
 use Rattle.tsb_field_diagram.proofs.LetterLemmas.{among-more, among-none}

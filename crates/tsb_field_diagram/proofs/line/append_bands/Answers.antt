@@ -1,5 +1,5 @@
 use Rattle.tsb_field_diagram.specs.declared.band.Band.{Band}
-use Rattle.tsb_field_diagram.specs.declared.band.Kind.TheVariants as kinds
+use Rattle.tsb_field_diagram.specs.declared.band.BandKind.TheVariants as kinds
 use Rattle.tsb_field_diagram.specs.Lines.{band_text, bands_text}
 use Rattle.tsb_field_diagram.proofs.CountLemmas.{both, place-end, place-more}
 use Rattle.tsb_field_diagram.proofs.LineLemmas.{bands-more, bands-none}

@@ -1,5 +1,5 @@
 use Rattle.tsb_field_diagram.specs.declared.band.Band.{Band}
-use Rattle.tsb_field_diagram.specs.declared.band.Kind.TheVariants as kinds
+use Rattle.tsb_field_diagram.specs.declared.band.BandKind.TheVariants as kinds
 use Rattle.tsb_field_diagram.specs.Lines.{label_text, labels_text}
 use Rattle.tsb_field_diagram.proofs.CountLemmas.{place-more, place-end}
 use Rattle.tsb_field_diagram.proofs.LineLemmas.{labels-more, labels-none}

@@ -15,41 +15,41 @@ loop-line-init c =
       changes = λ t le. refl;
       rows = λ t le. refl;
       text =
-          ap (λ (n : ℕ). c.args.text.now.items ++ lines_text c.args.bands.now c.args.clock c.args.seconds c.args.last c.args.changes.now c.args.rows.now 0 n) whole;
+          ap (λ (n : ℕ). c.args.text.now.items ++ lines_text c.args.bands.now c.args.scale c.args.changes.now c.args.rows.now 0 n) whole;
     }
 
 pub loop-line-preserved : goal.loop-line-preserved
 loop-line-preserved c =
-    let bands = c.args.bands.now in let clock = c.args.clock in let seconds = c.args.seconds in let last = c.args.last in
+    let bands = c.args.bands.now in let scale = c.args.scale in
     let cs = c.args.changes.now in let rs = c.args.rows.now in let k = c.loop-line.line in
     let held = c.loop-line.invariant in
-    let next = next-first c.args.seconds c.loop-line.line in
-    let changes : c.from_tick-changes.result.now ≡ from_tick tick_of_change (first_tick c.args.seconds c.loop-line.line) c.loop-line.changes.now =
+    let next = next-first c.args.scale.seconds c.loop-line.line in
+    let changes : c.from_tick-changes.result.now ≡ from_tick tick_of_change (first_tick c.args.scale.seconds c.loop-line.line) c.loop-line.changes.now =
     c.from_tick-changes.ensures ∙ ap (λ (n : ℕ). from_tick tick_of_change n c.loop-line.changes.now) c.first_tick-first.ensures.same in
-    let rows : c.from_tick-rows.result.now ≡ from_tick tick_of_row (first_tick c.args.seconds c.loop-line.line) c.loop-line.rows.now =
+    let rows : c.from_tick-rows.result.now ≡ from_tick tick_of_row (first_tick c.args.scale.seconds c.loop-line.line) c.loop-line.rows.now =
     c.from_tick-rows.ensures ∙ ap (λ (n : ℕ). from_tick tick_of_row n c.loop-line.rows.now) c.first_tick-first.ensures.same in
     record {
       changes =
           λ t le. ap (λ (xs : List Shown). from_tick tick_of_change t xs) changes
-          ∙ from-from tick_of_change (first_tick seconds k) t c.loop-line.changes.now (omega (arith, le, next)) ∙ held.changes t (omega (arith, le, next));
+          ∙ from-from tick_of_change (first_tick scale.seconds k) t c.loop-line.changes.now (omega (arith, le, next)) ∙ held.changes t (omega (arith, le, next));
       rows =
           λ t le. ap (λ (xs : List LogRow). from_tick tick_of_row t xs) rows
-          ∙ from-from tick_of_row (first_tick seconds k) t c.loop-line.rows.now (omega (arith, le, next)) ∙ held.rows t (omega (arith, le, next));
+          ∙ from-from tick_of_row (first_tick scale.seconds k) t c.loop-line.rows.now (omega (arith, le, next)) ∙ held.rows t (omega (arith, le, next));
       text =
           count-more
-          (λ (n : ℕ). line_text bands clock seconds last n (from_tick tick_of_change (first_tick seconds n) cs) (from_tick tick_of_row (first_tick seconds n) rs))
-          (lines_text bands clock seconds last cs rs) (lines-more bands clock seconds last cs rs) k c.line_count-count.result c.loop-line-test.true
+          (λ (n : ℕ). line_text bands scale n (from_tick tick_of_change (first_tick scale.seconds n) cs) (from_tick tick_of_row (first_tick scale.seconds n) rs))
+          (lines_text bands scale cs rs) (lines-more bands scale cs rs) k c.line_count-count.result c.loop-line-test.true
           c.loop-line.text.items _ _
           (c.in_ok-append_line.ensures
-          ∙ ap (λ (xs : List Shown). c.loop-line.text.items ++ line_text bands clock seconds last k xs c.from_tick-rows.result.now) (changes ∙ held.changes (first_tick seconds k) (omega arith))
-          ∙ ap (λ (xs : List LogRow). c.loop-line.text.items ++ line_text bands clock seconds last k (from_tick tick_of_change (first_tick seconds k) cs) xs) (rows ∙ held.rows (first_tick seconds k) (omega arith)))
+          ∙ ap (λ (xs : List Shown). c.loop-line.text.items ++ line_text bands scale k xs c.from_tick-rows.result.now) (changes ∙ held.changes (first_tick scale.seconds k) (omega arith))
+          ∙ ap (λ (xs : List LogRow). c.loop-line.text.items ++ line_text bands scale k (from_tick tick_of_change (first_tick scale.seconds k) cs) xs) (rows ∙ held.rows (first_tick scale.seconds k) (omega arith)))
           held.text;
     }
 
 pub returns : goal.returns
 returns c =
-    let bands = c.args.bands.now in let clock = c.args.clock in let seconds = c.args.seconds in let last = c.args.last in
+    let bands = c.args.bands.now in let scale = c.args.scale in
     let cs = c.args.changes.now in let rs = c.args.rows.now in
-    count-end (lines_text bands clock seconds last cs rs) (lines-none bands clock seconds last cs rs)
+    count-end (lines_text bands scale cs rs) (lines-none bands scale cs rs)
     c.loop-line.line c.line_count-count.result c.loop-line-test.false c.loop-line.text.items _ c.loop-line.invariant.text
-    ∙ ap (λ (n : ℕ). c.args.text.now.items ++ lines_text bands clock seconds last cs rs 0 n) c.line_count-count.ensures
+    ∙ ap (λ (n : ℕ). c.args.text.now.items ++ lines_text bands scale cs rs 0 n) c.line_count-count.ensures

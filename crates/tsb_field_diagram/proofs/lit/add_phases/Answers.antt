@@ -1,6 +1,6 @@
 use Rattle.std.proofs.Common.{◌∙◌, ℕ, ◌+◌, ◌++◌, List, ap, append_assoc}
 use Rattle.tsb_field_diagram.specs.declared.band.Band.{Band}
-use Rattle.tsb_field_diagram.specs.declared.band.Kind.TheVariants as kinds
+use Rattle.tsb_field_diagram.specs.declared.band.BandKind.TheVariants as kinds
 use Rattle.tsb_field_diagram.specs.Lit.{band_if, phases_on}
 use Rattle.tsb_field_diagram.proofs.CountLemmas.{count-more, count-end}
 use Rattle.tsb_field_diagram.proofs.LitLemmas.{phases-more, phases-none}
