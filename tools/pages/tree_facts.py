@@ -39,9 +39,6 @@ LAYERS = {"desk": "tsb_transact", "detectors": "tsb_detect", "calls": "tsb_calls
 # Names that several crates give to their types. A rename breaks written answers of proofs, so it waits for a change of
 # the crate. Types of tests, comparisons and times are not looked at.
 TWICE = {
-    "Cause": {"tsb_phase", "tsb_program"},
-    "Refusal": {"tsb_program", "tsb_types"},
-    "Status": {"tsb_program", "tsb_status"},
 }
 UNPROVED = {"tsb_tests", "tsb_field_tests", "tsb_layer_runs", "tsb_runs"}
 

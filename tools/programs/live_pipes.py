@@ -20,6 +20,11 @@ TORN, ENDLESS, FULL = "/proc/self/mem", "/dev/zero", "/dev/full"
 # The seconds in which an answer has to come, and how long one is waited for that may not.
 SOON, NONE = 60.0, 0.02
 TRIPS, AHEAD, HUNDREDS = 200, 100, 10
+# How much more memory than the program needs to start a run short of memory may have, in KiB: a dozen limits. The last
+# leaves room for all of its inputs.
+MORE = range(4, 1900, 156)
+# The most memory that a program needs to start, in KiB.
+MOST = 1 << 17
 
 
 class Talk:
@@ -222,12 +227,34 @@ def killed_caller(live: pathlib.Path) -> list[str]:
     return [] if found == wanted else [f"a caller that is killed: {found}, not {wanted}"]
 
 
+def within(limit: int, words: list[str | pathlib.Path], lines: bytes = b"") -> Ended:
+    """A run of a program that may have so many KiB of memory."""
+    return ran(["prlimit", f"--as={limit * 1024}", *words], lines)
+
+
+def least(live: pathlib.Path) -> int:
+    """How many KiB of memory the program needs to start."""
+    low, high = 0, MOST
+    while high - low > 4:
+        middle = (low + high) // 2
+        low, high = (low, middle) if within(middle, [live, "--version"])[0] == 0 else (middle, high)
+    return high
+
+
+def short_of_memory(live: pathlib.Path) -> list[str]:
+    """Where memory is short, a run says so or refuses what it has no room for, and ends by no signal."""
+    lines = b"".join(b"%016d 00000000 0000\n" % (k % 2) for k in range(60_000)) + b"show\n"
+    start, wrong = least(live), []
+    for more in MORE:
+        status, _, errors = within(start + more, [live, PLAN], lines)
+        if status not in (0, 3) or (status == 3) != (errors == b"memory\n"):
+            wrong.append(f"with {more} KiB of memory beside the program: {status} {errors!r}")
+    return wrong
+
+
 def second_line(path: str, first: bytes) -> bytes:
-    """What is printed after the first line: which file was not read, or where its text stops being JSON."""
-    if first == b"plan: not JSON\n":
-        return json_places.second_line(pathlib.Path(path).read_bytes()) or b""
-    cause = {"none.json": ": no such file", "examples": ": a folder"}.get(path, "")
-    return f'file "{path}"{cause}\n'.encode() if first == b"read fault\n" else b""
+    """What is printed in a second line: where a plan's text stops being JSON."""
+    return json_places.second_line(pathlib.Path(path).read_bytes()) or b"" if first == b"plan: not JSON\n" else b""
 
 
 def plans(live: pathlib.Path, tsb: pathlib.Path) -> list[str]:

@@ -194,11 +194,12 @@ def memory(program, wrong):
 
 # --- reads and writes ---
 
-def reads(program, wrong, words=RUN, lines=INPUTS + WAY_BACK, told_file=READ, told_input=READ):
-    """Fails each read. One of a file that is interrupted is tried again; one of commands is not. A file for which the
-    machine has no memory is reported as such."""
+def reads(program, wrong, words=RUN, lines=INPUTS + WAY_BACK, files=RUN[1:], told_input=READ):
+    """Fails each read. One of a file that is interrupted is tried again; one of commands is not. A file that is not read
+    is named, and one for which the machine has no memory is reported as such."""
     text = text_of(lines)
-    of_file = {errno.EIO: (3, b"", told_file), errno.ENOMEM: (3, b"", MEMORY), errno.EINTR: program.run(words, text)[:3]}
+    not_read = [(3, b"", READ + b'file "%s"\n' % path.encode()) for path in files]
+    of_file = {errno.EIO: not_read, errno.ENOMEM: [(3, b"", MEMORY)], errno.EINTR: [program.run(words, text)[:3]]}
     of_files = program.calls(words, kind="read", piece=PIECE) - 1
     for error in [*of_file, 0]:
         for number, ended in program.sweep(words, text, kind="read", error=error, piece=PIECE):
@@ -208,7 +209,7 @@ def reads(program, wrong, words=RUN, lines=INPUTS + WAY_BACK, told_file=READ, to
                 answers = program.run(words, told).output
                 wrong.compare(what, ended, (3, answers, told_input) if error else (0, answers, b""))
             elif error:
-                wrong.compare(what, ended, of_file[error])
+                wrong.compare(what, ended, *of_file[error])
 
 
 def writes(program, wrong, runs=(RUN, ["check", PLAN], ["what"]), lines=INPUTS + WAY_BACK):

@@ -12,7 +12,7 @@ import tempfile
 
 from tools.programs.refused_calls import (BEHIND, INPUTS, LATE, NEARLY, PLAN, REFUSED, WAY_BACK, Differences, Program,
                                           answers_of, before_answers, built, pieces, reads, text_of, writes)
-from tools.programs.run_program import INPUT, not_read
+from tools.programs.run_program import INPUT
 
 WORDS = [PLAN]
 GOOD = [WORDS, ["examples/two_short_yellow.json"], ["none.json"]]
@@ -131,7 +131,7 @@ def main(words: list[str]) -> int:
     with tempfile.TemporaryDirectory() as folder:
         program = Program(path, built(folder))
         found = memory(program, wrong)
-        reads(program, wrong, WORDS, lines, not_read(PLAN), INPUT)
+        reads(program, wrong, WORDS, lines, [PLAN], INPUT)
         writes(program, wrong, [WORDS], lines)
         pieces(program, wrong, GOOD + BAD, lines)
     wrong += [f"no call was refused: {kind}" for kind in ("memory", "read", "write") if not program.refused[kind]]

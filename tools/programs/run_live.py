@@ -36,6 +36,7 @@ def checks(live: pathlib.Path, tsb: pathlib.Path, field: pathlib.Path) -> dict[s
         "plans that are refused": lambda: live_pipes.plans(live, tsb),
         "where plan texts stop being JSON": lambda: json_places.compare(live),
         "words": lambda: live_pipes.words(live),
+        "runs short of memory": lambda: live_pipes.short_of_memory(live),
     }
 
 

@@ -28,7 +28,7 @@ LIVE_USAGE = b"usage: tsb_live [--strict] PLAN\n"
 VERSION = b"%s " + pathlib.Path("VERSION").read_bytes()
 HINT = b"did you mean %s? --help lists the words\n"
 READ, WRITE = b"read fault\n", b"write fault\n"
-# What tsb_live and tsb_field tell of standard input, and why they don't read some paths; of others nothing is known.
+# What tsb_live and tsb_field tell of standard input, and why programs don't read some paths; of others nothing is known.
 INPUT = READ + b"standard input\n"
 CAUSES = {"folder": b": a folder"} | dict.fromkeys(["", "help", "none.json", "none.log"], b": no such file")
 OK, RULE, NOT_JSON = b"plan ok\n", b"plan: rule K8\n", b"plan: not JSON\n"
@@ -60,7 +60,7 @@ CYCLE = [f"-{second}-{fourth}" for second, fourth, ticks in SHOWN for _ in range
 
 
 def not_read(path):
-    """What tsb_live and tsb_field tell of a file that they don't read."""
+    """What programs tell of a file that they don't read."""
     return READ + b'file "%s"%s\n' % (path.encode(), CAUSES.get(path, b""))
 
 
@@ -152,9 +152,10 @@ def word_runs():
 def file_runs():
     """Files that are missing, that cannot be read, or that are too long."""
     for path in ["none.json", "folder", "two.json/none", TORN]:
-        yield Run(["check", path], 3, b"", READ)
-        yield Run(["run", path, "empty.log"], 3, b"", READ)
-        yield Run(["run", "two.json", path], 3, b"", READ, b"step 1\n")
+        yield Run(["check", path], 3, b"", not_read(path))
+        yield Run(["run", path, "empty.log"], 3, b"", not_read(path))
+        yield Run(["run", "two.json", path], 3, b"", not_read(path), b"step 1\n")
+    yield Run(["run", "none.json", "none.log"], 3, b"", not_read("none.json"), b"step 1\n")
     yield Run(["check", "longest.json"], 0, OK)
     for path in ["too_long.json", ENDLESS]:
         yield Run(["check", path], 1, b"plan: too large\n")
@@ -175,7 +176,7 @@ def file_runs():
     yield Run(["run", "two.json", "many_and_bad.log"], 1, b"", f"log line {MANY + 1}: malformed\n".encode(), b"step 1\n")
     for log in ["empty.log", "same_tick.log", "none.log"]:
         yield Run(["run", "two_short_yellow.json", log], 1, b"", RULE, b"step 1\n")
-    yield Run(["run", "none.json", "same_tick.log"], 3, b"", READ, b"step 1\n")
+    yield Run(["run", "none.json", "same_tick.log"], 3, b"", not_read("none.json"), b"step 1\n")
 
 
 def stream_runs():

@@ -2,3 +2,5 @@
 pub mod ReadLemmas
 -- the built-in plan
 pub mod TwoLemmas
+-- how a session ends, once its fault is told
+pub mod TalkLemmas

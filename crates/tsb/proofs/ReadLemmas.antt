@@ -11,27 +11,36 @@ use Rattle.tsb_program.specs.declared.files.FileError.TheVariants as files
 use Rattle.tsb_program.specs.declared.read.ReadError.{ReadError}
 use Rattle.tsb_program.specs.declared.read.ReadError.TheVariants as faults
 use Rattle.tsb_program.specs.tsb_lines.Seen.{Seen}
-use Rattle.tsb.specs.Ends.{Checks, Judged, Reported, Stops}
-use Rattle.tsb_program.specs.Lines.{Refuses, plan_line}
+use Rattle.tsb.specs.Ends.{Checks, Reported, Stops}
+use Rattle.tsb_program.specs.Lines.{Wrote, plan_line}
+use Rattle.tsb_program.specs.Told.{Refuses}
+use Rattle.tsb_text.specs.tsb_plan_text.FaultLines.{plan_fault}
 use Rattle.tsb_program.specs.Read.{HasPlan, LogRead, PlanRead}
 
 -- a log that is not had ends `run` where there is a plan
-pub stops-log : (fault : ReadError LogError) (found : Plan) (status : ℕ) (plan log : Option (List ℕ)) (told tells : Seen) → HasPlan plan found → LogRead (Err fault) log
-    → Refuses log_fault fault status told tells → Stops status plan log told tells
-stops-log (faults.Failed why) found status plan log old new has read fails = inr (inr (why, fails))
-stops-log (faults.Refused why) found status plan log old new has read (inl line) = inr (inl (line.0, found, has, why, read, line.1))
-stops-log (faults.Refused why) found status plan log old new has read (inr none) = inr (inr (files.Memory, none))
+pub stops-log : (fault : ReadError LogError) (found : Plan) (status : ℕ) (plan log : List ℕ) (known : List ℕ → Option (List ℕ)) (told tells : Seen) → HasPlan (known plan) found
+    → LogRead (Err fault) (known log) → Refuses log_fault log fault status told tells → Stops status plan log known told tells
+stops-log (faults.Failed why) found status plan log known old new has read fails = inr (inr (inr (found, has, why, fails)))
+stops-log (faults.Refused why) found status plan log known old new has read (inl line) = inr (inl (line.0, found, has, why, read, line.1))
+stops-log (faults.Refused why) found status plan log known old new has read (inr none) = inr (inr (inl (files.Memory, none)))
+
+-- so does a plan that is not had
+pub stops-plan : (fault : ReadError PlanError) (status : ℕ) (plan log : List ℕ) (known : List ℕ → Option (List ℕ)) (told tells : Seen)
+    → PlanRead (Err fault) (known plan) → Refuses plan_fault plan fault status told tells → Stops status plan log known told tells
+stops-plan (faults.Failed why) status plan log known old new read fails = inr (inr (inl (why, fails)))
+stops-plan (faults.Refused why) status plan log known old new read (inl line) = inl (line.0, why, read, line.1)
+stops-plan (faults.Refused why) status plan log known old new read (inr none) = inr (inr (inl (files.Memory, none)))
 
 -- what was found of a plan is that of its file
-pub checks : (found : Result Checked (ReadError PlanError)) (file : Option (List ℕ)) (status : ℕ) (old new told tells : Seen) → PlanRead found file → Reported found status old new told tells
-    → Checks status file old new told tells
-checks (Ok plan) file status old new told tells has judged = inl (0, codes "plan ok\n", inl (refl, refl, checked_plan plan, has), judged)
-checks (Err (faults.Refused fault)) file status old new told tells has (inl judged) = inl (1, plan_line fault, inr (refl, fault, refl, has), judged)
-checks (Err (faults.Refused fault)) file status old new told tells has (inr none) = inr (none.0, (files.Memory, none.1))
-checks (Err (faults.Failed why)) file status old new told tells read stays = inr (stays.0, (why, stays.1))
+pub checks : (found : Result Checked (ReadError PlanError)) (name : List ℕ) (file : Option (List ℕ)) (status : ℕ) (old new told tells : Seen) → PlanRead found file
+    → Reported name found status old new told tells → Checks name status file old new told tells
+checks (Ok plan) name file status old new told tells has judged = inl (0, codes "plan ok\n", inl (refl, refl, checked_plan plan, has), judged)
+checks (Err (faults.Refused fault)) name file status old new told tells has (inl judged) = inl (1, plan_line fault, inr (refl, fault, refl, has), judged)
+checks (Err (faults.Refused fault)) name file status old new told tells has (inr none) = inr (none.0, (files.Memory, none.1))
+checks (Err (faults.Failed why)) name file status old new told tells read stays = inr (stays.0, (why, stays.1))
 
 -- what is judged of a plan that is refused is reported of it
-pub refused-so : (found : Result Checked (ReadError PlanError)) (why : PlanError) (status : ℕ) (old new told tells : Seen) → found ≡ Err (faults.Refused why)
-    → Judged status 1 (plan_line why) old new told tells → Reported found status old new told tells
-refused-so found why status old new told tells is judged =
-    subst (λ (f : Result Checked (ReadError PlanError)). Reported f status old new told tells) (sym is) (inl judged)
+pub refused-so : (found : Result Checked (ReadError PlanError)) (name : List ℕ) (why : PlanError) (status : ℕ) (old new told tells : Seen) → found ≡ Err (faults.Refused why)
+    → Wrote status 1 (plan_line why) old new told tells → Reported name found status old new told tells
+refused-so found name why status old new told tells is judged =
+    subst (λ (f : Result Checked (ReadError PlanError)). Reported name f status old new told tells) (sym is) (inl judged)

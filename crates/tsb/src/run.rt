@@ -1,114 +1,75 @@
 //! What the program does for its words.
 
-ghost use Rattle.std.specs.Prelude.{◌≡◌, [], Result, false, map, true};
+ghost use Rattle.std.specs.Prelude.{◌≡◌, Result, false, map, true};
 ghost use Rattle.tsb_words.specs.declared.bench.Asked.{Asked};
 ghost use Rattle.tsb_words.specs.declared.error.WordsError.{WordsError};
 ghost use Rattle.tsb_words.specs.BenchWords.{Spells};
 ghost use Rattle.tsb_text.specs.tsb_objects.Checked.{checked_plan};
-ghost use Rattle.tsb.specs.Lines.{TellsWords};
-ghost use Rattle.tsb_program.specs.Statuses.{number};
-ghost use Rattle.tsb_program.specs.tsb_lines.Seen.{seen};
-ghost use Rattle.tsb.specs.Ends.{Checks, Judged, Ran, RanBuiltIn, Reported, Did, Talked};
+ghost use Rattle.tsb_program.specs.Devices.{ReadsNothing};
+ghost use Rattle.tsb.specs.Ends.{Checks, Ran, RanBuiltIn, Reported, Did, Talked};
 
 use std::alloc::Global;
 use std::convert::AsStr;
 use std::io::{Read, Write};
-use tsb_program::{
-    Failure, Files, ReadError, Status, Watched, fail, line_of, log_of, plan_of, refuse, tell,
-    tell_end, write_line,
-};
+use tsb_program::{ExitStatus, Failure, Files, ReadError, Streams, line_of, log_of, plan_of};
 use tsb_text::{Checked, Log, Plan, PlanError, session};
-use tsb_words::WordsError;
 use tsb_words::bench::{Asked, read_words};
+
+/// How the program is used.
+pub const USAGE: &[u8] = b"usage: tsb check PLAN or tsb run PLAN LOG\n";
 
 /// Does what the words ask for, the first of which is the program's name, and gives the status that the program ends
 /// with: 0 where all was done, 1 for a refused plan or log, 2 for bad words, 3 where a read, a write or memory failed.
 ///
-/// What `check` finds in a plan goes to `output`, and so do the answers of a session. The fault that ends `run` goes to
-/// `errors`, and so do bad words and failures.
+/// What `check` finds in a plan goes to the output, and so do the answers of a session. The fault that ends `run` goes to
+/// the errors, and so do bad words and failures. A second line names a file that was not read.
 pub fn run_words<S: AsStr, F: Files, R: Read, W: Write, E: Write>(
     alloc: Global,
     words: &[S],
     files: &F,
-    input: &mut Watched<R>,
-    output: &mut Watched<W>,
-    errors: &mut Watched<E>,
+    streams: &mut Streams<R, W, E>,
 ) -> u8
-    requires reads { input.old.failed ≡ false }
-    requires writes { output.old.failed ≡ false }
-    requires flushed { output.old.flushed ≡ true }
-    ensures { (answer : Result Asked WordsError) × Spells (map S.text words.now) answer × Did answer result (F.bytes files.now)
-        (seen R.remaining input.old) (seen R.remaining input.new) (seen W.contents output.old) (seen W.contents output.new) (seen E.contents errors.old) (seen E.contents errors.new) }
+    requires reads { streams.old.input.failed ≡ false }
+    requires writes { streams.old.output.failed ≡ false }
+    requires flushed { streams.old.output.flushed ≡ true }
+    ensures { (answer : Result Asked WordsError) × Spells (map S.text words.now) answer × Did answer result (F.bytes files.now) streams.old streams.new }
 {
     match read_words(alloc, words) {
-        Ok(Asked::Check(plan)) => check(alloc, plan, files, output, errors),
-        Ok(Asked::Run(plan, log)) => run(alloc, plan, log, files, input, output, errors),
-        Ok(Asked::BuiltIn) => run_built_in(alloc, input, output, errors),
-        Err(fault) => tell_words_fault(errors, fault),
-    }
-}
-
-/// Says why words ask for nothing, and gives the status that the program ends with.
-pub fn tell_words_fault<E: Write>(errors: &mut Watched<E>, fault: WordsError) -> u8
-    ensures { TellsWords fault result (seen E.contents errors.old) (seen E.contents errors.new) }
-{
-    match fault {
-        WordsError::Memory => fail(errors, Failure::Memory),
-        WordsError::Bad => tell(
-            errors,
-            Status::BadWords,
-            b"usage: tsb check PLAN or tsb run PLAN LOG\n",
-        ),
+        Ok(Asked::Check(plan)) => check(alloc, plan, files, streams),
+        Ok(Asked::Run(plan, log)) => run(alloc, plan, log, files, streams),
+        Ok(Asked::BuiltIn) => run_built_in(alloc, streams),
+        Err(fault) => streams.tell_words_fault(None, USAGE, fault),
     }
 }
 
 /// Judges a plan.
-fn check<F: Files, W: Write, E: Write>(
+fn check<F: Files, R: Read, W: Write, E: Write>(
     alloc: Global,
     path: &str,
     files: &F,
-    output: &mut Watched<W>,
-    errors: &mut Watched<E>,
+    streams: &mut Streams<R, W, E>,
 ) -> u8
-    ensures { Checks result (F.bytes files.now path.now)
-        (seen W.contents output.old) (seen W.contents output.new) (seen E.contents errors.old) (seen E.contents errors.new) }
+    ensures { ReadsNothing (Checks path.now result (F.bytes files.now path.now)) streams.old streams.new }
 {
-    report(alloc, plan_of(alloc, files, path), output, errors)
+    report(alloc, path, plan_of(alloc, files, path), streams)
 }
 
-/// Reports what was found of a plan.
-fn report<W: Write, E: Write>(
+/// Reports what was found of the plan in the file at this path.
+fn report<R: Read, W: Write, E: Write>(
     alloc: Global,
+    path: &str,
     found: Result<Checked, ReadError<PlanError>>,
-    output: &mut Watched<W>,
-    errors: &mut Watched<E>,
+    streams: &mut Streams<R, W, E>,
 ) -> u8
-    ensures { Reported found result
-        (seen W.contents output.old) (seen W.contents output.new) (seen E.contents errors.old) (seen E.contents errors.new) }
+    ensures { ReadsNothing (Reported path.now found result) streams.old streams.new }
 {
     match found {
-        Ok(_) => judge(output, errors, Status::Done, b"plan ok\n"),
+        Ok(_) => streams.write(ExitStatus::Done, b"plan ok\n"),
         Err(ReadError::Refused(fault)) => match line_of(alloc, fault.line()) {
-            Ok(line) => judge(output, errors, Status::Refused, line.as_bytes()),
-            Err(_) => fail(errors, Failure::Memory),
+            Ok(line) => streams.write(ExitStatus::Refused, line.as_bytes()),
+            Err(_) => streams.fail(Failure::Memory),
         },
-        Err(ReadError::Failed(fault)) => fail(errors, fault.failure()),
-    }
-}
-
-/// Writes what was found in a plan.
-fn judge<W: Write, E: Write>(
-    output: &mut Watched<W>,
-    errors: &mut Watched<E>,
-    status: Status,
-    line: &[u8],
-) -> u8
-    ensures { Judged result (number status) line.now
-        (seen W.contents output.old) (seen W.contents output.new) (seen E.contents errors.old) (seen E.contents errors.new) }
-{
-    match write_line(output, line) {
-        Ok(()) => status.number(),
-        Err(_) => fail(errors, Failure::Write),
+        Err(ReadError::Failed(fault)) => streams.fail_file(path, fault),
     }
 }
 
@@ -118,44 +79,35 @@ fn run<F: Files, R: Read, W: Write, E: Write>(
     plan: &str,
     log: &str,
     files: &F,
-    input: &mut Watched<R>,
-    output: &mut Watched<W>,
-    errors: &mut Watched<E>,
+    streams: &mut Streams<R, W, E>,
 ) -> u8
-    requires reads { input.old.failed ≡ false }
-    requires writes { output.old.failed ≡ false }
-    requires flushed { output.old.flushed ≡ true }
-    ensures { Ran result (F.bytes files.now plan.now) (F.bytes files.now log.now) (seen R.remaining input.old) (seen R.remaining input.new)
-        (seen W.contents output.old) (seen W.contents output.new) (seen E.contents errors.old) (seen E.contents errors.new) }
+    requires reads { streams.old.input.failed ≡ false }
+    requires writes { streams.old.output.failed ≡ false }
+    requires flushed { streams.old.output.flushed ≡ true }
+    ensures { Ran result plan.now log.now (F.bytes files.now) streams.old streams.new }
 {
     let checked = match plan_of(alloc, files, plan) {
         Ok(checked) => checked,
-        Err(fault) => return refuse(alloc, errors, fault),
+        Err(fault) => return streams.refuse(alloc, plan, fault),
     };
     let rows = match log_of(alloc, files, log) {
         Ok(rows) => rows,
-        Err(fault) => return refuse(alloc, errors, fault),
+        Err(fault) => return streams.refuse(alloc, log, fault),
     };
-    talk(alloc, checked, &rows, input, output, errors)
+    talk(alloc, checked, &rows, streams)
 }
 
 /// Runs a session on the built-in plan of two phases with an empty log.
-fn run_built_in<R: Read, W: Write, E: Write>(
-    alloc: Global,
-    input: &mut Watched<R>,
-    output: &mut Watched<W>,
-    errors: &mut Watched<E>,
-) -> u8
-    requires reads { input.old.failed ≡ false }
-    requires writes { output.old.failed ≡ false }
-    requires flushed { output.old.flushed ≡ true }
-    ensures { RanBuiltIn result (seen R.remaining input.old) (seen R.remaining input.new)
-        (seen W.contents output.old) (seen W.contents output.new) (seen E.contents errors.old) (seen E.contents errors.new) }
+fn run_built_in<R: Read, W: Write, E: Write>(alloc: Global, streams: &mut Streams<R, W, E>) -> u8
+    requires reads { streams.old.input.failed ≡ false }
+    requires writes { streams.old.output.failed ≡ false }
+    requires flushed { streams.old.output.flushed ≡ true }
+    ensures { RanBuiltIn result streams.old streams.new }
 {
     match Checked::new(Plan::two()) {
-        Ok(plan) => talk(alloc, plan, &Log::empty(alloc), input, output, errors),
+        Ok(plan) => talk(alloc, plan, &Log::empty(alloc), streams),
         // It meets the rules.
-        Err(rule) => refuse(alloc, errors, ReadError::Refused(PlanError::Rule(rule))),
+        Err(rule) => streams.refuse(alloc, "", ReadError::Refused(PlanError::Rule(rule))),
     }
 }
 
@@ -164,18 +116,15 @@ fn talk<R: Read, W: Write, E: Write>(
     alloc: Global,
     plan: Checked,
     log: &Log,
-    input: &mut Watched<R>,
-    output: &mut Watched<W>,
-    errors: &mut Watched<E>,
+    streams: &mut Streams<R, W, E>,
 ) -> u8
-    requires reads { input.old.failed ≡ false }
-    requires writes { output.old.failed ≡ false }
-    requires flushed { output.old.flushed ≡ true }
-    ensures { Talked result (record { plan = checked_plan plan; log = log.now }) (seen R.remaining input.old) (seen R.remaining input.new)
-        (seen W.contents output.old) (seen W.contents output.new) (seen E.contents errors.old) (seen E.contents errors.new) }
+    requires reads { streams.old.input.failed ≡ false }
+    requires writes { streams.old.output.failed ≡ false }
+    requires flushed { streams.old.output.flushed ≡ true }
+    ensures { Talked result (record { plan = checked_plan plan; log = log.now }) streams.old streams.new }
 {
-    match session(alloc, plan, log, input, output) {
-        Ok(()) => Status::Done.number(),
-        Err(fault) => tell_end(errors, fault),
+    match session(alloc, plan, log, &mut streams.input, &mut streams.output) {
+        Ok(()) => ExitStatus::Done.number(),
+        Err(fault) => streams.tell_end(fault),
     }
 }

@@ -138,19 +138,11 @@ fn ask_for_record(
     wanted: RecordManner,
 ) -> bool {
     match read_words(alloc, words) {
-        Ok(
-            Asked::Record {
-                from,
-                device,
-                plan,
-                log,
-                manner,
-            },
-        ) => {
-            Some(from) == read_moment(time)
-                && device == name
-                && (plan, log) == files
-                && manner == wanted
+        Ok(Asked::Record(asked)) => {
+            Some(asked.from) == read_moment(time)
+                && asked.device == name
+                && (asked.plan, asked.log) == files
+                && asked.manner == wanted
         }
         _ => false,
     }
@@ -230,17 +222,9 @@ fn ask_for_diagram(
     width: Option<u32>,
 ) -> bool {
     match read_words(alloc, words) {
-        Ok(
-            Asked::Diagram {
-                log,
-                title,
-                seconds_per_line,
-                from,
-                events,
-            },
-        ) => {
-            let bare = from.is_none() && events.is_none();
-            log == rows && title == name && seconds_per_line == width && bare
+        Ok(Asked::Diagram(asked)) => {
+            let bare = asked.from.is_none() && asked.events.is_none();
+            asked.log == rows && asked.title == name && asked.seconds_per_line == width && bare
         }
         _ => false,
     }
@@ -249,7 +233,7 @@ fn ask_for_diagram(
 /// Whether the words ask for a diagram from this moment on, with the ends of greens of this file.
 fn ask_for_ends(alloc: Global, words: &[&str], moment: &[u8], file: Option<&str>) -> bool {
     match read_words(alloc, words) {
-        Ok(Asked::Diagram { from, events, .. }) => from == read_moment(moment) && events == file,
+        Ok(Asked::Diagram(asked)) => asked.from == read_moment(moment) && asked.events == file,
         _ => false,
     }
 }

@@ -3,28 +3,24 @@
 
 mod run;
 
-use crate::run::{run_words, tell_words_fault};
-use std::env;
+use crate::run::{USAGE, run_words};
 use std::process::ExitCode;
-use tsb_program::{Disk, Watched};
-use tsb_words::WordsError;
+use tsb_program::{Disk, Streams, Watched, words_given};
 
 fn main(rt: HostRuntime) -> ExitCode {
+    let mut streams = Streams {
+        input: Watched::new(rt.stdin()),
+        output: Watched::new(rt.stdout()),
+        errors: Watched::new(rt.stderr()),
+    };
     let status = match words_given(&rt) {
         Ok(words) => run_words(
             rt.alloc(),
             words.as_slice(),
             &Disk { rt: &rt },
-            &mut Watched::new(rt.stdin()),
-            &mut Watched::new(rt.stdout()),
-            &mut Watched::new(rt.stderr()),
+            &mut streams,
         ),
-        Err(fault) => tell_words_fault(&mut Watched::new(rt.stderr()), None, fault),
+        Err(fault) => streams.tell_words_fault(None, USAGE, fault),
     };
     ExitCode::from(status)
-}
-
-/// The words that the program was given, the first of which is its name.
-fn words_given(rt: &HostRuntime) -> Result<Vec<String>, WordsError> {
-    Ok(env::args(rt)?.collect(rt.alloc())?)
 }

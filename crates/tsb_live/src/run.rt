@@ -1,68 +1,48 @@
 //! What the program does for its words.
 
-ghost use Rattle.std.specs.Prelude.{◌≡◌, Result, false, map, option_map, true};
+ghost use Rattle.std.specs.Prelude.{◌≡◌, Result, false, map, true};
 ghost use Rattle.tsb_words.specs.declared.live.Asked.{Asked};
 ghost use Rattle.tsb_words.specs.declared.error.WordsError.{WordsError};
 ghost use Rattle.tsb_words.specs.LiveWords.{Spells};
 ghost use Rattle.tsb_words.specs.Near.{live_near};
 ghost use Rattle.tsb_words.specs.Pages.{live_page};
 ghost use Rattle.tsb_text.specs.tsb_objects.Checked.{checked_plan};
-ghost use Rattle.tsb_program.specs.tsb_lines.Seen.{seen};
-ghost use Rattle.tsb_live.specs.Lines.{TellsBad, TellsWords};
-ghost use Rattle.tsb_live.specs.Ends.{Answered, Did, Ran, Talked, WritesPage, after_fault};
+ghost use Rattle.tsb_live.specs.Ends.{Answered, Did, Ran, Talked};
 
 use std::alloc::Global;
 use std::convert::AsStr;
 use std::io::{Read, Write};
 use tsb_live_text::live;
-use tsb_program::{
-    Failure, Files, Status, Watched, fail, plan_or_place, refuse_plan, tell, tell_input_end,
-    write_line,
-};
+use tsb_program::{ExitStatus, Files, Streams, after_fault, plan_or_place};
 use tsb_text::{Checked, OnFault, fault_line};
-use tsb_words::WordsError;
 use tsb_words::live::read_words;
-use tsb_words::near::{hint, live_near};
+use tsb_words::near::live_near;
 use tsb_words::pages::live_page;
+
+/// How the program is used.
+pub const USAGE: &[u8] = b"usage: tsb_live [--strict] PLAN\n";
 
 /// Does what the words ask for, and gives the status that the program ends with. The first word is the program's name.
 /// The status is 0 where all was done; 1 for a refused plan; 2 for bad words; 3 where a read, a write or memory failed,
 /// or where the lines are too large; 4 where a line ended a strict run.
 ///
-/// What is answered goes to `output`. The fault that ends a run goes to `errors`, as do the line that ends a strict
+/// What is answered goes to the output. The fault that ends a run goes to the errors, as do the line that ends a strict
 /// one, bad words and failures. A second line has where the text of a plan stops being JSON, or what was not read. The
-/// version and the help, where the words ask for one of them, go to `output`.
+/// version and the help, where the words ask for one of them, go to the output.
 pub fn run_words<S: AsStr, F: Files, R: Read, W: Write, E: Write>(
     alloc: Global,
     words: &[S],
     files: &F,
-    input: &mut Watched<R>,
-    output: &mut Watched<W>,
-    errors: &mut Watched<E>,
+    streams: &mut Streams<R, W, E>,
 ) -> u8
-    requires reads { input.old.failed ≡ false }
-    requires writes { output.old.failed ≡ false }
-    requires flushed { output.old.flushed ≡ true }
-    ensures { Answered (live_page (map S.text words.now)) (map S.text words.now) result (F.bytes files.now)
-        (seen R.remaining input.old) (seen R.remaining input.new) (seen W.contents output.old) (seen W.contents output.new) (seen E.contents errors.old) (seen E.contents errors.new) }
+    requires reads { streams.old.input.failed ≡ false }
+    requires writes { streams.old.output.failed ≡ false }
+    requires flushed { streams.old.output.flushed ≡ true }
+    ensures { Answered (live_page (map S.text words.now)) (map S.text words.now) result (F.bytes files.now) streams.old streams.new }
 {
     match live_page(words) {
-        Some(page) => write_page(output, errors, page),
-        None => run_asked(alloc, words, files, input, output, errors),
-    }
-}
-
-/// Writes a page, and gives the status that the program ends with.
-fn write_page<W: Write, E: Write>(
-    output: &mut Watched<W>,
-    errors: &mut Watched<E>,
-    page: &[u8],
-) -> u8
-    ensures { WritesPage page.now result (seen W.contents output.old) (seen W.contents output.new) (seen E.contents errors.old) (seen E.contents errors.new) }
-{
-    match write_line(output, page) {
-        Ok(()) => Status::Done.number(),
-        Err(_) => fail(errors, Failure::Write),
+        Some(page) => streams.write(ExitStatus::Done, page),
+        None => run_asked(alloc, words, files, streams),
     }
 }
 
@@ -71,62 +51,23 @@ fn run_asked<S: AsStr, F: Files, R: Read, W: Write, E: Write>(
     alloc: Global,
     words: &[S],
     files: &F,
-    input: &mut Watched<R>,
-    output: &mut Watched<W>,
-    errors: &mut Watched<E>,
+    streams: &mut Streams<R, W, E>,
 ) -> u8
-    requires reads { input.old.failed ≡ false }
-    requires writes { output.old.failed ≡ false }
-    requires flushed { output.old.flushed ≡ true }
-    ensures { (answer : Result Asked WordsError) × Spells (map S.text words.now) answer × Did (live_near (map S.text words.now)) answer result (F.bytes files.now)
-        (seen R.remaining input.old) (seen R.remaining input.new) (seen W.contents output.old) (seen W.contents output.new) (seen E.contents errors.old) (seen E.contents errors.new) }
+    requires reads { streams.old.input.failed ≡ false }
+    requires writes { streams.old.output.failed ≡ false }
+    requires flushed { streams.old.output.flushed ≡ true }
+    ensures { (answer : Result Asked WordsError) × Spells (map S.text words.now) answer
+        × Did (live_near (map S.text words.now)) answer result (F.bytes files.now) streams.old streams.new }
 {
     match read_words(alloc, words) {
         Ok(asked) => {
             let on_fault = after_fault(asked.is_strict);
-            run(alloc, asked.plan, on_fault, files, input, output, errors)
+            run(alloc, asked.plan, on_fault, files, streams)
         }
-        Err(fault) => tell_words_fault(errors, live_near(words), fault),
-    }
-}
-
-/// Says why words ask for nothing, and gives the status that the program ends with. For bad words it says which right
-/// word was perhaps meant, or else how the program is used.
-pub fn tell_words_fault<E: Write>(
-    errors: &mut Watched<E>,
-    near: Option<&str>,
-    fault: WordsError,
-) -> u8
-    ensures { TellsWords (option_map (λ right. right.now) near.entry) fault result (seen E.contents errors.old) (seen E.contents errors.new) }
-{
-    match fault {
-        WordsError::Memory => fail(errors, Failure::Memory),
-        WordsError::Bad => tell_bad_words(errors, near),
-    }
-}
-
-/// Says of bad words which right word was perhaps meant, or else how the program is used.
-fn tell_bad_words<E: Write>(errors: &mut Watched<E>, near: Option<&str>) -> u8
-    ensures { TellsBad (option_map (λ right. right.now) near.entry) result (seen E.contents errors.old) (seen E.contents errors.new) }
-{
-    match near {
-        Some(right) => tell(errors, Status::BadWords, hint(right).as_bytes()),
-        None => tell(
-            errors,
-            Status::BadWords,
-            b"usage: tsb_live [--strict] PLAN\n",
-        ),
-    }
-}
-
-/// What a run does after a line with which something is wrong.
-fn after_fault(is_strict: bool) -> OnFault
-    ensures { result ≡ after_fault is_strict }
-{
-    if is_strict {
-        OnFault::Stop
-    } else {
-        OnFault::GoOn
+        Err(fault) => {
+            let near = live_near(words);
+            streams.tell_words_fault(near, USAGE, fault)
+        }
     }
 }
 
@@ -136,19 +77,16 @@ fn run<F: Files, R: Read, W: Write, E: Write>(
     path: &str,
     on_fault: OnFault,
     files: &F,
-    input: &mut Watched<R>,
-    output: &mut Watched<W>,
-    errors: &mut Watched<E>,
+    streams: &mut Streams<R, W, E>,
 ) -> u8
-    requires reads { input.old.failed ≡ false }
-    requires writes { output.old.failed ≡ false }
-    requires flushed { output.old.flushed ≡ true }
-    ensures { Ran path.now result on_fault (F.bytes files.now path.now) (seen R.remaining input.old) (seen R.remaining input.new)
-        (seen W.contents output.old) (seen W.contents output.new) (seen E.contents errors.old) (seen E.contents errors.new) }
+    requires reads { streams.old.input.failed ≡ false }
+    requires writes { streams.old.output.failed ≡ false }
+    requires flushed { streams.old.output.flushed ≡ true }
+    ensures { Ran path.now result on_fault (F.bytes files.now path.now) streams.old streams.new }
 {
     match plan_or_place(alloc, files, path) {
-        Ok(plan) => talk(alloc, plan, on_fault, input, output, errors),
-        Err(fault) => refuse_plan(alloc, errors, path, fault),
+        Ok(plan) => talk(alloc, plan, on_fault, streams),
+        Err(fault) => streams.refuse_plan(alloc, path, fault),
     }
 }
 
@@ -157,22 +95,25 @@ fn talk<R: Read, W: Write, E: Write>(
     alloc: Global,
     plan: Checked,
     on_fault: OnFault,
-    input: &mut Watched<R>,
-    output: &mut Watched<W>,
-    errors: &mut Watched<E>,
+    streams: &mut Streams<R, W, E>,
 ) -> u8
-    requires reads { input.old.failed ≡ false }
-    requires writes { output.old.failed ≡ false }
-    requires flushed { output.old.flushed ≡ true }
-    ensures { Talked result on_fault (checked_plan plan) (seen R.remaining input.old) (seen R.remaining input.new)
-        (seen W.contents output.old) (seen W.contents output.new) (seen E.contents errors.old) (seen E.contents errors.new) }
+    requires reads { streams.old.input.failed ≡ false }
+    requires writes { streams.old.output.failed ≡ false }
+    requires flushed { streams.old.output.flushed ≡ true }
+    ensures { Talked result on_fault (checked_plan plan) streams.old streams.new }
 {
-    match live(alloc, plan, on_fault, input, output) {
-        Ok(None) => Status::Done.number(),
+    match live(
+        alloc,
+        plan,
+        on_fault,
+        &mut streams.input,
+        &mut streams.output,
+    ) {
+        Ok(None) => ExitStatus::Done.number(),
         Ok(Some(stop)) => {
             let line = fault_line(b"line ", stop.number, &stop.line, stop.fault);
-            tell(errors, Status::Stopped, line.as_bytes())
+            streams.tell(ExitStatus::Stopped, line.as_bytes())
         }
-        Err(fault) => tell_input_end(errors, fault),
+        Err(fault) => streams.tell_input_end(fault),
     }
 }

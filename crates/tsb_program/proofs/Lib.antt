@@ -2,3 +2,5 @@
 pub mod ReadLemmas
 -- what is told of a line
 pub mod TellLemmas
+-- what faults leave of the other devices
+pub mod DeviceLemmas

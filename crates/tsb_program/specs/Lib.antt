@@ -8,6 +8,10 @@ pub mod Read
 pub mod Lines
 -- second lines: where a plan's text stops being JSON, and which file was not read
 pub mod Told
+-- what is seen of the devices of a program
+pub mod Devices
+-- bad words, and what a run does after a fault
+pub mod Runs
 -- the names of crates below, for those above
 pub use Rattle.tsb_lines.specs as tsb_lines
 pub use Rattle.tsb_log_text.specs as tsb_log_text

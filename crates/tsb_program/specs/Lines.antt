@@ -1,5 +1,5 @@
--- The lines that a program writes of what ended its run, each with its end.
-use Rattle.std.specs.Prelude.{◌≡◌, ◌⊎◌, ℕ, List, [], ◌∷◌, ◌++◌, codes}
+-- What a program writes at its end: an answer, or a line of what ended its run, each with its end.
+use Rattle.std.specs.Prelude.{◌≡◌, ◌⊎◌, ℕ, List, [], ◌∷◌, ◌++◌, codes, true}
 use Rattle.tsb_plan_text.specs.declared.error.PlanError.{PlanError}
 use Rattle.tsb_plan_text.specs.FaultLines.{plan_fault}
 use Rattle.tsb_log_text.specs.declared.error.LogError.{LogError}
@@ -7,12 +7,10 @@ use Rattle.tsb_log_text.specs.FaultLines.{log_fault}
 use Rattle.tsb_text.specs.declared.error.SessionError.{SessionError}
 use Rattle.tsb_text.specs.declared.error.SessionError.TheVariants as ends
 use Rattle.tsb_text.specs.EndLines.{session_fault}
-use Rattle.tsb_program.specs.Failures.{Fails, failure_of}
+use Rattle.tsb_program.specs.Failures.{Fails}
 use Rattle.tsb_program.specs.declared.failure.Failure.TheVariants.{Memory, Read, Write}
-use Rattle.tsb_program.specs.declared.files.FileError.{FileError}
-use Rattle.tsb_program.specs.declared.read.ReadError.{ReadError}
-use Rattle.tsb_program.specs.declared.read.ReadError.TheVariants as faults
-use Rattle.tsb_lines.specs.Seen.{Seen, Tells}
+use Rattle.tsb_lines.specs.Seen.{GoesOut, Seen, Tells}
+use Rattle.tsb_lines.specs.Writes.{AppendsFront}
 
 -- the line of what ended a session
 abbrev pub end_line : SessionError → List ℕ
@@ -24,10 +22,6 @@ TellsEnd ends.Memory status told tells = Fails Memory status told tells
 TellsEnd ends.Read status told tells = Fails Read status told tells
 TellsEnd ends.Write status told tells = Fails Write status told tells
 TellsEnd ends.TooLarge status told tells = (status ≡ 3) × Tells told tells (codes "commands: too large\n")
-
--- a file or memory failed
-abbrev pub FailsToRead : ℕ → Seen → Seen → Type 0
-FailsToRead status told tells = (why : FileError) × Fails (failure_of why) status told tells
 
 -- the line of a plan's fault
 abbrev pub plan_line : PlanError → List ℕ
@@ -41,7 +35,9 @@ log_line fault = log_fault fault ++ 10 ∷ []
 abbrev pub TellsRefusal : {A : Type 0} → (A → List ℕ) → A → ℕ → Seen → Seen → Type 0
 TellsRefusal line_of why status told tells = ((status ≡ 1) × Tells told tells (line_of why ++ 10 ∷ [])) ⊎ Fails Memory status told tells
 
--- why there is no plan or log is told: a failure, or a refusal by its own line
-abbrev pub Refuses : {A : Type 0} → (A → List ℕ) → ReadError A → ℕ → Seen → Seen → Type 0
-Refuses line_of (faults.Failed why) status told tells = Fails (failure_of why) status told tells
-Refuses line_of (faults.Refused why) status told tells = TellsRefusal line_of why status told tells
+-- an answer was written whole, nothing was written of faults, and the program ends with the status wanted; or the writer
+-- failed, which is told, with no more than the first bytes of the answer written
+abbrev pub Wrote : ℕ → ℕ → List ℕ → (old new told tells : Seen) → Type 0
+Wrote status wanted text old new told tells =
+    ((status ≡ wanted) × GoesOut old new text × (tells ≡ told))
+    ⊎ ((new.failed ≡ true) × AppendsFront old.bytes new.bytes text × Fails Write status told tells)

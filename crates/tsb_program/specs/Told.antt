@@ -7,11 +7,12 @@ use Rattle.tsb_plan_text.specs.declared.error.PlanError.{PlanError}
 use Rattle.tsb_text.specs.declared.error.SessionError.{SessionError}
 use Rattle.tsb_text.specs.declared.error.SessionError.TheVariants as ends
 use Rattle.tsb_program.specs.Failures.{Fails}
-use Rattle.tsb_program.specs.Lines.{log_line, plan_line}
+use Rattle.tsb_log_text.specs.FaultLines.{log_fault}
+use Rattle.tsb_program.specs.Lines.{TellsRefusal, plan_line}
 use Rattle.tsb_program.specs.Read.{fault_place}
 use Rattle.tsb_program.specs.declared.failure.Failure.TheVariants.{Memory, Input, Write}
-use Rattle.tsb_program.specs.declared.files.Cause.{Cause}
-use Rattle.tsb_program.specs.declared.files.Cause.TheVariants.{NoSuchFile, NotPermitted, Folder, Other}
+use Rattle.tsb_program.specs.declared.files.FileCause.{FileCause}
+use Rattle.tsb_program.specs.declared.files.FileCause.TheVariants.{NoSuchFile, NotPermitted, Folder, Other}
 use Rattle.tsb_program.specs.declared.files.FileError.{FileError}
 use Rattle.tsb_program.specs.declared.files.FileError.TheVariants as files
 use Rattle.tsb_program.specs.declared.read.PlanFault.{PlanFault}
@@ -31,14 +32,14 @@ abbrev pub shown : List ℕ → List ℕ
 shown name = map safe (take SHOWN name)
 
 -- why a file was not read, and the end of its line
-abbrev pub cause_text : Cause → List ℕ
+abbrev pub cause_text : FileCause → List ℕ
 cause_text NoSuchFile = codes ": no such file\n"
 cause_text NotPermitted = codes ": not permitted\n"
 cause_text Folder = codes ": a folder\n"
 cause_text Other = codes "\n"
 
 -- the line of a file that was not read
-abbrev pub file_line : List ℕ → Cause → List ℕ
+abbrev pub file_line : List ℕ → FileCause → List ℕ
 file_line name cause = codes "file \"" ++ (shown name ++ (codes "\"" ++ cause_text cause))
 
 -- that the file of this name was not read is told: that memory ran out, or in a second line which file it was
@@ -75,14 +76,18 @@ TellsWhy name (faults.Refused fault) place status told tells = RefusesAt fault p
 abbrev pub TellsNoPlan : List ℕ → PlanFault → ℕ → Seen → Seen → Type 0
 TellsNoPlan name fault status told tells = TellsWhy name fault.why fault.place status told tells
 
+-- a line says why there is no plan or log: the file of this name was not read, or its text is refused by its own line
+abbrev pub Refuses : {A : Type 0} → (A → List ℕ) → List ℕ → ReadError A → ℕ → Seen → Seen → Type 0
+Refuses line_of name (faults.Failed why) status told tells = FailsFile name why status told tells
+Refuses line_of name (faults.Refused why) status told tells = TellsRefusal line_of why status told tells
+
 -- a log is refused with 1
 abbrev pub RefusesLogText : LogError → ℕ → Seen → Seen → Type 0
-RefusesLogText fault status told tells = ((status ≡ 1) × Tells told tells (log_line fault)) ⊎ Fails Memory status told tells
+RefusesLogText fault status told tells = TellsRefusal log_fault fault status told tells
 
--- why there is no log is told, with the name of its file, where that was not read
+-- the same of a log
 abbrev pub TellsNoLog : List ℕ → ReadError LogError → ℕ → Seen → Seen → Type 0
-TellsNoLog name (faults.Failed why) status told tells = FailsFile name why status told tells
-TellsNoLog name (faults.Refused fault) status told tells = RefusesLogText fault status told tells
+TellsNoLog name fault status told tells = Refuses log_fault name fault status told tells
 
 -- ## A run on standard input
 

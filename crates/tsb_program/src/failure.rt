@@ -1,13 +1,8 @@
 //! What fails a program, and the line that it writes then.
 ghost use Rattle.std.specs.Prelude.{◌≡◌, ◌≤◌, length};
-ghost use Rattle.tsb_program.specs.Failures.{Fails, failure_text};
-ghost use Rattle.tsb_lines.specs.Seen.{seen};
+ghost use Rattle.tsb_program.specs.Failures.{failure_text};
 
-use crate::lines::{tell, with_end};
-use crate::status::Status;
-use std::io::Write;
 use thiserror::Error;
-use tsb_lines::Watched;
 
 /// What failed. Each is printed as its line.
 #[derive(Clone, Copy, Debug, Error)]
@@ -36,11 +31,4 @@ impl Failure {
             Failure::Write => "write fault",
         }
     }
-}
-
-/// Says that a read, a write or memory failed, and gives the status that the program ends with.
-pub fn fail<E: Write>(errors: &mut Watched<E>, failure: Failure) -> u8
-    ensures { Fails failure result (seen E.contents errors.old) (seen E.contents errors.new) }
-{
-    tell(errors, Status::Failed, with_end(failure.line()).as_bytes())
 }

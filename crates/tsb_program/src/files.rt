@@ -47,7 +47,7 @@ impl Files for Disk<'_> {
 
 /// What a machine says of a file that it does not open or read.
 #[derive(Clone, Copy, Debug, PartialEq, Eq)]
-pub enum Cause {
+pub enum FileCause {
     /// There is none of that name.
     NoSuchFile,
     /// It may not be read.
@@ -66,7 +66,7 @@ pub enum FileError {
     /// There was no memory for it.
     Memory,
     /// It could not be opened or read.
-    Read(Cause),
+    Read(FileCause),
 }
 
 impl FileError {
@@ -94,10 +94,10 @@ impl From<io::Error> for FileError {
     fn from(error: io::Error) -> FileError {
         match error.kind() {
             ErrorKind::OutOfMemory => FileError::Memory,
-            ErrorKind::NotFound => FileError::Read(Cause::NoSuchFile),
-            ErrorKind::PermissionDenied => FileError::Read(Cause::NotPermitted),
-            ErrorKind::IsADirectory => FileError::Read(Cause::Folder),
-            _ => FileError::Read(Cause::Other),
+            ErrorKind::NotFound => FileError::Read(FileCause::NoSuchFile),
+            ErrorKind::PermissionDenied => FileError::Read(FileCause::NotPermitted),
+            ErrorKind::IsADirectory => FileError::Read(FileCause::Folder),
+            _ => FileError::Read(FileCause::Other),
         }
     }
 }

@@ -1,19 +1,25 @@
 //! What the programs share: the files that they read, the lines that they write, and the statuses that they end with.
 #![tactic(auto)]
 
-mod end;
 mod failure;
 mod files;
 mod lines;
 mod read;
+mod refusal;
+mod run;
+mod stack;
+mod start;
 mod status;
+mod streams;
 mod told;
 
-pub use end::{Refusal, refuse, tell_end};
-pub use failure::{Failure, fail};
-pub use files::{Cause, Disk, FileError, Files, read_file};
+pub use failure::Failure;
+pub use files::{Disk, FileCause, FileError, Files, read_file};
 pub use lines::{line_of, tell, write_line};
 pub use read::{PlanFault, ReadError, log_of, plan_of, plan_or_place};
-pub use status::Status;
-pub use told::{fail_file, plan_lines, refuse_log, refuse_plan, tell_input_end};
+pub use refusal::TextRefusal;
+pub use start::{after_fault, words_given};
+pub use status::ExitStatus;
+pub use streams::Streams;
+pub use told::plan_lines;
 pub use tsb_lines::Watched;

@@ -4,7 +4,7 @@ ghost use Rattle.tsb_lines.specs.Writes.{AppendsFront};
 ghost use Rattle.tsb_program.specs.Statuses.{number};
 ghost use Rattle.tsb_lines.specs.Seen.{GoesOut, Tells, seen};
 
-use crate::status::Status;
+use crate::status::ExitStatus;
 use std::alloc::{AllocError, Global};
 use std::fmt::Display;
 use std::io::Write;
@@ -15,7 +15,7 @@ const ENDED: usize = 26;
 
 /// Writes a line of faults, has the writer pass it on, and gives the number of the status. Where the line can't be
 /// written, nobody can be told of it.
-pub fn tell<E: Write>(errors: &mut Watched<E>, status: Status, line: &[u8]) -> u8
+pub fn tell<E: Write>(errors: &mut Watched<E>, status: ExitStatus, line: &[u8]) -> u8
     ensures status { result ≡ number status }
     ensures line { Tells (seen E.contents errors.old) (seen E.contents errors.new) line.now }
 {

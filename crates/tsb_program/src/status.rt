@@ -4,7 +4,7 @@ ghost use Rattle.tsb_program.specs.Statuses.{number};
 
 /// What a program ends with.
 #[derive(Clone, Copy)]
-pub enum Status {
+pub enum ExitStatus {
     /// All was done.
     Done,
     /// What was read was refused: a plan, a log or a line of events.
@@ -17,17 +17,17 @@ pub enum Status {
     Stopped,
 }
 
-impl Status {
+impl ExitStatus {
     /// The number that the program ends with, 0 to 4.
     pub fn number(self) -> u8
         ensures { result ≡ number self }
     {
         match self {
-            Status::Done => 0,
-            Status::Refused => 1,
-            Status::BadWords => 2,
-            Status::Failed => 3,
-            Status::Stopped => 4,
+            ExitStatus::Done => 0,
+            ExitStatus::Refused => 1,
+            ExitStatus::BadWords => 2,
+            ExitStatus::Failed => 3,
+            ExitStatus::Stopped => 4,
         }
     }
 }

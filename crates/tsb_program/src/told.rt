@@ -1,24 +1,18 @@
 //! Second lines: where a plan's text stops being JSON, and which file was not read.
 ghost use Rattle.std.specs.Prelude.{◌≡◌, ◌++◌, ◌≤◌, length, IfOk, OnErr, OnOk, true};
 ghost use Rattle.tsb_lines.specs.Writes.{AppendsFront};
-ghost use Rattle.tsb_program.specs.Statuses.{number};
-ghost use Rattle.tsb_program.specs.Told.{FailsFile, TellsInputEnd, TellsNoLog, TellsNoPlan, cause_text, file_line, place_line, plan_lines, safe, shown};
-ghost use Rattle.tsb_lines.specs.Seen.{GoesOut, Tells, seen};
+ghost use Rattle.tsb_program.specs.Told.{cause_text, file_line, place_line, plan_lines, safe, shown};
+ghost use Rattle.tsb_lines.specs.Seen.{GoesOut, seen};
 
-use crate::end::{tell_end, tell_refusal};
-use crate::failure::{Failure, fail};
-use crate::files::{Cause, FileError};
+use crate::files::FileCause;
 use crate::lines::{line_of, write_line};
-use crate::read::{PlanFault, ReadError, fault_place};
-use crate::status::Status;
+use crate::read::fault_place;
 use arrayvec::ArrayVec;
 use std::alloc::{AllocError, Global};
 use std::io::Write;
 use tsb_lines::{ShortLine, Watched, WriteError};
-use tsb_log_text::LogError;
 use tsb_plan_notes::{JsonPlace, TOLD, place_text};
 use tsb_plan_text::PlanError;
-use tsb_text::SessionError;
 
 /// How many bytes of the name of a file are told at most.
 const SHOWN: usize = 200;
@@ -28,54 +22,6 @@ const FILE_LINE: usize = 240;
 
 /// The greatest length of the line of a place, in bytes.
 const PLACE_LINE: usize = TOLD + 6;
-
-/// Says why there is no plan, in a second line where its text stops being JSON or which file was not read, and gives the
-/// status that the program ends with.
-pub fn refuse_plan<E: Write>(
-    alloc: Global,
-    errors: &mut Watched<E>,
-    path: &str,
-    fault: PlanFault,
-) -> u8
-    ensures { TellsNoPlan path.now fault result (seen E.contents errors.old) (seen E.contents errors.new) }
-{
-    let PlanFault { why, place } = fault;
-    match why {
-        ReadError::Failed(why) => fail_file(errors, path, why),
-        ReadError::Refused(why) => match line_of(alloc, why.line()) {
-            Ok(line) => {
-                let second = place_line(place);
-                tell_both(errors, Status::Refused, line.as_bytes(), second.as_bytes())
-            }
-            Err(_) => fail(errors, Failure::Memory),
-        },
-    }
-}
-
-/// Says why there is no log, in a second line which file was not read, and gives the status that the program ends with.
-pub fn refuse_log<E: Write>(
-    alloc: Global,
-    errors: &mut Watched<E>,
-    path: &str,
-    fault: ReadError<LogError>,
-) -> u8
-    ensures { TellsNoLog path.now fault result (seen E.contents errors.old) (seen E.contents errors.new) }
-{
-    match fault {
-        ReadError::Failed(why) => fail_file(errors, path, why),
-        ReadError::Refused(why) => tell_refusal(alloc, errors, why),
-    }
-}
-
-/// Says what ended a run on standard input before that did, and gives the status that the program ends with.
-pub fn tell_input_end<E: Write>(errors: &mut Watched<E>, fault: SessionError) -> u8
-    ensures { TellsInputEnd fault result (seen E.contents errors.old) (seen E.contents errors.new) }
-{
-    match fault {
-        SessionError::Read => fail(errors, Failure::Input),
-        _ => tell_end(errors, fault),
-    }
-}
 
 /// The line of a fault of a plan with this text, and where the text stops being JSON a second line with the place. The
 /// error is that memory ran out.
@@ -90,30 +36,8 @@ pub fn plan_lines(alloc: Global, fault: PlanError, text: &[u8]) -> Result<Vec<u8
     Ok(lines)
 }
 
-/// Says that a file was not read, in a second line which and why, and gives the status that the program ends with.
-pub fn fail_file<E: Write>(errors: &mut Watched<E>, path: &str, why: FileError) -> u8
-    ensures { FailsFile path.now why result (seen E.contents errors.old) (seen E.contents errors.new) }
-{
-    match why {
-        FileError::Memory => fail(errors, Failure::Memory),
-        FileError::Read(cause) => {
-            let second = file_line(path, cause);
-            tell_both(errors, Status::Failed, b"read fault\n", second.as_bytes())
-        }
-    }
-}
-
-/// Writes two lines of faults, the second where the first was written, and gives the number of the status.
-fn tell_both<E: Write>(errors: &mut Watched<E>, status: Status, first: &[u8], second: &[u8]) -> u8
-    ensures status { result ≡ number status }
-    ensures lines { Tells (seen E.contents errors.old) (seen E.contents errors.new) (first.now ++ second.now) }
-{
-    let _ = write_both(errors, first, second);
-    status.number()
-}
-
 /// Writes two texts, and has the writer pass them on. At an error the first bytes of both may have gone out.
-fn write_both<W: Write>(
+pub(crate) fn write_both<W: Write>(
     writer: &mut Watched<W>,
     first: &[u8],
     second: &[u8],
@@ -129,7 +53,7 @@ fn write_both<W: Write>(
 }
 
 /// The line of a file that was not read.
-fn file_line(path: &str, cause: Cause) -> ShortLine<FILE_LINE>
+pub(crate) fn file_line(path: &str, cause: FileCause) -> ShortLine<FILE_LINE>
     ensures { result ≡ file_line path.now cause }
 {
     let mut text = ShortLine::new();
@@ -141,20 +65,20 @@ fn file_line(path: &str, cause: Cause) -> ShortLine<FILE_LINE>
 }
 
 /// Why a file was not read, and the end of its line.
-fn cause_text(cause: Cause) -> &'static [u8]
+fn cause_text(cause: FileCause) -> &'static [u8]
     ensures text { result.now ≡ cause_text cause }
     ensures short { length result.now ≤ 16 }
 {
     match cause {
-        Cause::NoSuchFile => b": no such file\n",
-        Cause::NotPermitted => b": not permitted\n",
-        Cause::Folder => b": a folder\n",
-        Cause::Other => b"\n",
+        FileCause::NoSuchFile => b": no such file\n",
+        FileCause::NotPermitted => b": not permitted\n",
+        FileCause::Folder => b": a folder\n",
+        FileCause::Other => b"\n",
     }
 }
 
 /// The line of a place at which a plan's text stops being JSON: nothing where there is none.
-fn place_line(place: Option<JsonPlace>) -> ShortLine<PLACE_LINE>
+pub(crate) fn place_line(place: Option<JsonPlace>) -> ShortLine<PLACE_LINE>
     ensures { result ≡ place_line place }
 {
     let mut text = ShortLine::new();

@@ -4,7 +4,7 @@ use std::alloc::{AllocError, Global};
 use std::io::{self, ErrorKind, Read, Write};
 use tsb_log_text::LogError;
 use tsb_program::{
-    Cause, FileError, Files, ReadError, Status, Watched, line_of, log_of, read_file, tell,
+    ExitStatus, FileCause, FileError, Files, ReadError, Watched, line_of, log_of, read_file, tell,
     write_line,
 };
 use tsb_types::Row;
@@ -17,11 +17,11 @@ const TWICE: &[u8] =
 
 const LINE: &[u8] = b"plan ok\n";
 
-const STATUSES: [(Status, u8); 4] = [
-    (Status::Done, 0),
-    (Status::Refused, 1),
-    (Status::BadWords, 2),
-    (Status::Failed, 3),
+const STATUSES: [(ExitStatus, u8); 4] = [
+    (ExitStatus::Done, 0),
+    (ExitStatus::Refused, 1),
+    (ExitStatus::BadWords, 2),
+    (ExitStatus::Failed, 3),
 ];
 
 /// Gives a text in pieces of this many bytes, and then ends or fails.
@@ -122,12 +122,12 @@ fn fails_at_each_byte(alloc: Global, kind: ErrorKind, fault: FileError) -> bool 
 #[test]
 fn a_file_that_fails_gives_its_fault(rt: HostRuntime) {
     for (kind, fault) in [
-        (ErrorKind::NotFound, FileError::Read(Cause::NoSuchFile)),
+        (ErrorKind::NotFound, FileError::Read(FileCause::NoSuchFile)),
         (
             ErrorKind::PermissionDenied,
-            FileError::Read(Cause::NotPermitted),
+            FileError::Read(FileCause::NotPermitted),
         ),
-        (ErrorKind::UnexpectedEof, FileError::Read(Cause::Other)),
+        (ErrorKind::UnexpectedEof, FileError::Read(FileCause::Other)),
         (ErrorKind::OutOfMemory, FileError::Memory),
     ] {
         assert!(rt; fails(rt.alloc(), &Shelf::Fails(kind), fault));
@@ -181,10 +181,10 @@ fn is_text(made: Result<String, AllocError>, text: &str) -> bool {
 fn each_fault_of_a_file_is_printed_as_its_line(rt: HostRuntime) {
     let faults = [
         (FileError::Memory, "memory"),
-        (FileError::Read(Cause::NoSuchFile), "read fault"),
-        (FileError::Read(Cause::NotPermitted), "read fault"),
-        (FileError::Read(Cause::Folder), "read fault"),
-        (FileError::Read(Cause::Other), "read fault"),
+        (FileError::Read(FileCause::NoSuchFile), "read fault"),
+        (FileError::Read(FileCause::NotPermitted), "read fault"),
+        (FileError::Read(FileCause::Folder), "read fault"),
+        (FileError::Read(FileCause::Other), "read fault"),
     ];
     for (fault, line) in &faults {
         assert!(rt; is_printed(rt.alloc(), *fault, line));
@@ -227,7 +227,7 @@ fn is_written(alloc: Global) -> bool {
 }
 
 /// Whether a line is passed on with a status, which has this number.
-fn is_told(alloc: Global, status: Status, number: u8) -> bool {
+fn is_told(alloc: Global, status: ExitStatus, number: u8) -> bool {
     let mut errors = Watched::new(nothing_taken(alloc));
     tell(&mut errors, status, LINE) == number && errors.device().passed_on.as_slice() == LINE
 }
@@ -294,7 +294,7 @@ fn is_written_in_part(alloc: Global, room: usize) -> bool {
 }
 
 /// Whether a status has its number where its line is not written.
-fn has_number(alloc: Global, status: Status, number: u8) -> bool {
+fn has_number(alloc: Global, status: ExitStatus, number: u8) -> bool {
     let mut errors = Watched::new(with_room(alloc, 3));
     tell(&mut errors, status, LINE) == number
         && tell(&mut Watched::new(Stuck), status, LINE) == number

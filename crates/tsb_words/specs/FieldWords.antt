@@ -64,8 +64,9 @@ seen_log asked = record {
 -- what was answered, by the text of each name
 abbrev pub seen : Asked → Wish
 seen (asks.Log asked) = log (seen_log asked)
-seen (asks.Record from device plan file manner) = recording from device.now plan.now file.now manner
+seen (asks.Record asked) = recording asked.from asked.device.now asked.plan.now asked.log.now asked.manner
 seen (asks.Events from device file) = events from device.now (option_map (λ name. name.now) file)
-seen (asks.Diagram file title seconds from told) =
-    diagram (option_map (λ name. name.now) file) (option_map (λ name. name.now) title) seconds from (option_map (λ name. name.now) told)
+seen (asks.Diagram asked) =
+    diagram (option_map (λ name. name.now) asked.log) (option_map (λ name. name.now) asked.title) asked.seconds_per_line asked.from
+    (option_map (λ name. name.now) asked.events)
 seen (asks.Review plan) = reviewing plan.now

@@ -66,23 +66,42 @@ pub struct RecordManner {
     pub outputs: bool,
 }
 
+/// What the words of `record` ask for.
+#[derive(Clone, Copy)]
+pub struct RecordAsked<'a> {
+    /// The moment at which tick 1 begins.
+    pub from: Moment,
+    /// The device that the events are of, which a line can name (`can_be_written`).
+    pub device: &'a str,
+    /// The file of the plan.
+    pub plan: &'a str,
+    /// The file of the log of inputs.
+    pub log: &'a str,
+    pub manner: RecordManner,
+}
+
+/// What the words of `diagram` ask for.
+#[derive(Clone, Copy)]
+pub struct DiagramAsked<'a> {
+    /// The file of the log of inputs.
+    pub log: Option<&'a str>,
+    /// The title above the diagram.
+    pub title: Option<&'a str>,
+    /// How many seconds a line of the diagram shows, 1 to 86,400.
+    pub seconds_per_line: Option<u32>,
+    /// The moment at which tick 1 begins, where the axis has the time of day.
+    pub from: Option<Moment>,
+    /// The file of an event log that says why greens ended. Where there is one, `from` is given.
+    pub events: Option<&'a str>,
+}
+
 /// What the words ask for.
 #[derive(Drop)]
 pub enum Asked<'a> {
     /// A log of inputs, made from the events of a controller's log.
     Log(LogAsked<'a>),
     /// Events of a controller's log, told by a run of commands.
-    Record {
-        /// The moment at which tick 1 begins.
-        from: Moment,
-        /// The device that the events are of, which a line can name (`can_be_written`).
-        device: &'a str,
-        /// The file of the plan.
-        plan: &'a str,
-        /// The file of the log of inputs.
-        log: &'a str,
-        manner: RecordManner,
-    },
+    Record(RecordAsked<'a>),
     /// Events of a controller's log, made from display lines.
     Events {
         /// The moment at which tick 1 begins.
@@ -93,18 +112,7 @@ pub enum Asked<'a> {
         log: Option<&'a str>,
     },
     /// A diagram of display lines.
-    Diagram {
-        /// The file of the log of inputs.
-        log: Option<&'a str>,
-        /// The title above the diagram.
-        title: Option<&'a str>,
-        /// How many seconds a line of the diagram shows, 1 to 86,400.
-        seconds_per_line: Option<u32>,
-        /// The moment at which tick 1 begins, where the axis has the time of day.
-        from: Option<Moment>,
-        /// The file of an event log that says why greens ended. Where there is one, `from` is given.
-        events: Option<&'a str>,
-    },
+    Diagram(DiagramAsked<'a>),
     /// A review of a plan.
     Review {
         /// The file of the plan.
@@ -285,13 +293,13 @@ fn record_with<'a>(
     let plan = plan?;
     let log = log?;
     if can_be_written(device.as_bytes()) {
-        return Some(Asked::Record {
+        return Some(Asked::Record(RecordAsked {
             from,
             device,
             plan,
             log,
             manner,
-        });
+        }));
     }
     None
 }
@@ -351,13 +359,13 @@ fn diagram_with<'a>(
     if !is_timed(from, events) {
         return None;
     }
-    Some(Asked::Diagram {
+    Some(Asked::Diagram(DiagramAsked {
         log,
         title,
         seconds_per_line,
         from,
         events,
-    })
+    }))
 }
 
 /// Whether events, where they are named, have a moment to count from.

@@ -1,11 +1,9 @@
-use Rattle.std.proofs.Common.{inr, refl}
-use Rattle.tsb_program.specs.tsb_lines.Seen.{seen}
+use Rattle.std.proofs.Common.{inr}
 use Rattle.tsb_live.proofs.StopLemmas.{stops}
 use Rattle.tsb_live.proofs.run.run.Goals as goal
 
 pub returns-in-Err : goal.returns-in-Err
 returns-in-Err g c = inr (
-  refl,
-  refl,
-  stops c.in-Err.fault c.args.path.now _ c.refuse_plan.result (seen g.E.Write.contents c.args.errors.now) (seen g.E.Write.contents c.refuse_plan.new.errors) c.in-Err.ensures.read c.refuse_plan.ensures,
+  c.refuse_plan.ensures.0,
+  stops c.in-Err.fault c.args.path.now _ c.refuse_plan.result c.args.streams.now.errors c.refuse_plan.new.self.errors c.in-Err.ensures.read c.refuse_plan.ensures.1,
 )
