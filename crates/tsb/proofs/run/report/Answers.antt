@@ -10,8 +10,7 @@ returns-in-Ok-line_of g c =
     let old : Seen = c.args.streams.now.output in
     let new : Seen = c.write-in-Ok-line_of.new.self.output in
     let told : Seen = c.args.streams.now.errors in
-    let tells : Seen = c.write-in-Ok-line_of.new.self.errors in
-    (
+    let tells : Seen = c.write-in-Ok-line_of.new.self.errors in (
       c.write-in-Ok-line_of.ensures.0,
       refused-so c.args.found c.args.path.now c.in-Err-Refused.fault status old new told tells (c.in-Err-Refused.is ∙ ap Err c.in-Err-Refused.field-0-is)
           (subst (λ (line : List ℕ). Wrote status 1 line old new told tells) (c.as_bytes.ensures.value ∙ c.in-Ok-line_of.ensures ∙ ap plan_line c.line.ensures)

@@ -1,6 +1,6 @@
 use Rattle.std.proofs.Common.{◌∙◌, ◌++◌, List, ℕ, codes, subst}
 use Rattle.tsb_lines.specs.Seen.{Tells}
-use Rattle.tsb_program.proofs.run.Streams.fail_file.Goals as goal
+use Rattle.tsb_program.proofs.streams.Streams.fail_file.Goals as goal
 
 pub returns-in-Read : goal.returns-in-Read
 returns-in-Read g c =

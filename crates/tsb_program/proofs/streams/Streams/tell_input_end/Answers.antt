@@ -1,5 +1,5 @@
 use Rattle.tsb_program.proofs.TellLemmas.{input-told}
-use Rattle.tsb_program.proofs.run.Streams.tell_input_end.Goals as goal
+use Rattle.tsb_program.proofs.streams.Streams.tell_input_end.Goals as goal
 
 pub returns-in_default : goal.returns-in_default
 returns-in_default g c =

@@ -2,7 +2,7 @@ use Rattle.std.proofs.Common.{◌∙◌, ◌++◌, List, ℕ, ap, inl, subst}
 use Rattle.tsb_lines.specs.Seen.{Seen, Tells}
 use Rattle.tsb_program.specs.Lines.{plan_line}
 use Rattle.tsb_program.proofs.TellLemmas.{refused-so}
-use Rattle.tsb_program.proofs.run.Streams.refuse_plan.Goals as goal
+use Rattle.tsb_program.proofs.streams.Streams.refuse_plan.Goals as goal
 
 pub returns-in-Ok : goal.returns-in-Ok
 returns-in-Ok g c =

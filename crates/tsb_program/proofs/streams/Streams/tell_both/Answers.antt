@@ -1,7 +1,7 @@
 use Rattle.std.proofs.Common.{◌++◌, refl}
 use Rattle.tsb_lines.specs.Seen.{seen}
 use Rattle.tsb_program.proofs.TellLemmas.{line-told}
-use Rattle.tsb_program.proofs.run.Streams.tell_both.Goals as goal
+use Rattle.tsb_program.proofs.streams.Streams.tell_both.Goals as goal
 
 pub returns-clause-lines : goal.returns-clause-lines
 returns-clause-lines g c =
