@@ -2,5 +2,5 @@
 pub mod ReadLemmas
 -- the built-in plan
 pub mod TwoLemmas
--- how a session ends, once its fault is told
+-- how a session ends, once its fault is reported
 pub mod TalkLemmas

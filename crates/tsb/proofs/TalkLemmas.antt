@@ -1,4 +1,4 @@
--- How a session ends, once its fault is told.
+-- How a session ends, once its fault is reported.
 use Rattle.std.proofs.Common.{◌≡◌, ℕ, subst}
 use Rattle.std.specs.declared.result.Result.{Result}
 use Rattle.tsb_text.specs.Answers.{Setup}

@@ -1,4 +1,4 @@
 -- why there is no run
 pub mod StopLemmas
--- how a live run ends, once its fault is told
+-- how a live run ends, once its fault is reported
 pub mod TalkLemmas

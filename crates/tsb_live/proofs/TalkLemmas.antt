@@ -1,4 +1,4 @@
--- How a live run ends, once its fault is told.
+-- How a live run ends, once its fault is reported.
 use Rattle.std.proofs.Common.{◌≡◌, ℕ, subst}
 use Rattle.std.specs.declared.option.Option.{Option}
 use Rattle.std.specs.declared.result.Result.{Result}

@@ -7,11 +7,11 @@ use Rattle.tsb_program.specs.Failures.{Fails}
 use Rattle.tsb_program.specs.Lines.{Wrote}
 use Rattle.tsb_program.specs.declared.failure.Failure.TheVariants.{Write}
 
--- what is said of input and output before faults are told is said of them after
+-- what is said of input and output before a fault is reported is said of them after
 pub after-faults : (mid after : Devices) → IsSilent mid after → (Said : (input output : Seen) → Type 0) → Said mid.input mid.output → Said after.input after.output
 after-faults mid after silent Said held = subst (λ (s : Seen). Said s after.output) (sym silent.0) (subst (λ (s : Seen). Said mid.input s) (sym silent.1) held)
 
--- an answer that was not written whole is told
+-- an answer that was not written whole is reported
 pub wrote-not : (status wanted : ℕ) (text : List ℕ) (before mid after : Devices) → mid.input ≡ before.input → mid.errors ≡ before.errors → mid.output.failed ≡ true
     → AppendsFront before.output.bytes mid.output.bytes text → OnlyTells (Fails Write status) mid after → ReadsNothing (Wrote status wanted text) before after
 wrote-not status wanted text before mid after input errors failed front told =
