@@ -17,4 +17,4 @@ pub wrote-not : (status wanted : ℕ) (text : List ℕ) (before mid after : Devi
 wrote-not status wanted text before mid after input errors failed front told =
     let out = after-faults mid after told.0
     (λ (i o : Seen). (i ≡ before.input) × (o.failed ≡ true) × AppendsFront before.output.bytes o.bytes text) (input, failed, front) in
-    (out.0, inr (out.1.0, out.1.1, subst (λ (s : Seen). Fails Write status s after.errors) errors told.1))
+    (out.0, inr (out.1, out.2, subst (λ (s : Seen). Fails Write status s after.errors) errors told.1))

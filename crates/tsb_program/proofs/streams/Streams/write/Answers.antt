@@ -17,4 +17,4 @@ returns-in-Err g c =
       output = seen g.W.Write.contents c.write_line.new.writer;
       errors = seen g.E.Write.contents c.self.inside.errors;
     } in
-    rw (← c.self.view_is) (wrote-not c.fail.result (number c.args.status) c.args.text.now before mid c.fail.new.self refl refl c.write_line.ensures.blame c.write_line.ensures.front c.fail.ensures)
+    rw (← c.self.view_is) (wrote-not c.fail.result (number c.args.status) c.args.text.now before mid c.fail.new.self refl refl c.in-Err.ensures.blame c.write_line.ensures.front c.fail.ensures)
