@@ -20,7 +20,7 @@ use Rattle.tsb_program.specs.Read.{HasPlan, LogRead, PlanRead}
 -- a log that is not had ends `run` where there is a plan
 pub stops-log : (fault : ReadError LogError) (found : Plan) (status : ℕ) (plan log : List ℕ) (known : List ℕ → Option (List ℕ)) (told tells : Seen) → HasPlan (known plan) found
     → LogRead (Err fault) (known log) → Refuses log_fault log fault status told tells → Stops status plan log known told tells
-stops-log (faults.Failed why) found status plan log known old new has read fails = inr (inr (inr (found, has, why, fails)))
+stops-log (faults.Failed why) found status plan log known old new has read fails = inr (inr (inr (found, has, (why, fails))))
 stops-log (faults.Refused why) found status plan log known old new has read (inl line) = inr (inl (line.0, found, has, why, read, line.1))
 stops-log (faults.Refused why) found status plan log known old new has read (inr none) = inr (inr (inl (files.Memory, none)))
 
