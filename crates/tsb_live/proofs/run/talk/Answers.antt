@@ -1,4 +1,4 @@
-use Rattle.std.proofs.Common.{Err, Ok, Some, refl}
+use Rattle.std.proofs.Common.{Err, refl}
 use Rattle.tsb_text.specs.tsb_objects.Checked.{checked_plan}
 use Rattle.tsb_program.specs.Devices.{Devices}
 use Rattle.tsb_program.specs.tsb_lines.Seen.{seen}
