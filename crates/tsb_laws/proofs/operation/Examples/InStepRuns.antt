@@ -21,13 +21,11 @@ use Rattle.tsb_step.specs.Signs.{local, IsInStep}
 use Rattle.tsb_step.specs.Step.{step}
 use Rattle.tsb_step.specs.Runs.{replay, AreTaken}
 use Rattle.tsb_step.specs.Laws.{IsConsistent}
-use Rattle.tsb_step.proofs.ClearLemmas.{one_later, plan_stays, pattern_stays, correction_stays}
 use Rattle.tsb_step.proofs.Examples.Scenes.{opened}
 use Rattle.tsb_laws.specs.CoordinatedGreens.{HasGoneOn}
 use Rattle.tsb_laws.specs.InStep.{selects_none, BeginsInStep, keeps_in_step, HasComeSince}
-use Rattle.tsb_laws.proofs.operation.Examples.RecycledWalkRuns.{quiet_for}
 use Rattle.tsb_laws.proofs.safety.Examples.PlanFits.{Fits, values_fit, quad_fits, consistent}
-use Rattle.tsb_laws.proofs.safety.Examples.TickRuns.{tick_taken}
+use Rattle.tsb_laws.proofs.safety.Examples.TickRuns.{ticks, now_then, plan_then, pattern_then, correction_then, all_taken}
 
 -- ## Pattern 2 is selected in tick 1 while pattern 1 runs: 10 ticks ahead, it loses one in 3 ticks by add only
 
@@ -152,45 +150,28 @@ would_jump = at_selection.jumps
 
 -- ## 30 ticks later it has come into step
 
-record At (k : ℕ) : Type 0 where
-  taken : AreTaken adding (quiet_for k ++ chosen)
-  now_is : (replay adding (quiet_for k ++ chosen)).now ≡ k + 1
-  plan_is : (replay adding (quiet_for k ++ chosen)).plan ≡ adding
-  pattern_is : (replay adding (quiet_for k ++ chosen)).pattern ≡ Some 2
-  correction_is : (replay adding (quiet_for k ++ chosen)).correction ≡ record { since = 1; ahead = 10 }
+-- the run so many ticks later
+abbrev after : ℕ → List Input
+after k = ticks all_off k ++ chosen
 
-at_chosen : At 0
-at_chosen = record {
-  taken = chosen_taken;
-  now_is = at_selection.now_is;
-  plan_is = at_selection.then_is;
-  pattern_is = at_selection.pattern_is;
-  correction_is = at_selection.correction_is;
-}
+in_time : (k : ℕ) → k ≤ 900 → (replay adding chosen).now + k ≤ 1000
+in_time k low = let now = at_selection.now_is in omega (arith, now, low)
 
-at_next : (k : ℕ) → k ≤ 900 → At k → At (suc k)
-at_next k low it = record {
-  taken = (it.taken, tick_taken (replay adding (quiet_for k ++ chosen)) all_off (let now = it.now_is in omega (arith, low, now)));
-  now_is = (let now = it.now_is in let one = one_later (replay adding (quiet_for k ++ chosen)) all_off in omega (arith, now, one));
-  plan_is = plan_stays (replay adding (quiet_for k ++ chosen)) all_off ∙ it.plan_is;
-  pattern_is = pattern_stays (replay adding (quiet_for k ++ chosen)) all_off ∙ it.pattern_is;
-  correction_is = correction_stays (replay adding (quiet_for k ++ chosen)) all_off ∙ it.correction_is;
-}
+taken_then : (k : ℕ) → k ≤ 900 → AreTaken adding (after k)
+taken_then k low = all_taken adding all_off chosen k chosen_taken (in_time k low)
 
-run_at : (k : ℕ) → k ≤ 900 → At k
-run_at zero low = at_chosen
-run_at (suc k) low = at_next k (omega (arith, low)) (run_at k (omega (arith, low)))
+ticked : (k : ℕ) → (replay adding (after k)).now ≡ k + 1
+ticked k = let now = at_selection.now_is in let later = now_then adding all_off chosen k in omega (arith, now, later)
 
--- in the state of so many ticks later
-in_step_is : (k : ℕ) (it : At k) → is_in_step adding (Some 2) (record { since = 1; ahead = 10 }) (k + 1) ≡ true → IsInStep (replay adding (quiet_for k ++ chosen))
-in_step_is k it there =
-    ap (λ (x : Plan). is_in_step x after.pattern after.correction after.now) it.plan_is
-    ∙ (ap (λ (o : Option ℕ). is_in_step adding o after.correction after.now) it.pattern_is
-    ∙ (ap (λ (c : Correction). is_in_step adding (Some 2) c after.now) it.correction_is
-    ∙ (ap (λ (t : ℕ). is_in_step adding (Some 2) (record { since = 1; ahead = 10 }) t) it.now_is ∙ there)))
+in_step_is : (k : ℕ) → is_in_step adding (Some 2) (record { since = 1; ahead = 10 }) (k + 1) ≡ true → IsInStep (replay adding (after k))
+in_step_is k there =
+    ap (λ (x : Plan). is_in_step x s.pattern s.correction s.now) (plan_then adding all_off chosen k ∙ at_selection.then_is)
+    ∙ (ap (λ (o : Option ℕ). is_in_step adding o s.correction s.now) (pattern_then adding all_off chosen k ∙ at_selection.pattern_is)
+    ∙ (ap (λ (c : Correction). is_in_step adding (Some 2) c s.now) (correction_then adding all_off chosen k ∙ at_selection.correction_is)
+    ∙ (ap (λ (t : ℕ). is_in_step adding (Some 2) (record { since = 1; ahead = 10 }) t) (ticked k) ∙ there)))
   where
-    after : State
-    after = replay adding (quiet_for k ++ chosen)
+    s : State
+    s = replay adding (after k)
 
 comes_into_step : is_in_step adding (Some 2) (record { since = 1; ahead = 10 }) 31 ≡ true
 unfolding opened adding
@@ -202,12 +183,12 @@ record AStep (plan : Plan) (is : List Input) (i : Input) : Type 0 where
   keeps : keeps_in_step i ≡ true
   in_step : IsInStep (replay plan is)
 
-a_step : AStep adding (quiet_for 30 ++ chosen) (Tick all_off)
+a_step : AStep adding (after 30) (Tick all_off)
 a_step = record {
   consistent = adding_consistent;
-  taken = (run_at 30 (omega arith)).taken;
+  taken = taken_then 30 (omega arith);
   keeps = refl;
-  in_step = in_step_is 30 (run_at 30 (omega arith)) comes_into_step;
+  in_step = in_step_is 30 comes_into_step;
 }
 
 -- a counter that goes on to lose by its limit, round the cycle
@@ -225,7 +206,7 @@ limit_is : correction_limit adding ≡ 50
 unfolding opened adding
 limit_is = refl
 
-only_ticks : (k : ℕ) → HasGoneOn (λ s i. keeps_in_step i) adding chosen (quiet_for k)
+only_ticks : (k : ℕ) → HasGoneOn (λ s i. keeps_in_step i) adding chosen (ticks all_off k)
 only_ticks zero = tt
 only_ticks (suc k) = (only_ticks k, refl)
 
@@ -242,17 +223,17 @@ record AWay (plan : Plan) (is later : List Input) (n : ℕ) : Type 0 where
   other : correction_mode (replay plan (Pattern n ∷ is)).plan ≢ AtOnce
   come : HasComeSince plan is later n
 
-a_way_into_step : AWay adding started (quiet_for 30) 2
+a_way_into_step : AWay adding started (ticks all_off 30) 2
 a_way_into_step = record {
   consistent = adding_consistent;
-  taken = (run_at 30 (omega arith)).taken;
+  taken = taken_then 30 (omega arith);
   other = λ e. not_at_once (sym (ap correction_mode at_selection.then_is) ∙ e);
   come = record {
     used = ap (λ (p : Plan). is_pattern p 2) (at_selection.then_is ∙ sym at_selection.plan_is) ∙ at_selection.used;
     limited = subst (λ (p : Plan). correction_limit p ≤ 50) (sym at_selection.then_is) (rw limit_is (omega arith));
     kept = only_ticks 30;
-    long = had_time (replay adding chosen).plan (replay adding chosen).correction (replay adding (quiet_for 30 ++ chosen)).now (replay adding chosen).now
-        at_selection.then_is at_selection.correction_is (run_at 30 (omega arith)).now_is at_selection.now_is;
+    long = had_time (replay adding chosen).plan (replay adding chosen).correction (replay adding (after 30)).now (replay adding chosen).now
+        at_selection.then_is at_selection.correction_is (ticked 30) at_selection.now_is;
   };
 }
 

@@ -32,10 +32,8 @@ use Rattle.tsb_step.specs.Step.{step}
 use Rattle.tsb_step.specs.Tick.{preempts_given, new_service, service, runs, hold, forced, recycle, conflict, pedestrian_call, phases_given, phase_read, next}
 use Rattle.tsb_step.specs.Runs.{replay, AreTaken}
 use Rattle.tsb_step.specs.Laws.{IsConsistent, is_unlit}
-use Rattle.tsb_step.proofs.ClearLemmas.{one_later, plan_stays, pattern_stays, correction_stays}
 use Rattle.tsb_step.proofs.Examples.Scenes.{opened, button}
 use Rattle.tsb_step.proofs.GoodLemmas.{good_run}
-use Rattle.tsb_step.proofs.TripLemmas.{faults_alone_trip}
 use Rattle.tsb_laws.specs.Stretches.{IsUntripped}
 use Rattle.tsb_laws.specs.CoordinatedGreens.{HasGoneOn}
 use Rattle.tsb_laws.specs.RecycledWalks.{WalksAgain, MayWalkAgain, is_unheld, is_unforced}
@@ -43,7 +41,7 @@ use Rattle.tsb_laws.proofs.operation.pattern.InStepLemmas.{forces_as}
 use Rattle.tsb_laws.proofs.operation.recycle.RecycleTimeLemmas.{IsRecycled, recycled_so}
 use Rattle.tsb_laws.proofs.operation.recycle.RecycledRunLemmas.{calls_are_recycled}
 use Rattle.tsb_laws.proofs.safety.Examples.PlanFits.{Fits, values_fit, quad_fits, consistent}
-use Rattle.tsb_laws.proofs.safety.Examples.TickRuns.{tick_taken}
+use Rattle.tsb_laws.proofs.safety.Examples.TickRuns.{ticks, now_then, plan_then, pattern_then, correction_then, all_taken, dark_then, none_trips}
 
 -- ## 2 is coordinated, and its button is pressed in tick 2: its walk takes 10 ticks, its clearance 10, and 20 are left
 
@@ -135,11 +133,6 @@ a_second_walk = record { consistent = walking_consistent; few = few; taken = bas
 
 -- ## And 20 ticks later it is forced off
 
--- so many ticks with no input on
-abbrev pub quiet_for : ℕ → List Input
-quiet_for zero = []
-quiet_for (suc k) = Tick all_off ∷ quiet_for k
-
 -- no preempt has an input, and none is in service
 record NoPreempt (w : Preempts) : Type 0 where
   switches : (n : ℕ) → w.switch n ≡ false
@@ -199,20 +192,21 @@ none_then s dark it = record {
   served = ap (λ (w : Preempts). w.service) (preempts_then s all_off dark) ∙ none_served_then s it;
 }
 
--- so many ticks later
-record At (k : ℕ) : Type 0 where
-  taken : AreTaken walking (quiet_for k ++ base)
-  unlit : is_unlit walking (quiet_for k ++ base) ≡ true
-  now_is : (replay walking (quiet_for k ++ base)).now ≡ k + 2
-  plan_is : (replay walking (quiet_for k ++ base)).plan ≡ walking
-  pattern_is : (replay walking (quiet_for k ++ base)).pattern ≡ Some 1
-  correction_is : (replay walking (quiet_for k ++ base)).correction ≡ in_step
-  no_preempt : NoPreempt (replay walking (quiet_for k ++ base)).preempts
+-- the run so many ticks later
+abbrev after : ℕ → List Input
+after k = ticks all_off k ++ base
 
-at_base : At 0
+record AtBase : Type 0 where
+  unlit : is_unlit walking base ≡ true
+  now_is : (replay walking base).now ≡ 2
+  plan_is : (replay walking base).plan ≡ walking
+  pattern_is : (replay walking base).pattern ≡ Some 1
+  correction_is : (replay walking base).correction ≡ in_step
+  no_preempt : NoPreempt (replay walking base).preempts
+
+at_base : AtBase
 unfolding opened walking
 at_base = record {
-  taken = base_taken;
   unlit = refl;
   now_is = refl;
   plan_is = refl;
@@ -221,52 +215,55 @@ at_base = record {
   no_preempt = record { switches = λ n. refl; served = refl };
 }
 
-run_dark : (k : ℕ) → At k → (replay walking (quiet_for k ++ base)).trip ≡ None
-run_dark k it = faults_alone_trip walking (quiet_for k ++ base) walking_consistent it.taken it.unlit
+in_time : (k : ℕ) → k ≤ 900 → (replay walking base).now + k ≤ 1000
+in_time k low = let now = at_base.now_is in omega (arith, now, low)
 
-at_next : (k : ℕ) → k ≤ 900 → At k → At (suc k)
-at_next k low it = record {
-  taken = (it.taken, tick_taken (replay walking (quiet_for k ++ base)) all_off (let now = it.now_is in omega (arith, low, now)));
-  unlit = it.unlit;
-  now_is = (let now = it.now_is in let one = one_later (replay walking (quiet_for k ++ base)) all_off in omega (arith, now, one));
-  plan_is = plan_stays (replay walking (quiet_for k ++ base)) all_off ∙ it.plan_is;
-  pattern_is = pattern_stays (replay walking (quiet_for k ++ base)) all_off ∙ it.pattern_is;
-  correction_is = correction_stays (replay walking (quiet_for k ++ base)) all_off ∙ it.correction_is;
-  no_preempt = none_then (replay walking (quiet_for k ++ base)) (run_dark k it) it.no_preempt;
-}
+taken_then : (k : ℕ) → k ≤ 900 → AreTaken walking (after k)
+taken_then k low = all_taken walking all_off base k base_taken (in_time k low)
 
-run_at : (k : ℕ) → k ≤ 900 → At k
-run_at zero low = at_base
-run_at (suc k) low = at_next k (omega (arith, low)) (run_at k (omega (arith, low)))
+ticked : (k : ℕ) → (replay walking (after k)).now ≡ k + 2
+ticked k = let now = at_base.now_is in let later = now_then walking all_off base k in omega (arith, now, later)
 
-untripped : (k : ℕ) → k ≤ 900 → IsUntripped walking base (quiet_for k)
-untripped zero low = run_dark zero (run_at zero low)
-untripped (suc k) low = (untripped k (omega (arith, low)), run_dark (suc k) (run_at (suc k) low))
+same_plan : (k : ℕ) → (replay walking (after k)).plan ≡ walking
+same_plan k = plan_then walking all_off base k ∙ at_base.plan_is
+
+run_dark : (k : ℕ) → k ≤ 900 → (replay walking (after k)).trip ≡ None
+run_dark k low = dark_then walking all_off base walking_consistent base_taken at_base.unlit k (in_time k low)
+
+no_preempt : (k : ℕ) → k ≤ 900 → NoPreempt (replay walking (after k)).preempts
+no_preempt zero low = at_base.no_preempt
+no_preempt (suc k) low = none_then (replay walking (after k)) (run_dark k (omega (arith, low))) (no_preempt k (omega (arith, low)))
+
+untripped : (k : ℕ) → k ≤ 900 → IsUntripped walking base (ticks all_off k)
+untripped k low = none_trips walking all_off base walking_consistent base_taken at_base.unlit k (in_time k low)
 
 -- 2 does not rest in walk
 rests_not : rests_in_walk walking 2 ≡ false
 unfolding opened walking
 rests_not = refl
 
-unheld : (k : ℕ) → At k → is_unheld (replay walking (quiet_for k ++ base)) all_off 2 ≡ true
-unheld k it =
-    and_from (is_none (service (replay walking (quiet_for k ++ base)) all_off))
-    (not (rests_in_walk (replay walking (quiet_for k ++ base)).plan 2 && not (conflict (replay walking (quiet_for k ++ base)) all_off 2)))
-    (ap is_none (quiet_now (replay walking (quiet_for k ++ base)) it.no_preempt))
-    (ap (λ (b : Bool). not (b && not (conflict (replay walking (quiet_for k ++ base)) all_off 2))) (ap (λ (x : Plan). rests_in_walk x 2) it.plan_is ∙ rests_not))
+unheld : (k : ℕ) → k ≤ 900 → is_unheld (replay walking (after k)) all_off 2 ≡ true
+unheld k low =
+    and_from (is_none (service (replay walking (after k)) all_off))
+    (not (rests_in_walk (replay walking (after k)).plan 2 && not (conflict (replay walking (after k)) all_off 2)))
+    (ap is_none (quiet_now (replay walking (after k)) (no_preempt k low)))
+    (ap (λ (b : Bool). not (b && not (conflict (replay walking (after k)) all_off 2))) (ap (λ (x : Plan). rests_in_walk x 2) (same_plan k) ∙ rests_not))
 
-steps_so : (k : ℕ) → At k → IsInStep (replay walking (quiet_for k ++ base))
-steps_so k it = always_in_step after.plan after.pattern after.correction after.now (ap (λ (c : Correction). c.ahead) it.correction_is)
+steps_so : (k : ℕ) → IsInStep (replay walking (after k))
+steps_so k = always_in_step s.plan s.pattern s.correction s.now (ap (λ (c : Correction). c.ahead) (correction_then walking all_off base k ∙ at_base.correction_is))
   where
-    after : State
-    after = replay walking (quiet_for k ++ base)
+    s : State
+    s = replay walking (after k)
 
-forced_is : (k : ℕ) → At k → forced (replay walking (quiet_for k ++ base)) 2 ≡ asks_force_off walking (k + 3) (Some 1) 2
-forced_is k it =
-    forces_as (replay walking (quiet_for k ++ base)) ((replay walking (quiet_for k ++ base)).now + 1) 2 (steps_so k it) (omega arith)
-    ∙ ap (λ (x : Plan). asks_force_off x ((replay walking (quiet_for k ++ base)).now + 1) (replay walking (quiet_for k ++ base)).pattern 2) it.plan_is
-    ∙ (ap (λ (o : Option ℕ). asks_force_off walking ((replay walking (quiet_for k ++ base)).now + 1) o 2) it.pattern_is
-    ∙ ap (λ (t : ℕ). asks_force_off walking t (Some 1) 2) (let now = it.now_is in omega (arith, now)))
+forced_is : (k : ℕ) → forced (replay walking (after k)) 2 ≡ asks_force_off walking (k + 3) (Some 1) 2
+forced_is k =
+    forces_as s (s.now + 1) 2 (steps_so k) (omega arith)
+    ∙ ap (λ (x : Plan). asks_force_off x (s.now + 1) s.pattern 2) (same_plan k)
+    ∙ (ap (λ (o : Option ℕ). asks_force_off walking (s.now + 1) o 2) (pattern_then walking all_off base k ∙ at_base.pattern_is)
+    ∙ ap (λ (t : ℕ). asks_force_off walking t (Some 1) 2) (let now = ticked k in omega (arith, now)))
+  where
+    s : State
+    s = replay walking (after k)
 
 -- the walk and the clearance of tick 2 fit
 record AtStart : Type 0 where
@@ -292,14 +289,13 @@ not_forced t from to =
     later : (replay walking started).now < t
     later = let now = at_start.now_is in omega (arith, now, from)
 
-unforced_for : (k : ℕ) → k ≤ 19 → HasGoneOn (is_unforced 2) walking base (quiet_for k)
+unforced_for : (k : ℕ) → k ≤ 19 → HasGoneOn (is_unforced 2) walking base (ticks all_off k)
 unforced_for zero low = tt
-unforced_for (suc k) low =
-    let it : At k = run_at k (omega (arith, low)) in (
-      unforced_for k (omega (arith, low)),
-      and_from (is_unheld (replay walking (quiet_for k ++ base)) all_off 2) (not (forced (replay walking (quiet_for k ++ base)) 2)) (unheld k it)
-          (ap not (forced_is k it ∙ not_forced (k + 3) (omega arith) (omega (arith, low)))),
-    )
+unforced_for (suc k) low = (
+  unforced_for k (omega (arith, low)),
+  and_from (is_unheld (replay walking (after k)) all_off 2) (not (forced (replay walking (after k)) 2)) (unheld k (omega (arith, low)))
+      (ap not (forced_is k ∙ not_forced (k + 3) (omega arith) (omega (arith, low)))),
+)
 
 record AWalkInTime (plan : Plan) (is later : List Input) (row last : Row) (p : ℕ) : Type 0 where
   consistent : IsConsistent plan
@@ -316,16 +312,16 @@ comes_at_22 : asks_force_off walking 22 (Some 1) 2 ≡ true
 unfolding opened walking
 comes_at_22 = refl
 
-a_walk_in_time : AWalkInTime walking started (quiet_for 19) (button 2) all_off 2
+a_walk_in_time : AWalkInTime walking started (ticks all_off 19) (button 2) all_off 2
 a_walk_in_time = record {
   consistent = walking_consistent;
   few = few;
-  taken = (run_at 19 (omega arith)).taken;
+  taken = taken_then 19 (omega arith);
   untripped = untripped 19 (omega arith);
   walks = (calls_are_recycled walking started (button 2) 2 walking_consistent few base_taken.0 starts_dark).walks may_2;
   unforced = unforced_for 19 (omega arith);
-  comes = forced_is 19 (run_at 19 (omega arith)) ∙ comes_at_22;
-  unheld = unheld 19 (run_at 19 (omega arith));
+  comes = forced_is 19 ∙ comes_at_22;
+  unheld = unheld 19 (omega arith);
 }
 
 -- ## Mistakes

@@ -1,5 +1,5 @@
 -- Runs that end in ticks of one row: each tick is taken, none trips the controller where no lamp was lit, and none changes the
--- plan. By these lemmas a run of 40 ticks meets premises of the laws without being computed tick by tick.
+-- plan, the pattern or its correction. By these lemmas a run of 40 ticks meets premises of the laws without being computed tick by tick.
 use Rattle.std.proofs.Common.{zero, suc, ◌≡◌, ℕ, ◌+◌, ◌≤◌, nat_lt, Bool, true, false, not, max, List, [], ◌∷◌, ◌++◌, Option, Some, None, option_map, refl, sym, ap, arith, append_assoc, ◌∙◌}
 use Rattle.std.proofs.lemmas.Bool.{and_from}
 use Rattle.std.proofs.lemmas.Bool.Decides.{nat_tests}
@@ -17,10 +17,9 @@ use Rattle.tsb_step.specs.Step.{step, verdict}
 use Rattle.tsb_step.specs.Runs.{replay, AreTaken}
 use Rattle.tsb_step.specs.Laws.{IsConsistent, is_unlit}
 use Rattle.tsb_step.specs.ClearanceLaws.{after_ticks}
-use Rattle.tsb_step.proofs.ClearLemmas.{plan_stays}
 use Rattle.tsb_step.proofs.TripLemmas.{faults_alone_trip}
 use Rattle.tsb_laws.specs.Stretches.{IsUntripped, has_held_since, NoneChooses, largest}
-use Rattle.tsb_step.proofs.ClearLemmas.{one_later}
+use Rattle.tsb_step.proofs.ClearLemmas.{one_later, plan_stays, pattern_stays, correction_stays}
 
 -- so many ticks with these inputs on
 abbrev pub ticks : Row → ℕ → List Input
@@ -51,6 +50,14 @@ module _ (plan : Plan) (row : Row) (is : List Input) where
   pub plan_then : (n : ℕ) → (replay plan (ticks row n ++ is)).plan ≡ (replay plan is).plan
   plan_then zero = refl
   plan_then (suc n) = plan_stays (replay plan (ticks row n ++ is)) row ∙ plan_then n
+
+  pub pattern_then : (n : ℕ) → (replay plan (ticks row n ++ is)).pattern ≡ (replay plan is).pattern
+  pattern_then zero = refl
+  pattern_then (suc n) = pattern_stays (replay plan (ticks row n ++ is)) row ∙ pattern_then n
+
+  pub correction_then : (n : ℕ) → (replay plan (ticks row n ++ is)).correction ≡ (replay plan is).correction
+  correction_then zero = refl
+  correction_then (suc n) = correction_stays (replay plan (ticks row n ++ is)) row ∙ correction_then n
 
   -- no preempt chooses anew where no preempt of the plan does
   anew_off : (x : Plan) (o : Option ℕ) → ((p : ℕ) → x.value PreemptChoosesAnew p ≤ 0) → is_anew x o ≡ false
