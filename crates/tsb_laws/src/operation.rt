@@ -62,7 +62,8 @@ pub fn calls_are_kept()
 /// Mistakes: a gap that ends a green before its added initial, `queued` (`is_not_ready`, `would_end`), or on maximum
 /// recall, `recalled` (`stays_green`, `would_gap_out`); a preempt that ends what it wants, `ends_every` (`is_wanted`,
 /// `would_end_3`).
-/// Witness: `a_green_end` of GreenEndRuns.
+/// Witness: `a_green_end` of GreenEndRuns, by its gap; `a_maximum_end` by its maximum, while an output is on;
+/// `a_coordinated_end` and `another_end` by force-off, of a coordinated phase and of another; `a_preempted_end`.
 pub fn greens_end_for_a_reason()
     ensures { GreensEndForAReason }
 {}
@@ -111,7 +112,7 @@ pub fn overlaps_last_across_rings()
 /// in free operation and with no preempt in service.
 ///
 /// Not said: which way it moves.
-/// Mistake: a maximum that doubles after a max-out, `doubled` (`goes_to_250`, `would_go_to_400`).
+/// Mistake: a step that is read in seconds, `by_seconds` (`goes_to_250`, `would_go_to_400`).
 /// Witness: `goes_to_250` of MaximumRuns.
 ///
 /// `others`: No other input moves the maximum in use. A commit that changes the plan may, and the reset of a trip.
@@ -134,7 +135,7 @@ pub fn maximums_move_by_steps()
 /// its dwell only where it has no exit phases.
 ///
 /// Not said: when a dwell ends. The reset of a trip ends a service too.
-/// Mistake: a dwell after which no exit comes, `ends_with_dwell` (`goes_to_exit`, `would_be_over`).
+/// Mistake: an exit that comes only where there is a track list, `by_track_list` (`goes_to_exit`, `would_be_over`).
 /// Witness: `goes_to_exit` of PreemptRuns.
 pub fn preempts_give_way()
     ensures turns { PreemptsGiveWay }
@@ -194,15 +195,19 @@ pub fn wanted_phases_start()
 /// Needs: an untripped stretch; at most 16 phases. Where a commit changes a time meanwhile, the largest counts, of walk
 /// and of pedestrian clearance each.
 /// Not said: that they stay Green. A lower preempt, or a time of dwell that has passed, may end the stage before.
-/// Mistake: a preempt whose rings rest where it wants the other side, `rests_here` (`wants_to_cross`, `would_rest`).
-/// Witness: `a_stage` of PreemptStageRuns.
+/// Mistakes: a preempt whose rings look for its phases on their own side alone, `looks_here` of MistakenRuns, for more
+/// than the 75 ticks that are given (`reaches_within_75`, `would_not_reach`); one whose rings rest where it wants the
+/// other side, `rests_here` (`wants_to_cross`, `would_rest`).
+/// Witness: `a_stage` of PreemptStageRuns, which takes 69 ticks of the 75 (`waits_for_4`, `serves_4`).
 ///
 /// `exits`: A preempt leaves its exit in time. It stays in its exit for that time at most, and the next tick ends its
 /// service, or begins another one.
 ///
 /// Needs: as `stages`.
-/// Mistake: an exit that the phases of the dwell end, `ends_by_dwell` (`is_over`, `would_stay`).
-/// Witness: `an_exit` of PreemptStageRuns.
+/// Mistakes: an exit that the phases of the dwell end, `ends_by_dwell` (`is_over`, `would_stay`); rules that let phases
+/// in an exit list that are not concurrent, `apart` of MistakenRuns (`is_refused`), for more than the 75 ticks that are
+/// given (`would_not_leave`).
+/// Witness: `an_exit` of PreemptStageRuns, which takes 39 ticks (`leaves_on`, `is_out`).
 pub fn preempts_reach_their_stages()
     ensures stages { StagesAreReached }
     ensures exits { ExitsEnd }
@@ -213,8 +218,8 @@ pub fn preempts_reach_their_stages()
 ///
 /// Needs: as `preempts_reach_their_stages`. A lower preempt that takes over ends the stretch.
 /// Not said: that its input leads to a service.
-/// Mistake: as of `preempts_reach_their_stages`, `rests_here` (`would_rest`).
-/// Witness: `a_dwell` of PreemptStageRuns.
+/// Mistake: as of `preempts_reach_their_stages`, `looks_here` (`would_not_reach`).
+/// Witness: `a_dwell` of PreemptStageRuns, which takes 69 ticks (`has_come`).
 pub fn preempts_reach_dwell_in_time()
     ensures { DwellsAreReached }
 {}
@@ -226,16 +231,16 @@ pub fn preempts_reach_dwell_in_time()
 ///
 /// Needs: as `preempts_reach_their_stages`; no overlap that lasts through a clearance by a commitment.
 /// Not said: that they stay Green.
-/// Mistake: a preempt that still has rings serve what they were committed to, `serves_first` (`lasts_for_166`,
-/// `would_be_late`).
-/// Witness: `a_choice` of PreemptStageRuns.
+/// Mistake: a preempt that still has rings serve what they were committed to, which takes longer than the 45 ticks that
+/// are given (`would_give_45`, `would_be_late`).
+/// Witness: `a_choice` of PreemptChoiceRuns, which takes 29 ticks (`waits_anew`, `comes_anew`).
 ///
 /// `dwells`: So it reaches its dwell. With a track list it does so within the time of two stages, and its track green
 /// between them.
 ///
 /// Needs: as `stages`.
-/// Mistake: as of `stages`, `serves_first` (`would_be_late`).
-/// Witness: `a_choice` of PreemptStageRuns.
+/// Mistake: as of `stages` (`would_be_late`).
+/// Witness: `a_chosen_dwell` of PreemptChoiceRuns.
 pub fn preempts_that_choose_come_sooner()
     ensures stages { ChosenStagesAreReached }
     ensures dwells { ChosenDwellsAreReached }
@@ -247,8 +252,9 @@ pub fn preempts_that_choose_come_sooner()
 ///
 /// Needs: an untripped run; at most 16 phases.
 /// Not said: that it then ends, as its ring may wait for the barrier.
-/// Mistake: a green that extends while an output is on, `extended` (`is_ready_2`, `would_extend`).
-/// Witness: `a_press` of ServedRuns.
+/// Mistake: a green that extends while an output is on, `extended`, also in the tick in which it has to be ready
+/// (`is_ready_then`, `would_extend`).
+/// Witness: `a_press` of ServedRuns, of 10 ticks (`is_not_ready_yet`, `is_ready_then`).
 pub fn pressed_greens_may_end()
     ensures { PressedGreensMayEnd }
 {}
@@ -261,8 +267,8 @@ pub fn pressed_greens_may_end()
 /// an untripped run; at most 16 phases.
 /// Not said: that a phase of another side is served, or one that its ring has passed (`called_phases_are_served`).
 /// Mistake: a ring that crosses the barrier as soon as another side is called, `crosses_first` (`goes_to_2`,
-/// `would_cross`).
-/// Witness: `a_turn` of ServedRuns.
+/// `would_cross`), for more than the 83 ticks that are given (`comes_within_83`, `would_not_come` of MistakenRuns).
+/// Witness: `a_turn` of ServedRuns, of 41 ticks.
 pub fn called_phases_come()
     ensures { CalledPhasesCome }
 {}
@@ -276,8 +282,8 @@ pub fn called_phases_come()
 /// an untripped run; at most 16 phases.
 /// Not said: that the crossing goes to the side of that phase; it goes to the next side that is called.
 /// Mistake: a ring that goes round its order though another side is called, `goes_round` (`wants_to_cross`,
-/// `would_go_to_1`).
-/// Witness: `a_barrier` of ServedRuns.
+/// `would_go_to_1`). No run that breaks the bound is computed, since it would be of over 200 ticks.
+/// Witness: `a_barrier` of ServedRuns, of 50 ticks.
 pub fn crossings_begin()
     ensures { CrossingsBegin }
 {}
@@ -291,9 +297,10 @@ pub fn crossings_begin()
 /// Needs: a plan in which all phases of one side and of different rings are concurrent; a call that stays, and no commit;
 /// an untripped run; at most 16 phases.
 /// Not said: that its walk begins; anything while a pattern runs or a preempt is in service.
-/// Mistake: a crossing that goes to the lowest side that is called, `lowest_side` (`goes_to_side_3`,
-/// `would_go_to_side_1`).
-/// Witness: `a_service` of ServedRuns.
+/// Mistakes: a crossing that goes to the lowest side that is called, `lowest_side` (`goes_to_side_3`,
+/// `would_go_to_side_1`); a ring that goes round its order, as of `crossings_begin` (`would_go_to_1`). No run that
+/// breaks the bound is computed, since it would be of over 900 ticks.
+/// Witness: `a_service` of ServedRuns, of 81 ticks.
 pub fn called_phases_are_served()
     ensures { CalledPhasesAreServed }
 {}
@@ -321,8 +328,9 @@ pub fn called_phases_are_served()
 /// Needs: a pattern that runs, and no preempt in service; no pattern selected and nothing committed meanwhile; an untripped
 /// run; at most 16 phases.
 /// Not said: that it ends then, as it may wait for the other ring at the barrier.
-/// Mistake: a force-off that counts in the tick of its instant alone (`is_ready`, `would_not_be`).
-/// Witness: `a_forced_green` of CoordinatedRuns.
+/// Mistake: a force-off that counts in the tick of its instant alone, `forgets_it`, by which the green is not ready in
+/// time (`is_ready`, `would_not_be`, `would_not_be_ready`).
+/// Witness: `a_forced_green` of PatternWaitRuns, of 10 ticks (`is_not_ready_yet`, `is_ready`).
 ///
 /// `ends`: A green that may end makes way for what waits, or the other ring keeps it at the barrier. With no preempt in
 /// service, a green that is ready and has a conflict ends in the tick. Otherwise the other ring is committed, a green of
@@ -350,16 +358,17 @@ pub fn coordination_goes_on()
 /// as it begins; no pattern selected and nothing committed meanwhile; an untripped run; at most 16 phases.
 /// Not said: that its walk begins; anything of a time in which a preempt is in service.
 /// Mistake: a ring that looks across the barrier for its own phases alone, `by_own_ring` (`may_end_2`, `has_conflict_2`,
-/// `would_rest`).
-/// Witness: `a_wait` of CoordinatedRuns.
+/// `would_rest`). No run that breaks the bound is computed, since it would be of over 1,700 ticks.
+/// Witness: `a_wait` of PatternWaitRuns, of 51 ticks.
 ///
 /// `coordinated`: A coordinated phase is served again in time. It is Green within that time, also where nothing calls it,
 /// as it is called by its pattern.
 ///
 /// Needs: as `called`.
 /// Not said: that it is Green in every cycle; docs/trust/SAFETY.md says why that is false.
-/// Mistake: a pattern that gives its coordinated phases no recall, `by_itself` (`would_not_be_called`).
-/// Witness: `a_return` of CoordinatedRuns.
+/// Mistake: a pattern that gives its coordinated phases no recall, `by_itself` (`would_not_be_called`). No run that
+/// breaks the bound is computed, as of `called`.
+/// Witness: `a_return` of PatternWaitRuns, of 69 ticks.
 pub fn phases_are_served_in_patterns()
     ensures called { CalledPhasesAreServedInPatterns }
     ensures coordinated { CoordinatedPhasesAreServed }
@@ -453,8 +462,8 @@ pub fn selections_go_on()
 /// Needs: a pattern that runs, and no preempt in service; no pattern selected and nothing committed meanwhile; an untripped
 /// run; at most 16 phases.
 /// Not said: that it ends then. The span may be over by then: what is forced off stays so.
-/// Mistake: as of `ready`, `at_instant` (`would_not_be_ready`).
-/// Witness: `a_late_wait` of LateGreenRuns.
+/// Mistake: as of `ready`, `at_instant`, by which the green is not ready in time (`would_not_be_ready`).
+/// Witness: `a_late_wait` of LateGreenRuns, of 10 ticks (`is_not_ready_yet`, `is_ready`).
 pub fn late_greens_are_ready()
     ensures ready { LateGreensAreReady }
     ensures in_time { LateGreensMayEnd }
@@ -478,8 +487,8 @@ pub fn late_greens_are_ready()
 /// Needs: a pattern that runs, and no preempt in service; no pattern selected and nothing committed meanwhile; an untripped
 /// run; at most 16 phases.
 /// Not said: that it ends then.
-/// Mistake: as of `ready`, `by_the_cycle` (`would_not_be_ready`).
-/// Witness: `a_floating_wait` of PatternEndRuns.
+/// Mistake: as of `ready`, `by_the_cycle`, by which the green is not ready in time (`would_not_be_ready`).
+/// Witness: `a_floating_wait` of PatternEndRuns, of 10 ticks (`floating_not_ready`, `is_ready_6`).
 pub fn floating_greens_are_ready()
     ensures ready { FloatingGreensAreReady }
     ensures in_time { FloatingGreensMayEnd }
@@ -503,8 +512,8 @@ pub fn floating_greens_are_ready()
 /// Needs: a pattern that runs, and no preempt in service; no pattern selected and nothing committed meanwhile; an untripped
 /// run; at most 16 phases.
 /// Not said: that it ends then.
-/// Mistake: as of `ready`, `free_alone` (`would_be_held`).
-/// Witness: `a_maximum_wait` of PatternEndRuns.
+/// Mistake: as of `ready`, `free_alone`, by which the green is not ready in time (`would_be_held`).
+/// Witness: `a_maximum_wait` of PatternEndRuns, of 10 ticks (`maximal_not_ready`).
 pub fn maximums_end_greens_in_patterns()
     ensures ready { MaximumGreensAreReady }
     ensures in_time { MaximumGreensMayEnd }
@@ -519,7 +528,7 @@ pub fn maximums_end_greens_in_patterns()
 /// Not said: that it ends then, as it may wait for the other ring at the barrier (`coordination_goes_on`).
 /// Mistake: a coordinated phase that is forced off at its instant alone, `at_instant_alone` (`is_permitted_6`,
 /// `would_miss_the_call`, `would_wait_a_cycle`).
-/// Witness: `a_permitted_green` of PatternEndRuns.
+/// Witness: `a_permitted_green` of PermissiveRuns.
 ///
 /// `in_time`: A coordinated green with a conflict in its permissive time may end in time. It is ready as soon as it has
 /// had a conflict in each tick from then on for its initial time, and for its walk and pedestrian clearance.
@@ -527,8 +536,8 @@ pub fn maximums_end_greens_in_patterns()
 /// Needs: a pattern that runs, and no preempt in service; no pattern selected and nothing committed meanwhile; an untripped
 /// run; at most 16 phases.
 /// Not said: that it ends then. The permissive time may be over by then: what is forced off stays so.
-/// Mistake: as of `ready`, `at_instant_alone` (`would_wait_a_cycle`).
-/// Witness: `a_permitted_wait` of PatternEndRuns.
+/// Mistake: as of `ready`, `at_instant_alone`, by which the green is not ready in time (`would_wait_a_cycle`).
+/// Witness: `a_permitted_wait` of PermissiveRuns, of 10 ticks (`permitting_not_ready`).
 pub fn permissive_times_let_calls_in()
     ensures ready { PermittedGreensAreReady }
     ensures in_time { PermittedGreensMayEnd }

@@ -20,7 +20,7 @@ ghost use Rattle.tsb_laws.specs.Coordination.{CoordinatedEndByForceOff, OmittedA
 ///
 /// Needs: an untripped stretch.
 /// Not said: that the time is enough to cross the road.
-/// Mistake: a green that ends whatever its pedestrians do, `ready_by_green` (`is_not_ready`, `would_be_ready`).
+/// Mistake: a green that waits for the walk alone, `ready_after_walk` (`is_not_ready`, `would_be_ready`).
 /// Witness: `a_walk` of WalkRuns.
 pub fn intergreens_hold()
     ensures greens { IntergreensHold }
@@ -53,7 +53,8 @@ pub fn enabled_are_served()
 /// Needs: an untripped stretch without a preempt in service that chooses anew; at most 16 phases, as every plan in
 /// memory has. Where a commit changes a time meanwhile, the largest counts.
 /// Not said: that a call leads to a commitment.
-/// Mistake: a start that waits for the other ring to clear, `may_start_alone` (`starts_2`, `would_wait`).
+/// Mistake: a start that waits for the other ring to clear, `may_start_alone` (`starts_2`, `would_wait`), and by
+/// `waits_for_both` for longer than the 40 ticks that are given (`would_not_start`).
 /// Witness: `a_commitment` of CommitmentRuns.
 pub fn commitments_are_served()
     ensures { CommitmentsAreServed }
@@ -65,7 +66,9 @@ pub fn commitments_are_served()
 ///
 /// Needs: as `commitments_are_served`.
 /// Not said: that a call on another side leads to a crossing.
-/// Mistake: a crossing that wants a commitment of each ring, `may_start_committed` (`starts_3`, `would_not_complete`).
+/// Mistakes: a crossing that wants a commitment of each ring, `may_start_committed` (`starts_3`, `would_not_complete`);
+/// a ring that clears only for a commitment, `clears_committed`, for longer than the 31 ticks that are given
+/// (`would_not_cross`).
 /// Witness: `a_crossing` of CrossingRuns.
 pub fn crossings_complete()
     ensures { CrossingsComplete }
@@ -100,8 +103,9 @@ pub fn omitted_are_not_served()
 ///
 /// Needs: as `commitments_are_served`, and that no value of the plan is over the greatest of its object.
 /// Not said: which phase starts then. Where no phase is callable and no preempt is in service, all red may last.
-/// Mistake: a crossing that begins only from greens, `joins_from_green` (`is_idle`, `would_not_join`).
-/// Witness: `an_all_red` (both of AllRedRuns).
+/// Mistake: a crossing that begins only from greens, `joins_from_green` (`is_idle`, `would_not_join`), by which all red
+/// lasts for more than the 52 ticks that are given (`would_stay_red`).
+/// Witness: `an_all_red`, of 18 ticks, the end of a red revert of 50 (all of AllRedRuns).
 pub fn all_red_ends()
     ensures { AllRedEnds }
 {}

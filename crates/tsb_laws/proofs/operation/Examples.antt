@@ -1,7 +1,6 @@
 -- Computed mistakes that the laws of operation refuse, and runs that meet their premises.
 pub mod KeptCallRuns
 pub mod OverlapRuns
-pub mod GreenEndRuns
 pub mod MaximumRuns
 pub mod PreemptRuns
 pub mod CrossingGreenRuns
@@ -9,11 +8,17 @@ pub mod PreemptEntryRuns
 pub mod UnwantedGreenRuns
 pub mod WantedPhaseRuns
 pub mod PreemptStageRuns
+pub mod PreemptChoiceRuns
 pub mod ServedRuns
+pub mod ServedMistakes
 pub mod CoordinatedRuns
+pub mod PatternWaitRuns
+pub mod GreenEndRuns
+pub mod MistakenRuns
 pub mod CalledStartRuns
 pub mod OptionMistakes
 pub mod LateGreenRuns
 pub mod InStepRuns
 pub mod PatternEndRuns
+pub mod PermissiveRuns
 pub mod RecycledWalkRuns

@@ -3,6 +3,8 @@ pub mod SafetyMistakes
 pub mod SafetyWitnesses
 pub mod PlanFits
 pub mod TickRuns
+pub mod StretchRuns
+pub mod MistakenTicks
 pub mod CommitmentRuns
 pub mod WalkRuns
 pub mod CrossingRuns

@@ -18,13 +18,15 @@ use Rattle.tsb_step.specs.Laws.{IsConsistent}
 use Rattle.tsb_step.proofs.Examples.Scenes.{opened}
 use Rattle.tsb_laws.specs.Stretches.{StartsGreen}
 use Rattle.tsb_laws.proofs.safety.Examples.PlanFits.{quad_consistent}
-use Rattle.tsb_laws.proofs.operation.Examples.ServedRuns.{power_up_dark}
 
 -- ## Phase 2 is recalled, and starts at power-up
 
 idle : service (replay quad []) all_off ≡ None
 unfolding opened
 idle = refl
+
+power_up_dark : (replay quad []).trip ≡ None
+power_up_dark = refl
 
 was_red : interval (replay quad []) 2 ≡ Red
 unfolding opened

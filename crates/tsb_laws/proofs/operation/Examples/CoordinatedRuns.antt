@@ -1,48 +1,42 @@
 -- Runs from power-up that meet the premises of the laws of coordinated phases, and mistakes that these laws refuse.
-use Rattle.std.proofs.Common.{◌≡◌, ℕ, ◌+◌, ◌-◌, ◌≤◌, ◌==◌, nat_lt, Bool, true, false, not, ◌&&◌, ◌||◌, if◌then◌else◌, max, List, [], ◌∷◌, ◌++◌, Some, None, refl, sym, ap, subst, arith, ◌∙◌, inl, inr}
+use Rattle.std.proofs.Common.{◌≡◌, ℕ, ◌+◌, ◌-◌, ◌≤◌, nat_lt, Bool, true, false, not, ◌&&◌, ◌||◌, List, [], ◌∷◌, Some, None, refl, sym, subst, arith}
 use Rattle.std.specs.List.{list_all}
-use Rattle.std.proofs.lemmas.Bool.{or_cases, eq-eqb, false≢true}
 use Rattle.tsb_step.specs.tsb_types.Sets.{all_off}
 use Rattle.tsb_step.specs.tsb_types.declared.interval.Interval.TheVariants.{Green}
 use Rattle.tsb_step.specs.tsb_types.Intervals.{is_green}
 use Rattle.tsb_step.specs.tsb_types.Lists.{some_passes}
 use Rattle.tsb_step.specs.tsb_types.declared.row.Row.{Row}
 use Rattle.tsb_step.specs.tsb_plan.declared.object.Object.{Object}
-use Rattle.tsb_step.specs.tsb_plan.declared.object.Object.TheVariants.{PhaseMinimumGreen, PhaseMaximumInitial, PhaseWalk, PhasePedestrianClear, PhaseYellowChange, PhaseRedClear, PhaseRedRevert, UnitRedRevert, PatternCycleTime, PatternOffsetTime}
+use Rattle.tsb_step.specs.tsb_plan.declared.object.Object.TheVariants.{PhaseMinimumGreen, PhaseYellowChange, PatternOffsetTime}
 use Rattle.tsb_step.specs.tsb_plan.Objects.{greatest}
 use Rattle.tsb_step.specs.tsb_plan.Parts.{cycle}
-use Rattle.tsb_step.specs.tsb_plan.Plan.{Plan, phases, is_enabled, is_concurrent, ring_of, side_of, yellow_change, red_clear, has_variable_initial, minimum_green, maximum_initial, walk, pedestrian_clear, has_minimum_recall, with_values}
+use Rattle.tsb_step.specs.tsb_plan.Plan.{Plan, phases, is_enabled, yellow_change, red_clear, has_minimum_recall, with_values}
 use Rattle.tsb_step.specs.tsb_plan.Quad.{quad}
 use Rattle.tsb_step.specs.tsb_plan.Running.{mode_in_effect, recalls_minimum, is_on_maximum_recall}
 use Rattle.tsb_step.specs.tsb_rules.Consistent.{IsPhase}
-use Rattle.tsb_step.specs.tsb_rules.Rules.{first_broken, may_be_concurrent}
+use Rattle.tsb_step.specs.tsb_rules.Rules.{first_broken}
 use Rattle.tsb_step.specs.tsb_calls.Callable.{has_pedestrian_call, has_passing_call}
 use Rattle.tsb_step.specs.tsb_coord.Coordinated.{end_of}
-use Rattle.tsb_step.specs.tsb_coord.Correction.{forces}
 use Rattle.tsb_step.specs.tsb_ring.declared.want.Want.{Want}
 use Rattle.tsb_step.specs.tsb_ring.declared.want.Want.TheVariants.{Rest}
-use Rattle.tsb_step.specs.tsb_ring.Laws.{IsListed}
 use Rattle.tsb_step.specs.tsb_ring.Rings.{Ring, Ring1, Ring2, in_ring}
 use Rattle.tsb_step.specs.tsb_ring.Wants.{is_on_side, is_candidate, want_within}
 use Rattle.tsb_step.specs.declared.inputs.Input.{Input}
 use Rattle.tsb_step.specs.declared.inputs.Input.TheVariants.{Tick, Pattern}
 use Rattle.tsb_step.specs.State.{State, interval}
-use Rattle.tsb_step.specs.Tick.{service, runs, hold, forced, calls_given, set, callable, conflict, ready, rings_given}
+use Rattle.tsb_step.specs.Tick.{service, runs, hold, calls_given, set, callable, conflict, ready, rings_given}
 use Rattle.tsb_step.specs.Signs.{IsInStep}
 use Rattle.tsb_step.specs.Runs.{replay, AreTaken}
 use Rattle.tsb_step.specs.Laws.{IsConsistent}
-use Rattle.tsb_step.proofs.GivenLemmas.{enabled_is_listed}
-use Rattle.tsb_step.proofs.Examples.Scenes.{opened, vehicle, called, resting, coordinated}
-use Rattle.tsb_laws.specs.Stretches.{IsUntripped}
-use Rattle.tsb_laws.specs.ServedCalls.{longest_initial, IsFullyConcurrent}
-use Rattle.tsb_laws.specs.CoordinatedGreens.{HasGoneOn, is_pressed_in_pattern, IsForcedWithin, is_out, is_called_in_pattern, longest_in_pattern, TurnsInPattern}
+use Rattle.tsb_step.proofs.Examples.Scenes.{opened, vehicle, called, resting}
+use Rattle.tsb_laws.specs.ServedCalls.{IsFullyConcurrent}
 use Rattle.tsb_laws.proofs.safety.Examples.PlanFits.{Fits, values_fit, quad_fits, consistent}
 use Rattle.tsb_laws.proofs.safety.Examples.CoordinationRuns.{omits, omits_count, omits_consistent}
-use Rattle.tsb_laws.proofs.operation.Examples.ServedRuns.{all_at, across}
+use Rattle.tsb_laws.proofs.safety.Examples.StretchRuns.{goes_with_all, goes_together}
 
 -- ## A coordinated phase without a recall of its own, as pattern 1 is selected
 
-abbrev selected : List Input
+abbrev pub selected : List Input
 selected = Pattern 1 ∷ []
 
 selected_taken : AreTaken omits selected
@@ -147,68 +141,11 @@ record Running (plan : Plan) (is : List Input) (k p : ℕ) : Type 0 where
 a_pattern : Running prompt started 1 6
 a_pattern = record { consistent = prompt_consistent; taken = taken; runs = runs_1; in_step = in_step_1; enabled = is_on }
 
-pressed : is_pressed_in_pattern 6 (replay prompt started) (Tick (vehicle 5)) ≡ true
-unfolding opened prompt
-pressed = refl
-
-comes_at_2 : forces (replay prompt started).plan (replay prompt started).pattern (replay prompt started).correction 2 6 ≡ true
-unfolding opened prompt
-comes_at_2 = refl
-
-initial_0 : longest_initial (replay prompt started).plan 6 ≡ 0
-unfolding opened prompt
-initial_0 = refl
-
-walk_0 : walk (replay prompt started).plan 6 + pedestrian_clear (replay prompt started).plan 6 ≡ 0
-unfolding opened prompt
-walk_0 = refl
-
-record ForcedGreen (plan : Plan) (base later : List Input) (row : Row) (p n : ℕ) : Type 0 where
-  consistent : IsConsistent plan
-  few : plan.phase_count ≤ 16
-  taken : AreTaken plan later
-  untripped : IsUntripped plan base []
-  pressed : HasGoneOn (is_pressed_in_pattern p) plan base (Tick row ∷ [])
-  forced : IsForcedWithin (replay plan base) p n
-  long : (replay plan base).now + n ≤ (replay plan base).now
-
-a_forced_green : ForcedGreen prompt started started (vehicle 5) 6 0
-a_forced_green = record {
-  consistent = prompt_consistent;
-  few = (let count = prompt_count in omega (arith, count));
-  taken = taken;
-  untripped = dark;
-  pressed = (tt, pressed);
-  forced = record {
-    tick = 2;
-    later = (let at = ticked_1 in omega (arith, at));
-    soon = (let at = ticked_1 in omega (arith, at));
-    forced = comes_at_2;
-    initial = (let at = initial_0 in omega (arith, at));
-    walk = (let at = walk_0 in omega (arith, at));
-  };
-  long = omega arith;
-}
-
 -- ## 6 may end in that tick, and 5 waits for it
 
--- each phase goes with all that it may go with
-goes_with_all : (list_all (λ p. list_all (λ q. not (may_be_concurrent prompt p q) || is_concurrent prompt p q) (phases prompt)) (phases prompt)) ≡ true
+goes_with_all_so : list_all (goes_with_all prompt) (phases prompt) ≡ true
 unfolding opened prompt
-goes_with_all = refl
-
-goes_together : IsFullyConcurrent prompt
-goes_together r p q own_p own_q on_p on_q side =
-    let there_p : IsListed prompt p = enabled_is_listed prompt prompt_consistent p on_p in
-    let there_q : IsListed prompt q = enabled_is_listed prompt prompt_consistent q on_q in
-    let row_p = all_at (λ x. list_all (λ y. not (may_be_concurrent prompt x y) || is_concurrent prompt x y) (phases prompt)) (phases prompt) p goes_with_all there_p in
-    let may : may_be_concurrent prompt p q ≡ true =
-    rw (on_q, across r (ring_of prompt p) (ring_of prompt q) own_p own_q) (eq-eqb (side_of prompt p) (side_of prompt q) side) in
-    elim (or_cases (not (may_be_concurrent prompt p q)) (is_concurrent prompt p q)
-    (all_at (λ y. not (may_be_concurrent prompt p y) || is_concurrent prompt p y) (phases prompt) q row_p there_q)) [
-      | inl h ↦ absurd (false≢true (sym (ap not may) ∙ h))
-      | inr h ↦ h
-    ]
+goes_with_all_so = refl
 
 plan_is : (replay prompt started).plan ≡ prompt
 unfolding opened
@@ -253,102 +190,11 @@ a_ready_green = record {
   taken = taken;
   untripped = dark;
   quiet = none_served;
-  full = subst IsFullyConcurrent (sym plan_is) goes_together;
+  full = subst IsFullyConcurrent (sym plan_is) (goes_together prompt prompt_consistent goes_with_all_so);
   ringed = ringed;
   green = was_green;
   fit = fit;
   pressed = has_conflict_6;
-}
-
--- ## 2 is to be served: it is Red as pattern 1 is selected
-
-picked_dark : (replay prompt selected).trip ≡ None
-unfolding opened prompt
-picked_dark = refl
-
-picked_runs : runs (replay prompt selected) ≡ Some 1
-unfolding opened prompt
-picked_runs = refl
-
-picked_in_step : IsInStep (replay prompt selected)
-unfolding opened prompt
-picked_in_step = refl
-
-picked_plan : (replay prompt selected).plan ≡ prompt
-unfolding opened
-picked_plan = refl
-
-picked_ring : in_ring (replay prompt selected).plan Ring1 2 ≡ true
-unfolding opened prompt
-picked_ring = refl
-
-is_out_2 : is_out 2 (replay prompt selected) (Tick all_off) ≡ true
-unfolding opened prompt
-is_out_2 = refl
-
-longest : (p : ℕ) → longest_in_pattern prompt 1 p ≤ 5100
-unfolding longest_in_pattern
-longest p =
-    go (has_variable_initial prompt p) (prompt_fits.bounded PatternCycleTime 1) (prompt_fits.bounded PhaseMinimumGreen p)
-    (prompt_fits.bounded PhaseMaximumInitial p) (prompt_fits.bounded PhaseWalk p) (prompt_fits.bounded PhasePedestrianClear p)
-  where
-    go : (v : Bool) → prompt.value PatternCycleTime 1 ≤ 255 → prompt.value PhaseMinimumGreen p ≤ 255 → prompt.value PhaseMaximumInitial p ≤ 255 →
-        prompt.value PhaseWalk p ≤ 255 → prompt.value PhasePedestrianClear p ≤ 255 →
-        max (cycle prompt 1) (max (if v then max (minimum_green prompt p) (maximum_initial prompt p) else minimum_green prompt p) (walk prompt p + pedestrian_clear prompt p)) ≤ 5100
-    go true one two three four five = omega (arith, one, two, three, four, five)
-    go false one two three four five = omega (arith, one, two, three, four, five)
-
-turns_in_1 : TurnsInPattern prompt 1 510 5100
-turns_in_1 = record {
-  clears = record {
-    clearance = λ p. (let y = prompt_fits.bounded PhaseYellowChange p in let z = prompt_fits.bounded PhaseRedClear p in omega (arith, y, z));
-    revert = λ p. (let own = prompt_fits.bounded PhaseRedRevert p in let unit = prompt_fits.bounded UnitRedRevert 1 in omega (arith, own, unit));
-  };
-  green = longest;
-}
-
-record Return (test : State → Input → Bool) (plan : Plan) (base later : List Input) (k j h : ℕ) (r : Ring) (c : ℕ) : Type 0 where
-  consistent : IsConsistent plan
-  few : plan.phase_count ≤ 16
-  taken : AreTaken plan (later ++ base)
-  untripped : IsUntripped plan base later
-  full : IsFullyConcurrent (replay plan base).plan
-  runs : runs (replay plan base) ≡ Some k
-  in_step : IsInStep (replay plan base)
-  ringed : in_ring (replay plan base).plan r c ≡ true
-  times : TurnsInPattern (replay plan base).plan k j h
-  out : HasGoneOn test plan base later
-
-a_return : Return (is_out 2) prompt selected (Tick all_off ∷ []) 1 510 5100 Ring1 2
-a_return = record {
-  consistent = prompt_consistent;
-  few = (let count = prompt_count in omega (arith, count));
-  taken = taken;
-  untripped = (picked_dark, dark);
-  full = subst IsFullyConcurrent (sym picked_plan) goes_together;
-  runs = picked_runs;
-  in_step = picked_in_step;
-  ringed = picked_ring;
-  times = subst (λ (x : Plan). TurnsInPattern x 1 510 5100) (sym picked_plan) turns_in_1;
-  out = (tt, is_out_2);
-}
-
-is_called_2 : is_called_in_pattern 2 (replay prompt selected) (Tick all_off) ≡ true
-unfolding opened prompt
-is_called_2 = refl
-
-a_wait : Return (is_called_in_pattern 2) prompt selected (Tick all_off ∷ []) 1 510 5100 Ring1 2
-a_wait = record {
-  consistent = prompt_consistent;
-  few = (let count = prompt_count in omega (arith, count));
-  taken = taken;
-  untripped = (picked_dark, dark);
-  full = subst IsFullyConcurrent (sym picked_plan) goes_together;
-  runs = picked_runs;
-  in_step = picked_in_step;
-  ringed = picked_ring;
-  times = subst (λ (x : Plan). TurnsInPattern x 1 510 5100) (sym picked_plan) turns_in_1;
-  out = (tt, is_called_2);
 }
 
 -- ## A ring that looks across the barrier for its own phases alone
@@ -385,17 +231,3 @@ past_the_cycle plan n c p = end_of plan n p + (cycle plan n - (end_of plan n c +
 would_never_come : nat_lt (past_the_cycle quad 1 2 4) (cycle quad 1) ≡ false
 unfolding opened
 would_never_come = refl
-
--- ## A force-off that counts in the tick of its instant alone
-
--- 2 was forced off in an earlier tick, and has its initial time behind it in this one
-abbrev was_forced : State
-was_forced = record (coordinated 0) { phases = λ p. record ((coordinated 0).phases p) { forced = p == 2 } }
-
-is_ready : ready was_forced all_off 2 ≡ true
-unfolding opened
-is_ready = refl
-
-would_not_be : forced was_forced 2 ≡ false
-unfolding opened
-would_not_be = refl

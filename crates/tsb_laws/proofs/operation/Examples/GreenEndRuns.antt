@@ -1,5 +1,5 @@
 -- A run from power-up that meets all premises of the law of greens that end, and mistakes that this law refuses.
-use Rattle.std.proofs.Common.{◌≡◌, ℕ, ◌≤◌, ◌==◌, Bool, true, false, if◌then◌else◌, List, [], ◌∷◌, None, is_some, refl, sym, ◌∙◌}
+use Rattle.std.proofs.Common.{◌≡◌, ℕ, ◌+◌, ◌≤◌, ◌==◌, Bool, true, false, if◌then◌else◌, List, [], ◌∷◌, ◌++◌, Some, None, is_some, refl, sym, arith, ◌∙◌}
 use Rattle.tsb_step.specs.tsb_types.Sets.{all_off}
 use Rattle.tsb_step.specs.tsb_types.declared.interval.Interval.TheVariants.{Green, Yellow}
 use Rattle.tsb_step.specs.tsb_types.declared.row.Row.{Row}
@@ -12,12 +12,17 @@ use Rattle.tsb_step.specs.tsb_phase.Ready.{may_end}
 use Rattle.tsb_step.specs.declared.inputs.Input.{Input}
 use Rattle.tsb_step.specs.declared.inputs.Input.TheVariants.{Tick}
 use Rattle.tsb_step.specs.State.{State, interval}
-use Rattle.tsb_step.specs.Tick.{service, must_end, phases_given, phase_read, ready}
+use Rattle.tsb_step.specs.Tick.{service, must_end, runs, hold, phases_given, phase_read, ready}
 use Rattle.tsb_step.specs.Runs.{replay, AreTaken}
 use Rattle.tsb_step.specs.Laws.{IsConsistent}
-use Rattle.tsb_step.proofs.Examples.Scenes.{opened, called, resting, dwelling}
+use Rattle.tsb_step.proofs.Examples.Scenes.{opened, vehicle, called, resting, dwelling}
 use Rattle.tsb_laws.specs.Stretches.{EndsGreen}
+use Rattle.tsb_laws.specs.GreenEnds.{has_no_output, has_conflict, in_ticks, ticks_in_green, maximum_acting, IsByMaximum, green_for}
 use Rattle.tsb_laws.proofs.safety.Examples.CommitmentRuns.{brief, brief_known}
+use Rattle.tsb_laws.proofs.safety.Examples.TickRuns.{ticks, all_taken, dark_then}
+use Rattle.tsb_laws.proofs.operation.Examples.ServedRuns.{brisk, brisk_count, brisk_consistent, cars, run, run_taken, run_dark}
+use Rattle.tsb_laws.proofs.operation.Examples.PatternWaitRuns.{round, round_count, round_consistent, round_taken, round_dark, so_far}
+use Rattle.tsb_laws.proofs.operation.Examples.PreemptStageRuns.{engine, began, begun_engine}
 
 -- ## A green that ends by its gap: 1 is on recall and may end in its second tick
 
@@ -55,6 +60,103 @@ a_green_end = record {
   untripped = dark;
   ended = record { was_green = was_green; ends = λ h. (let bad : Yellow ≡ Green = sym ends ∙ h in absurd cc) };
 }
+
+-- a green that ends in a tick is not Green after it
+ends_so : (plan : Plan) (is : List Input) (row : Row) (p : ℕ) → interval (replay plan is) p ≡ Green → interval (replay plan (Tick row ∷ is)) p ≡ Yellow →
+    EndsGreen plan is row p
+ends_so plan is row p was yellow = record { was_green = was; ends = λ h. (let bad : Yellow ≡ Green = sym yellow ∙ h in absurd cc) }
+
+-- ## A green that ends by its maximum: an output of 1 is on all the time, and it has had a conflict for 10 ticks
+
+record AtMaximum : Type 0 where
+  was_green : interval (replay brisk (run 10)) 1 ≡ Green
+  ends : interval (replay brisk (Tick cars ∷ run 10)) 1 ≡ Yellow
+  output : has_no_output 1 (replay brisk (run 10)) cars ≡ false
+  acts : maximum_acting (replay brisk (run 10)) 1 ≡ Some 10
+  conflict : has_conflict 1 (replay brisk (run 10)) cars ≡ true
+  long : ticks_in_green (in_ticks (has_conflict 1)) 1 brisk (run 10) ≡ 10
+
+at_maximum : AtMaximum
+unfolding opened brisk
+at_maximum = record { was_green = refl; ends = refl; output = refl; acts = refl; conflict = refl; long = refl }
+
+a_maximum_end : GreenEnd brisk (run 10) cars 1
+a_maximum_end = record {
+  consistent = brisk_consistent;
+  few = (let count = brisk_count in omega (arith, count));
+  taken = run_taken 10 (omega arith);
+  untripped = run_dark 10 (omega arith);
+  ended = ends_so brisk (run 10) cars 1 at_maximum.was_green at_maximum.ends;
+}
+
+by_maximum : IsByMaximum brisk 1 (run 10) cars
+by_maximum = record { maximum = 10; acts = at_maximum.acts; conflict = at_maximum.conflict; long = (let at = at_maximum.long in omega (arith, at)) }
+
+-- ## Greens that end by their force-off: 2 is coordinated and ends in tick 21, 4 is not and ends in tick 60
+
+-- no preempt is in service, and pattern 1 runs
+record AtForceOff (p n : ℕ) (is_held : Bool) : Type 0 where
+  was_green : interval (replay round (so_far n)) p ≡ Green
+  ends : interval (replay round (Tick (vehicle 4) ∷ so_far n)) p ≡ Yellow
+  quiet : service (replay round (so_far n)) (vehicle 4) ≡ None
+  runs : runs (replay round (so_far n)) ≡ Some 1
+  held : hold (replay round (so_far n)) p ≡ is_held
+
+coordinated_2 : AtForceOff 2 20 true
+unfolding opened round
+coordinated_2 = record { was_green = refl; ends = refl; quiet = refl; runs = refl; held = refl }
+
+other_4 : AtForceOff 4 59 false
+unfolding opened round
+other_4 = record { was_green = refl; ends = refl; quiet = refl; runs = refl; held = refl }
+
+-- an output of 4 is on, so that no gap ends it
+has_output_4 : has_no_output 4 (replay round (so_far 59)) (vehicle 4) ≡ false
+unfolding opened round
+has_output_4 = refl
+
+a_forced_end : (p n : ℕ) (is_held : Bool) → n ≤ 200 → AtForceOff p n is_held → GreenEnd round (so_far n) (vehicle 4) p
+a_forced_end p n is_held low it = record {
+  consistent = round_consistent;
+  few = (let count = round_count in omega (arith, count));
+  taken = round_taken n (omega (arith, low));
+  untripped = round_dark n (omega (arith, low));
+  ended = ends_so round (so_far n) (vehicle 4) p it.was_green it.ends;
+}
+
+a_coordinated_end : GreenEnd round (so_far 20) (vehicle 4) 2
+a_coordinated_end = a_forced_end 2 20 true (omega arith) coordinated_2
+
+another_end : GreenEnd round (so_far 59) (vehicle 4) 4
+another_end = a_forced_end 4 59 false (omega arith) other_4
+
+-- ## A green that a preempt ends: 2 is Green from tick 32 on, and ends in tick 42
+
+abbrev served_first : List Input
+served_first = ticks all_off 38 ++ began
+
+record AtPreempt : Type 0 where
+  was_green : interval (replay engine served_first) 2 ≡ Green
+  ends : interval (replay engine (Tick all_off ∷ served_first)) 2 ≡ Yellow
+  serves : service (replay engine served_first) all_off ≡ Some 1
+  unwanted : must_end (replay engine served_first) all_off 2 ≡ true
+  lasted : green_for engine 2 served_first ≡ 10
+
+at_preempt : AtPreempt
+unfolding opened engine
+at_preempt = record { was_green = refl; ends = refl; serves = refl; unwanted = refl; lasted = refl }
+
+a_preempted_end : GreenEnd engine served_first all_off 2
+a_preempted_end = record {
+  consistent = begun_engine.known.consistent;
+  few = begun_engine.known.few;
+  taken = all_taken engine all_off began 38 begun_engine.taken in_time;
+  untripped = dark_then engine all_off began begun_engine.known.consistent begun_engine.taken begun_engine.unlit 38 in_time;
+  ended = ends_so engine served_first all_off 2 at_preempt.was_green at_preempt.ends;
+}
+  where
+    in_time : (replay engine began).now + 38 ≤ 1000
+    in_time = let at = begun_engine.now in omega (arith, at)
 
 -- ## A gap that ends a green before its added initial
 

@@ -1,8 +1,6 @@
 -- A run from power-up that meets all premises of the laws of late greens, and a mistake that these laws refuse.
 use Rattle.std.proofs.Common.{◌≡◌, ℕ, ◌+◌, ◌≤◌, Bool, true, false, List, [], ◌∷◌, ◌++◌, Some, None, refl, arith}
 use Rattle.tsb_step.specs.tsb_types.Sets.{all_off}
-use Rattle.tsb_step.specs.tsb_types.declared.interval.Interval.TheVariants.{Green}
-use Rattle.tsb_step.specs.tsb_types.declared.interval.PedestrianInterval.TheVariants.{DontWalk}
 use Rattle.tsb_step.specs.tsb_types.declared.row.Row.{Row}
 use Rattle.tsb_step.specs.tsb_plan.declared.object.Object.{Object}
 use Rattle.tsb_step.specs.tsb_plan.declared.object.Object.TheVariants.{PhaseMinimumGreen, PatternOffsetTime, SplitCoordPhase, CoordForceMode}
@@ -13,29 +11,29 @@ use Rattle.tsb_step.specs.tsb_plan.Quad.{quad}
 use Rattle.tsb_step.specs.tsb_rules.Rules.{first_broken}
 use Rattle.tsb_step.specs.tsb_coord.Coordinated.{counter, force_off, yields_to, counted_on, is_from_to}
 use Rattle.tsb_step.specs.tsb_coord.Correction.{counted_tick}
-use Rattle.tsb_step.specs.tsb_phase.Phase.{held_of}
-use Rattle.tsb_step.specs.tsb_phase.Green.{initial_has_passed}
-use Rattle.tsb_step.specs.tsb_phase.Pedestrian.{pedestrian_now}
 use Rattle.tsb_step.specs.declared.inputs.Input.{Input}
 use Rattle.tsb_step.specs.declared.inputs.Input.TheVariants.{Tick, Pattern}
-use Rattle.tsb_step.specs.State.{State, interval}
-use Rattle.tsb_step.specs.Tick.{service, runs, hold, at_force_off, conflict, phases_given, phase_read, ready}
+use Rattle.tsb_step.specs.State.{State}
+use Rattle.tsb_step.specs.Tick.{runs, hold, at_force_off, conflict, ready}
 use Rattle.tsb_step.specs.Runs.{replay, AreTaken}
-use Rattle.tsb_step.specs.Laws.{IsConsistent}
+use Rattle.tsb_step.specs.Laws.{IsConsistent, is_unlit}
 use Rattle.tsb_step.proofs.Examples.Scenes.{opened}
 use Rattle.tsb_laws.specs.Stretches.{IsUntripped}
 use Rattle.tsb_laws.specs.ServedCalls.{longest_initial}
 use Rattle.tsb_laws.specs.CoordinatedGreens.{HasGoneOn, is_pressed_in_pattern}
 use Rattle.tsb_laws.specs.LateGreens.{IsInLateSpan, IsLateGreen}
 use Rattle.tsb_laws.proofs.safety.Examples.PlanFits.{Fits, values_fit, quad_fits, consistent}
+use Rattle.tsb_laws.proofs.safety.Examples.TickRuns.{ticks, now_then, all_taken, none_trips}
+use Rattle.tsb_laws.proofs.safety.Examples.StretchRuns.{gone, goes_on}
 
--- ## 6 begins behind its instant: 4 and 8 are coordinated, and local 401 is the first tick of pattern 1
+-- ## 6 begins after its instant: 4 and 8 are coordinated, and local 401 is the first tick of pattern 1. 6 has a minimum green
+-- of 10 ticks, and 2 one of 50, for which 6 waits at the barrier
 
 -- the instant of 6 is 360, and that of 8 is 760
 abbrev held_values : List (Object × ℕ × ℕ)
 held_values =
     (SplitCoordPhase, 2, 0) ∷ (SplitCoordPhase, 4, 1) ∷ (SplitCoordPhase, 6, 0) ∷ (SplitCoordPhase, 8, 1) ∷
-    (PatternOffsetTime, 1, 40) ∷ (PhaseMinimumGreen, 6, 0) ∷ []
+    (PatternOffsetTime, 1, 40) ∷ (PhaseMinimumGreen, 6, 1) ∷ []
 
 abbrev late_values : List (Object × ℕ × ℕ)
 late_values = (CoordForceMode, 1, 1) ∷ held_values
@@ -116,62 +114,44 @@ in_span = record {
   within = is_within;
 }
 
--- ## In one tick
+-- ## Over ticks: 6 is ready in the tick after 10 with a conflict, as its minimum green has passed, and not in the second before
 
-was_green : interval (replay late started) 6 ≡ Green
+-- the run so many ticks later
+abbrev run : ℕ → List Input
+run n = ticks all_off n ++ started
+
+unlit : is_unlit late started ≡ true
+unlit = refl
+
+ticked_1 : (replay late started).now ≡ 1
 unfolding opened late
-was_green = refl
+ticked_1 = refl
 
-has_conflict : conflict (replay late started) all_off 6 ≡ true
-unfolding opened late
-has_conflict = refl
+in_time : (replay late started).now + 10 ≤ 1000
+in_time = let at = ticked_1 in omega (arith, at)
 
-none_served : service (replay late started) all_off ≡ None
-unfolding opened late
-none_served = refl
+taken_10 : AreTaken late (run 10)
+taken_10 = all_taken late all_off started 10 taken in_time
 
-has_lasted : initial_has_passed (replay late started).plan (phases_given (replay late started) all_off) 6 (held_of (phase_read (replay late started) 6)) ≡ true
-unfolding opened late
-has_lasted = refl
-
-is_dont_walk : pedestrian_now (replay late started).plan (phases_given (replay late started) all_off) 6 (phase_read (replay late started) 6) ≡ DontWalk
-unfolding opened late
-is_dont_walk = refl
-
-record LateGreen (plan : Plan) (is : List Input) (row : Row) (p : ℕ) : Type 0 where
-  consistent : IsConsistent plan
-  few : plan.phase_count ≤ 16
-  taken : AreTaken plan is
-  green : IsLateGreen (replay plan is) row p
-
-a_late_green : LateGreen late started all_off 6
-a_late_green = record {
-  consistent = late_consistent;
-  few = (let count = late_count in omega (arith, count));
-  taken = taken;
-  green = record {
-    green = was_green;
-    span = in_span;
-    conflict = has_conflict;
-    quiet = none_served;
-    initial = has_lasted;
-    dont_walk = is_dont_walk;
-  };
-}
-
--- ## Over ticks
-
-pressed : is_pressed_in_pattern 6 (replay late started) (Tick all_off) ≡ true
+pressed : (gone (is_pressed_in_pattern 6) (replay late started) (ticks all_off 11)).1 ≡ true
 unfolding opened late
 pressed = refl
 
-initial_0 : longest_initial (replay late started).plan 6 ≡ 0
+initial_10 : longest_initial (replay late started).plan 6 ≡ 10
 unfolding opened late
-initial_0 = refl
+initial_10 = refl
 
 walk_0 : walk (replay late started).plan 6 + pedestrian_clear (replay late started).plan 6 ≡ 0
 unfolding opened late
 walk_0 = refl
+
+is_not_ready_yet : ready (replay late (run 8)) all_off 6 ≡ false
+unfolding opened late
+is_not_ready_yet = refl
+
+is_ready : ready (replay late (run 10)) all_off 6 ≡ true
+unfolding opened late
+is_ready = refl
 
 record LateWait (plan : Plan) (base later : List Input) (row : Row) (p n : ℕ) : Type 0 where
   consistent : IsConsistent plan
@@ -184,36 +164,69 @@ record LateWait (plan : Plan) (base later : List Input) (row : Row) (p n : ℕ) 
   walks : walk (replay plan base).plan p + pedestrian_clear (replay plan base).plan p ≤ n
   long : (replay plan base).now + n ≤ (replay plan (later ++ base)).now
 
-a_late_wait : LateWait late started [] all_off 6 0
+a_late_wait : LateWait late started (ticks all_off 10) all_off 6 10
 a_late_wait = record {
   consistent = late_consistent;
   few = (let count = late_count in omega (arith, count));
-  taken = taken;
-  untripped = dark;
-  pressed = (tt, pressed);
+  taken = taken_10;
+  untripped = none_trips late all_off started late_consistent taken unlit 10 in_time;
+  pressed = goes_on (is_pressed_in_pattern 6) late started (ticks all_off 11) pressed;
   span = in_span;
-  initial = (let at = initial_0 in omega (arith, at));
+  initial = (let at = initial_10 in omega (arith, at));
   walks = (let at = walk_0 in omega (arith, at));
-  long = omega arith;
+  long = (let at = now_then late all_off started 10 in omega (arith, at));
+}
+
+-- ## In one tick: the last of these
+
+span_then : IsInLateSpan (replay late (run 10)) 6
+unfolding opened late
+span_then = record {
+  late = refl;
+  number = 1;
+  runs = refl;
+  other = refl;
+  instant = 360;
+  own = refl;
+  coordinated = 8;
+  yields = refl;
+  limit = 760;
+  until = refl;
+  within = refl;
+}
+
+record LateGreen (plan : Plan) (is : List Input) (row : Row) (p : ℕ) : Type 0 where
+  consistent : IsConsistent plan
+  few : plan.phase_count ≤ 16
+  taken : AreTaken plan is
+  green : IsLateGreen (replay plan is) row p
+
+lacks_nothing : IsLateGreen (replay late (run 10)) all_off 6
+unfolding opened late
+lacks_nothing = record { green = refl; span = span_then; conflict = refl; quiet = refl; initial = refl; dont_walk = refl }
+
+a_late_green : LateGreen late (run 10) all_off 6
+a_late_green = record {
+  consistent = late_consistent;
+  few = (let count = late_count in omega (arith, count));
+  taken = taken_10;
+  green = lacks_nothing;
 }
 
 -- ## Force-off at the instant alone
 
-is_ready : ready (replay late started) all_off 6 ≡ true
-unfolding opened late
-is_ready = refl
-
 abbrev at_instant : State → ℕ → Bool
 at_instant s p = at_force_off s p
 
-would_not_be_forced : at_instant (replay late started) 6 ≡ false
+would_not_be_forced : at_instant (replay late (run 10)) 6 ≡ false
 unfolding opened late
 would_not_be_forced = refl
 
--- the same plan with mode 0, by which 6 is held until its instant comes again
+-- the same plan with mode 0, by which 6 is held until its instant comes again: as if the mode were not read. In the same run 6
+-- is not ready once its minimum green has passed
 unfoldable held : Plan
 held = with_values quad held_values
 
-would_not_be_ready : ready (replay held started) all_off 6 ≡ false
+would_not_be_ready : ready (replay held (run 10)) all_off 6 ≡ false
 unfolding opened held
 would_not_be_ready = refl

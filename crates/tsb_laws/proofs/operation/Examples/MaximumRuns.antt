@@ -1,10 +1,10 @@
 -- States in which the dynamic maximum is held and moves, and mistakes that its law refuses.
-use Rattle.std.proofs.Common.{◌≡◌, ℕ, ◌+◌, [], ◌∷◌, Option, Some, None, refl}
+use Rattle.std.proofs.Common.{◌≡◌, ℕ, ◌+◌, ◌*◌, min, [], ◌∷◌, Option, Some, None, refl}
 use Rattle.tsb_step.specs.tsb_plan.declared.object.Object.TheVariants.{PhaseDynamicMaxLimit, PhaseDynamicMaxStep}
-use Rattle.tsb_step.specs.tsb_plan.Plan.{Plan, with_values}
+use Rattle.tsb_step.specs.tsb_plan.Plan.{Plan, dynamic_maximum_step, with_values}
 use Rattle.tsb_step.specs.tsb_plan.Quad.{quad}
 use Rattle.tsb_step.specs.tsb_phase.declared.ending.Ending.TheVariants.{MaxOut}
-use Rattle.tsb_step.specs.tsb_phase.DynamicMaximum.{maximum_in_use, stepped}
+use Rattle.tsb_step.specs.tsb_phase.DynamicMaximum.{highest_maximum, maximum_in_use, stepped}
 use Rattle.tsb_step.specs.declared.inputs.Input.TheVariants.{Pattern}
 use Rattle.tsb_step.specs.State.{State}
 use Rattle.tsb_step.specs.Step.{step}
@@ -31,16 +31,17 @@ as_kept otherwise (Some n) = n
 would_be_900 : as_kept 200 ((with_maximum 900).phases 2).running_maximum ≡ 900
 would_be_900 = refl
 
--- ## One that doubles after a max-out
+-- ## One whose step is read in seconds, and not in tenths of them
 
 goes_to_250 : stepped dynamic 2 MaxOut 200 ≡ 250
 unfolding opened dynamic
 goes_to_250 = refl
 
-abbrev doubled : ℕ → ℕ
-doubled n = n + n
+abbrev by_seconds : Plan → ℕ → ℕ → ℕ
+by_seconds plan p n = min (highest_maximum plan p) (n + 10 * dynamic_maximum_step plan p)
 
-would_go_to_400 : doubled 200 ≡ 400
+would_go_to_400 : by_seconds dynamic 2 200 ≡ 400
+unfolding opened dynamic
 would_go_to_400 = refl
 
 -- ## A pattern that begins it anew

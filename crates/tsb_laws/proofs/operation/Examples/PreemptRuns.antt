@@ -1,12 +1,13 @@
 -- A run from power-up in which a preempt gives way to a lower one, and mistakes that the law of preempts refuses.
-use Rattle.std.proofs.Common.{◌≡◌, true, List, [], ◌∷◌, Option, Some, None, option_map, refl}
+use Rattle.std.proofs.Common.{◌≡◌, ℕ, true, if◌then◌else◌, List, [], ◌∷◌, Option, Some, None, option_map, refl}
 use Rattle.tsb_step.specs.tsb_types.Sets.{all_off}
+use Rattle.tsb_step.specs.tsb_types.declared.stage.Stage.{Stage}
 use Rattle.tsb_step.specs.tsb_types.declared.stage.Stage.TheVariants.{Exit}
 use Rattle.tsb_step.specs.tsb_plan.declared.object.Object.TheVariants.{PreemptExitPhase}
 use Rattle.tsb_step.specs.tsb_plan.Plan.{Plan, with_values}
 use Rattle.tsb_step.specs.tsb_plan.Quad.{quad}
 use Rattle.tsb_step.specs.tsb_preempt.Preempts.{requesting}
-use Rattle.tsb_step.specs.tsb_preempt.Service.{Service}
+use Rattle.tsb_step.specs.tsb_preempt.Service.{Service, has_track}
 use Rattle.tsb_step.specs.declared.inputs.Input.{Input}
 use Rattle.tsb_step.specs.declared.inputs.Input.TheVariants.{Tick, Switch}
 use Rattle.tsb_step.specs.State.{State}
@@ -55,8 +56,10 @@ goes_to_exit : option_map (λ (x : Service). x.stage) (after served all_off).pre
 unfolding opened leads_back
 goes_to_exit = refl
 
-abbrev ends_with_dwell : Option Service → Option Service
-ends_with_dwell was = None
+-- a stage after the dwell that is there for a track list, and not for an exit list
+abbrev by_track_list : Plan → ℕ → Option Stage
+by_track_list plan n = if has_track plan n then Some Exit else None
 
-would_be_over : ends_with_dwell served.preempts.service ≡ None
+would_be_over : by_track_list leads_back 1 ≡ None
+unfolding opened leads_back
 would_be_over = refl

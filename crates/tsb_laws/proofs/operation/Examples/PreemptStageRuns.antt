@@ -1,16 +1,16 @@
 -- Runs from power-up in which a preempt is in its stages, and mistakes that the laws of these refuse.
-use Rattle.std.proofs.Common.{◌≡◌, ℕ, ◌+◌, ◌*◌, ◌≤◌, nat_lt, Bool, true, false, if◌then◌else◌, min, max, List, [], ◌∷◌, ◌++◌, Some, None, refl, sym, ap, arith}
+use Rattle.std.proofs.Common.{◌≡◌, ℕ, suc, ◌+◌, ◌*◌, ◌≤◌, Bool, true, false, not, if◌then◌else◌, min, List, [], ◌∷◌, ◌++◌, Some, None, refl, sym, ap, arith}
 use Rattle.tsb_step.specs.tsb_cells.declared.timer.Timer.TheVariants.{Off, On}
-use Rattle.tsb_step.specs.tsb_types.Sets.{all_off}
+use Rattle.tsb_step.specs.tsb_types.Sets.{all_off, set_of_list}
 use Rattle.tsb_step.specs.tsb_types.declared.interval.Interval.{Interval}
 use Rattle.tsb_step.specs.tsb_types.declared.row.Row.{Row}
 use Rattle.tsb_step.specs.tsb_types.declared.stage.Stage.{Stage}
 use Rattle.tsb_step.specs.tsb_types.declared.stage.Stage.TheVariants.{Dwell, Exit}
 use Rattle.tsb_step.specs.tsb_plan.declared.object.Object.{Object}
-use Rattle.tsb_step.specs.tsb_plan.declared.object.Object.TheVariants.{PhaseYellowChange, PhaseRedClear, PhaseRedRevert, UnitRedRevert, PreemptMinimumDuration, PreemptMinimumGreen, PreemptMinimumWalk, PreemptEnterPedClear, PreemptTrackGreen, PreemptDwellPhase, PreemptExitPhase, PreemptChoosesAnew}
+use Rattle.tsb_step.specs.tsb_plan.declared.object.Object.TheVariants.{PhaseEnabled, PhaseRing, PhaseSide, PhaseMinimumGreen, PhaseMaximum1, PhaseMaximum2, PhaseYellowChange, PhaseRedClear, PhaseRedRevert, UnitRedRevert, VehicleDetectorCallPhase, SequenceData, PreemptMinimumGreen, PreemptMinimumWalk, PreemptEnterPedClear, PreemptTrackGreen, PreemptDwellPhase, PreemptExitPhase}
 use Rattle.tsb_step.specs.tsb_plan.Objects.{greatest}
 use Rattle.tsb_step.specs.tsb_plan.Parts.{is_dwell_phase, preempt_minimum_green, track_green}
-use Rattle.tsb_step.specs.tsb_plan.Plan.{Plan, with_values, yellow_change, red_clear, red_revert}
+use Rattle.tsb_step.specs.tsb_plan.Plan.{Plan, empty, with_values, yellow_change, red_clear, red_revert}
 use Rattle.tsb_step.specs.tsb_plan.Quad.{quad}
 use Rattle.tsb_step.specs.tsb_phase.Pedestrian.{walk_time, clearance_time}
 use Rattle.tsb_step.specs.tsb_preempt.Service as preempt_service
@@ -25,147 +25,174 @@ use Rattle.tsb_step.specs.declared.inputs.Input.TheVariants.{Tick, Switch}
 use Rattle.tsb_step.specs.State.{State, interval}
 use Rattle.tsb_step.specs.Tick.{rings_given}
 use Rattle.tsb_step.specs.Runs.{replay, AreTaken}
-use Rattle.tsb_step.specs.Laws.{IsConsistent}
+use Rattle.tsb_step.specs.Laws.{IsConsistent, is_unlit}
 use Rattle.tsb_step.proofs.Examples.Scenes.{opened, after, preempt, resting}
 use Rattle.tsb_laws.specs.Stretches.{IsUntripped, has_held_since, largest}
-use Rattle.tsb_laws.specs.PreemptChoices.{HasChosen, ChoiceTakesAtMost, time_by_choice}
-use Rattle.tsb_laws.specs.PreemptDwells.{BeginsService, is_served}
-use Rattle.tsb_laws.specs.PreemptStages.{is_in_stage, StageTakesAtMost, time_to_dwell}
-use Rattle.tsb_laws.proofs.safety.Examples.PlanFits.{Fits, values_fit, quad_fits, consistent}
+use Rattle.tsb_laws.specs.CoordinatedGreens.{HasGoneOn}
+use Rattle.tsb_laws.specs.PreemptDwells.{BeginsService, is_served, has_arrived}
+use Rattle.tsb_laws.specs.PreemptStages.{is_in_stage, serves_stage, StageTakesAtMost, time_to_dwell}
+use Rattle.tsb_laws.proofs.safety.Examples.PlanFits.{Fits, consistent}
+use Rattle.tsb_laws.proofs.safety.Examples.TickRuns.{ticks, largest_then, all_taken, none_trips}
+use Rattle.tsb_laws.proofs.safety.Examples.StretchRuns.{gone, goes_on, held_since, values_alone_fit}
 
--- ## Preempt 1 dwells with 2 and 6, leaves by 1 and 5, and chooses anew; it is switched on, and off again
+-- ## Preempt 1 dwells with 4, across the barrier from 1 and 2, and leaves by 2: one ring, and small times
 
-abbrev leads_values : List (Object × ℕ × ℕ)
-leads_values = (PreemptDwellPhase, 1, 34) ∷ (PreemptExitPhase, 1, 17) ∷ (PreemptMinimumDuration, 1, 0) ∷ (PreemptChoosesAnew, 1, 1) ∷ []
+-- 2, 4 and the preempt have a minimum green of 10 ticks; a yellow lasts for 3 s, and there is no red clearance
+abbrev pub engine_values : List (Object × ℕ × ℕ)
+engine_values =
+    (PhaseEnabled, 1, 1) ∷ (PhaseEnabled, 2, 1) ∷ (PhaseEnabled, 4, 1) ∷ (PhaseRing, 1, 1) ∷ (PhaseRing, 2, 1) ∷ (PhaseRing, 4, 1) ∷
+    (PhaseSide, 1, 1) ∷ (PhaseSide, 2, 1) ∷ (PhaseSide, 4, 2) ∷ (PhaseMinimumGreen, 2, 1) ∷ (PhaseMinimumGreen, 4, 1) ∷
+    (PhaseMaximum1, 1, 2) ∷ (PhaseMaximum1, 2, 2) ∷ (PhaseMaximum1, 4, 2) ∷ (PhaseMaximum2, 1, 2) ∷ (PhaseMaximum2, 2, 2) ∷ (PhaseMaximum2, 4, 2) ∷
+    (PhaseYellowChange, 1, 30) ∷ (PhaseYellowChange, 2, 30) ∷ (PhaseYellowChange, 4, 30) ∷
+    (VehicleDetectorCallPhase, 1, 1) ∷ (VehicleDetectorCallPhase, 2, 2) ∷ (VehicleDetectorCallPhase, 4, 4) ∷
+    (SequenceData, 1, 1) ∷ (SequenceData, 2, 2) ∷ (SequenceData, 3, 4) ∷
+    (PreemptDwellPhase, 1, 8) ∷ (PreemptExitPhase, 1, 2) ∷ (PreemptMinimumGreen, 1, 1) ∷ []
 
-unfoldable leads : Plan
-leads = with_values quad leads_values
+unfoldable pub engine : Plan
+engine = with_values empty engine_values
 
-leads_fits : Fits greatest leads.value
-unfolding leads
-leads_fits = values_fit greatest leads_values quad refl (quad_fits greatest refl refl)
+-- the greatest of these times
+abbrev pub limit : Object → ℕ
+limit PreemptMinimumGreen = 1
+limit PreemptMinimumWalk = 0
+limit PreemptEnterPedClear = 0
+limit PreemptTrackGreen = 0
+limit PhaseYellowChange = 30
+limit PhaseRedClear = 0
+limit PhaseRedRevert = 0
+limit UnitRedRevert = 0
+limit o = greatest o
 
-leads_count : leads.phase_count ≡ 16
-unfolding quad leads
-leads_count = refl
+-- what is asked of it
+pub record AnEngine (plan : Plan) : Type 0 where
+  pub consistent : IsConsistent plan
+  pub few : plan.phase_count ≤ 16
+  pub fits : Fits limit plan.value
 
-breaks_none : first_broken leads ≡ None
-unfolding opened leads
-breaks_none = refl
+engine_count : engine.phase_count ≡ 16
+unfolding engine
+engine_count = refl
 
-leads_consistent : IsConsistent leads
-leads_consistent = consistent greatest leads leads_count breaks_none leads_fits
+engine_breaks_none : first_broken engine ≡ None
+unfolding opened engine
+engine_breaks_none = refl
 
-abbrev on : List Input
-on = Switch 1 true ∷ []
+engine_fits : Fits limit engine.value
+unfolding engine
+engine_fits = values_alone_fit limit engine_values refl
 
-abbrev began : List Input
-began = Tick all_off ∷ on
+an_engine : AnEngine engine
+an_engine = record {
+  consistent = consistent limit engine engine_count engine_breaks_none engine_fits;
+  few = (let count = engine_count in omega (arith, count));
+  fits = engine_fits;
+}
 
-abbrev off : List Input
-off = Switch 1 false ∷ []
+-- a run that is known as far as its newest input
+pub record Begun (plan : Plan) (base : List Input) : Type 0 where
+  pub known : AnEngine plan
+  pub taken : AreTaken plan base
+  pub unlit : is_unlit plan base ≡ true
+  pub now : (replay plan base).now ≡ 3
+  pub plan_is : (replay plan base).plan ≡ plan
 
-abbrev left : List Input
-left = Tick all_off ∷ (off ++ began)
+module _ (plan : Plan) (base : List Input) (it : Begun plan base) (n : ℕ) (low : n ≤ 500) where
+  in_time : (replay plan base).now + n ≤ 1000
+  in_time = let at = it.now in omega (arith, at, low)
 
-abbrev waits : List Input
-waits = Tick all_off ∷ []
+  pub taken_for : AreTaken plan (ticks all_off n ++ base)
+  taken_for = all_taken plan all_off base n it.taken in_time
 
-taken_on : AreTaken leads (off ++ began)
-unfolding opened leads
-taken_on = (((tt, refl), refl), refl)
+  pub untripped_for : IsUntripped plan base (ticks all_off n)
+  untripped_for = none_trips plan all_off base it.known.consistent it.taken it.unlit n in_time
 
-taken_off : AreTaken leads (waits ++ left)
-unfolding opened leads
-taken_off = (((((tt, refl), refl), refl), refl), refl)
+  -- no time of a plan in memory is longer
+  pub most : (time : Plan → ℕ) (m : ℕ) → time plan ≤ m → largest time plan base (ticks all_off n) ≤ m
+  most time m h = let same = largest_then plan all_off base time n in let own = ap time it.plan_is in omega (arith, same, own, h)
 
-dark_on : IsUntripped leads began off
-unfolding opened leads
-dark_on = (refl, refl)
+  fits : Fits limit plan.value
+  fits = it.known.fits
 
-dark_off : IsUntripped leads left waits
-unfolding opened leads
-dark_off = (refl, refl)
+  pub takes : StageTakesAtMost plan base 1 10 0 30 (ticks all_off n)
+  takes = record {
+    green = (let a : plan.value PreemptMinimumGreen 1 ≤ 1 = fits.bounded PreemptMinimumGreen 1 in most (λ x. preempt_minimum_green x 1) 10 (ten (plan.value PreemptMinimumGreen 1) a));
+    walk = λ p. sum (largest (λ x. walk_time x p (Some 1)) plan base (ticks all_off n)) (largest (λ x. clearance_time x p (Some 1)) plan base (ticks all_off n)) 0 0
+        (most (λ x. walk_time x p (Some 1)) 0 (walks p)) (most (λ x. clearance_time x p (Some 1)) 0 (clears p));
+    clearance = λ p. sum (largest (λ x. yellow_change x p) plan base (ticks all_off n)) (largest (λ x. red_clear x p) plan base (ticks all_off n)) 30 0
+        (most (λ x. yellow_change x p) 30 (fits.bounded PhaseYellowChange p)) (most (λ x. red_clear x p) 0 (fits.bounded PhaseRedClear p));
+    revert = λ p. (let a = most (λ x. red_revert x p) 0 (reverts p) in omega (arith, a));
+  }
+    where
+      ten : (a : ℕ) → a ≤ 1 → 10 * a ≤ 10
+      ten a h = omega (arith, h)
 
-dwells_on : has_held_since (λ s. is_in_stage 1 Dwell s.preempts.service) leads began off ≡ true
-unfolding opened leads
-dwells_on = refl
+      sum : (a b c d : ℕ) → a ≤ c → b ≤ d → a + b ≤ c + d
+      sum a b c d h k = omega (arith, h, k)
 
-leaves_on : has_held_since (λ s. is_in_stage 1 Exit s.preempts.service) leads left waits ≡ true
-unfolding opened leads
-leaves_on = refl
+      shortest : (a b : ℕ) → b ≤ 0 → min (10 * a) (10 * b) ≤ 0
+      shortest a b h = omega (arith, h)
 
-serves_on : has_held_since (λ s. is_served 1 s.preempts.service) leads began off ≡ true
-unfolding opened leads
-serves_on = refl
+      walks : (p : ℕ) → walk_time plan p (Some 1) ≤ 0
+      walks p = shortest _ (plan.value PreemptMinimumWalk 1) (fits.bounded PreemptMinimumWalk 1)
 
-begins : BeginsService leads on all_off 1
-unfolding opened leads
+      clears : (p : ℕ) → clearance_time plan p (Some 1) ≤ 0
+      clears p = shortest _ (plan.value PreemptEnterPedClear 1) (fits.bounded PreemptEnterPedClear 1)
+
+      reverts : (p : ℕ) → red_revert plan p ≤ 0
+      reverts p =
+          let a : plan.value PhaseRedRevert p ≤ 0 = fits.bounded PhaseRedRevert p in
+          let b : plan.value UnitRedRevert 1 ≤ 0 = fits.bounded UnitRedRevert 1 in omega (arith, a, b)
+
+  pub tracks : largest (λ x. track_green x 1) plan base (ticks all_off n) ≤ 0
+  tracks = (let a : plan.value PreemptTrackGreen 1 ≤ 0 = fits.bounded PreemptTrackGreen 1 in most (λ x. track_green x 1) 0 (none (plan.value PreemptTrackGreen 1) a))
+    where
+      none : (a : ℕ) → a ≤ 0 → 10 * a ≤ 0
+      none a h = omega (arith, h)
+
+-- ## It begins in tick 3, as 1 clears: ring 1 is committed to 2, which is Green from tick 32 on
+
+-- a car at 1 and one at 2 have been there in tick 1
+abbrev both : Row
+both = record all_off { vehicles = set_of_list 3 }
+
+abbrev pub asked : List Input
+asked = Switch 1 true ∷ Tick all_off ∷ Tick both ∷ []
+
+abbrev pub began : List Input
+began = Tick all_off ∷ asked
+
+pub begun_engine : Begun engine began
+unfolding opened engine
+begun_engine = record { known = an_engine; taken = ((((tt, refl), refl), refl), refl); unlit = refl; now = refl; plan_is = refl }
+
+begins : BeginsService engine asked all_off 1
+unfolding opened engine
 begins = refl
 
-none_before : has_track (replay leads on).plan 1 ≡ false
-unfolding opened leads
-none_before = refl
+no_track : has_track (replay engine asked).plan 1 ≡ false
+unfolding opened engine
+no_track = refl
 
-plan_began : (replay leads began).plan ≡ leads
-unfolding opened leads
-plan_began = refl
+-- it is in its dwell from then on, and 4 is Green after 69 ticks and not before
+dwells_on : (gone (λ s i. is_in_stage 1 Dwell s.preempts.service) (replay engine began) (ticks all_off 70)).1 ≡ true
+unfolding opened engine
+dwells_on = refl
 
-plan_on : (replay leads (off ++ began)).plan ≡ leads
-unfolding opened leads
-plan_on = refl
+serves_on : (gone (λ s i. is_served 1 s.preempts.service) (replay engine began) (ticks all_off 70)).1 ≡ true
+unfolding opened engine
+serves_on = refl
 
-plan_left : (replay leads left).plan ≡ leads
-unfolding opened leads
-plan_left = refl
+waits_for_4 : (gone (λ s i. not (serves_stage 1 Dwell s)) (replay engine began) (ticks all_off 69)).1 ≡ true
+unfolding opened engine
+waits_for_4 = refl
 
-plan_waits : (replay leads (waits ++ left)).plan ≡ leads
-unfolding opened leads
-plan_waits = refl
+serves_4 : serves_stage 1 Dwell (replay engine (ticks all_off 69 ++ began)) ≡ true
+unfolding opened engine
+serves_4 = refl
 
--- no time of a plan in memory is longer
-two_plans : (time : Plan → ℕ) (base : List Input) (i : Input) (m : ℕ) → (replay leads base).plan ≡ leads → (replay leads (i ∷ base)).plan ≡ leads →
-    time leads ≤ m → largest time leads base (i ∷ []) ≤ m
-two_plans time base i m e f h = both (time (replay leads (i ∷ base)).plan) (time (replay leads base).plan) (time leads) m (ap time f) (ap time e) h
-  where
-    both : (a b c d : ℕ) → a ≡ c → b ≡ c → c ≤ d → max a b ≤ d
-    both a b c d k l n = omega (arith, k, l, n)
-
-shortest : (a b : ℕ) → b ≤ 255 → min (10 * a) (10 * b) ≤ 2550
-shortest a b h = omega (arith, h)
-
-takes : (base : List Input) (i : Input) → (replay leads base).plan ≡ leads → (replay leads (i ∷ base)).plan ≡ leads →
-    StageTakesAtMost leads base 1 2550 5100 510 (i ∷ [])
-takes base i e f = record {
-  green = (let a : leads.value PreemptMinimumGreen 1 ≤ 255 = leads_fits.bounded PreemptMinimumGreen 1 in
-      two_plans (λ x. preempt_minimum_green x 1) base i 2550 e f (ten (leads.value PreemptMinimumGreen 1) a));
-  walk = λ p. sum (largest (λ x. walk_time x p (Some 1)) leads base (i ∷ [])) (largest (λ x. clearance_time x p (Some 1)) leads base (i ∷ [])) 2550 2550
-      (two_plans (λ x. walk_time x p (Some 1)) base i 2550 e f (walks p)) (two_plans (λ x. clearance_time x p (Some 1)) base i 2550 e f (clears p));
-  clearance = λ p. sum (largest (λ x. yellow_change x p) leads base (i ∷ [])) (largest (λ x. red_clear x p) leads base (i ∷ [])) 255 255
-      (two_plans (λ x. yellow_change x p) base i 255 e f (leads_fits.bounded PhaseYellowChange p)) (two_plans (λ x. red_clear x p) base i 255 e f (leads_fits.bounded PhaseRedClear p));
-  revert = λ p. two_plans (λ x. red_revert x p) base i 510 e f (reverts p);
-}
-  where
-    ten : (a : ℕ) → a ≤ 255 → 10 * a ≤ 2550
-    ten a h = omega (arith, h)
-
-    sum : (a b c d : ℕ) → a ≤ c → b ≤ d → a + b ≤ c + d
-    sum a b c d h k = omega (arith, h, k)
-
-    walks : (p : ℕ) → walk_time leads p (Some 1) ≤ 2550
-    walks p = shortest _ (leads.value PreemptMinimumWalk 1) (leads_fits.bounded PreemptMinimumWalk 1)
-
-    clears : (p : ℕ) → clearance_time leads p (Some 1) ≤ 2550
-    clears p = shortest _ (leads.value PreemptEnterPedClear 1) (leads_fits.bounded PreemptEnterPedClear 1)
-
-    reverts : (p : ℕ) → red_revert leads p ≤ 510
-    reverts p =
-        let a : leads.value PhaseRedRevert p ≤ 255 = leads_fits.bounded PhaseRedRevert p in
-        let b : leads.value UnitRedRevert 1 ≤ 255 = leads_fits.bounded UnitRedRevert 1 in
-        larger (leads.value PhaseRedRevert p) (leads.value UnitRedRevert 1) a b
-      where
-        larger : (k l : ℕ) → k ≤ 255 → l ≤ 255 → max k l ≤ 510
-        larger k l h m = omega (arith, h, m)
+has_come : has_arrived 1 (replay engine (ticks all_off 69 ++ began)) ≡ true
+unfolding opened engine
+has_come = refl
 
 record Stretch (plan : Plan) (base later : List Input) (n : ℕ) (stage : Stage) (g w c : ℕ) : Type 0 where
   consistent : IsConsistent plan
@@ -175,24 +202,22 @@ record Stretch (plan : Plan) (base later : List Input) (n : ℕ) (stage : Stage)
   held : has_held_since (λ s. is_in_stage n stage s.preempts.service) plan base later ≡ true
   times : StageTakesAtMost plan base n g w c later
 
-a_stage : Stretch leads began off 1 Dwell 2550 5100 510
-a_stage = record {
-  consistent = leads_consistent;
-  few = (let count = leads_count in omega (arith, count));
-  taken = taken_on;
-  untripped = dark_on;
-  held = dwells_on;
-  times = takes began (Switch 1 false) plan_began plan_on;
-}
+-- a test of the state has held over n ticks, where it is computed for one more
+pub held_for : (test : State → Bool) (plan : Plan) (base : List Input) (n : ℕ) → (gone (λ s i. test s) (replay plan base) (ticks all_off (suc n))).1 ≡ true →
+    has_held_since test plan base (ticks all_off n) ≡ true
+held_for test plan base n h = go (goes_on (λ s i. test s) plan base (ticks all_off (suc n)) h)
+  where
+    go : HasGoneOn (λ s i. test s) plan base (ticks all_off (suc n)) → has_held_since test plan base (ticks all_off n) ≡ true
+    go all = held_since test plan base (ticks all_off n) all.1 all.0
 
-an_exit : Stretch leads left waits 1 Exit 2550 5100 510
-an_exit = record {
-  consistent = leads_consistent;
-  few = (let count = leads_count in omega (arith, count));
-  taken = taken_off;
-  untripped = dark_off;
-  held = leaves_on;
-  times = takes left (Tick all_off) plan_left plan_waits;
+a_stage : Stretch engine began (ticks all_off 69) 1 Dwell 10 0 30
+a_stage = record {
+  consistent = an_engine.consistent;
+  few = an_engine.few;
+  taken = taken_for engine began begun_engine 69 (omega arith);
+  untripped = untripped_for engine began begun_engine 69 (omega arith);
+  held = held_for (λ s. is_in_stage 1 Dwell s.preempts.service) engine began 69 dwells_on;
+  times = takes engine began begun_engine 69 (omega arith);
 }
 
 record Service (plan : Plan) (is later : List Input) (row : Row) (n g w c t limit : ℕ) : Type 0 where
@@ -206,64 +231,46 @@ record Service (plan : Plan) (is later : List Input) (row : Row) (n g w c t limi
   green : largest (λ x. track_green x n) plan (Tick row ∷ is) later ≤ t
   due : limit ≡ time_to_dwell (has_track (replay plan is).plan n) g w c t
 
-a_dwell : Service leads on off all_off 1 2550 5100 510 2550 (time_to_dwell false 2550 5100 510 2550)
+a_dwell : Service engine asked (ticks all_off 69) all_off 1 10 0 30 0 (time_to_dwell false 10 0 30 0)
 a_dwell = record {
-  consistent = leads_consistent;
-  few = (let count = leads_count in omega (arith, count));
-  taken = taken_on;
-  untripped = dark_on;
+  consistent = an_engine.consistent;
+  few = an_engine.few;
+  taken = taken_for engine began begun_engine 69 (omega arith);
+  untripped = untripped_for engine began begun_engine 69 (omega arith);
   begins = begins;
-  held = serves_on;
-  times = takes began (Switch 1 false) plan_began plan_on;
-  green = (let a : leads.value PreemptTrackGreen 1 ≤ 255 = leads_fits.bounded PreemptTrackGreen 1 in
-      two_plans (λ x. track_green x 1) began (Switch 1 false) 2550 plan_began plan_on (ten (leads.value PreemptTrackGreen 1) a));
-  due = sym (ap (λ (b : Bool). time_to_dwell b 2550 5100 510 2550) none_before);
-}
-  where
-    ten : (a : ℕ) → a ≤ 255 → 10 * a ≤ 2550
-    ten a h = omega (arith, h)
-
--- ## The same, as it chooses anew
-
-chosen_on : HasChosen leads began off
-unfolding opened leads
-chosen_on = refl
-
-takes_anew : (base : List Input) (i : Input) → (replay leads base).plan ≡ leads → (replay leads (i ∷ base)).plan ≡ leads →
-    ChoiceTakesAtMost leads base 1 2550 5100 510 510 (i ∷ [])
-takes_anew base i e f = (let k = takes base i e f in record { stage = k; revert = k.revert })
-
-record Choice (plan : Plan) (base later : List Input) (n : ℕ) (stage : Stage) (g w c v : ℕ) : Type 0 where
-  consistent : IsConsistent plan
-  few : plan.phase_count ≤ 16
-  taken : AreTaken plan (later ++ base)
-  untripped : IsUntripped plan base later
-  chosen : HasChosen plan base later
-  held : has_held_since (λ s. is_in_stage n stage s.preempts.service) plan base later ≡ true
-  times : ChoiceTakesAtMost plan base n g w c v later
-
-a_choice : Choice leads began off 1 Dwell 2550 5100 510 510
-a_choice = record {
-  consistent = leads_consistent;
-  few = (let count = leads_count in omega (arith, count));
-  taken = taken_on;
-  untripped = dark_on;
-  chosen = chosen_on;
-  held = dwells_on;
-  times = takes_anew began (Switch 1 false) plan_began plan_on;
+  held = held_for (λ s. is_served 1 s.preempts.service) engine began 69 serves_on;
+  times = takes engine began begun_engine 69 (omega arith);
+  green = tracks engine began begun_engine 69 (omega arith);
+  due = sym (ap (λ (b : Bool). time_to_dwell b 10 0 30 0) no_track);
 }
 
--- ## A preempt that chooses anew, and still has rings serve what they were committed to: with a least green of 5 s, 6 s of
--- pedestrian clearance, 5.8 s of yellow and red clearance, and 2 s of red revert
+-- ## Its exit: switched on at power-up, it has 4 Green after tick 2; from tick 3 on it is in its exit, for which 4 has to end
 
-abbrev serves_first : ℕ → ℕ → ℕ
-serves_first g c = c + g + c
+abbrev pub left : List Input
+left = Tick all_off ∷ Switch 1 false ∷ Tick all_off ∷ Tick all_off ∷ Switch 1 true ∷ []
 
-lasts_for_166 : serves_first 50 58 ≡ 166
-lasts_for_166 = refl
+pub begun_exit : Begun engine left
+unfolding opened engine
+begun_exit = record { known = an_engine; taken = (((((tt, refl), refl), refl), refl), refl); unlit = refl; now = refl; plan_is = refl }
 
-would_be_late : nat_lt (time_by_choice 50 60 58 20) (serves_first 50 58) ≡ true
-would_be_late = refl
+-- it lasts for 39 ticks, and the next ends the service
+leaves_on : (gone (λ s i. is_in_stage 1 Exit s.preempts.service) (replay engine left) (ticks all_off 40)).1 ≡ true
+unfolding opened engine
+leaves_on = refl
+
+is_out : (replay engine (ticks all_off 40 ++ left)).preempts.service ≡ None
+unfolding opened engine
+is_out = refl
+
+an_exit : Stretch engine left (ticks all_off 39) 1 Exit 10 0 30
+an_exit = record {
+  consistent = an_engine.consistent;
+  few = an_engine.few;
+  taken = taken_for engine left begun_exit 39 (omega arith);
+  untripped = untripped_for engine left begun_exit 39 (omega arith);
+  held = held_for (λ s. is_in_stage 1 Exit s.preempts.service) engine left 39 leaves_on;
+  times = takes engine left begun_exit 39 (omega arith);
+}
 
 -- ## A preempt whose rings rest where it wants phases across the barrier: 2 and 6 are Green, and it wants 3 and 8
 

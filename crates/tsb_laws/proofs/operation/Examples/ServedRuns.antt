@@ -1,87 +1,202 @@
 -- Runs from power-up that meet all premises of the laws of greens with a conflict and of called phases, and mistakes that
 -- these laws refuse.
-use Rattle.std.proofs.Common.{◌≡◌, ◌≢◌, ℕ, ◌+◌, ◌≤◌, ◌==◌, Bool, true, false, not, ◌||◌, if◌then◌else◌, max, List, [], ◌∷◌, ◌++◌, Some, None, refl, sym, ap, ◌∙◌, inl, inr, arith}
+use Rattle.std.proofs.Common.{◌≡◌, ◌≢◌, ℕ, ◌+◌, ◌≤◌, ◌==◌, Bool, true, false, if◌then◌else◌, max, List, [], ◌∷◌, ◌++◌, Some, None, refl, sym, subst, ◌∙◌, inr, arith}
 use Rattle.std.specs.List.{list_all}
-use Rattle.std.proofs.lemmas.Bool.{and_parts, or_cases, eqb-true, eq-eqb, false≢true}
-use Rattle.tsb_step.specs.tsb_cells.declared.timer.Timer.TheVariants.{On}
-use Rattle.tsb_step.specs.tsb_types.Lists.{first, among, run_from, later, not_later, or_number}
-use Rattle.tsb_step.specs.tsb_types.Sets.{all_off}
+use Rattle.tsb_step.specs.tsb_types.declared.interval.Interval.TheVariants.{Green}
+use Rattle.tsb_step.specs.tsb_types.Lists.{among, some_passes, later}
+use Rattle.tsb_step.specs.tsb_types.Sets.{all_off, set_of_list}
 use Rattle.tsb_step.specs.tsb_types.declared.row.Row.{Row}
-use Rattle.tsb_step.specs.tsb_plan.declared.object.Object.TheVariants.{PhaseEnabled, PhaseRing, PhaseSide, SequenceData, PatternCycleTime, PhaseMinRecall, PhaseMinimumGreen, PhaseMaximum1, PhaseMaximum2, PhaseMaximumInitial, PhaseWalk, PhasePedestrianClear, PhaseYellowChange, PhaseRedClear, PhaseRedRevert, UnitRedRevert, PhaseDynamicMaxLimit, UnitMax2}
+use Rattle.tsb_step.specs.tsb_plan.declared.object.Object.TheVariants.{PhaseEnabled, PhaseRing, PhaseSide, PhaseConcurrency, SequenceData, PhaseMinimumGreen, PhaseMaximum1, PhaseMaximum2, PhaseMaximumInitial, PhasePassage, PhaseMinimumGap, PhaseWalk, PhasePedestrianClear, PhaseYellowChange, PhaseRedClear, PhaseRedRevert, VehicleDetectorCallPhase, UnitRedRevert, PhaseDynamicMaxLimit, UnitMax2}
 use Rattle.tsb_step.specs.tsb_plan.declared.object.Object.{Object}
 use Rattle.tsb_step.specs.tsb_plan.Objects.{greatest}
-use Rattle.tsb_step.specs.tsb_plan.Plan.{Plan, phases, with_values, is_concurrent, ring_of, side_of, has_variable_initial, minimum_green, maximum_initial, maximum, walk, pedestrian_clear}
-use Rattle.tsb_step.specs.tsb_plan.Quad.{quad}
-use Rattle.tsb_step.specs.tsb_rules.Rules.{first_broken, may_be_concurrent}
+use Rattle.tsb_step.specs.tsb_plan.Plan.{Plan, empty, phases, with_values, side_of, has_variable_initial, minimum_green, maximum_initial, maximum, walk, pedestrian_clear}
+use Rattle.tsb_step.specs.tsb_rules.Rules.{first_broken}
 use Rattle.tsb_step.specs.tsb_phase.DynamicMaximum.{is_dynamic, highest_maximum}
 use Rattle.tsb_step.specs.tsb_phase.Phase.{held_of}
 use Rattle.tsb_step.specs.tsb_phase.Green.{is_gapped}
-use Rattle.tsb_step.specs.tsb_ring.declared.want.Want.{Want}
-use Rattle.tsb_step.specs.tsb_ring.declared.want.Want.TheVariants.{Go, Cross, Rest}
-use Rattle.tsb_step.specs.tsb_ring.Crossings.{is_called_on, side_sought}
-use Rattle.tsb_step.specs.tsb_ring.Laws.{IsListed}
 use Rattle.tsb_step.specs.tsb_ring.Rings as rings
-use Rattle.tsb_step.specs.tsb_ring.Rings.{Ring, Ring1, Ring2, other, in_ring}
-use Rattle.tsb_step.specs.tsb_ring.Wants.{go_or, is_candidate, is_called_elsewhere, want_by_calls}
-use Rattle.tsb_step.proofs.tsb_ring.Examples.Scenes.{both}
+use Rattle.tsb_step.specs.tsb_ring.Rings.{Ring, Ring1, in_ring}
 use Rattle.tsb_step.specs.declared.inputs.Input.{Input}
 use Rattle.tsb_step.specs.declared.inputs.Input.TheVariants.{Tick}
-use Rattle.tsb_step.specs.State.{State}
-use Rattle.tsb_step.specs.Tick.{phases_given, phase_read, rings_given, ready}
+use Rattle.tsb_step.specs.State.{State, interval}
+use Rattle.tsb_step.specs.Tick.{phases_given, phase_read, ready}
 use Rattle.tsb_step.specs.Runs.{replay, AreTaken}
-use Rattle.tsb_step.specs.Laws.{IsConsistent}
-use Rattle.tsb_step.proofs.GivenLemmas.{enabled_is_listed}
-use Rattle.tsb_step.proofs.Examples.Scenes.{opened, vehicle, green, these, all_red, called, red, resting}
+use Rattle.tsb_step.specs.Laws.{IsConsistent, is_unlit}
+use Rattle.tsb_step.proofs.GoodLemmas.{good_run}
+use Rattle.tsb_step.proofs.Examples.Scenes.{opened, vehicle, green}
 use Rattle.tsb_laws.specs.Stretches.{IsUntripped, has_held_since}
 use Rattle.tsb_laws.specs.ServedCalls.{is_pressed, HasBeenPressed, longest_maximum, longest_initial, IsDoneWithin, IsFullyConcurrent, is_waiting, HasWaited, longest_green, TurnsTakeAtMost, still_to_come, IsToCome, is_outside}
-use Rattle.tsb_laws.proofs.safety.Examples.PlanFits.{Fits, values_fit, quad_fits, consistent, quad_count, quad_consistent}
+use Rattle.tsb_laws.specs.CoordinatedGreens.{HasGoneOn}
+use Rattle.tsb_laws.proofs.safety.Examples.PlanFits.{Fits, consistent}
+use Rattle.tsb_laws.proofs.safety.Examples.TickRuns.{ticks, now_then, plan_then, largest_then, all_taken, dark_then, none_trips}
+use Rattle.tsb_laws.proofs.safety.Examples.StretchRuns.{gone, goes_on, held_since, pressed_since, waited_since, values_alone_fit, goes_with_all, goes_together, is_clearing, none_clears}
 
--- ## A green that may end at once: 1 is on recall, with no minimum green and no maximum, and 2 is called
+-- ## A plan of small times: 1, 2 and 4 in ring 1, 6 and 8 in ring 2, and 4 and 8 on side 2
 
-abbrev pressed_values : List (Object × ℕ × ℕ)
-pressed_values = (PhaseMinRecall, 1, 1) ∷ (PhaseMinimumGreen, 1, 0) ∷ (PhaseMaximum1, 1, 0) ∷ (PhaseMaximum2, 1, 0) ∷ []
+-- a green has a maximum of 1 s and no minimum, a yellow lasts for 3 s, and there is neither red clearance nor red revert
+abbrev pub brisk_values : List (Object × ℕ × ℕ)
+brisk_values =
+    (PhaseEnabled, 1, 1) ∷ (PhaseEnabled, 2, 1) ∷ (PhaseEnabled, 4, 1) ∷ (PhaseEnabled, 6, 1) ∷ (PhaseEnabled, 8, 1) ∷
+    (PhaseRing, 1, 1) ∷ (PhaseRing, 2, 1) ∷ (PhaseRing, 4, 1) ∷ (PhaseRing, 6, 2) ∷ (PhaseRing, 8, 2) ∷
+    (PhaseSide, 1, 1) ∷ (PhaseSide, 2, 1) ∷ (PhaseSide, 4, 2) ∷ (PhaseSide, 6, 1) ∷ (PhaseSide, 8, 2) ∷
+    (PhaseConcurrency, 1, 32) ∷ (PhaseConcurrency, 2, 32) ∷ (PhaseConcurrency, 4, 128) ∷ (PhaseConcurrency, 6, 3) ∷ (PhaseConcurrency, 8, 8) ∷
+    (PhaseMaximum1, 1, 1) ∷ (PhaseMaximum1, 2, 1) ∷ (PhaseMaximum1, 4, 1) ∷ (PhaseMaximum1, 6, 1) ∷ (PhaseMaximum1, 8, 1) ∷
+    (PhaseMaximum2, 1, 1) ∷ (PhaseMaximum2, 2, 1) ∷ (PhaseMaximum2, 4, 1) ∷ (PhaseMaximum2, 6, 1) ∷ (PhaseMaximum2, 8, 1) ∷
+    (PhasePassage, 1, 20) ∷ (PhasePassage, 2, 20) ∷ (PhasePassage, 4, 20) ∷ (PhasePassage, 6, 20) ∷ (PhasePassage, 8, 20) ∷
+    (PhaseMinimumGap, 1, 20) ∷ (PhaseMinimumGap, 2, 20) ∷ (PhaseMinimumGap, 4, 20) ∷ (PhaseMinimumGap, 6, 20) ∷ (PhaseMinimumGap, 8, 20) ∷
+    (PhaseYellowChange, 1, 30) ∷ (PhaseYellowChange, 2, 30) ∷ (PhaseYellowChange, 4, 30) ∷ (PhaseYellowChange, 6, 30) ∷ (PhaseYellowChange, 8, 30) ∷
+    (VehicleDetectorCallPhase, 1, 1) ∷ (VehicleDetectorCallPhase, 2, 2) ∷ (VehicleDetectorCallPhase, 4, 4) ∷ (VehicleDetectorCallPhase, 6, 6) ∷
+    (VehicleDetectorCallPhase, 8, 8) ∷
+    (SequenceData, 1, 1) ∷ (SequenceData, 2, 2) ∷ (SequenceData, 3, 4) ∷ (SequenceData, 17, 6) ∷ (SequenceData, 18, 8) ∷ []
 
-unfoldable pressed : Plan
-pressed = with_values quad pressed_values
+unfoldable pub brisk : Plan
+brisk = with_values empty brisk_values
 
-pressed_fits : Fits greatest pressed.value
-unfolding pressed
-pressed_fits = values_fit greatest pressed_values quad refl (quad_fits greatest refl refl)
+-- the greatest of these times
+abbrev limit : Object → ℕ
+limit PhaseMaximum1 = 1
+limit PhaseMaximum2 = 1
+limit PhaseDynamicMaxLimit = 0
+limit PhaseMinimumGreen = 0
+limit PhaseMaximumInitial = 0
+limit PhaseWalk = 0
+limit PhasePedestrianClear = 0
+limit PhaseYellowChange = 30
+limit PhaseRedClear = 0
+limit PhaseRedRevert = 0
+limit UnitRedRevert = 0
+limit o = greatest o
 
-pressed_count : pressed.phase_count ≡ 16
-unfolding quad pressed
-pressed_count = refl
+brisk_fits : Fits limit brisk.value
+unfolding brisk
+brisk_fits = values_alone_fit limit brisk_values refl
 
-pressed_breaks_none : first_broken pressed ≡ None
-unfolding opened pressed
-pressed_breaks_none = refl
+pub brisk_count : brisk.phase_count ≡ 16
+unfolding brisk
+brisk_count = refl
 
-abbrev ticked : List Input
-ticked = Tick all_off ∷ []
+brisk_breaks_none : first_broken brisk ≡ None
+unfolding opened brisk
+brisk_breaks_none = refl
 
-ticked_taken : AreTaken pressed ticked
-unfolding opened pressed
-ticked_taken = (tt, refl)
+pub brisk_consistent : IsConsistent brisk
+brisk_consistent = consistent limit brisk brisk_count brisk_breaks_none brisk_fits
 
-ticked_dark : (replay pressed ticked).trip ≡ None
-unfolding opened pressed
-ticked_dark = refl
+brisk_few : brisk.phase_count ≤ 16
+brisk_few = let count = brisk_count in omega (arith, count)
 
-is_pressed_1 : is_pressed 1 (replay pressed ticked) (Tick all_off) ≡ true
-unfolding opened pressed
-is_pressed_1 = refl
+brisk_together : list_all (goes_with_all brisk) (phases brisk) ≡ true
+unfolding opened brisk
+brisk_together = refl
 
-no_maximum : longest_maximum (replay pressed ticked).plan 1 ≡ 0
-unfolding opened pressed
-no_maximum = refl
+greens : (p : ℕ) → longest_green brisk p ≤ 10
+unfolding longest_green
+greens p = go (is_dynamic brisk p) (has_variable_initial brisk p)
+  where
+    maximums : (b : Bool) → brisk.value (if b then PhaseMaximum2 else PhaseMaximum1) p ≤ 1
+    maximums true = brisk_fits.bounded PhaseMaximum2 p
+    maximums false = brisk_fits.bounded PhaseMaximum1 p
 
-no_initial : longest_initial (replay pressed ticked).plan 1 ≡ 0
-unfolding opened pressed
-no_initial = refl
+    go : (d v : Bool) →
+        max (if d then highest_maximum brisk p else maximum brisk p)
+        (max (if v then max (minimum_green brisk p) (maximum_initial brisk p) else minimum_green brisk p) (walk brisk p + pedestrian_clear brisk p)) ≤ 10
+    go d v = by d v
+        (maximums (brisk.value UnitMax2 1 == 1)) (brisk_fits.bounded PhaseDynamicMaxLimit p) (brisk_fits.bounded PhaseMinimumGreen p)
+        (brisk_fits.bounded PhaseMaximumInitial p) (brisk_fits.bounded PhaseWalk p) (brisk_fits.bounded PhasePedestrianClear p)
+      where
+        by : (x y : Bool) → brisk.value (if brisk.value UnitMax2 1 == 1 then PhaseMaximum2 else PhaseMaximum1) p ≤ 1 → brisk.value PhaseDynamicMaxLimit p ≤ 0 →
+            brisk.value PhaseMinimumGreen p ≤ 0 → brisk.value PhaseMaximumInitial p ≤ 0 → brisk.value PhaseWalk p ≤ 0 → brisk.value PhasePedestrianClear p ≤ 0 →
+            max (if x then highest_maximum brisk p else maximum brisk p)
+            (max (if y then max (minimum_green brisk p) (maximum_initial brisk p) else minimum_green brisk p) (walk brisk p + pedestrian_clear brisk p)) ≤ 10
+        by true true one two three four five six = omega (arith, one, two, three, four, five, six)
+        by true false one two three four five six = omega (arith, one, two, three, four, five, six)
+        by false true one two three four five six = omega (arith, one, two, three, four, five, six)
+        by false false one two three four five six = omega (arith, one, two, three, four, five, six)
 
-no_walk : walk (replay pressed ticked).plan 1 + pedestrian_clear (replay pressed ticked).plan 1 ≡ 0
-unfolding opened pressed
-no_walk = refl
+takes : TurnsTakeAtMost brisk 30 10
+takes = record {
+  clearance = λ p. (let y = brisk_fits.bounded PhaseYellowChange p in let z = brisk_fits.bounded PhaseRedClear p in omega (arith, y, z));
+  revert = λ p. (let own = brisk_fits.bounded PhaseRedRevert p in let unit = brisk_fits.bounded UnitRedRevert 1 in omega (arith, own, unit));
+  green = greens;
+}
+
+-- ## 1 is Green from tick 1 on, and from tick 3 on cars wait at 1, 2 and 4
+
+abbrev pub alone : List Input
+alone = ticks (vehicle 1) 2
+
+abbrev pub cars : Row
+cars = record all_off { vehicles = set_of_list 11 }
+
+-- the run so many ticks later
+abbrev pub run : ℕ → List Input
+run n = ticks cars n ++ alone
+
+unlit : is_unlit brisk alone ≡ true
+unlit = refl
+
+alone_taken : AreTaken brisk alone
+alone_taken = all_taken brisk (vehicle 1) [] 2 tt (omega arith)
+
+ticked_2 : (replay brisk alone).now ≡ 2
+ticked_2 = (let at = now_then brisk (vehicle 1) [] 2 in omega (arith, at))
+
+in_time : (n : ℕ) → n ≤ 500 → (replay brisk alone).now + n ≤ 1000
+in_time n low = let at = ticked_2 in omega (arith, at, low)
+
+pub run_taken : (n : ℕ) → n ≤ 500 → AreTaken brisk (run n)
+run_taken n low = all_taken brisk cars alone n alone_taken (in_time n low)
+
+untripped : (n : ℕ) → n ≤ 500 → IsUntripped brisk alone (ticks cars n)
+untripped n low = none_trips brisk cars alone brisk_consistent alone_taken unlit n (in_time n low)
+
+pub run_dark : (n : ℕ) → n ≤ 500 → (replay brisk (run n)).trip ≡ None
+run_dark n low = dark_then brisk cars alone brisk_consistent alone_taken unlit n (in_time n low)
+
+plan_is : (replay brisk alone).plan ≡ brisk
+plan_is = plan_then brisk (vehicle 1) [] 2
+
+full : IsFullyConcurrent (replay brisk alone).plan
+full = subst IsFullyConcurrent (sym plan_is) (goes_together brisk brisk_consistent brisk_together)
+
+takes_then : TurnsTakeAtMost (replay brisk alone).plan 30 10
+takes_then = subst (λ (x : Plan). TurnsTakeAtMost x 30 10) (sym plan_is) takes
+
+-- ## A green that waits for its maximum: it is ready in the tick after 10 with a conflict, and not in the one before
+
+pressed_11 : (gone (is_pressed 1) (replay brisk alone) (ticks cars 11)).1 ≡ true
+unfolding opened brisk
+pressed_11 = refl
+
+is_not_ready_yet : ready (replay brisk (run 9)) cars 1 ≡ false
+unfolding opened brisk
+is_not_ready_yet = refl
+
+is_ready_then : ready (replay brisk (run 10)) cars 1 ≡ true
+unfolding opened brisk
+is_ready_then = refl
+
+-- its times
+record Times (x : Plan) : Type 0 where
+  maximum : longest_maximum x 1 ≡ 10
+  initial : longest_initial x 1 ≡ 0
+  pedestrians : walk x 1 + pedestrian_clear x 1 ≡ 0
+
+times : Times brisk
+unfolding opened brisk
+times = record { maximum = refl; initial = refl; pedestrians = refl }
+
+times_here : Times (replay brisk alone).plan
+times_here = subst Times (sym plan_is) times
+
+done_in : (n : ℕ) → IsDoneWithin brisk alone 1 10 (ticks cars n)
+done_in n = record {
+  maximum = (let is = times_here.maximum in let same = largest_then brisk cars alone (λ x. longest_maximum x 1) n in omega (arith, is, same));
+  initial = (let is = times_here.initial in let same = largest_then brisk cars alone (λ x. longest_initial x 1) n in omega (arith, is, same));
+  pedestrians = (let is = times_here.pedestrians in
+      let same = largest_then brisk cars alone (λ x. walk x 1) n in
+      let too = largest_then brisk cars alone (λ x. pedestrian_clear x 1) n in omega (arith, is, same, too));
+}
 
 record Press (plan : Plan) (base later : List Input) (row : Row) (p n : ℕ) : Type 0 where
   consistent : IsConsistent plan
@@ -92,122 +207,50 @@ record Press (plan : Plan) (base later : List Input) (row : Row) (p n : ℕ) : T
   done : IsDoneWithin plan base p n later
   long : (replay plan base).now + n ≤ (replay plan (later ++ base)).now
 
-a_press : Press pressed ticked [] all_off 1 0
+a_press : Press brisk alone (ticks cars 10) cars 1 10
 a_press = record {
-  consistent = consistent greatest pressed pressed_count pressed_breaks_none pressed_fits;
-  few = (let count = pressed_count in omega (arith, count));
-  taken = ticked_taken;
-  untripped = ticked_dark;
-  pressed = (tt, is_pressed_1);
-  done = record {
-    maximum = (let none = no_maximum in omega (arith, none));
-    initial = (let none = no_initial in omega (arith, none));
-    pedestrians = (let none = no_walk in omega (arith, none));
-  };
-  long = omega arith;
+  consistent = brisk_consistent;
+  few = brisk_few;
+  taken = run_taken 10 (omega arith);
+  untripped = untripped 10 (omega arith);
+  pressed = pressed_since brisk 1 alone (ticks cars 11) (goes_on (is_pressed 1) brisk alone (ticks cars 11) pressed_11);
+  done = done_in 10;
+  long = (let at = now_then brisk cars alone 10 in omega (arith, at));
 }
 
--- ## A phase that comes: 2 is on recall, and 1 comes before it
+-- ## A phase that comes: 2 is Green 41 ticks later, as 1 has ended and cleared
 
-quad_fit : Fits greatest quad.value
-quad_fit = quad_fits greatest refl refl
-
-first_taken : AreTaken quad ticked
-unfolding opened
-first_taken = (tt, refl)
-
-pub power_up_dark : (replay quad []).trip ≡ None
-power_up_dark = refl
-
-first_dark : (replay quad ticked).trip ≡ None
-unfolding opened
-first_dark = refl
-
-waits_2 : is_waiting 2 (replay quad []) (Tick all_off) ≡ true
-unfolding opened
+waits_2 : (gone (is_waiting 2) (replay brisk alone) (ticks cars 41)).1 ≡ true
+unfolding opened brisk
 waits_2 = refl
 
--- each phase goes with all that it may go with
-goes_with_all : (list_all (λ p. list_all (λ q. not (may_be_concurrent quad p q) || is_concurrent quad p q) (phases quad)) (phases quad)) ≡ true
-unfolding opened
-goes_with_all = refl
+comes_2 : interval (replay brisk (run 41)) 2 ≡ Green
+unfolding opened brisk
+comes_2 = refl
 
-pub all_at : (test : ℕ → Bool) (ps : List ℕ) (p : ℕ) → list_all test ps ≡ true → among p ps ≡ true → test p ≡ true
-all_at test [] p all there = absurd (false≢true there)
-all_at test (x ∷ xs) p all there =
-    let both = and_parts (test x) (list_all test xs) all in
-    elim (or_cases (x == p) (among p xs) there) [
-      | inl here ↦ ap test (sym (eqb-true x p here)) ∙ both.0
-      | inr k ↦ all_at test xs p both.1 k
-    ]
+-- ring 1 has started 1, and 2 is still to come
+record AtFirst : Type 0 where
+  ringed : in_ring (replay brisk alone).plan Ring1 2 ≡ true
+  beside : side_of (replay brisk alone).plan 2 ≡ (replay brisk alone).rings.side
+  outside : (replay brisk alone).rings.crossing ≡ None
+  there : among 2 (still_to_come (replay brisk alone) Ring1) ≡ true
+  none_clears : some_passes (is_clearing (replay brisk alone)) (phases (replay brisk alone).plan) ≡ false
+  across : side_of (replay brisk alone).plan 4 ≡ 2
+  side : (replay brisk alone).rings.side ≡ 1
+  ringed_4 : in_ring (replay brisk alone).plan Ring1 4 ≡ true
 
-pub across : (r : Ring) (a b : ℕ) → (a == rings.number r) ≡ true → (b == rings.number (other r)) ≡ true → (a == b) ≡ false
-across Ring1 a b h k = (let one : a ≡ 1 = eqb-true a 1 h in let two : b ≡ 2 = eqb-true b 2 k in rw (one, two) refl)
-across Ring2 a b h k = (let two : a ≡ 2 = eqb-true a 2 h in let one : b ≡ 1 = eqb-true b 1 k in rw (two, one) refl)
+at_first : AtFirst
+unfolding opened brisk
+at_first = record { ringed = refl; beside = refl; outside = refl; there = refl; none_clears = refl; across = refl; side = refl; ringed_4 = refl }
 
-goes_together : IsFullyConcurrent quad
-goes_together r p q own_p own_q on_p on_q side =
-    let there_p : IsListed quad p = enabled_is_listed quad quad_consistent p on_p in
-    let there_q : IsListed quad q = enabled_is_listed quad quad_consistent q on_q in
-    let row_p = all_at (λ x. list_all (λ y. not (may_be_concurrent quad x y) || is_concurrent quad x y) (phases quad)) (phases quad) p goes_with_all there_p in
-    let may : may_be_concurrent quad p q ≡ true =
-    rw (on_q, across r (ring_of quad p) (ring_of quad q) own_p own_q) (eq-eqb (side_of quad p) (side_of quad q) side) in
-    elim (or_cases (not (may_be_concurrent quad p q)) (is_concurrent quad p q)
-    (all_at (λ y. not (may_be_concurrent quad p y) || is_concurrent quad p y) (phases quad) q row_p there_q)) [
-      | inl apart ↦ absurd (false≢true (sym (ap not may) ∙ apart))
-      | inr named ↦ named
-    ]
-
-greens : (p : ℕ) → longest_green quad p ≤ 5100
-unfolding longest_green
-greens p = go (is_dynamic quad p) (has_variable_initial quad p)
-  where
-    maximums : (b : Bool) → quad.value (if b then PhaseMaximum2 else PhaseMaximum1) p ≤ 255
-    maximums true = quad_fit.bounded PhaseMaximum2 p
-    maximums false = quad_fit.bounded PhaseMaximum1 p
-
-    go : (d v : Bool) →
-        max (if d then highest_maximum quad p else maximum quad p)
-        (max (if v then max (minimum_green quad p) (maximum_initial quad p) else minimum_green quad p) (walk quad p + pedestrian_clear quad p)) ≤ 5100
-    go d v = by d v
-        (maximums (quad.value UnitMax2 1 == 1)) (quad_fit.bounded PhaseDynamicMaxLimit p) (quad_fit.bounded PhaseMinimumGreen p)
-        (quad_fit.bounded PhaseMaximumInitial p) (quad_fit.bounded PhaseWalk p) (quad_fit.bounded PhasePedestrianClear p)
-      where
-        by : (x y : Bool) → quad.value (if quad.value UnitMax2 1 == 1 then PhaseMaximum2 else PhaseMaximum1) p ≤ 255 → quad.value PhaseDynamicMaxLimit p ≤ 255 →
-            quad.value PhaseMinimumGreen p ≤ 255 → quad.value PhaseMaximumInitial p ≤ 255 → quad.value PhaseWalk p ≤ 255 → quad.value PhasePedestrianClear p ≤ 255 →
-            max (if x then highest_maximum quad p else maximum quad p)
-            (max (if y then max (minimum_green quad p) (maximum_initial quad p) else minimum_green quad p) (walk quad p + pedestrian_clear quad p)) ≤ 5100
-        by true true one two three four five six = omega (arith, one, two, three, four, five, six)
-        by true false one two three four five six = omega (arith, one, two, three, four, five, six)
-        by false true one two three four five six = omega (arith, one, two, three, four, five, six)
-        by false false one two three four five six = omega (arith, one, two, three, four, five, six)
-
-takes : TurnsTakeAtMost quad 510 5100
-takes = record {
-  clearance = λ p. (let y = quad_fit.bounded PhaseYellowChange p in let z = quad_fit.bounded PhaseRedClear p in omega (arith, y, z));
-  revert = λ p. (let own = quad_fit.bounded PhaseRedRevert p in let unit = quad_fit.bounded UnitRedRevert 1 in omega (arith, own, unit));
-  green = greens;
-}
-
-ringed_2 : in_ring (replay quad []).plan Ring1 2 ≡ true
-unfolding opened
-ringed_2 = refl
-
-beside_2 : side_of (replay quad []).plan 2 ≡ (replay quad []).rings.side
-unfolding opened
-beside_2 = refl
-
-there_2 : among 2 (still_to_come (replay quad []) Ring1) ≡ true
-unfolding opened
-there_2 = refl
-
-to_come : IsToCome (replay quad []) Ring1 2
+to_come : IsToCome (replay brisk alone) Ring1 2
 to_come = record {
-  ringed = ringed_2;
-  beside = beside_2;
-  outside = refl;
-  ahead = inr there_2;
-  bound = λ p own serves dark. absurd (false≢true serves);
+  ringed = at_first.ringed;
+  beside = at_first.beside;
+  outside = at_first.outside;
+  ahead = inr at_first.there;
+  bound = λ p own serves pale.
+      absurd (none_clears (replay brisk alone) (good_run brisk alone brisk_consistent alone_taken) at_first.none_clears p serves pale);
 }
 
 record Turn (plan : Plan) (base later : List Input) (r : Ring) (q k h : ℕ) : Type 0 where
@@ -219,45 +262,36 @@ record Turn (plan : Plan) (base later : List Input) (r : Ring) (q k h : ℕ) : T
   takes : TurnsTakeAtMost (replay plan base).plan k h
   due : IsToCome (replay plan base) r q
   waited : HasWaited plan q base later
+  comes : interval (replay plan (later ++ base)) q ≡ Green
 
-a_turn : Turn quad [] ticked Ring1 2 510 5100
+a_turn : Turn brisk alone (ticks cars 41) Ring1 2 30 10
 a_turn = record {
-  consistent = quad_consistent;
-  few = (let count = quad_count in omega (arith, count));
-  taken = first_taken;
-  untripped = (power_up_dark, first_dark);
-  full = goes_together;
-  takes = takes;
+  consistent = brisk_consistent;
+  few = brisk_few;
+  taken = run_taken 41 (omega arith);
+  untripped = untripped 41 (omega arith);
+  full = full;
+  takes = takes_then;
   due = to_come;
-  waited = (tt, waits_2);
+  waited = waited_since brisk 2 alone (ticks cars 41) (goes_on (is_waiting 2) brisk alone (ticks cars 41) waits_2);
+  comes = comes_2;
 }
 
--- ## A crossing that is to begin: 3 of side 2 is called
+-- ## A crossing that is to begin: in the tick after 50, as 2 has come and ended
 
-abbrev called_3 : List Input
-called_3 = Tick (vehicle 3) ∷ []
+waits_50 : (gone (is_waiting 4) (replay brisk alone) (ticks cars 50)).1 ≡ true
+unfolding opened brisk
+waits_50 = refl
 
-call_taken : AreTaken quad called_3
-unfolding opened
-call_taken = (tt, refl)
-
-call_dark : (replay quad called_3).trip ≡ None
-unfolding opened
-call_dark = refl
-
-waits_3 : is_waiting 3 (replay quad []) (Tick (vehicle 3)) ≡ true
-unfolding opened
-waits_3 = refl
-
-is_on_side_2 : side_of (replay quad []).plan 3 ≡ 2
-unfolding opened
-is_on_side_2 = refl
-
-stays_outside : has_held_since is_outside quad [] called_3 ≡ true
-unfolding opened
+stays_outside : (gone (λ s i. is_outside s) (replay brisk alone) (ticks cars 51)).1 ≡ true
+unfolding opened brisk
 stays_outside = refl
 
-record Barrier (plan : Plan) (base later : List Input) (q k h : ℕ) : Type 0 where
+crosses_to_2 : (replay brisk (run 51)).rings.crossing ≡ Some 2
+unfolding opened brisk
+crosses_to_2 = refl
+
+record Barrier (plan : Plan) (base later : List Input) (row : Row) (q k h d : ℕ) : Type 0 where
   consistent : IsConsistent plan
   few : plan.phase_count ≤ 16
   taken : AreTaken plan (later ++ base)
@@ -267,25 +301,34 @@ record Barrier (plan : Plan) (base later : List Input) (q k h : ℕ) : Type 0 wh
   apart : side_of (replay plan base).plan q ≢ (replay plan base).rings.side
   waited : HasWaited plan q base later
   outside : has_held_since is_outside plan base later ≡ true
+  crosses : (replay plan (Tick row ∷ (later ++ base))).rings.crossing ≡ Some d
 
-a_barrier : Barrier quad [] called_3 3 510 5100
+a_barrier : Barrier brisk alone (ticks cars 50) cars 4 30 10 2
 a_barrier = record {
-  consistent = quad_consistent;
-  few = (let count = quad_count in omega (arith, count));
-  taken = call_taken;
-  untripped = (power_up_dark, call_dark);
-  full = goes_together;
-  takes = takes;
-  apart = λ e. (let two = is_on_side_2 in let bad : 2 ≡ 1 = sym two ∙ e in absurd (omega (arith, bad)));
-  waited = (tt, waits_3);
-  outside = stays_outside;
+  consistent = brisk_consistent;
+  few = brisk_few;
+  taken = run_taken 50 (omega arith);
+  untripped = untripped 50 (omega arith);
+  full = full;
+  takes = takes_then;
+  apart = λ e. (let two = at_first.across in let one = at_first.side in let bad : 2 ≡ 1 = sym two ∙ e ∙ one in absurd (omega (arith, bad)));
+  waited = waited_since brisk 4 alone (ticks cars 50) (goes_on (is_waiting 4) brisk alone (ticks cars 50) waits_50);
+  outside = held_since is_outside brisk alone (ticks cars 50) outside.1 outside.0;
+  crosses = crosses_to_2;
 }
+  where
+    outside : HasGoneOn (λ s i. is_outside s) brisk alone (ticks cars 51)
+    outside = goes_on (λ s i. is_outside s) brisk alone (ticks cars 51) stays_outside
 
--- ## A phase of another side that is served: 3 of side 2 is called
+-- ## A phase of another side that is served: 4 is Green 81 ticks later
 
-ringed_3 : in_ring (replay quad []).plan Ring1 3 ≡ true
-unfolding opened
-ringed_3 = refl
+waits_81 : (gone (is_waiting 4) (replay brisk alone) (ticks cars 81)).1 ≡ true
+unfolding opened brisk
+waits_81 = refl
+
+comes_4 : interval (replay brisk (run 81)) 4 ≡ Green
+unfolding opened brisk
+comes_4 = refl
 
 record Service (plan : Plan) (base later : List Input) (r : Ring) (q k h : ℕ) : Type 0 where
   consistent : IsConsistent plan
@@ -296,109 +339,27 @@ record Service (plan : Plan) (base later : List Input) (r : Ring) (q k h : ℕ) 
   takes : TurnsTakeAtMost (replay plan base).plan k h
   ringed : in_ring (replay plan base).plan r q ≡ true
   waited : HasWaited plan q base later
+  comes : interval (replay plan (later ++ base)) q ≡ Green
 
-a_service : Service quad [] called_3 Ring1 3 510 5100
+a_service : Service brisk alone (ticks cars 81) Ring1 4 30 10
 a_service = record {
-  consistent = quad_consistent;
-  few = (let count = quad_count in omega (arith, count));
-  taken = call_taken;
-  untripped = (power_up_dark, call_dark);
-  full = goes_together;
-  takes = takes;
-  ringed = ringed_3;
-  waited = (tt, waits_3);
+  consistent = brisk_consistent;
+  few = brisk_few;
+  taken = run_taken 81 (omega arith);
+  untripped = untripped 81 (omega arith);
+  full = full;
+  takes = takes_then;
+  ringed = at_first.ringed_4;
+  waited = waited_since brisk 4 alone (ticks cars 81) (goes_on (is_waiting 4) brisk alone (ticks cars 81) waits_81);
+  comes = comes_4;
 }
 
 -- ## A green that extends while an output is on
 
--- 2 has been Green for 250 ticks, all with a conflict, and its detector is on
-abbrev long : State
-long = record resting { phases = these (2 ∷ 6 ∷ []) (record (green 250) { conflict = On 249 }) all_red; memories = called (1 ∷ []) }
-
-is_ready_2 : ready long (vehicle 2) 2 ≡ true
-unfolding opened
-is_ready_2 = refl
-
+-- 1 has had a conflict for its maximum, and its detector is still on: such a green would not be ready in time
 abbrev extended : State → Row → ℕ → Bool
 extended s row p = is_gapped s.plan (phases_given s row) p (held_of (phase_read s p))
 
-would_extend : extended long (vehicle 2) 2 ≡ false
-unfolding opened
+would_extend : extended (replay brisk (run 10)) cars 1 ≡ false
+unfolding opened brisk
 would_extend = refl
-
--- ## A ring that crosses the barrier as soon as another side is called
-
--- 1 and 6 are Green, 2 and 3 are called
-abbrev begun : State
-begun = record red {
-  phases = these (1 ∷ 6 ∷ []) (green 59) all_red;
-  memories = called (2 ∷ 3 ∷ []);
-  rings = record rings.power_up { last = both (Some 1) (Some 6) };
-}
-
-goes_to_2 : want_by_calls quad begun.rings (rings_given begun all_off) Ring1 None ≡ Go 2
-unfolding opened
-goes_to_2 = refl
-
-abbrev crosses_first : State → Row → Want
-crosses_first s row =
-    if is_called_elsewhere s.plan s.rings (rings_given s row) then Cross else want_by_calls s.plan s.rings (rings_given s row) Ring1 None
-
-would_cross : crosses_first begun all_off ≡ Cross
-unfolding opened
-would_cross = refl
-
--- ## A ring that goes round its order though another side is called
-
--- 2 and 6 are Green, 1 and 3 are called
-abbrev rounded : State
-rounded = record resting { memories = called (1 ∷ 3 ∷ []) }
-
-wants_to_cross : want_by_calls quad rounded.rings (rings_given rounded all_off) Ring1 None ≡ Cross
-unfolding opened
-wants_to_cross = refl
-
-abbrev goes_round : State → Row → Want
-goes_round s row =
-    go_or (first (is_candidate s.plan s.rings (rings_given s row) Ring1 None) (later (s.rings.last Ring1) ((rings_given s row).sequence Ring1)))
-    (go_or (first (is_candidate s.plan s.rings (rings_given s row) Ring1 None) (not_later (s.rings.last Ring1) ((rings_given s row).sequence Ring1)))
-    (if is_called_elsewhere s.plan s.rings (rings_given s row) then Cross else Rest))
-
-would_go_to_1 : goes_round rounded all_off ≡ Go 1
-unfolding opened
-would_go_to_1 = refl
-
--- ## A crossing that goes to the lowest side that is called
-
--- phase 9 is on side 3; the patterns are not used
-abbrev third_values : List (Object × ℕ × ℕ)
-third_values =
-    (PhaseEnabled, 9, 1) ∷ (PhaseRing, 9, 1) ∷ (PhaseSide, 9, 3) ∷ (SequenceData, 5, 9) ∷ (PhaseMaximum1, 9, 20) ∷ (PhaseMaximum2, 9, 20) ∷
-    (PhaseYellowChange, 9, 30) ∷ (PatternCycleTime, 1, 0) ∷ (PatternCycleTime, 2, 0) ∷ []
-
-unfoldable third : Plan
-third = with_values quad third_values
-
-third_breaks_none : first_broken third ≡ None
-unfolding opened third
-third_breaks_none = refl
-
--- 4 and 8 of side 2 are Green, 1 of side 1 and 9 of side 3 are called
-abbrev between : State
-between = record resting {
-  plan = third;
-  phases = these (4 ∷ 8 ∷ []) (green 59) all_red;
-  memories = called (1 ∷ 9 ∷ []);
-  rings = record rings.power_up { last = both (Some 4) (Some 8); side = 2 };
-}
-
-goes_to_side_3 : side_sought third between.rings (rings_given between all_off) None ≡ 3
-unfolding opened third
-goes_to_side_3 = refl
-
-abbrev lowest_side : State → Row → ℕ
-lowest_side s row = or_number (first (is_called_on s.plan (rings_given s row)) (run_from 1 s.plan.side_count)) s.rings.side
-
-would_go_to_side_1 : lowest_side between all_off ≡ 1
-unfolding opened third
-would_go_to_side_1 = refl
