@@ -29,8 +29,8 @@ returns-then-before c a now before by stepped = record {
     ends : (p : ℕ) → ends_freely (all_in c.args.before.now.tick a) c.args.row.now (step (all_in c.args.before.now.tick a) (inputs.Tick c.args.row.now)) p ≡ false
     ends p = tripped-ends-none (all_in c.args.before.now.tick a) c.args.row.now p (sym before.tripped ∙ c.if-before.true)
 
-pub overflow_add-tick : goal.overflow_add-tick
-overflow_add-tick c = let was = c.requires.was in let least = tick-below c.args.before.now.tick was.0 c.args.row.now was.3 in omega (arith, least)
+pub overflow_add-before : goal.overflow_add-before
+overflow_add-before c = let was = c.requires.was in let least = tick-below c.args.before.now.tick was.0 c.args.row.now was.3 in omega (arith, least)
 
 pub causes-requires-clause-in_time : goal.causes-requires-clause-in_time
 causes-requires-clause-in_time c = let was = c.requires.was in let least = tick-below c.args.before.now.tick was.0 c.args.row.now was.3 in omega (arith, least)
