@@ -14,12 +14,7 @@ COMMENT = re.compile(r"//[^\n]*")
 OPENS, CLOSES = "([{<", ")]}>"
 
 # Functions that have more and wait for a change of their files.
-WAITING = {
-    "crates/tsb_field/src/outputs_run.rt": {"write_beside"},
-    "crates/tsb_field/src/run.rt": {"write_record", "record_plan", "record_run", "write_events", "write_events_of",
-                                    "write_diagram", "write_diagram_beside", "write_diagram_by", "write_diagram_told",
-                                    "write_diagram_of", "draw"},
-}
+WAITING: dict[str, set[str]] = {}
 
 
 def parts(text: str, at: int) -> Iterator[str]:

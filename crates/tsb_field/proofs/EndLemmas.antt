@@ -4,8 +4,11 @@ use Rattle.std.specs.declared.result.Result.{Result}
 use Rattle.std.proofs.lemmas.Bool.{true≢false}
 use Rattle.std.specs.Prelude.{Err, None, Some, Vec}
 use Rattle.std.specs.declared.option.Option.{Option}
+use Rattle.tsb_program.specs.Devices.{Devices, OnlyTells, ReadsNothing}
 use Rattle.tsb_program.specs.Failures.{Fails}
 use Rattle.tsb_program.specs.declared.failure.Failure.{Failure}
+use Rattle.tsb_program.specs.declared.failure.Failure.TheVariants.{Write}
+use Rattle.tsb_lines.specs.Writes.{AppendsFront}
 use Rattle.tsb_program.specs.tsb_lines.Seen.{Seen, Tells}
 use Rattle.tsb_program.specs.Read.{HasNoPlan, HasPlan, IsFront, LogRead}
 use Rattle.tsb_program.specs.Told.{FailsFile, TellsNoLog, TellsNoPlan, TellsWhy}
@@ -25,11 +28,17 @@ use Rattle.tsb_field_display.specs.Remaining.{changes_in, last_in}
 use Rattle.tsb_field_display.specs.Stream.{ReadSo, ReplayRead}
 use Rattle.tsb_field_display.specs.declared.replay.Replay.{Replay}
 use Rattle.tsb_field_display.specs.declared.shown.Shown.{Shown}
+use Rattle.tsb_text.specs.Answers.{Setup}
+use Rattle.tsb_text.specs.Blame.{Blames}
+use Rattle.tsb_text.specs.declared.error.SessionError.{SessionError}
+use Rattle.tsb_text.specs.declared.recording.Outcome.{Outcome}
 use Rattle.tsb_text.specs.declared.recording.RecordOptions.{RecordOptions}
+use Rattle.tsb_text.specs.recording.Ended as recorded
 use Rattle.tsb_field_display.specs.Merge.{session_events}
 use Rattle.tsb_field_display.specs.Texts.{IsLog, LogWritten}
 use Rattle.tsb_field_display.specs.declared.events_error.EventsError.{EventsError}
 use Rattle.tsb_field_display.specs.declared.events_error.EventsError.TheVariants as events
+use Rattle.tsb_field_diagram.specs.Given.{Form}
 use Rattle.tsb_field_diagram.specs.Page.{diagram_text}
 use Rattle.tsb_field_diagram.specs.declared.ends.EndsError.{EndsError}
 use Rattle.tsb_field_diagram.specs.declared.ends.GreenEnd.{GreenEnd}
@@ -44,9 +53,10 @@ use Rattle.tsb_field_streams.specs.Standing.{given_of}
 use Rattle.tsb_field_streams.specs.Streaming.{Ended}
 use Rattle.tsb_field_streams.specs.declared.filter.RowOptions.{RowOptions}
 use Rattle.tsb_field_streams.specs.declared.filter.Summary.{Summary}
-use Rattle.tsb_field.specs.LogEnds.{IsPassedOn, LoggedBeside, LoggedWith, NoPlan, TellsFault}
+use Rattle.tsb_field.specs.LogEnds.{IsPassedOn, Logged, LoggedBeside, LoggedBy, LoggedWith, NoPlan, TellsFault}
 use Rattle.tsb_words.specs.FieldWords.{LogWish}
-use Rattle.tsb_field.specs.Ends.{Drawn, Draws, IsDiagram, LogNamed, NamesLog, NoRun, NotDrawn, Pictured, Recorded, RecordedOn, Stops, Told, ToldOn, Writes, WritesMade, failure_by, name_of}
+use Rattle.tsb_field.specs.ReviewEnds.{Answered}
+use Rattle.tsb_field.specs.Ends.{Drawn, Draws, IsDiagram, LogNamed, NamesLog, NoRun, NotDrawn, RanSo, Recorded, RecordedOn, Stops, Told, ToldOn, Writes, WritesEnd, WritesMade, failure_by, name_of}
 
 -- there is no log
 pub stops : (fault : ReadError LogError) (known : List ℕ → Option (List ℕ)) (path : Option (List ℕ)) (name : List ℕ) (status : ℕ) (told tells : Seen) → name ≡ name_of path → LogNamed (Err fault) known path
@@ -73,11 +83,11 @@ stops-there (faults.Failed why) status rows files told tells read line = inr (wh
 stops-there (faults.Refused fault) status rows files told tells read line = inl (fault, read, line)
 
 -- a record on a plan that was found
-pub recorded-on : (status : ℕ) (from : Moment) (device : List ℕ) (options : RecordOptions) (found : Plan) (plan rows : List ℕ) (files : List ℕ → Option (List ℕ)) (input left old new told tells : Seen) → HasPlan (files plan) found
-    → RecordedOn status from device options found rows files input left old new told tells → Recorded status from device options plan rows files input left old new told tells
-recorded-on status from device options found plan rows files input left old new told tells has recorded = elim recorded [
+pub recorded-on : (status : ℕ) (from : Moment) (device : List ℕ) (options : RecordOptions) (found : Plan) (plan rows : List ℕ) (files : List ℕ → Option (List ℕ)) (before after : Devices) → HasPlan (files plan) found
+    → RecordedOn status from device options found rows files before after → Recorded status from device options plan rows files before after
+recorded-on status from device options found plan rows files before after has recorded = elim recorded [
   | inl ran ↦ inl (record { plan = found; log = ran.0 }, has, ran.1, ran.2)
-  | inr none ↦ inr (none.0, none.1, elim none.2 [ inl refused ↦ inr (inl (found, has, refused.0, refused.1, refused.2)) | inr failed ↦ inr (inr (inr (found, has, failed))) ])
+  | inr none ↦ inr (none.0, elim none.1 [ inl refused ↦ inr (inl (found, has, refused.0, refused.1, refused.2)) | inr failed ↦ inr (inr (inr (found, has, failed))) ])
 ]
 
 -- what was handed on is the same
@@ -93,46 +103,47 @@ writes-made (Ok text) status from device all old new told tells log writes = inl
 writes-made (Err events.Memory) status from device all old new told tells log writes = inr (inl writes)
 writes-made (Err events.Late) status from device all old new told tells log writes = inr (inr (log, writes.0, writes.1))
 
+-- what is seen of all devices once this of the one that is read
+abbrev pub with_input : Devices → Seen → Devices
+with_input before left = record { input = left; output = before.output; errors = before.errors }
+
 -- the events of a session that was read
-pub told-read : (from : Moment) (device : List ℕ) (rows : List LogRow) (replay : Replay) (status : ℕ) (input left old new told tells : Seen) → ReplayRead (Ok replay) left.failed input.bytes left.bytes
-    → Writes status from device (session_events (changes_in replay) rows) old new told tells → ToldOn status from device rows input left old new told tells
-told-read from device rows replay status input left old new told tells read writes = elim writes [
-  | inl text ↦ inl (inl (read.bytes, read.taken, read.so.0, read.so.1, text.0, subst (λ (shown : List Shown). IsLog from device (session_events shown rows) text.0) read.so.2.changes text.1, text.2))
-  | inr none ↦ elim none [ inl memory ↦ inl (inr (read.bytes, read.taken, memory.0, inr (read.so.0, memory.1))) | inr late ↦ inr (read.bytes, read.taken, read.so.0, late.0, late.1, late.2) ]
-]
+pub told-read : (from : Moment) (device : List ℕ) (rows : List LogRow) (replay : Replay) (status : ℕ) (before after : Devices) (left : Seen)
+    → ReplayRead (Ok replay) left.failed before.input.bytes left.bytes
+    → ReadsNothing (Writes status from device (session_events (changes_in replay) rows)) (with_input before left) after → ToldOn status from device rows before after
+told-read from device rows replay status before after left so writes =
+    let read : ReplayRead (Ok replay) after.input.failed before.input.bytes after.input.bytes =
+    subst (λ (s : Seen). ReplayRead (Ok replay) s.failed before.input.bytes s.bytes) (sym writes.0) so in
+    elim writes.1 [
+      | inl text ↦ inl (inl (read.bytes, read.taken, read.so.0, read.so.1, text.0, subst (λ (shown : List Shown). IsLog from device (session_events shown rows) text.0) read.so.2.changes text.1, text.2))
+      | inr none ↦ elim none [ inl memory ↦ inl (inr (read.bytes, read.taken, memory.0, inr (read.so.0, memory.1))) | inr late ↦ inr (read.bytes, read.taken, read.so.0, late.0, late.1, late.2) ]
+    ]
 
 -- beside the log that words name
-pub told-on : (status : ℕ) (from : Moment) (device : List ℕ) (rows : List LogRow) (files : List ℕ → Option (List ℕ)) (path : Option (List ℕ)) (input left old new told tells : Seen) → NamesLog files path rows
-    → ToldOn status from device rows input left old new told tells → Told status from device files path input left old new told tells
-told-on status from device rows files path input left old new told tells names on = elim on [ inl drawn ↦ inr (inl (rows, names, drawn)) | inr late ↦ inr (inr late) ]
+pub told-on : (status : ℕ) (from : Moment) (device : List ℕ) (rows : List LogRow) (files : List ℕ → Option (List ℕ)) (path : Option (List ℕ)) (before after : Devices) → NamesLog files path rows
+    → ToldOn status from device rows before after → Told status from device files path before after
+told-on status from device rows files path before after names on = elim on [ inl drawn ↦ inr (inl (rows, names, drawn)) | inr late ↦ inr (inr late) ]
 
 -- the picture of a session that was read
-pub drawn-read : (title : List ℕ) (seconds : ℕ) (from : Option Moment) (ends : List GreenEnd) (rows : List LogRow) (replay : Replay) (status : ℕ) (input left old new told tells : Seen) → ReplayRead (Ok replay) left.failed input.bytes left.bytes
-    → Draws (diagram_text title seconds from (changes_in replay) (last_in replay) rows ends) status old new told tells → Drawn (IsDiagram title seconds from ends) status rows input left old new told tells
-drawn-read title seconds from ends rows replay status input left old new told tells read draws = elim draws [
-  | inl written ↦ inl (
-    read.bytes,
-    read.taken,
-    read.so.0,
-    read.so.1,
-    diagram_text title seconds from (changes_in replay) (last_in replay) rows ends,
-    (λ j. diagram_text title seconds from (read.so.2.changes j) (read.so.2.last j) rows ends),
-    written,
-  )
-  | inr memory ↦ inr (read.bytes, read.taken, memory.0, inr (read.so.0, memory.1))
-]
-
-pub recorded-as : (status : ℕ) (from : Moment) (device : List ℕ) (other options : RecordOptions) (plan rows : List ℕ) (files : List ℕ → Option (List ℕ)) (input left old new told tells : Seen) → other ≡ options
-    → Recorded status from device other plan rows files input left old new told tells → Recorded status from device options plan rows files input left old new told tells
-recorded-as status from device other options plan rows files input left old new told tells same recorded =
-    subst (λ (w : RecordOptions). Recorded status from device w plan rows files input left old new told tells) same recorded
-
-pub pictured-as : (status : ℕ) (title other : List ℕ) (seconds more : ℕ) (from : Option Moment) (source : Option (List ℕ)) (known : List ℕ → Option (List ℕ)) (path : Option (List ℕ)) (input left old new told tells : Seen)
-    → other ≡ title → more ≡ seconds → Pictured status other more from source known path input left old new told tells
-    → Pictured status title seconds from source known path input left old new told tells
-pictured-as status title other seconds more from source known path input left old new told tells same_title same_seconds drawn =
-    subst (λ (t : List ℕ). Pictured status t seconds from source known path input left old new told tells) same_title
-    (subst (λ (s : ℕ). Pictured status other s from source known path input left old new told tells) same_seconds drawn)
+pub drawn-read : (form : Form) (ends : List GreenEnd) (rows : List LogRow) (replay : Replay) (status : ℕ) (before after : Devices) (left : Seen)
+    → ReplayRead (Ok replay) left.failed before.input.bytes left.bytes
+    → ReadsNothing (Draws (diagram_text form (record { changes = changes_in replay; last = last_in replay; rows = rows; ends = ends })) status) (with_input before left) after
+    → Drawn (IsDiagram form ends) status rows before after
+drawn-read form ends rows replay status before after left so draws =
+    let read : ReplayRead (Ok replay) after.input.failed before.input.bytes after.input.bytes =
+    subst (λ (s : Seen). ReplayRead (Ok replay) s.failed before.input.bytes s.bytes) (sym draws.0) so in
+    elim draws.1 [
+      | inl written ↦ inl (
+        read.bytes,
+        read.taken,
+        read.so.0,
+        read.so.1,
+        diagram_text form (record { changes = changes_in replay; last = last_in replay; rows = rows; ends = ends }),
+        (λ j. diagram_text form (record { changes = read.so.2.changes j; last = read.so.2.last j; rows = rows; ends = ends })),
+        written,
+      )
+      | inr memory ↦ inr (read.bytes, read.taken, memory.0, inr (read.so.0, memory.1))
+    ]
 
 -- why the event log of a diagram gives no ends of greens
 pub no-ends : (fault : ReadError EndsError) (from : Moment) (path : List ℕ) (files : List ℕ → Option (List ℕ)) (status : ℕ) (told tells : Seen)
@@ -158,6 +169,28 @@ pub not-drawn : (fault : ReplayError) (failure : Failure) (failed : Bool) (left 
 not-drawn replays.Memory failure failed left bytes status told tells is so fails = inr (so, subst (λ (f : Failure). Fails f status told tells) is fails)
 not-drawn replays.Read failure failed left bytes status told tells is so fails = inl (so, subst (λ (f : Failure). Fails f status told tells) is fails)
 
+-- the same of a session whose events or picture were to be written
+pub not-read : (Is : List Shown → Option ℕ → List LogRow → List ℕ → Type 0) (fault : ReplayError) (failure : Failure) (status : ℕ) (rows : List LogRow) (before after : Devices) (left : Seen)
+    → failure ≡ failure_by fault → ReplayRead (Err fault) left.failed before.input.bytes left.bytes → OnlyTells (Fails failure status) (with_input before left) after
+    → Drawn Is status rows before after
+not-read Is fault failure status rows before after left is so fails =
+    let read : ReplayRead (Err fault) after.input.failed before.input.bytes after.input.bytes =
+    subst (λ (s : Seen). ReplayRead (Err fault) s.failed before.input.bytes s.bytes) (sym fails.0.0) so in
+    inr (read.bytes, read.taken, fails.0.1, not-drawn fault failure after.input.failed after.input.bytes read.bytes status before.errors after.errors is read.so fails.1)
+
+-- a run ended so, and then this was written, with no more read
+pub ran-so : (result : Result Outcome SessionError) (status : ℕ) (from : Moment) (device : List ℕ) (options : RecordOptions) (given : Setup) (before after : Devices) (left mid : Seen)
+    → after.input ≡ left → recorded.Ended result options.on_fault options.form given before.input.bytes left.bytes before.errors.bytes mid.bytes
+    → Blames result left.failed mid.failed mid.flushed → WritesEnd result status from device before.output after.output mid after.errors
+    → RanSo status from device options given before after
+ran-so result status from device options given before after left mid same ended blames ends = (
+  result,
+  mid,
+  subst (λ (s : Seen). recorded.Ended result options.on_fault options.form given before.input.bytes s.bytes before.errors.bytes mid.bytes) (sym same) ended,
+  subst (λ (s : Seen). Blames result s.failed mid.failed mid.flushed) (sym same) blames,
+  ends,
+)
+
 -- a fault of a filter that is none of a device, nor of memory, is that of what was read
 pub told-fault : (fault : FilterError) (status : ℕ) (told tells : Seen) → (fault ≡ filters.Memory → ⊥) → (fault ≡ filters.Read → ⊥) → (fault ≡ filters.Write → ⊥)
     → (status ≡ 1) × Tells told tells (filter_fault fault ++ 10 ∷ []) → TellsFault fault status told tells
@@ -180,12 +213,19 @@ passed-on (Err e) s blame flushed = inl blame
 
 -- ## Events of outputs of detectors
 
+-- a log was made, and then its end was reported, with no more read or answered
+pub logged-by : (status : ℕ) (wish : LogWish) (before after : Devices) (left new : Seen) → (after.input ≡ left) × (after.output ≡ new)
+    → Logged status wish before.input left before.output new before.errors after.errors → LoggedBy status wish before after
+logged-by status wish before after left new silent logged =
+    subst (λ (s : Seen). Logged status wish before.input s before.output after.output before.errors after.errors) (sym silent.0)
+    (subst (λ (s : Seen). Logged status wish before.input left before.output s before.errors after.errors) (sym silent.1) logged)
+
 -- a log was made beside a plan that was found
-pub logged-beside : (plan : Plan) (path : List ℕ) (status : ℕ) (wish : LogWish) (files : List ℕ → Option (List ℕ)) (input left old new told tells : Seen) → HasPlan (files path) plan
-    → LoggedWith plan status wish input left old new told tells → LoggedBeside path status wish files input left old new told tells
-logged-beside plan path status wish files input left old new told tells has logged = elim logged [
+pub logged-beside : (plan : Plan) (path : List ℕ) (status : ℕ) (wish : LogWish) (files : List ℕ → Option (List ℕ)) (before after : Devices) → HasPlan (files path) plan
+    → LoggedWith plan status wish before after → LoggedBeside path status wish files before after
+logged-beside plan path status wish files before after has logged = elim logged [
   | inl telling ↦ inl (plan, has, telling)
-  | inr none ↦ inr (none.0, none.1, inr (causes.Memory, none.2))
+  | inr none ↦ inr (none.0, inr (causes.Memory, none.1))
 ]
 
 -- there is no plan
@@ -197,3 +237,17 @@ no-plan-here (faults.Refused fault) place status path files told tells has line 
 pub no-plan-at : (fault : PlanFault) (status : ℕ) (path : List ℕ) (files : List ℕ → Option (List ℕ)) (told tells : Seen) → HasNoPlan fault.why fault.place (files path)
     → TellsNoPlan path fault status told tells → NoPlan path files status told tells
 no-plan-at fault status path files told tells has line = no-plan-here fault.why fault.place status path files told tells has line
+
+-- ## Reviews
+
+-- a review was not written whole, which is told
+pub answer-failed : (status wanted : ℕ) (answer : List ℕ) (before after : Devices) (new : Seen) → new.failed ≡ true → AppendsFront before.output.bytes new.bytes answer
+    → OnlyTells (Fails Write status) (record { input = before.input; output = new; errors = before.errors }) after → ReadsNothing (Answered status wanted answer) before after
+answer-failed status wanted answer before after new failed front fails = (
+  fails.0.0,
+  inr (
+    subst (λ (s : Seen). s.failed ≡ true) (sym fails.0.1) failed,
+    subst (λ (s : Seen). AppendsFront before.output.bytes s.bytes answer) (sym fails.0.1) front,
+    fails.1,
+  ),
+)

@@ -1,16 +1,17 @@
 -- How the program ends, and what it has then written on its output and of faults.
 --
--- Of each stream there is what is seen before and after: `input` and `left`, `old` and `new`, `told` and `tells`.
-use Rattle.std.specs.Prelude.{◌≡◌, ◌⊎◌, ℕ, Bool, true, false, List, [], IsSome, Option, Some, None, Result, Ok, Err, Vec, unwrap_or, codes}
+-- `before` and `after` are what is seen of all devices; of the output alone that is `old` and `new`, and of faults `told`
+-- and `tells`.
+use Rattle.std.specs.Prelude.{◌≡◌, ◌⊎◌, ℕ, Bool, not, true, false, List, [], IsSome, Option, Some, None, Result, Ok, Err, Vec, option_map, unwrap_or, codes}
 use Rattle.std.specs.Io.KnownBytes.{Consumes, IsAtEnd}
-use Rattle.tsb_lines.specs.Writes.{AppendsFront}
 use Rattle.tsb_program.specs.Read.{HasLog, HasPlan, RefusesLog, RefusesPlanAt}
 use Rattle.tsb_program.specs.Failures.{Fails}
+use Rattle.tsb_program.specs.Lines.{Wrote}
 use Rattle.tsb_program.specs.Told.{FailsToReadFile, RefusesAt, RefusesLogText, TellsInputEnd}
 use Rattle.tsb_program.specs.tsb_plan_notes.declared.place.JsonPlace.{JsonPlace}
 use Rattle.tsb_program.specs.declared.failure.Failure.{Failure}
 use Rattle.tsb_program.specs.declared.failure.Failure.TheVariants.{Memory, Input, Write}
-use Rattle.tsb_program.specs.tsb_lines.Seen.{GoesOut, Seen}
+use Rattle.tsb_program.specs.tsb_lines.Seen.{Seen}
 use Rattle.tsb_program.specs.declared.read.ReadError.{ReadError}
 use Rattle.tsb_program.specs.declared.read.ReadError.TheVariants as faults
 use Rattle.tsb_log_text.specs.declared.error.LogError.{LogError}
@@ -21,6 +22,7 @@ use Rattle.tsb_field_display.specs.Stream.{HasNoEnd, shown_lines}
 use Rattle.tsb_field_display.specs.declared.error.ReplayError.{ReplayError}
 use Rattle.tsb_field_display.specs.declared.error.ReplayError.TheVariants as replays
 use Rattle.tsb_field_display.specs.declared.shown.Shown.{Shown}
+use Rattle.tsb_field_diagram.specs.Given.{Form}
 use Rattle.tsb_field_diagram.specs.Page.{diagram_text}
 use Rattle.tsb_field_diagram.specs.declared.ends.GreenEnd.{GreenEnd}
 use Rattle.tsb_field_display.specs.declared.events_error.EventsError.{EventsError}
@@ -29,8 +31,6 @@ use Rattle.tsb_field_display.specs.Merge.{session_events}
 use Rattle.tsb_field_display.specs.Texts.{IsLog}
 use Rattle.tsb_field_display.specs.Ticks.{AreWritten}
 use Rattle.tsb_text.specs.recording.Ended as recorded
-use Rattle.tsb_text.specs.declared.faults.OnFault.{OnFault}
-use Rattle.tsb_text.specs.declared.faults.OnFault.TheVariants.{GoOn, Stop}
 use Rattle.tsb_text.specs.declared.recording.RecordOptions.{RecordOptions}
 use Rattle.tsb_text.specs.declared.recording.Outcome.{Outcome}
 use Rattle.tsb_text.specs.declared.recording.Outcome.TheVariants as outcomes
@@ -44,9 +44,12 @@ use Rattle.tsb_words.specs.FieldProgram.{Spells}
 use Rattle.tsb_words.specs.Near.{field_near, has_bad_from}
 use Rattle.tsb_words.specs.FieldWords.{Wish, diagram, events, log, recording, reviewing, seen}
 use Rattle.tsb_words.specs.declared.field_files.Asked.{Asked}
+use Rattle.tsb_words.specs.declared.field_files.DiagramAsked.{DiagramAsked}
 use Rattle.tsb_words.specs.declared.field_files.RecordManner.{RecordManner}
 use Rattle.tsb_words.specs.declared.error.WordsError.{WordsError}
-use Rattle.tsb_field.specs.Lines.{TellsLate, TellsWords}
+use Rattle.tsb_program.specs.Devices.{Devices, OnlyTells, ReadsNothing}
+use Rattle.tsb_program.specs.Runs.{TellsWords, after_fault}
+use Rattle.tsb_field.specs.Lines.{TellsLate, usage_for}
 use Rattle.tsb_field.specs.GreenEnds.{HasEnds, NoEnds}
 use Rattle.tsb_field.specs.LogEnds.{LoggedOn}
 use Rattle.tsb_field.specs.ReviewEnds.{Reviewed}
@@ -85,12 +88,6 @@ name_of path = unwrap_or path []
 
 -- ## Texts of a session
 
--- a text is written whole, nothing is told, and the program ends with 0; or the writer failed, which is told, with a prefix
-abbrev pub Written : ℕ → List ℕ → (old new told tells : Seen) → Type 0
-Written status text old new told tells =
-    ((status ≡ 0) × GoesOut old new text × (tells ≡ told))
-    ⊎ ((new.failed ≡ true) × AppendsFront old.bytes new.bytes text × Fails Write status told tells)
-
 -- the failure of a session that was not read
 abbrev pub failure_by : ReplayError → Failure
 failure_by replays.Memory = Memory
@@ -103,11 +100,13 @@ NotDrawn failed bytes status told tells =
 
 -- all that a session answered was read, and of this text, which comes of its display lines and the log's rows, as much is
 -- written as the writer takes; or reading it or memory failed, and nothing is written
-abbrev pub Drawn : (List Shown → Option ℕ → List LogRow → List ℕ → Type 0) → ℕ → List LogRow → (input left old new told tells : Seen) → Type 0
-Drawn Is status rows input left old new told tells =
-    ((bytes : List ℕ) × Consumes input.bytes left.bytes bytes × (left.failed ≡ false) × IsAtEnd left.bytes × (text : List ℕ)
-    × Is (changes_of (remaining (shown_lines bytes))) (last_tick (shown_lines bytes)) rows text × Written status text old new told tells)
-    ⊎ ((bytes : List ℕ) × Consumes input.bytes left.bytes bytes × (new ≡ old) × NotDrawn left.failed bytes status told tells)
+abbrev pub Drawn : (List Shown → Option ℕ → List LogRow → List ℕ → Type 0) → ℕ → List LogRow → (before after : Devices) → Type 0
+Drawn Is status rows before after =
+    ((bytes : List ℕ) × Consumes before.input.bytes after.input.bytes bytes × (after.input.failed ≡ false) × IsAtEnd after.input.bytes × (text : List ℕ)
+    × Is (changes_of (remaining (shown_lines bytes))) (last_tick (shown_lines bytes)) rows text
+    × Wrote status 0 text before.output after.output before.errors after.errors)
+    ⊎ ((bytes : List ℕ) × Consumes before.input.bytes after.input.bytes bytes × (after.output ≡ before.output)
+    × NotDrawn after.input.failed bytes status before.errors after.errors)
 
 -- ## `events`
 
@@ -115,19 +114,21 @@ Drawn Is status rows input left old new told tells =
 abbrev pub IsEvents : Moment → List ℕ → List Shown → Option ℕ → List LogRow → List ℕ → Type 0
 IsEvents from device changes last rows text = IsLog from device (session_events changes rows) text
 
+-- all was read and nothing is written, since with 2 a tick has no time
+abbrev pub IsLate : Moment → ℕ → (before after : Devices) → Type 0
+IsLate from status before after =
+    (bytes : List ℕ) × Consumes before.input.bytes after.input.bytes bytes × (after.input.failed ≡ false) × (AreWritten from → ⊥)
+    × (after.output ≡ before.output) × TellsLate status before.errors after.errors
+
 -- the events of what was read are written; or nothing is: there is no log, or with 2 a tick has no time
-abbrev pub Told : ℕ → Moment → List ℕ → (List ℕ → Option (List ℕ)) → Option (List ℕ) → (input left old new told tells : Seen) → Type 0
-Told status from device files path input left old new told tells =
-    ((left ≡ input) × (new ≡ old) × Stops files path status told tells)
-    ⊎ (((rows : List LogRow) × NamesLog files path rows × Drawn (IsEvents from device) status rows input left old new told tells)
-    ⊎ ((bytes : List ℕ) × Consumes input.bytes left.bytes bytes × (left.failed ≡ false) × (AreWritten from → ⊥) × (new ≡ old)
-    × TellsLate status told tells))
+abbrev pub Told : ℕ → Moment → List ℕ → (List ℕ → Option (List ℕ)) → Option (List ℕ) → (before after : Devices) → Type 0
+Told status from device files path before after =
+    OnlyTells (Stops files path status) before after
+    ⊎ (((rows : List LogRow) × NamesLog files path rows × Drawn (IsEvents from device) status rows before after) ⊎ IsLate from status before after)
 
 -- the events of what was read are written, with these rows of a log; or nothing is, since with 2 a tick has no time
-abbrev pub ToldOn : ℕ → Moment → List ℕ → List LogRow → (input left old new told tells : Seen) → Type 0
-ToldOn status from device rows input left old new told tells =
-    Drawn (IsEvents from device) status rows input left old new told tells
-    ⊎ ((bytes : List ℕ) × Consumes input.bytes left.bytes bytes × (left.failed ≡ false) × (AreWritten from → ⊥) × (new ≡ old) × TellsLate status told tells)
+abbrev pub ToldOn : ℕ → Moment → List ℕ → List LogRow → (before after : Devices) → Type 0
+ToldOn status from device rows before after = Drawn (IsEvents from device) status rows before after ⊎ IsLate from status before after
 
 -- ## `record`
 
@@ -142,24 +143,22 @@ NoRun plan rows files status told tells =
 -- the events of the inputs that remain are written; or nothing is: memory failed, or with 2 a tick has no time
 abbrev pub Writes : ℕ → Moment → List ℕ → List Event → (old new told tells : Seen) → Type 0
 Writes status from device all old new told tells =
-    ((text : List ℕ) × IsLog from device all text × Written status text old new told tells)
+    ((text : List ℕ) × IsLog from device all text × Wrote status 0 text old new told tells)
     ⊎ (((new ≡ old) × Fails Memory status told tells)
     ⊎ ((AreWritten from → ⊥) × (new ≡ old) × TellsLate status told tells))
 
 -- the text that was made of events is written; or nothing is, since there is none
 abbrev pub WritesMade : {A : Type 0} → Result (Vec ℕ A) EventsError → ℕ → (old new told tells : Seen) → Type 0
-WritesMade (Ok text) status old new told tells = Written status text.items old new told tells
+WritesMade (Ok text) status old new told tells = Wrote status 0 text.items old new told tells
 WritesMade (Err ends.Memory) status old new told tells = (new ≡ old) × Fails Memory status told tells
 WritesMade (Err ends.Late) status old new told tells = (new ≡ old) × TellsLate status told tells
 
--- what a record does after a line with which something is wrong, as words say
-abbrev pub on_fault_of : Bool → OnFault
-on_fault_of true = GoOn
-on_fault_of false = Stop
-
--- what is asked of a record, as words say
+-- what is asked of a record, as words say: it is strict where it does not go on
 abbrev pub options_of : RecordManner → RecordOptions
-options_of manner = record { on_fault = on_fault_of manner.goes_on; form = record { recalls = manner.recalls; outputs = manner.outputs } }
+options_of manner = record {
+  on_fault = after_fault (not manner.goes_on);
+  form = record { recalls = manner.recalls; outputs = manner.outputs };
+}
 
 -- a run ended well; or with nothing written: with 4 because a line ended it, of which no more is told, or by a fault
 abbrev pub WritesEnd : Result Outcome SessionError → ℕ → Moment → List ℕ → (old new told tells : Seen) → Type 0
@@ -169,22 +168,23 @@ WritesEnd (Err fault) status from device old new told tells = (new ≡ old) × T
 
 -- commands were run on a plan and a log, and told of what was refused, by a fault of a device exactly where a call of that
 -- device has failed; and then this was written
-abbrev pub RanSo : ℕ → Moment → List ℕ → RecordOptions → Setup → (input left old new told tells : Seen) → Type 0
-RanSo status from device options given input left old new told tells =
-    (result : Result Outcome SessionError) × (mid : Seen) × recorded.Ended result options.on_fault options.form given input.bytes left.bytes told.bytes mid.bytes
-    × Blames result left.failed mid.failed mid.flushed × WritesEnd result status from device old new mid tells
+abbrev pub RanSo : ℕ → Moment → List ℕ → RecordOptions → Setup → (before after : Devices) → Type 0
+RanSo status from device options given before after =
+    (result : Result Outcome SessionError) × (mid : Seen)
+    × recorded.Ended result options.on_fault options.form given before.input.bytes after.input.bytes before.errors.bytes mid.bytes
+    × Blames result after.input.failed mid.failed mid.flushed × WritesEnd result status from device before.output after.output mid after.errors
 
 -- how `record` ended on this plan and the log in the file of this name: after a run, or with nothing read and nothing written
-abbrev pub RecordedOn : ℕ → Moment → List ℕ → RecordOptions → Plan → (rows : List ℕ) → (List ℕ → Option (List ℕ)) → (input left old new told tells : Seen) → Type 0
-RecordedOn status from device options plan rows files input left old new told tells =
-    ((log : List LogRow) × HasLog (files rows) log × RanSo status from device options (record { plan = plan; log = log }) input left old new told tells)
-    ⊎ ((left ≡ input) × (new ≡ old) × Stops files (Some rows) status told tells)
+abbrev pub RecordedOn : ℕ → Moment → List ℕ → RecordOptions → Plan → (rows : List ℕ) → (List ℕ → Option (List ℕ)) → (before after : Devices) → Type 0
+RecordedOn status from device options plan rows files before after =
+    ((log : List LogRow) × HasLog (files rows) log × RanSo status from device options (record { plan = plan; log = log }) before after)
+    ⊎ OnlyTells (Stops files (Some rows) status) before after
 
 -- how `record` ended on the files of a plan and a log, of these names: after a run, or with nothing read and nothing written
-abbrev pub Recorded : ℕ → Moment → List ℕ → RecordOptions → (plan rows : List ℕ) → (List ℕ → Option (List ℕ)) → (input left old new told tells : Seen) → Type 0
-Recorded status from device options plan rows files input left old new told tells =
-    ((given : Setup) × HasPlan (files plan) given.plan × HasLog (files rows) given.log × RanSo status from device options given input left old new told tells)
-    ⊎ ((left ≡ input) × (new ≡ old) × NoRun plan rows files status told tells)
+abbrev pub Recorded : ℕ → Moment → List ℕ → RecordOptions → (plan rows : List ℕ) → (List ℕ → Option (List ℕ)) → (before after : Devices) → Type 0
+Recorded status from device options plan rows files before after =
+    ((given : Setup) × HasPlan (files plan) given.plan × HasLog (files rows) given.log × RanSo status from device options given before after)
+    ⊎ OnlyTells (NoRun plan rows files status) before after
 
 -- ## `diagram`
 
@@ -196,62 +196,55 @@ title_of title = unwrap_or title (codes "Phase diagram")
 abbrev pub seconds_of : Option ℕ → ℕ
 seconds_of seconds = unwrap_or seconds 300
 
+-- how a diagram is laid out where words give this title, so many seconds and this moment
+abbrev pub form_of : Option (List ℕ) → Option ℕ → Option Moment → Form
+form_of title seconds from = record { title = title_of title; seconds = seconds_of seconds; from = from }
+
+-- the same of the words of `diagram`
+abbrev pub form_asked : DiagramAsked → Form
+form_asked asked = form_of (option_map (λ title. title.now) asked.title) asked.seconds_per_line asked.from
+
 -- the picture of a session
-abbrev pub IsDiagram : List ℕ → ℕ → Option Moment → List GreenEnd → List Shown → Option ℕ → List LogRow → List ℕ → Type 0
-IsDiagram title seconds from greens changes last rows text = text ≡ diagram_text title seconds from changes last rows greens
+abbrev pub IsDiagram : Form → List GreenEnd → List Shown → Option ℕ → List LogRow → List ℕ → Type 0
+IsDiagram form greens changes last rows text = text ≡ diagram_text form (record { changes = changes; last = last; rows = rows; ends = greens })
 
 -- this picture is written; or nothing is, as memory failed
 abbrev pub Draws : List ℕ → ℕ → (old new told tells : Seen) → Type 0
-Draws text status old new told tells = Written status text old new told tells ⊎ ((new ≡ old) × Fails Memory status told tells)
+Draws text status old new told tells = Wrote status 0 text old new told tells ⊎ ((new ≡ old) × Fails Memory status told tells)
 
--- the picture of what was read is written, with the ends of greens in the event log of this file; or nothing is, since it
--- has none
-abbrev pub PicturedTold : Moment → List ℕ → ℕ → List ℕ → ℕ → List LogRow → (List ℕ → Option (List ℕ)) → (input left old new told tells : Seen) → Type 0
-PicturedTold from source status title seconds rows files input left old new told tells =
-    ((left ≡ input) × (new ≡ old) × NoEnds from source files status told tells)
-    ⊎ ((greens : List GreenEnd) × HasEnds from (files source) greens
-    × Drawn (IsDiagram title seconds (Some from) greens) status rows input left old new told tells)
-
--- the same, where words name a moment to count from; or without ends
-abbrev pub PicturedBy : Option Moment → List ℕ → ℕ → List ℕ → ℕ → List LogRow → (List ℕ → Option (List ℕ)) → (input left old new told tells : Seen) → Type 0
-PicturedBy (Some from) source status title seconds rows files input left old new told tells =
-    PicturedTold from source status title seconds rows files input left old new told tells
-PicturedBy None source status title seconds rows files input left old new told tells =
-    Drawn (IsDiagram title seconds None []) status rows input left old new told tells
-
--- the same, where words name events; or without ends
-abbrev pub PicturedBeside : Option Moment → Option (List ℕ) → ℕ → List ℕ → ℕ → List LogRow → (List ℕ → Option (List ℕ)) → (input left old new told tells : Seen) → Type 0
-PicturedBeside from (Some source) status title seconds rows files input left old new told tells =
-    PicturedBy from source status title seconds rows files input left old new told tells
-PicturedBeside from None status title seconds rows files input left old new told tells =
-    Drawn (IsDiagram title seconds from []) status rows input left old new told tells
+-- the picture of what was read is written, with the ends of greens in the event log of this file, where words name one and a
+-- moment to count from; or nothing is, since that has none. Without such a file it has no ends.
+abbrev pub PicturedBeside : Option (List ℕ) → Option Moment → ℕ → Form → List LogRow → (List ℕ → Option (List ℕ)) → (before after : Devices) → Type 0
+PicturedBeside (Some source) (Some from) status form rows files before after =
+    OnlyTells (NoEnds from source files status) before after
+    ⊎ ((greens : List GreenEnd) × HasEnds from (files source) greens × Drawn (IsDiagram form greens) status rows before after)
+PicturedBeside source from status form rows files before after = Drawn (IsDiagram form []) status rows before after
 
 -- the picture of what was read is written; or nothing is, since there is no log, or no end of a green
-abbrev pub Pictured : ℕ → List ℕ → ℕ → Option Moment → Option (List ℕ) → (List ℕ → Option (List ℕ)) → Option (List ℕ) → (input left old new told tells : Seen) → Type 0
-Pictured status title seconds from source files path input left old new told tells =
-    ((left ≡ input) × (new ≡ old) × Stops files path status told tells)
-    ⊎ ((rows : List LogRow) × NamesLog files path rows
-    × PicturedBeside from source status title seconds rows files input left old new told tells)
+abbrev pub Pictured : ℕ → Form → Option (List ℕ) → (List ℕ → Option (List ℕ)) → Option (List ℕ) → (before after : Devices) → Type 0
+Pictured status form source files path before after =
+    OnlyTells (Stops files path status) before after
+    ⊎ ((rows : List LogRow) × NamesLog files path rows × PicturedBeside source form.from status form rows files before after)
 
 -- ## What is done
 
 -- what was done for a wish, where files has the known bytes of each path
-abbrev pub DidWish : Wish → ℕ → (List ℕ → Option (List ℕ)) → (input left old new told tells : Seen) → Type 0
-DidWish (log wish) status files input left old new told tells = LoggedOn wish.as_outputs status wish files input left old new told tells
-DidWish (recording from device plan file manner) status files input left old new told tells =
-    Recorded status from device (options_of manner) plan file files input left old new told tells
-DidWish (events from device path) status files input left old new told tells = Told status from device files path input left old new told tells
-DidWish (diagram path title seconds from told_by) status files input left old new told tells =
-    Pictured status (title_of title) (seconds_of seconds) from told_by files path input left old new told tells
-DidWish (reviewing plan) status files input left old new told tells = (left ≡ input) × Reviewed status plan (files plan) old new told tells
+abbrev pub DidWish : Wish → ℕ → (List ℕ → Option (List ℕ)) → (before after : Devices) → Type 0
+DidWish (log wish) status files before after = LoggedOn wish.as_outputs status wish files before after
+DidWish (recording from device plan file manner) status files before after =
+    Recorded status from device (options_of manner) plan file files before after
+DidWish (events from device path) status files before after = Told status from device files path before after
+DidWish (diagram path title seconds from told_by) status files before after =
+    Pictured status (form_of title seconds from) told_by files path before after
+DidWish (reviewing plan) status files before after = ReadsNothing (Reviewed status plan (files plan)) before after
 
 -- what was done for what the words ask, where this right word is near a bad one, or `--from` names no moment
-abbrev pub Did : Option (List ℕ) → Bool → Result Asked WordsError → ℕ → (List ℕ → Option (List ℕ)) → (input left old new told tells : Seen) → Type 0
-Did near bad_from (Ok asked) status files input left old new told tells = DidWish (seen asked) status files input left old new told tells
-Did near bad_from (Err fault) status files input left old new told tells = (left ≡ input) × (new ≡ old) × TellsWords near bad_from fault status told tells
+abbrev pub Did : Option (List ℕ) → Bool → Result Asked WordsError → ℕ → (List ℕ → Option (List ℕ)) → (before after : Devices) → Type 0
+Did near bad_from (Ok asked) status files before after = DidWish (seen asked) status files before after
+Did near bad_from (Err fault) status files before after = OnlyTells (TellsWords near (usage_for bad_from) fault status) before after
 
 -- the page that words ask for, if any, is written, with nothing read; else what the words ask was done
-abbrev pub Answered : Option (List ℕ) → List (List ℕ) → ℕ → (List ℕ → Option (List ℕ)) → (input left old new told tells : Seen) → Type 0
-Answered (Some page) words status files input left old new told tells = (left ≡ input) × Written status page old new told tells
-Answered None words status files input left old new told tells =
-    (answer : Result Asked WordsError) × Spells words answer × Did (field_near words) (has_bad_from words) answer status files input left old new told tells
+abbrev pub Answered : Option (List ℕ) → List (List ℕ) → ℕ → (List ℕ → Option (List ℕ)) → (before after : Devices) → Type 0
+Answered (Some page) words status files before after = ReadsNothing (Wrote status 0 page) before after
+Answered None words status files before after =
+    (answer : Result Asked WordsError) × Spells words answer × Did (field_near words) (has_bad_from words) answer status files before after

@@ -1,9 +1,11 @@
 -- How `log` ends, and what it has then written on its output and of faults.
 --
--- Of each stream there is what is seen before and after: `input` and `left`, `old` and `new`, `told` and `tells`.
+-- Of each stream there is what is seen before and after: `input` and `left`, `old` and `new`, `told` and `tells`. `before`
+-- and `after` are what is seen of all of them.
 use Rattle.std.specs.Prelude.{◌≡◌, ◌⊎◌, ℕ, ◌==◌, Bool, true, false, not, ◌&&◌, if◌then◌else◌, List, [], ◌∷◌, ◌++◌, Option, Some, None, Result, Ok, Err, codes}
 use Rattle.std.specs.Io.KnownBytes.{Keeps}
 use Rattle.tsb_program.specs.tsb_lines.Seen.{Seen, Tells}
+use Rattle.tsb_program.specs.Devices.{Devices, OnlyTells}
 use Rattle.tsb_program.specs.Failures.{Fails}
 use Rattle.tsb_program.specs.declared.failure.Failure.{Failure}
 use Rattle.tsb_program.specs.declared.failure.Failure.TheVariants.{Memory, Input, Write}
@@ -99,11 +101,15 @@ abbrev pub TellsWhere : Bool → List ℕ → Seen → Seen → Type 0
 TellsWhere true text told tells = Tells told tells text
 TellsWhere false text told tells = tells ≡ told
 
+-- the same by all devices
+abbrev pub LoggedBy : ℕ → LogWish → (before after : Devices) → Type 0
+LoggedBy status wish before after = Logged status wish before.input after.input before.output after.output before.errors after.errors
+
 -- a log was made as without a plan, and where it ended well and all was told, this was told behind it, or not written
-abbrev pub LoggedTelling : List ℕ → ℕ → LogWish → (input left old new told tells : Seen) → Type 0
-LoggedTelling text status wish input left old new told tells =
-    (wrote : ℕ) × (mid : Seen) × Logged wrote wish input left old new told mid × TellsWhere (wrote == 0 && not mid.failed) text mid tells
-    × (status ≡ status_told wrote tells.failed)
+abbrev pub LoggedTelling : List ℕ → ℕ → LogWish → (before after : Devices) → Type 0
+LoggedTelling text status wish before after =
+    (wrote : ℕ) × (mid : Devices) × LoggedBy wrote wish before mid × OnlyTells (TellsWhere (wrote == 0 && not mid.errors.failed) text) mid after
+    × (status ≡ status_told wrote after.errors.failed)
 
 -- why there is no plan is told: it is refused with 1, or its file or memory failed
 abbrev pub NoPlan : List ℕ → (List ℕ → Option (List ℕ)) → ℕ → Seen → Seen → Type 0
@@ -113,18 +119,19 @@ NoPlan path files status told tells =
 
 -- a log was made beside this plan, and the detectors told whose delay and extension act twice; or there is no memory, with
 -- nothing read and nothing written
-abbrev pub LoggedWith : Plan → ℕ → LogWish → (input left old new told tells : Seen) → Type 0
-LoggedWith plan status wish input left old new told tells =
-    LoggedTelling (twice_text (wires_of wish.wires) plan) status wish input left old new told tells ⊎ ((left ≡ input) × (new ≡ old) × Fails Memory status told tells)
+abbrev pub LoggedWith : Plan → ℕ → LogWish → (before after : Devices) → Type 0
+LoggedWith plan status wish before after =
+    LoggedTelling (twice_text (wires_of wish.wires) plan) status wish before after
+    ⊎ OnlyTells (Fails Memory status) before after
 
 -- a log was made beside the plan in this file, and the detectors told whose delay and extension act twice; or there is no
 -- plan, or no memory, with nothing read and nothing written
-abbrev pub LoggedBeside : List ℕ → ℕ → LogWish → (List ℕ → Option (List ℕ)) → (input left old new told tells : Seen) → Type 0
-LoggedBeside path status wish files input left old new told tells =
-    ((plan : Plan) × HasPlan (files path) plan × LoggedTelling (twice_text (wires_of wish.wires) plan) status wish input left old new told tells)
-    ⊎ ((left ≡ input) × (new ≡ old) × NoPlan path files status told tells)
+abbrev pub LoggedBeside : List ℕ → ℕ → LogWish → (List ℕ → Option (List ℕ)) → (before after : Devices) → Type 0
+LoggedBeside path status wish files before after =
+    ((plan : Plan) × HasPlan (files path) plan × LoggedTelling (twice_text (wires_of wish.wires) plan) status wish before after)
+    ⊎ OnlyTells (NoPlan path files status) before after
 
 -- how `log` ended, where words name this plan or none
-abbrev pub LoggedOn : Option (List ℕ) → ℕ → LogWish → (List ℕ → Option (List ℕ)) → (input left old new told tells : Seen) → Type 0
-LoggedOn None status wish files input left old new told tells = Logged status wish input left old new told tells
-LoggedOn (Some path) status wish files input left old new told tells = LoggedBeside path status wish files input left old new told tells
+abbrev pub LoggedOn : Option (List ℕ) → ℕ → LogWish → (List ℕ → Option (List ℕ)) → (before after : Devices) → Type 0
+LoggedOn None status wish files before after = LoggedBy status wish before after
+LoggedOn (Some path) status wish files before after = LoggedBeside path status wish files before after

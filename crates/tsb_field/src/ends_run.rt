@@ -1,15 +1,15 @@
 //! The ends of greens in the event log of a diagram.
 ghost use Rattle.tsb_field.specs.GreenEnds.{EndsIn, EndsRead, TellsNoEnds, as_filter};
 ghost use Rattle.std.specs.Prelude.{◌≡◌};
-ghost use Rattle.tsb_program.specs.tsb_lines.Seen.{seen};
+ghost use Rattle.tsb_program.specs.Devices.{OnlyTells};
 
 use crate::log_run::tell_fault;
 use std::alloc::Global;
-use std::io::Write;
+use std::io::{Read, Write};
 use tsb_event_text::Moment;
 use tsb_field_diagram::{EndsError, GreenEnd, LIMIT, read_ends};
 use tsb_field_streams::FilterError;
-use tsb_program::{FileError, Files, ReadError, Watched, fail_file, read_file};
+use tsb_program::{FileError, Files, ReadError, Streams, read_file};
 
 /// The ends of greens in the event log of the file at this path, from a moment on. Where it is too large, one byte
 /// more than the longest has is read.
@@ -43,16 +43,16 @@ fn ends_in(alloc: Global, from: Moment, text: &[u8]) -> Result<Vec<GreenEnd>, Re
 
 /// Says why an event log has no ends of greens, in a second line which file was not read, and gives the status that the
 /// program ends with.
-pub(crate) fn refuse_ends<E: Write>(
-    errors: &mut Watched<E>,
+pub(crate) fn refuse_ends<R: Read, W: Write, E: Write>(
+    streams: &mut Streams<R, W, E>,
     path: &str,
     fault: ReadError<EndsError>,
 ) -> u8
-    ensures { TellsNoEnds path.now fault result (seen E.contents errors.old) (seen E.contents errors.new) }
+    ensures { OnlyTells (TellsNoEnds path.now fault result) streams.old streams.new }
 {
     match fault {
-        ReadError::Failed(why) => fail_file(errors, path, why),
-        ReadError::Refused(why) => tell_fault(errors, as_filter(why)),
+        ReadError::Failed(why) => streams.fail_file(path, why),
+        ReadError::Refused(why) => tell_fault(streams, as_filter(why)),
     }
 }
 

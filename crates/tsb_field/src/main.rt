@@ -3,51 +3,51 @@
 //! review` says what can be wrong with a plan that runs.
 #![tactic(auto)]
 
+mod diagram_run;
 mod end;
 mod ends_run;
+mod events_run;
 mod log_run;
+mod named;
 mod outputs_run;
+mod record_run;
 mod report;
 mod review_run;
 mod run;
 mod twice;
 
-use crate::end::tell_words_fault;
+use crate::end::usage_for;
 use crate::run::run_words;
 use std::convert::AsStr;
-use std::env;
-use std::io::BufWriter;
+use std::io::{BufWriter, Write};
 use std::process::ExitCode;
-use tsb_program::{Disk, Failure, Watched, fail};
-use tsb_words::WordsError;
+use tsb_program::{Disk, Failure, Streams, Watched, words_given};
 
 /// How many bytes wait before they are written.
 const BUFFER: usize = 65_536;
 
 fn main(rt: HostRuntime) -> ExitCode {
+    let mut streams = Streams {
+        input: Watched::new(rt.stdin()),
+        output: Watched::new(rt.stdout()),
+        errors: Watched::new(rt.stderr()),
+    };
     let status = match words_given(&rt) {
-        Ok(words) => run_buffered(&rt, words.as_slice()),
-        Err(fault) => tell_words_fault(&mut Watched::new(rt.stderr()), None, false, fault),
+        Ok(words) => match BufWriter::with_capacity(rt.alloc(), BUFFER, rt.stdout()) {
+            Ok(output) => run_buffered(&rt, words.as_slice(), output),
+            Err(_) => streams.fail(Failure::Memory),
+        },
+        Err(fault) => streams.tell_words_fault(None, usage_for(false), fault),
     };
     ExitCode::from(status)
 }
 
-/// The words that the program was given, the first of which is its name.
-fn words_given(rt: &HostRuntime) -> Result<Vec<String>, WordsError> {
-    Ok(env::args(rt)?.collect(rt.alloc())?)
-}
-
 /// Does what the words ask for, with a buffer before the output, and gives the status that the program ends with.
-fn run_buffered<S: AsStr>(rt: &HostRuntime, words: &[S]) -> u8 {
-    match BufWriter::with_capacity(rt.alloc(), BUFFER, rt.stdout()) {
-        Ok(output) => run_words(
-            rt.alloc(),
-            words,
-            &Disk { rt },
-            &mut Watched::new(rt.stdin()),
-            &mut Watched::new(output),
-            &mut Watched::new(rt.stderr()),
-        ),
-        Err(_) => fail(&mut Watched::new(rt.stderr()), Failure::Memory),
-    }
+fn run_buffered<S: AsStr, W: Write>(rt: &HostRuntime, words: &[S], output: W) -> u8 {
+    let mut streams = Streams {
+        input: Watched::new(rt.stdin()),
+        output: Watched::new(output),
+        errors: Watched::new(rt.stderr()),
+    };
+    run_words(rt.alloc(), words, &Disk { rt }, &mut streams)
 }

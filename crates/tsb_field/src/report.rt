@@ -6,7 +6,7 @@ ghost use Rattle.tsb_field.specs.LogLines.{AreGaps, IsCount, IsCounted, IsGapsLi
 use std::alloc::{AllocError, Global};
 use tsb_event_text::{Moment, TimeForm, time_form_word, time_text};
 use tsb_field_streams::{Gaps, LeftOut, Summary, append_devices};
-use tsb_program::Status;
+use tsb_program::ExitStatus;
 use tsb_words::field_files::Manner;
 
 /// What is told where no row counted.
@@ -24,13 +24,13 @@ pub(crate) fn is_lost(left_out: LeftOut) -> bool
 }
 
 /// What the program ends with, where a header or a row was found.
-pub(crate) fn status_of(manner: Manner, summary: Summary) -> Status
+pub(crate) fn status_of(manner: Manner, summary: Summary) -> ExitStatus
     ensures { number result ≡ status_of manner summary }
 {
     if manner.may_be_empty || summary.heard {
-        Status::Done
+        ExitStatus::Done
     } else {
-        Status::Refused
+        ExitStatus::Refused
     }
 }
 

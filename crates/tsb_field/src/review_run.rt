@@ -1,6 +1,7 @@
 //! `review`: a plan in, the lines of what can be wrong with it out, or of where it breaks a rule.
 ghost use Rattle.std.specs.Prelude.{◌≡◌, ◌++◌, IfOk, IfSome, Ok, OnErr, OnOk, true};
 ghost use Rattle.tsb_lines.specs.Writes.{AppendsFront};
+ghost use Rattle.tsb_program.specs.Devices.{ReadsNothing};
 ghost use Rattle.tsb_program.specs.Lines.{plan_line};
 ghost use Rattle.tsb_program.specs.Statuses.{number};
 ghost use Rattle.tsb_program.specs.Told.{plan_lines};
@@ -12,82 +13,74 @@ ghost use Rattle.tsb_text.specs.tsb_plan_text.declared.error.PlanError.TheVarian
 ghost use Rattle.tsb_field.specs.ReviewEnds.{Answered, FaultAnswered, PlacesAnswered, Reviewed, RuleAnswered, TextAnswered, TextReviewed};
 
 use std::alloc::{AllocError, Global};
-use std::io::Write;
+use std::io::{Read, Write};
 use tsb_lines::WriteError;
 use tsb_plan_notes::notes;
 use tsb_plan_text::{LIMIT, PlanError, read_plan, read_unchecked};
 use tsb_program::{
-    Failure, Files, Status, Watched, fail, fail_file, plan_lines, read_file, write_line,
+    ExitStatus, Failure, Files, Streams, Watched, plan_lines, read_file, write_line,
 };
 use tsb_review_text::{write_breaches, write_review};
 use tsb_text::{Plan, Rule};
 
 /// Reviews the plan in a file, and gives the status that the program ends with. Of a file that is too large one byte more
 /// than the longest plan has is read.
-pub(crate) fn review_plan<F: Files, W: Write, E: Write>(
+pub(crate) fn review_plan<F: Files, R: Read, W: Write, E: Write>(
     alloc: Global,
     path: &str,
     files: &F,
-    output: &mut Watched<W>,
-    errors: &mut Watched<E>,
+    streams: &mut Streams<R, W, E>,
 ) -> u8
-    ensures { Reviewed result path.now (F.bytes files.now path.now)
-        (seen W.contents output.old) (seen W.contents output.new) (seen E.contents errors.old) (seen E.contents errors.new) }
+    ensures { ReadsNothing (Reviewed result path.now (F.bytes files.now path.now)) streams.old streams.new }
 {
     match read_file(alloc, files, path, LIMIT + 1) {
-        Ok(text) => review_text(alloc, &text, output, errors),
-        Err(fault) => fail_file(errors, path, fault),
+        Ok(text) => review_text(alloc, &text, streams),
+        Err(fault) => streams.fail_file(path, fault),
     }
 }
 
 /// Reviews the text of a plan.
-fn review_text<W: Write, E: Write>(
+fn review_text<R: Read, W: Write, E: Write>(
     alloc: Global,
     text: &[u8],
-    output: &mut Watched<W>,
-    errors: &mut Watched<E>,
+    streams: &mut Streams<R, W, E>,
 ) -> u8
-    ensures { TextReviewed text.now result
-        (seen W.contents output.old) (seen W.contents output.new) (seen E.contents errors.old) (seen E.contents errors.new) }
+    ensures { ReadsNothing (TextReviewed text.now result) streams.old streams.new }
 {
     match notes(alloc, text) {
-        Ok(notes) => answer_text(alloc, text, &notes, output, errors),
-        Err(_) => fail(errors, Failure::Memory),
+        Ok(notes) => answer_text(alloc, text, &notes, streams),
+        Err(_) => streams.fail(Failure::Memory),
     }
 }
 
 /// Answers the text of a plan, of which this is noted.
-fn answer_text<W: Write, E: Write>(
+fn answer_text<R: Read, W: Write, E: Write>(
     alloc: Global,
     text: &[u8],
     notes: &[u8],
-    output: &mut Watched<W>,
-    errors: &mut Watched<E>,
+    streams: &mut Streams<R, W, E>,
 ) -> u8
-    ensures { TextAnswered text.now notes.now result
-        (seen W.contents output.old) (seen W.contents output.new) (seen E.contents errors.old) (seen E.contents errors.new) }
+    ensures { ReadsNothing (TextAnswered text.now notes.now result) streams.old streams.new }
 {
     match read_plan(alloc, text) {
-        Ok(plan) => answer_plan(notes, plan.plan(), output, errors),
-        Err(PlanError::Memory) => fail(errors, Failure::Memory),
-        Err(PlanError::Rule(rule)) => answer_rule(alloc, text, rule, notes, output, errors),
-        Err(fault) => answer_fault(alloc, text, fault, notes, output, errors),
+        Ok(plan) => answer_plan(notes, plan.plan(), streams),
+        Err(PlanError::Memory) => streams.fail(Failure::Memory),
+        Err(PlanError::Rule(rule)) => answer_rule(alloc, text, rule, notes, streams),
+        Err(fault) => answer_fault(alloc, text, fault, notes, streams),
     }
 }
 
 /// Answers with what is noted of a plan's text, and the review of the plan.
-fn answer_plan<W: Write, E: Write>(
+fn answer_plan<R: Read, W: Write, E: Write>(
     notes: &[u8],
     plan: &Plan,
-    output: &mut Watched<W>,
-    errors: &mut Watched<E>,
+    streams: &mut Streams<R, W, E>,
 ) -> u8
-    ensures { Answered result 0 (notes.now ++ review_text (plan_of plan.now))
-        (seen W.contents output.old) (seen W.contents output.new) (seen E.contents errors.old) (seen E.contents errors.new) }
+    ensures { ReadsNothing (Answered result 0 (notes.now ++ review_text (plan_of plan.now))) streams.old streams.new }
 {
-    match write_lines(notes, plan, output) {
-        Ok(()) => Status::Done.number(),
-        Err(_) => fail(errors, Failure::Write),
+    match write_lines(notes, plan, &mut streams.output) {
+        Ok(()) => ExitStatus::Done.number(),
+        Err(_) => streams.fail(Failure::Write),
     }
 }
 
@@ -124,39 +117,35 @@ fn write_passed<W: Write>(plan: &Plan, output: &mut Watched<W>) -> Result<(), Wr
 
 /// Answers with the fault of a plan, as `tsb check` tells it, the place at which its text stops being JSON, and what is
 /// noted of its text.
-fn answer_fault<W: Write, E: Write>(
+fn answer_fault<R: Read, W: Write, E: Write>(
     alloc: Global,
     text: &[u8],
     fault: PlanError,
     notes: &[u8],
-    output: &mut Watched<W>,
-    errors: &mut Watched<E>,
+    streams: &mut Streams<R, W, E>,
 ) -> u8
-    ensures { FaultAnswered text.now fault notes.now result
-        (seen W.contents output.old) (seen W.contents output.new) (seen E.contents errors.old) (seen E.contents errors.new) }
+    ensures { ReadsNothing (FaultAnswered text.now fault notes.now result) streams.old streams.new }
 {
     match fault_text(alloc, text, fault, notes) {
-        Ok(text) => answer(output, errors, Status::Refused, &text),
-        Err(_) => fail(errors, Failure::Memory),
+        Ok(text) => answer(streams, ExitStatus::Refused, &text),
+        Err(_) => streams.fail(Failure::Memory),
     }
 }
 
 /// Answers with the first rule that a plan breaks, as `tsb check` tells it, what is noted of its text, and each place at
 /// which it breaks a rule.
-fn answer_rule<W: Write, E: Write>(
+fn answer_rule<R: Read, W: Write, E: Write>(
     alloc: Global,
     text: &[u8],
     rule: Rule,
     notes: &[u8],
-    output: &mut Watched<W>,
-    errors: &mut Watched<E>,
+    streams: &mut Streams<R, W, E>,
 ) -> u8
-    ensures { RuleAnswered text.now rule notes.now result
-        (seen W.contents output.old) (seen W.contents output.new) (seen E.contents errors.old) (seen E.contents errors.new) }
+    ensures { ReadsNothing (RuleAnswered text.now rule notes.now result) streams.old streams.new }
 {
     match drafted(alloc, text) {
-        Some(plan) => answer_places(alloc, &plan, rule, notes, output, errors),
-        None => fail(errors, Failure::Memory),
+        Some(plan) => answer_places(alloc, &plan, rule, notes, streams),
+        None => streams.fail(Failure::Memory),
     }
 }
 
@@ -168,36 +157,32 @@ fn drafted(alloc: Global, text: &[u8]) -> Option<Plan>
 }
 
 /// Answers with a rule that a plan breaks, what is noted of its text, and each place at which it breaks a rule.
-fn answer_places<W: Write, E: Write>(
+fn answer_places<R: Read, W: Write, E: Write>(
     alloc: Global,
     plan: &Plan,
     rule: Rule,
     notes: &[u8],
-    output: &mut Watched<W>,
-    errors: &mut Watched<E>,
+    streams: &mut Streams<R, W, E>,
 ) -> u8
-    ensures { PlacesAnswered (plan_of plan.now) rule notes.now result
-        (seen W.contents output.old) (seen W.contents output.new) (seen E.contents errors.old) (seen E.contents errors.new) }
+    ensures { ReadsNothing (PlacesAnswered (plan_of plan.now) rule notes.now result) streams.old streams.new }
 {
     match rule_text(alloc, rule, notes) {
-        Ok(text) => answer_refused(&text, plan, output, errors),
-        Err(_) => fail(errors, Failure::Memory),
+        Ok(text) => answer_refused(&text, plan, streams),
+        Err(_) => streams.fail(Failure::Memory),
     }
 }
 
 /// Answers with a text, and each place at which a plan breaks a rule.
-fn answer_refused<W: Write, E: Write>(
+fn answer_refused<R: Read, W: Write, E: Write>(
     text: &[u8],
     plan: &Plan,
-    output: &mut Watched<W>,
-    errors: &mut Watched<E>,
+    streams: &mut Streams<R, W, E>,
 ) -> u8
-    ensures { Answered result 1 (text.now ++ breaches_text (plan_of plan.now))
-        (seen W.contents output.old) (seen W.contents output.new) (seen E.contents errors.old) (seen E.contents errors.new) }
+    ensures { ReadsNothing (Answered result 1 (text.now ++ breaches_text (plan_of plan.now))) streams.old streams.new }
 {
-    match write_places(text, plan, output) {
-        Ok(()) => Status::Refused.number(),
-        Err(_) => fail(errors, Failure::Write),
+    match write_places(text, plan, &mut streams.output) {
+        Ok(()) => ExitStatus::Refused.number(),
+        Err(_) => streams.fail(Failure::Write),
     }
 }
 
@@ -255,17 +240,15 @@ fn fault_text(
 }
 
 /// Answers with a text.
-fn answer<W: Write, E: Write>(
-    output: &mut Watched<W>,
-    errors: &mut Watched<E>,
-    status: Status,
+fn answer<R: Read, W: Write, E: Write>(
+    streams: &mut Streams<R, W, E>,
+    status: ExitStatus,
     text: &[u8],
 ) -> u8
-    ensures { Answered result (number status) text.now
-        (seen W.contents output.old) (seen W.contents output.new) (seen E.contents errors.old) (seen E.contents errors.new) }
+    ensures { ReadsNothing (Answered result (number status) text.now) streams.old streams.new }
 {
-    match write_line(output, text) {
+    match write_line(&mut streams.output, text) {
         Ok(()) => status.number(),
-        Err(_) => fail(errors, Failure::Write),
+        Err(_) => streams.fail(Failure::Write),
     }
 }

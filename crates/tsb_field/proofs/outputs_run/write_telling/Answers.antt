@@ -1,11 +1,4 @@
-use Rattle.tsb_program.specs.tsb_lines.Seen.{seen}
 use Rattle.tsb_field.proofs.outputs_run.write_telling.Goals as goal
 
 pub returns : goal.returns
-returns g c = (
-  c.write_log-status.result,
-  seen g.E.Write.contents c.write_log-status.new.errors,
-  c.write_log-status.ensures,
-  c.tell_more.ensures.more,
-  c.tell_more.ensures.status,
-)
+returns g c = (c.write_log-status.result, c.write_log-status.new.streams, c.write_log-status.ensures, c.tell_more.ensures.more, c.tell_more.ensures.status)

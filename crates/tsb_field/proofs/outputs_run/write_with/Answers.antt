@@ -1,6 +1,5 @@
-use Rattle.std.proofs.Common.{◌∙◌, List, ℕ, inl, inr, refl, subst}
+use Rattle.std.proofs.Common.{◌∙◌, List, ℕ, inl, subst}
 use Rattle.tsb_field_log.specs.Mapping.{wires_of}
-use Rattle.tsb_program.specs.tsb_lines.Seen.{seen}
 use Rattle.tsb_text.specs.tsb_plan.PlanOf.{plan_of}
 use Rattle.tsb_words.specs.FieldWords.{seen_log}
 use Rattle.tsb_field.specs.LogEnds.{LoggedTelling}
@@ -9,9 +8,5 @@ use Rattle.tsb_field.proofs.outputs_run.write_with.Goals as goal
 
 pub returns-in-Ok : goal.returns-in-Ok
 returns-in-Ok g c = inl
-    (subst (λ (text : List ℕ). LoggedTelling text c.write_telling.result (seen_log c.args.asked.now) (seen g.R.Read.remaining c.args.input.now) (seen g.R.Read.remaining c.write_telling.new.input) (seen g.W.Write.contents c.args.output.now)
-    (seen g.W.Write.contents c.write_telling.new.output) (seen g.E.Write.contents c.args.errors.now) (seen g.E.Write.contents c.write_telling.new.errors))
+    (subst (λ (text : List ℕ). LoggedTelling text c.write_telling.result (seen_log c.args.asked.now) c.args.streams.now c.write_telling.new.streams)
     (c.deref-in-Ok.ensures.value ∙ (c.in-Ok.ensures ∙ (λ j. twice_text (wires_of (c.deref.ensures.value j)) (plan_of c.args.plan.now)))) c.write_telling.ensures)
-
-pub returns-in-Err : goal.returns-in-Err
-returns-in-Err g c = inr (refl, refl, c.fail.ensures)
