@@ -4,8 +4,7 @@ It finds a type whose name another crate's type has, where other modules use bot
 finds a file that a comment in `specs/` names and that is not there, from the top, from the crate or from the folder of
 the comment. And it finds numbers of crates, edits, laws, objects and cells in documents that are not those of the tree.
 
-What is known and has to wait is in `TWICE` and `OTHERS`, each with its reason. A new case of one kind is found all
-the same, as these name crates, files and numbers.
+Numbers that are of something else are in `OTHERS`, each with what it is of. A new one is found all the same.
 """
 import collections
 import itertools
@@ -36,10 +35,7 @@ WORDS = {it: k for k, it in enumerate("one two three four five six seven eight n
 LAYERS = {"desk": "tsb_transact", "detectors": "tsb_detect", "calls": "tsb_calls", "phases": "tsb_phase",
           "rings": "tsb_ring", "coordination": "tsb_coord", "preempts": "tsb_preempt"}
 
-# Names that several crates give to their types. A rename breaks written answers of proofs, so it waits for a change of
-# the crate. Types of tests, comparisons and times are not looked at.
-TWICE = {
-}
+# Types of tests, comparisons and times are not looked at.
 UNPROVED = {"tsb_tests", "tsb_field_tests", "tsb_layer_runs", "tsb_runs"}
 
 # Numbers that are of something else.
@@ -52,18 +48,15 @@ OTHERS = {
 
 
 def types_in_two_crates() -> Iterator[str]:
-    """Names of types in more crates than are known."""
+    """Names of types in more than one crate."""
     crates: dict[str, set[str]] = collections.defaultdict(set)
     for path in pathlib.Path("crates").glob("*/src/**/*.rt"):
         if path.parts[1] not in UNPROVED:
             for name in TYPE.findall(path.read_text()):
                 crates[name].add(path.parts[1])
     for name, found in sorted(crates.items()):
-        if len(found) > 1 and not found <= TWICE.get(name, set()):
+        if len(found) > 1:
             yield f"a type {name} is in each of {', '.join(sorted(found))}"
-    for name, known in TWICE.items():
-        if crates[name] != known:
-            yield f"tools/pages/tree_facts.py: {name} is no longer a type of all of {', '.join(sorted(known))}"
 
 
 def crates_without_readme() -> Iterator[str]:
