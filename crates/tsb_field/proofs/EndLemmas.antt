@@ -163,7 +163,7 @@ ends-came (Ok ends) from known text front is = (text, front, is)
 ends-came (Err (faults.Refused fault)) from known text front is = (text, front, is)
 ends-came (Err (faults.Failed why)) from known text front is = tt
 
--- why a session was not read is told
+-- why a session was not read is printed
 pub not-drawn : (fault : ReplayError) (failure : Failure) (failed : Bool) (left : Option (List ℕ)) (bytes : List ℕ) (status : ℕ) (told tells : Seen) → failure ≡ failure_by fault
     → ReadSo (Err fault) failed left bytes → Fails failure status told tells → NotDrawn failed bytes status told tells
 not-drawn replays.Memory failure failed left bytes status told tells is so fails = inr (so, subst (λ (f : Failure). Fails f status told tells) is fails)
@@ -240,7 +240,7 @@ no-plan-at fault status path files told tells has line = no-plan-here fault.why 
 
 -- ## Reviews
 
--- a review was not written whole, which is told
+-- a review was not written whole, and a line says so
 pub answer-failed : (status wanted : ℕ) (answer : List ℕ) (before after : Devices) (new : Seen) → new.failed ≡ true → AppendsFront before.output.bytes new.bytes answer
     → OnlyTells (Fails Write status) (record { input = before.input; output = new; errors = before.errors }) after → ReadsNothing (Answered status wanted answer) before after
 answer-failed status wanted answer before after new failed front fails = (
