@@ -20,10 +20,10 @@ TORN, ENDLESS, FULL = "/proc/self/mem", "/dev/zero", "/dev/full"
 # The seconds in which an answer has to come, and how long one is waited for that may not.
 SOON, NONE = 60.0, 0.02
 TRIPS, AHEAD, HUNDREDS = 200, 100, 10
-# How much more memory than the program needs to start a run short of memory may have, in KiB: a dozen limits. The last
-# leaves room for all of its inputs.
-MORE = range(4, 1900, 156)
-# The most memory that a program needs to start, in KiB.
+# How much more memory than the program needs to do anything a run short of memory may have, in KiB. The first limits have
+# no room for the stack, and the last has room for all inputs.
+MORE = range(-192, 1900, 139)
+# The most memory that a program needs to do anything, in KiB.
 MOST = 1 << 17
 
 
@@ -233,7 +233,7 @@ def within(limit: int, words: list[str | pathlib.Path], lines: bytes = b"") -> E
 
 
 def least(live: pathlib.Path) -> int:
-    """How many KiB of memory the program needs to start."""
+    """How many KiB of memory the program needs to do anything."""
     low, high = 0, MOST
     while high - low > 4:
         middle = (low + high) // 2
