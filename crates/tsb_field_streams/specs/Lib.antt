@@ -1,3 +1,5 @@
+-- which devices rows are of, and the line that names them
+pub mod Devices
 -- what lines of events come to, one after another
 pub mod Filtering
 -- how far a filter has come
@@ -12,7 +14,6 @@ pub mod Blame
 pub mod Clocks
 -- what holds of rows that are sorted within a window
 pub mod SortLaws
--- room in the line of a fault
 -- the line that tells what ended a filter
 pub mod FaultLines
 -- rows in the order of time
