@@ -178,15 +178,16 @@ not-read Is fault failure status rows before after left is so fails =
     subst (λ (s : Seen). ReplayRead (Err fault) s.failed before.input.bytes s.bytes) (sym fails.0.0) so in
     inr (read.bytes, read.taken, fails.0.1, not-drawn fault failure after.input.failed after.input.bytes read.bytes status before.errors after.errors is read.so fails.1)
 
--- a run ended so, and then this was written, with no more read
-pub ran-so : (result : Result Outcome SessionError) (status : ℕ) (from : Moment) (device : List ℕ) (options : RecordOptions) (given : Setup) (before after : Devices) (left mid : Seen)
-    → after.input ≡ left → recorded.Ended result options.on_fault options.form given before.input.bytes left.bytes before.errors.bytes mid.bytes
+-- a run ended so, with these options, and then this was written, with no more read
+pub ran-so : (result : Result Outcome SessionError) (status : ℕ) (from : Moment) (device : List ℕ) (options other : RecordOptions) (given : Setup) (before after : Devices) (left mid : Seen)
+    → other ≡ options → after.input ≡ left → recorded.Ended result other.on_fault other.form given before.input.bytes left.bytes before.errors.bytes mid.bytes
     → Blames result left.failed mid.failed mid.flushed → WritesEnd result status from device before.output after.output mid after.errors
     → RanSo status from device options given before after
-ran-so result status from device options given before after left mid same ended blames ends = (
+ran-so result status from device options other given before after left mid asked same ended blames ends = (
   result,
   mid,
-  subst (λ (s : Seen). recorded.Ended result options.on_fault options.form given before.input.bytes s.bytes before.errors.bytes mid.bytes) (sym same) ended,
+  subst (λ (s : Seen). recorded.Ended result options.on_fault options.form given before.input.bytes s.bytes before.errors.bytes mid.bytes) (sym same)
+      (subst (λ (o : RecordOptions). recorded.Ended result o.on_fault o.form given before.input.bytes left.bytes before.errors.bytes mid.bytes) asked ended),
   subst (λ (s : Seen). Blames result s.failed mid.failed mid.flushed) (sym same) blames,
   ends,
 )

@@ -2,7 +2,7 @@
 --
 -- `before` and `after` are what is seen of all devices; of the output alone that is `old` and `new`, and of faults `told`
 -- and `tells`.
-use Rattle.std.specs.Prelude.{◌≡◌, ◌⊎◌, ℕ, Bool, not, true, false, List, [], IsSome, Option, Some, None, Result, Ok, Err, Vec, option_map, unwrap_or, codes}
+use Rattle.std.specs.Prelude.{◌≡◌, ◌⊎◌, ℕ, Bool, not, false, List, [], IsSome, Option, Some, None, Result, Ok, Err, Vec, option_map, unwrap_or, codes}
 use Rattle.std.specs.Io.KnownBytes.{Consumes, IsAtEnd}
 use Rattle.tsb_program.specs.Read.{HasLog, HasPlan, RefusesLog, RefusesPlanAt}
 use Rattle.tsb_program.specs.Failures.{Fails}

@@ -43,7 +43,7 @@ fn main(rt: HostRuntime) -> ExitCode {
 }
 
 /// Does what the words ask for, with a buffer before the output, and gives the status that the program ends with.
-fn run_buffered<S: AsStr, W: Write>(rt: &HostRuntime, words: &[S], output: W) -> u8 {
+fn run_buffered<S: AsStr, W: Write + Drop>(rt: &HostRuntime, words: &[S], output: W) -> u8 {
     let mut streams = Streams {
         input: Watched::new(rt.stdin()),
         output: Watched::new(output),
