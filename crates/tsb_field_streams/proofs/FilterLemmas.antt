@@ -1,5 +1,5 @@
 -- What a filter takes, from line to line.
-use Rattle.std.proofs.Common.{Option, ◌≡◌, ℕ, ◌+◌, ◌-◌, ◌*◌, ◌/◌, ◌<◌, ◌≤◌, nat_lt, Bool, false, nat_le, max, List, [], ◌∷◌, ◌++◌, length, length-append, refl, sym, ap, ◌∙◌, arith, subst, Some, None, Result, Ok, Err, inl, inr, if◌then◌else◌}
+use Rattle.std.proofs.Common.{Option, ◌≡◌, ℕ, ◌+◌, ◌-◌, ◌*◌, ◌/◌, ◌<◌, ◌≤◌, nat_lt, Bool, true, false, nat_le, max, List, [], ◌∷◌, ◌++◌, length, length-append, refl, sym, ap, ◌∙◌, arith, subst, Some, None, Result, Ok, Err, inl, inr, if◌then◌else◌}
 use Rattle.std.proofs.Math.Nat.{div-mul-le_self}
 use Rattle.std.proofs.lemmas.Nat.{le-div}
 use Rattle.std.proofs.lemmas.Bool.{lt-ltb, le-ltb}
@@ -11,7 +11,9 @@ use Rattle.tsb_event_text.specs.Columns.{usual_of}
 use Rattle.tsb_event_text.specs.Faults.{is_preface}
 use Rattle.tsb_event_text.specs.declared.columns.Columns.{Columns}
 use Rattle.tsb_event_text.specs.declared.rows.EventRow.{EventRow}
+use Rattle.tsb_event_text.specs.Rows.{row_of}
 use Rattle.tsb_event_text.specs.declared.time_forms.TimeForm.{TimeForm}
+use Rattle.tsb_event_text.specs.declared.time_forms.TimeForm.TheVariants.{YearFirst}
 use Rattle.tsb_field_log.specs.declared.inputs.Wire.{Wire}
 use Rattle.tsb_field_log.specs.declared.inputs.Signal.{Signal}
 use Rattle.tsb_field_log.specs.declared.inputs.InputEvent.{InputEvent}
@@ -31,7 +33,7 @@ use Rattle.tsb_field_streams.specs.declared.error.FilterError.TheVariants.{TimeO
 use Rattle.tsb_field_streams.specs.declared.filter.Filter.{Filter}
 use Rattle.tsb_field_streams.specs.declared.filter.gaps.Gaps.{Gaps}
 use Rattle.tsb_field_streams.specs.declared.filter.TheConstants.{MOST_ROWS}
-use Rattle.tsb_field_streams.specs.Filtering.{Given, Stand, bound_of, disorder, lateness, most_held, with_count, with_due, with_event, with_first, with_given, with_held, with_in_order, with_late, with_passed, with_row_line, with_signal}
+use Rattle.tsb_field_streams.specs.Filtering.{Given, Stand, bound_of, disorder, lateness, most_held, with_count, with_due, with_event, with_first, with_given, with_held, with_in_order, with_formed, with_late, with_noted, with_other_line, with_passed, with_row_line, with_signal, with_some_row, may_be_plain}
 use Rattle.tsb_field_streams.specs.Standing.{StandsAt, Takes}
 
 pub none_known : (from : ℕ) (wires : List Wire) → length (rows_before from wires []) ≡ 0
@@ -169,6 +171,17 @@ row-passes g number s row rows f later told none stands =
   where
     known : rows_before g.from g.wires s.events ≡ rows_before g.from g.wires s.events ++ rows_in rows
     known = sym (ap (λ (v : List LogRow). rows_before g.from g.wires s.events ++ v) none ∙ append-nil (rows_before g.from g.wires s.events))
+
+-- a plain row, of a device that is noted
+pub plain-takes : (g : Given) (number : ℕ) (s : Stand) (text : List ℕ) (columns : Columns) (row : EventRow) (given : Result KnownRows FilterError) (f : Filter) → may_be_plain s.times ≡ true
+    → row_of columns g.device text ≡ Some row → Takes g s (with_formed g number (with_noted g s columns text) YearFirst row) given f → Takes g s (with_row_line g number s columns text) given f
+plain-takes g number s text columns row given f plain spelled takes =
+    subst (λ (come : Result Stand FilterError). Takes g s come given f) (sym is) takes
+  where
+    is : with_row_line g number s columns text ≡ with_formed g number (with_noted g s columns text) YearFirst row
+    is =
+        ap (λ (b : Bool). if b then with_some_row g number s columns text (row_of columns g.device text) else with_other_line g number s columns text) plain
+        ∙ ap (with_some_row g number s columns text) spelled
 
 -- the first row, with its columns in the usual places
 pub first-takes : (g : Given) (number : ℕ) (s : Stand) (text : List ℕ) (columns : Columns) (given : Result KnownRows FilterError) (f : Filter) → is_preface text ≡ false → columns ≡ usual_of text

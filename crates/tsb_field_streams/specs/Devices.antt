@@ -1,5 +1,6 @@
 -- Which devices rows are of, and the line that names them, with its end.
-use Rattle.std.specs.Prelude.{ℕ, ◌+◌, ◌==◌, ◌&&◌, min, nat_le, nat_lt, Bool, true, List, [], ◌++◌, list_any, set, take, if◌then◌else◌, Option, Some, None, codes, decimal, slice_get}
+use Rattle.std.specs.Prelude.{ℕ, ◌+◌, ◌==◌, ◌&&◌, min, nat_le, nat_lt, Bool, true, List, [], ◌++◌, set, take, if◌then◌else◌, Option, Some, None, codes, decimal, slice_get}
+use Rattle.std.specs.List.{list_any}
 use Rattle.std.specs.Str.{bytes_eq}
 use Rattle.tsb_event_text.specs.Faults.{device_of}
 use Rattle.tsb_event_text.specs.declared.columns.Columns.{Columns}
