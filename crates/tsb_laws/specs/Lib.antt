@@ -83,3 +83,5 @@ pub mod PlayLaws
 pub mod PlayRecords
 -- what enters where no preempt is in service
 pub mod CalledStarts
+-- when the times run out that a status shows
+pub mod TimesLeft

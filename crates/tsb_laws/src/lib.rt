@@ -8,7 +8,7 @@
 //! of 16 phases shows for a plan of version 1 what the bench of 8 shows, and `one_text` that the text of a session is
 //! one, but for memory. `play` says the laws of runs of each bench that a list of commands leaves. `operation` is how
 //! calls, greens, overlaps and preempts go on, as an engineer expects it of each run, and `starts` says what lets a phase
-//! start.
+//! start. `times_left` says that what a status shows to be left of a time is when that runs out.
 #![tactic(auto)]
 
 pub mod desk;
@@ -19,5 +19,6 @@ pub mod operation;
 pub mod play;
 pub mod safety;
 pub mod starts;
+pub mod times_left;
 pub mod versions;
 pub mod way_back;

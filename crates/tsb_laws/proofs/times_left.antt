@@ -1,0 +1,3 @@
+pub mod CountLemmas
+pub mod WalkLemmas
+pub mod Examples

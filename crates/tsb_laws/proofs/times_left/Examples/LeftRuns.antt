@@ -1,0 +1,146 @@
+-- A run from power-up that meets the premises of the laws of times that are left of a green: 2 walks for 10 ticks and clears
+-- for 10, its green lasts 20 ticks at least and its gap is 40. Without a conflict it rests; where 1 is called it maxes out after
+-- 30. And mistakes that these laws refuse.
+use Rattle.std.proofs.Common.{◌≡◌, ℕ, ◌+◌, ◌-◌, ◌≤◌, ◌==◌, Bool, true, false, not, ◌&&◌, List, [], ◌∷◌, ◌++◌, Option, Some, None, refl, ap, arith}
+use Rattle.std.proofs.lemmas.Bool.{not-true, and_parts, eqb-true}
+use Rattle.tsb_step.specs.tsb_cells.declared.timer.Timer.{Timer}
+use Rattle.tsb_step.specs.tsb_cells.declared.timer.Timer.TheVariants.{Off, On}
+use Rattle.tsb_step.specs.tsb_types.Intervals.{is_walk, is_clearance}
+use Rattle.tsb_step.specs.tsb_types.Sets.{all_off}
+use Rattle.tsb_step.specs.tsb_types.declared.row.Row.{Row}
+use Rattle.tsb_step.specs.tsb_plan.declared.object.Object.{Object}
+use Rattle.tsb_step.specs.tsb_plan.declared.object.Object.TheVariants.{PhaseWalk, PhasePedestrianClear, PhasePedRecall, PhaseMinimumGreen, PhaseMaximum1, PhasePassage, PhaseMinimumGap}
+use Rattle.tsb_step.specs.tsb_plan.Objects.{greatest}
+use Rattle.tsb_step.specs.tsb_plan.Plan.{Plan, with_values}
+use Rattle.tsb_step.specs.tsb_plan.Quad.{quad}
+use Rattle.tsb_step.specs.tsb_phase.Green.{gap}
+use Rattle.tsb_step.specs.tsb_phase.Pedestrian.{ended_by, walk_time, is_resting_in_walk}
+use Rattle.tsb_step.specs.tsb_ring.Rings.{Ring1}
+use Rattle.tsb_step.specs.tsb_rules.Rules.{first_broken}
+use Rattle.tsb_step.specs.declared.inputs.Input.{Input}
+use Rattle.tsb_step.specs.declared.inputs.Input.TheVariants.{Tick}
+use Rattle.tsb_step.specs.State.{State, pedestrian_part}
+use Rattle.tsb_step.specs.Status.{RingStatus, status}
+use Rattle.tsb_step.specs.Tick.{phases_given}
+use Rattle.tsb_step.specs.Waits.{left, phases_again, served, lack, committed_wait, free_wait, wait}
+use Rattle.tsb_step.specs.Runs.{replay, AreTaken}
+use Rattle.tsb_step.specs.Laws.{IsConsistent}
+use Rattle.tsb_step.proofs.Examples.Scenes.{opened}
+use Rattle.tsb_laws.specs.TimesLeft.{IsShown, InEachTick, KeepsWalk}
+use Rattle.tsb_laws.proofs.safety.Examples.PlanFits.{Fits, values_fit, quad_fits, consistent}
+use Rattle.tsb_laws.proofs.safety.Examples.TickRuns.{ticks}
+use Rattle.tsb_laws.proofs.times_left.Examples.TickTests.{passes, each_by, IsStretch, ticks_stretch}
+
+abbrev leaving_values : List (Object × ℕ × ℕ)
+leaving_values =
+    (PhaseWalk, 2, 1) ∷ (PhasePedestrianClear, 2, 1) ∷ (PhasePedRecall, 2, 1) ∷
+    (PhaseMinimumGreen, 2, 2) ∷ (PhaseMaximum1, 2, 3) ∷ (PhasePassage, 2, 40) ∷ (PhaseMinimumGap, 2, 40) ∷ []
+
+unfoldable pub leaving : Plan
+leaving = with_values quad leaving_values
+
+leaving_fits : Fits greatest leaving.value
+unfolding leaving
+leaving_fits = values_fit greatest leaving_values quad refl (quad_fits greatest refl refl)
+
+leaving_count : leaving.phase_count ≡ 16
+unfolding quad leaving
+leaving_count = refl
+
+breaks_none : first_broken leaving ≡ None
+unfolding opened leaving
+breaks_none = refl
+
+pub leaving_consistent : IsConsistent leaving
+leaving_consistent = consistent greatest leaving leaving_count breaks_none leaving_fits
+
+-- what is shown of ring 1, opened
+unfoldable pub shown_opened : Unit {0}
+unfolding opened leaving status served lack phases_again committed_wait free_wait wait
+shown_opened = tt
+
+-- a stretch with what is shown before it, and what each of its ticks has
+pub record Meets (base later : List Input) (Shown Each : Type 0) : Type 0 where
+  pub stretch : IsStretch leaving base later
+  pub shown : Shown
+  pub each : Each
+
+-- what the status of ring 1 shows
+abbrev pub ring_1 : State → RingStatus
+ring_1 s = (status s).ring Ring1
+
+-- a mistake: what is shown is left once the next tick has passed
+abbrev pub sooner : ℕ → Timer → ℕ
+sooner time Off = time
+sooner time (On n) = time - (n + 1)
+
+-- ## The green begins
+
+abbrev begun : List Input
+begun = Tick all_off ∷ []
+
+begun_taken : AreTaken leaving begun
+unfolding opened leaving
+begun_taken = (tt, refl)
+
+begun_at : (replay leaving begun).now ≡ 1
+unfolding opened leaving
+begun_at = refl
+
+-- the phase in service, and what is left of its walk, its initial time and its gap
+abbrev green_shown : State → Option ℕ × Option ℕ × Option ℕ × Option ℕ
+green_shown s = ((ring_1 s).phase, (ring_1 s).walk_left, (ring_1 s).initial_left, (ring_1 s).gap_left)
+
+at_begin : green_shown (replay leaving begun) ≡ (Some 2, Some 10, Some 20, Some 40)
+unfolding shown_opened
+at_begin = refl
+
+stretch_of : (n : ℕ) → n ≤ 500 → IsStretch leaving begun (ticks all_off n)
+stretch_of n few = ticks_stretch leaving all_off begun n leaving_consistent begun_taken refl (let at = begun_at in omega (arith, at, few))
+
+-- ## Its walk
+
+abbrev tests_walk : State → Row → Bool
+tests_walk s row = walk_time s.plan 2 (ended_by (phases_given s row) 2) == 10 && not (is_resting_in_walk s.plan (phases_given s row) 2)
+
+walks_on : passes tests_walk all_off (replay leaving begun) 10 ≡ true
+unfolding opened leaving
+walks_on = refl
+
+walk_is_10 : walk_time (replay leaving begun).plan 2 (ended_by (phases_again (replay leaving begun)) 2) ≡ 10
+unfolding shown_opened
+walk_is_10 = refl
+
+a_walk : Meets begun (ticks all_off 10) (IsShown (replay leaving begun) Ring1 2 (λ x. x.walk_left) 10)
+    (InEachTick (KeepsWalk 2 10 (replay leaving begun)) leaving begun (ticks all_off 10))
+a_walk = record {
+  stretch = stretch_of 10 (omega arith);
+  shown = record {
+    phase = ap (λ (x : Option ℕ × Option ℕ × Option ℕ × Option ℕ). x.0) at_begin;
+    left = ap (λ (x : Option ℕ × Option ℕ × Option ℕ × Option ℕ). x.1) at_begin;
+  };
+  each = each_by (KeepsWalk 2 10 (replay leaving begun)) tests_walk keeps leaving all_off begun 10 walks_on;
+}
+  where
+    keeps : (s : State) (row : Row) → tests_walk s row ≡ true → KeepsWalk 2 10 (replay leaving begun) s row
+    keeps s row h =
+        let both = and_parts (walk_time s.plan 2 (ended_by (phases_given s row) 2) == 10) (not (is_resting_in_walk s.plan (phases_given s row) 2)) h in
+        let ten : walk_time s.plan 2 (ended_by (phases_given s row) 2) ≡ 10 = eqb-true (walk_time s.plan 2 (ended_by (phases_given s row) 2)) 10 both.0 in
+        let shown = walk_is_10 in
+        record { time = omega (arith, ten, shown); moves_on = λ e. not-true (is_resting_in_walk s.plan (phases_given s row) 2) both.1 }
+
+-- it walks for 9 ticks more, and ends in the tenth
+abbrev parts : State → Bool × Bool
+parts s = (is_walk (pedestrian_part s 2), is_clearance (pedestrian_part s 2))
+
+walks_at_9 : parts (replay leaving (ticks all_off 9 ++ begun)) ≡ (true, false)
+unfolding opened leaving
+walks_at_9 = refl
+
+clears_at_10 : parts (replay leaving (ticks all_off 10 ++ begun)) ≡ (false, true)
+unfolding opened leaving
+clears_at_10 = refl
+
+walk_would_show_9 : sooner 10 ((replay leaving begun).phases 2).pedestrian_timer ≡ 9
+unfolding opened leaving
+walk_would_show_9 = refl

@@ -1,0 +1,57 @@
+-- What a status shows to be left of a time is when that time runs out. Each law here is the contract of a function in
+-- src/times_left.rt, and proved there. Times are in tenths of a second, which are ticks.
+--
+-- Each is of a stretch of a run, the inputs `later` that came after those of `base`, in which the time itself stays as
+-- it was shown in each tick. Other inputs may come at any place.
+use Rattle.std.specs.Prelude.{◌≡◌, ℕ, ◌+◌, ◌<◌, Bool, true, false, List, [], ◌∷◌, ◌++◌, Option, Some, max}
+use Rattle.tsb_step.specs.tsb_types.declared.row.Row.{Row}
+use Rattle.tsb_step.specs.tsb_types.Intervals.{is_walk}
+use Rattle.tsb_step.specs.tsb_plan.Plan.{Plan}
+use Rattle.tsb_step.specs.tsb_ring.Rings.{Ring}
+use Rattle.tsb_step.specs.tsb_phase.Pedestrian.{ended_by, walk_time, is_resting_in_walk}
+use Rattle.tsb_step.specs.declared.inputs.Input.{Input}
+use Rattle.tsb_step.specs.declared.inputs.Input.TheVariants.{Tick}
+use Rattle.tsb_step.specs.State.{State, pedestrian_part}
+use Rattle.tsb_step.specs.Status.{RingStatus, status}
+use Rattle.tsb_step.specs.Tick.{runs, phases_given, over}
+use Rattle.tsb_step.specs.Waits.{phases_again}
+use Rattle.tsb_step.specs.Runs.{replay, AreTaken}
+use Rattle.tsb_step.specs.Laws.{IsConsistent}
+use Rattle.tsb_laws.specs.Stretches.{IsUntripped}
+
+-- ## What is shown, and when it runs out
+
+-- the status of a ring names this phase in service, and shows so much to be left of one of its times
+pub record IsShown (s : State) (r : Ring) (p : ℕ) (shown : RingStatus → Option ℕ) (n : ℕ) : Type 0 where
+  pub phase : ((status s).ring r).phase ≡ Some p
+  pub left : shown ((status s).ring r) ≡ Some n
+
+-- the number of the tick in which so much runs out: n ticks on. What has nothing left, as where a commit has made a
+-- time shorter than has passed of it, runs out in the next tick
+abbrev pub end_of : State → ℕ → ℕ
+end_of s n = s.now + max 1 n
+
+-- each tick of the stretch has a property, by the state that the tick finds; any other input passes
+abbrev pub InEachTick : (State → Row → Type 0) → Plan → List Input → List Input → Type 0
+InEachTick fact plan base [] = Unit {0}
+InEachTick fact plan base (Tick row ∷ later) = InEachTick fact plan base later × fact (replay plan (later ++ base)) row
+InEachTick fact plan base (i ∷ later) = InEachTick fact plan base later
+
+-- a part that had so much left goes on until the tick in which that runs out, and is over with this tick
+pub record EndsThen (part : State → Bool) (plan : Plan) (base later : List Input) (n : ℕ) : Type 0 where
+  pub before : (replay plan (later ++ base)).now < end_of (replay plan base) n → part (replay plan (later ++ base)) ≡ true
+  pub at_end : (replay plan (later ++ base)).now ≡ end_of (replay plan base) n → part (replay plan (later ++ base)) ≡ false
+
+-- ## Walk and pedestrian clearance
+
+-- the walk time of p, which a preempt that ends p may cut short, is as long in the tick as it was shown; and p does not
+-- rest in walk in the tick in which the walk is to end
+pub record KeepsWalk (p n : ℕ) (shown s : State) (row : Row) : Type 0 where
+  pub time : walk_time s.plan p (ended_by (phases_given s row) p) ≡ walk_time shown.plan p (ended_by (phases_again shown) p)
+  pub moves_on : s.now + 1 ≡ end_of shown n → is_resting_in_walk s.plan (phases_given s row) p ≡ false
+
+-- A walk ends as shown.
+abbrev pub WalksEndAsShown : Type 0
+WalksEndAsShown = (plan : Plan) (base later : List Input) (r : Ring) (p n : ℕ) → IsConsistent plan → AreTaken plan (later ++ base) →
+    IsUntripped plan base later → IsShown (replay plan base) r p (λ x. x.walk_left) n →
+    InEachTick (KeepsWalk p n (replay plan base)) plan base later → EndsThen (λ s. is_walk (pedestrian_part s p)) plan base later n

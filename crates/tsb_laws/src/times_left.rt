@@ -1,0 +1,14 @@
+//! What a status shows to be left of a time is when that time runs out, each law the contract of a function that does
+//! nothing. In each tick of the stretch the time has to be as long as it was shown. What has nothing left, as where a
+//! commit made a time shorter than has passed of it, runs out in the next tick.
+ghost use Rattle.tsb_laws.specs.TimesLeft.{WalksEndAsShown};
+
+/// A walk ends as the status shows. With n ticks left it goes on up to the n-th tick, and ends in it.
+///
+/// Needs: an untripped stretch. In each of its ticks the walk time is as long as it was shown: a preempt that comes to end
+/// the phase may cut it short. In the n-th tick the phase does not rest in walk.
+/// Mistake: as of yellows (`walk_would_show_9`, `walks_at_9`, `clears_at_10`).
+/// Witness: `a_walk` of LeftRuns, of 10 ticks.
+pub fn walks_end_as_shown()
+    ensures { WalksEndAsShown }
+{}
