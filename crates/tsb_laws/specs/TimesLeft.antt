@@ -5,10 +5,10 @@
 -- it was shown in each tick. Other inputs may come at any place.
 use Rattle.std.specs.Prelude.{◌≡◌, ℕ, ◌+◌, ◌<◌, Bool, true, false, List, [], ◌∷◌, ◌++◌, Option, Some, max}
 use Rattle.tsb_step.specs.tsb_types.declared.row.Row.{Row}
-use Rattle.tsb_step.specs.tsb_types.Intervals.{is_walk}
+use Rattle.tsb_step.specs.tsb_types.Intervals.{is_walk, is_clearance}
 use Rattle.tsb_step.specs.tsb_plan.Plan.{Plan}
 use Rattle.tsb_step.specs.tsb_ring.Rings.{Ring}
-use Rattle.tsb_step.specs.tsb_phase.Pedestrian.{ended_by, walk_time, is_resting_in_walk}
+use Rattle.tsb_step.specs.tsb_phase.Pedestrian.{ended_by, walk_time, clearance_time, is_resting_in_walk}
 use Rattle.tsb_step.specs.declared.inputs.Input.{Input}
 use Rattle.tsb_step.specs.declared.inputs.Input.TheVariants.{Tick}
 use Rattle.tsb_step.specs.State.{State, pedestrian_part}
@@ -55,3 +55,14 @@ abbrev pub WalksEndAsShown : Type 0
 WalksEndAsShown = (plan : Plan) (base later : List Input) (r : Ring) (p n : ℕ) → IsConsistent plan → AreTaken plan (later ++ base) →
     IsUntripped plan base later → IsShown (replay plan base) r p (λ x. x.walk_left) n →
     InEachTick (KeepsWalk p n (replay plan base)) plan base later → EndsThen (λ s. is_walk (pedestrian_part s p)) plan base later n
+
+-- its pedestrian clearance time is
+abbrev pub KeepsClearance : ℕ → State → State → Row → Type 0
+KeepsClearance p shown s row =
+    clearance_time s.plan p (ended_by (phases_given s row) p) ≡ clearance_time shown.plan p (ended_by (phases_again shown) p)
+
+-- A pedestrian clearance ends as shown.
+abbrev pub ClearancesEndAsShown : Type 0
+ClearancesEndAsShown = (plan : Plan) (base later : List Input) (r : Ring) (p n : ℕ) → IsConsistent plan → AreTaken plan (later ++ base) →
+    IsUntripped plan base later → IsShown (replay plan base) r p (λ x. x.clearance_left) n →
+    InEachTick (KeepsClearance p (replay plan base)) plan base later → EndsThen (λ s. is_clearance (pedestrian_part s p)) plan base later n

@@ -1,7 +1,7 @@
 //! What a status shows to be left of a time is when that time runs out, each law the contract of a function that does
 //! nothing. In each tick of the stretch the time has to be as long as it was shown. What has nothing left, as where a
 //! commit made a time shorter than has passed of it, runs out in the next tick.
-ghost use Rattle.tsb_laws.specs.TimesLeft.{WalksEndAsShown};
+ghost use Rattle.tsb_laws.specs.TimesLeft.{ClearancesEndAsShown, WalksEndAsShown};
 
 /// A walk ends as the status shows. With n ticks left it goes on up to the n-th tick, and ends in it.
 ///
@@ -11,4 +11,14 @@ ghost use Rattle.tsb_laws.specs.TimesLeft.{WalksEndAsShown};
 /// Witness: `a_walk` of LeftRuns, of 10 ticks.
 pub fn walks_end_as_shown()
     ensures { WalksEndAsShown }
+{}
+
+/// A pedestrian clearance ends as the status shows. With n ticks left it goes on up to the n-th tick, and ends in it.
+///
+/// Needs: an untripped stretch. In each of its ticks the clearance time is as long as it was shown: a preempt that comes
+/// to end the phase may cut it short.
+/// Mistake: as of yellows (`clearance_would_show_9`, `clears_at_19`, `none_at_20`).
+/// Witness: `a_clearance` of LeftRuns, of 10 ticks.
+pub fn clearances_end_as_shown()
+    ensures { ClearancesEndAsShown }
 {}

@@ -7,16 +7,16 @@ use Rattle.tsb_step.specs.tsb_types.declared.interval.Interval.TheVariants.{Gree
 use Rattle.tsb_step.specs.tsb_types.declared.interval.PedestrianInterval.{PedestrianInterval}
 use Rattle.tsb_step.specs.tsb_types.declared.interval.PedestrianInterval.TheVariants.{DontWalk, Walk, PedestrianClear}
 use Rattle.tsb_step.specs.tsb_types.declared.row.Row.{Row}
-use Rattle.tsb_step.specs.tsb_types.Intervals.{is_green, is_walk}
+use Rattle.tsb_step.specs.tsb_types.Intervals.{is_green, is_walk, is_clearance}
 use Rattle.tsb_step.specs.tsb_plan.Plan.{Plan}
-use Rattle.tsb_step.specs.tsb_phase.Pedestrian.{ended_by, walk_time, clearance_time, is_resting_in_walk, walk_has_ended, pedestrian_now, pedestrian_timer_in}
+use Rattle.tsb_step.specs.tsb_phase.Pedestrian.{ended_by, walk_time, clearance_time, is_resting_in_walk, walk_has_ended, clearance_has_ended, pedestrian_now, pedestrian_timer_in}
 use Rattle.tsb_step.specs.tsb_phase.Phase.{Phase}
 use Rattle.tsb_step.specs.tsb_ring.Moves.{is_ended, is_started}
 use Rattle.tsb_step.specs.tsb_ring.Rings.{Ring}
 use Rattle.tsb_step.specs.declared.inputs.Input.{Input}
 use Rattle.tsb_step.specs.declared.inputs.Input.TheVariants.{Tick}
 use Rattle.tsb_step.specs.State.{State, interval, pedestrian_part}
-use Rattle.tsb_step.specs.Status.{status, serving, walk_left}
+use Rattle.tsb_step.specs.Status.{status, serving, walk_left, clearance_left}
 use Rattle.tsb_step.specs.Tick.{phases_given, phase_read, moves, next}
 use Rattle.tsb_step.specs.Step.{step}
 use Rattle.tsb_step.specs.Waits.{left, phases_again}
@@ -30,7 +30,7 @@ use Rattle.tsb_step.proofs.GoodLemmas.{good_run}
 use Rattle.tsb_step.proofs.TellLemmas.{starts_no_green}
 use Rattle.tsb_step.proofs.WaitedLemmas.{ended_has_lasted}
 use Rattle.tsb_laws.specs.Stretches.{IsUntripped}
-use Rattle.tsb_laws.specs.TimesLeft.{IsShown, InEachTick, EndsThen, KeepsWalk}
+use Rattle.tsb_laws.specs.TimesLeft.{IsShown, InEachTick, EndsThen, KeepsWalk, KeepsClearance}
 use Rattle.tsb_laws.proofs.operation.step.PhaseTimeLemmas.{Runs}
 use Rattle.tsb_laws.proofs.operation.green.PressedRunLemmas.{phase_stays}
 use Rattle.tsb_laws.proofs.times_left.CountLemmas.{timed_first, counted, ended, where_shown, left_on, not_long, long}
@@ -168,3 +168,93 @@ walks_end plan base later r p n ok taken dark shown each = record {
         is_walk (pedestrian_part (replay plan (Tick row ∷ is)) p) ≡ false
     ends is row k has still keeps last late x =
         walk_ends (replay plan is) row p k limit (good_run plan is ok has) still keeps.time late (keeps.moves_on (omega (arith, some, last))) x
+
+-- ## Pedestrian clearance
+
+-- a pedestrian clearance for so many ticks
+record WalksOffFor (p n : ℕ) (s : State) : Type 0 where
+  clears : pedestrian_part s p ≡ PedestrianClear
+  timer : (s.phases p).pedestrian_timer ≡ On n
+
+off_over_others : (p n : ℕ) (s : State) (i : Input) → is_tick i ≡ false → s.trip ≡ None → WalksOffFor p n s → WalksOffFor p n (step s i)
+off_over_others p n s i t dark x = record {
+  clears = phase_stays (λ y. y.pedestrian) (λ y f. refl) s i p t dark ∙ x.clears;
+  timer = phase_stays (λ y. y.pedestrian_timer) (λ y f. refl) s i p t dark ∙ x.timer;
+}
+
+cleared_by : (s : State) (row : Row) (p n time : ℕ) → clearance_time s.plan p (ended_by (phases_given s row) p) ≡ time → WalksOffFor p n s →
+    clearance_has_ended s.plan (phases_given s row) p (phase_read s p) ≡ nat_le time (n + 1)
+cleared_by s row p n time same x = rw (x.timer, same) refl
+
+module _ (s : State) (row : Row) (p n time : ℕ) (good : IsGood s) (dark : s.trip ≡ None)
+    (same : clearance_time s.plan p (ended_by (phases_given s row) p) ≡ time) (x : WalksOffFor p n s) where
+  clear_tick : GreenTick s row p
+  clear_tick = green_tick s row p good dark (walks_in_green s p good dark_not)
+    where
+      dark_not : pedestrian_part s p ≡ DontWalk → ⊥
+      dark_not h = let bad : PedestrianClear ≡ DontWalk = sym x.clears ∙ h in absurd cc
+
+  clearance_goes_on : n + 1 < time → WalksOffFor p (n + 1) (step s (Tick row))
+  unfolding pedestrian_now
+  clearance_goes_on early = record { clears = clear_tick.part ∙ now; timer = clear_tick.timer dark_now_not ∙ rw (now, x.clears, x.timer) refl }
+    where
+      late : clearance_has_ended s.plan (phases_given s row) p (phase_read s p) ≡ false
+      late = cleared_by s row p n time same x ∙ not_long time (n + 1) early
+
+      now : pedestrian_now s.plan (phases_given s row) p (phase_read s p) ≡ PedestrianClear
+      now = rw (x.clears, late) refl
+
+      dark_now_not : pedestrian_now s.plan (phases_given s row) p (phase_read s p) ≡ DontWalk → ⊥
+      dark_now_not h = let bad : PedestrianClear ≡ DontWalk = sym now ∙ h in absurd cc
+
+  clearance_ends : time ≤ n + 1 → is_clearance (pedestrian_part (step s (Tick row)) p) ≡ false
+  unfolding pedestrian_now
+  clearance_ends late = ap is_clearance clear_tick.part ∙ rw (x.clears, over) refl
+    where
+      over : clearance_has_ended s.plan (phases_given s row) p (phase_read s p) ≡ true
+      over = cleared_by s row p n time same x ∙ long time (n + 1) late
+
+shown_clearance : (s : State) (r : Ring) (p n : ℕ) → IsShown s r p (λ x. x.clearance_left) n →
+    (pedestrian_part s p ≡ PedestrianClear) × (clearance_left s p ≡ n)
+unfolding status
+shown_clearance s r p n x =
+    let it = where_shown (λ q. is_clearance (pedestrian_part s q)) (clearance_left s) (serving s r) p n x.phase x.left in
+    (named (pedestrian_part s p) it.0, it.1)
+  where
+    named : (part : PedestrianInterval) → is_clearance part ≡ true → part ≡ PedestrianClear
+    named PedestrianClear h = refl
+    named part h = cc
+
+pub clearances_end : (plan : Plan) (base later : List Input) (r : Ring) (p n : ℕ) → IsConsistent plan → AreTaken plan (later ++ base) →
+    IsUntripped plan base later → IsShown (replay plan base) r p (λ x. x.clearance_left) n →
+    InEachTick (KeepsClearance p (replay plan base)) plan base later → EndsThen (λ s. is_clearance (pedestrian_part s p)) plan base later n
+clearances_end plan base later r p n ok taken dark shown each = record {
+  before = λ early. ap is_clearance (counted plan base (KeepsClearance p (replay plan base)) (WalksOffFor p) limit run.count others goes begins later taken dark each
+      (omega (arith, some, early))).clears;
+  at_end = λ now. ended plan base (KeepsClearance p (replay plan base)) (WalksOffFor p) limit run.count others goes begins
+      (λ s. is_clearance (pedestrian_part s p) ≡ false) (λ s i t still x. ap is_clearance (phase_stays (λ y. y.pedestrian) (λ y f. refl) s i p t still) ∙ x)
+      (λ is row k has still time last late x. clearance_ends (replay plan is) row p k limit (good_run plan is ok has) still time x late)
+      later taken dark each (omega (arith, some, now));
+}
+  where
+    limit : ℕ
+    limit = clearance_time (replay plan base).plan p (ended_by (phases_again (replay plan base)) p)
+
+    parts : (pedestrian_part (replay plan base) p ≡ PedestrianClear) × (clearance_left (replay plan base) p ≡ n)
+    parts = shown_clearance (replay plan base) r p n shown
+
+    run : Runs ((replay plan base).phases p).pedestrian_timer
+    run = (timed_first plan base later ok taken dark p).clearance parts.0
+
+    some : limit - run.count ≡ n
+    some = left_on limit n run.count ((replay plan base).phases p).pedestrian_timer run.is parts.1
+
+    begins : WalksOffFor p run.count (replay plan base)
+    begins = record { clears = parts.0; timer = run.is }
+
+    others : (k : ℕ) (s : State) (i : Input) → is_tick i ≡ false → s.trip ≡ None → WalksOffFor p k s → WalksOffFor p k (step s i)
+    others k s i t still x = off_over_others p k s i t still x
+
+    goes : (is : List Input) (row : Row) (k : ℕ) → AreTaken plan is → (replay plan is).trip ≡ None → KeepsClearance p (replay plan base) (replay plan is) row →
+        k + 1 < limit → WalksOffFor p k (replay plan is) → WalksOffFor p (k + 1) (replay plan (Tick row ∷ is))
+    goes is row k has still time early x = clearance_goes_on (replay plan is) row p k limit (good_run plan is ok has) still time x early

@@ -14,7 +14,7 @@ use Rattle.tsb_step.specs.tsb_plan.Objects.{greatest}
 use Rattle.tsb_step.specs.tsb_plan.Plan.{Plan, with_values}
 use Rattle.tsb_step.specs.tsb_plan.Quad.{quad}
 use Rattle.tsb_step.specs.tsb_phase.Green.{gap}
-use Rattle.tsb_step.specs.tsb_phase.Pedestrian.{ended_by, walk_time, is_resting_in_walk}
+use Rattle.tsb_step.specs.tsb_phase.Pedestrian.{ended_by, walk_time, clearance_time, is_resting_in_walk}
 use Rattle.tsb_step.specs.tsb_ring.Rings.{Ring1}
 use Rattle.tsb_step.specs.tsb_rules.Rules.{first_broken}
 use Rattle.tsb_step.specs.declared.inputs.Input.{Input}
@@ -26,9 +26,9 @@ use Rattle.tsb_step.specs.Waits.{left, phases_again, served, lack, committed_wai
 use Rattle.tsb_step.specs.Runs.{replay, AreTaken}
 use Rattle.tsb_step.specs.Laws.{IsConsistent}
 use Rattle.tsb_step.proofs.Examples.Scenes.{opened}
-use Rattle.tsb_laws.specs.TimesLeft.{IsShown, InEachTick, KeepsWalk}
+use Rattle.tsb_laws.specs.TimesLeft.{IsShown, InEachTick, KeepsWalk, KeepsClearance}
 use Rattle.tsb_laws.proofs.safety.Examples.PlanFits.{Fits, values_fit, quad_fits, consistent}
-use Rattle.tsb_laws.proofs.safety.Examples.TickRuns.{ticks}
+use Rattle.tsb_laws.proofs.safety.Examples.TickRuns.{ticks, now_then, all_taken}
 use Rattle.tsb_laws.proofs.times_left.Examples.TickTests.{passes, each_by, IsStretch, ticks_stretch}
 
 abbrev leaving_values : List (Object × ℕ × ℕ)
@@ -144,3 +144,59 @@ clears_at_10 = refl
 walk_would_show_9 : sooner 10 ((replay leaving begun).phases 2).pedestrian_timer ≡ 9
 unfolding opened leaving
 walk_would_show_9 = refl
+
+-- ## Its pedestrian clearance
+
+abbrev walked : List Input
+walked = ticks all_off 10 ++ begun
+
+-- the phase in service, and what is left of its pedestrian clearance
+abbrev clearance_shown : State → Option ℕ × Option ℕ
+clearance_shown s = ((ring_1 s).phase, (ring_1 s).clearance_left)
+
+at_clearance : clearance_shown (replay leaving walked) ≡ (Some 2, Some 10)
+unfolding shown_opened
+at_clearance = refl
+
+abbrev tests_clearance : State → Row → Bool
+tests_clearance s row = clearance_time s.plan 2 (ended_by (phases_given s row) 2) == 10
+
+clears_on : passes tests_clearance all_off (replay leaving walked) 10 ≡ true
+unfolding opened leaving
+clears_on = refl
+
+clearance_is_10 : clearance_time (replay leaving walked).plan 2 (ended_by (phases_again (replay leaving walked)) 2) ≡ 10
+unfolding shown_opened
+clearance_is_10 = refl
+
+walked_at : (replay leaving walked).now ≡ 11
+walked_at = let at = begun_at in let clock = now_then leaving all_off begun 10 in omega (arith, at, clock)
+
+walked_taken : AreTaken leaving walked
+walked_taken = all_taken leaving all_off begun 10 begun_taken (let at = begun_at in omega (arith, at))
+
+a_clearance : Meets walked (ticks all_off 10) (IsShown (replay leaving walked) Ring1 2 (λ x. x.clearance_left) 10)
+    (InEachTick (KeepsClearance 2 (replay leaving walked)) leaving walked (ticks all_off 10))
+a_clearance = record {
+  stretch = ticks_stretch leaving all_off walked 10 leaving_consistent walked_taken refl (let at = walked_at in omega (arith, at));
+  shown = record { phase = ap (λ (x : Option ℕ × Option ℕ). x.0) at_clearance; left = ap (λ (x : Option ℕ × Option ℕ). x.1) at_clearance };
+  each = each_by (KeepsClearance 2 (replay leaving walked)) tests_clearance keeps leaving all_off walked 10 clears_on;
+}
+  where
+    keeps : (s : State) (row : Row) → tests_clearance s row ≡ true → KeepsClearance 2 (replay leaving walked) s row
+    keeps s row h =
+        let ten : clearance_time s.plan 2 (ended_by (phases_given s row) 2) ≡ 10 = eqb-true (clearance_time s.plan 2 (ended_by (phases_given s row) 2)) 10 h in
+        let shown = clearance_is_10 in
+        omega (arith, ten, shown)
+
+clears_at_19 : parts (replay leaving (ticks all_off 9 ++ walked)) ≡ (false, true)
+unfolding opened leaving
+clears_at_19 = refl
+
+none_at_20 : parts (replay leaving (ticks all_off 10 ++ walked)) ≡ (false, false)
+unfolding opened leaving
+none_at_20 = refl
+
+clearance_would_show_9 : sooner 10 ((replay leaving walked).phases 2).pedestrian_timer ≡ 9
+unfolding opened leaving
+clearance_would_show_9 = refl
