@@ -1,3 +1,4 @@
 pub mod CountLemmas
 pub mod WalkLemmas
+pub mod GreenLemmas
 pub mod Examples

@@ -4,6 +4,7 @@
 -- Each is of a stretch of a run, the inputs `later` that came after those of `base`, in which the time itself stays as
 -- it was shown in each tick. Other inputs may come at any place.
 use Rattle.std.specs.Prelude.{◌≡◌, ℕ, ◌+◌, ◌<◌, Bool, true, false, List, [], ◌∷◌, ◌++◌, Option, Some, max}
+use Rattle.tsb_step.specs.tsb_cells.Timer.{has_reached}
 use Rattle.tsb_step.specs.tsb_types.declared.row.Row.{Row}
 use Rattle.tsb_step.specs.tsb_types.Intervals.{is_walk, is_clearance}
 use Rattle.tsb_step.specs.tsb_plan.Plan.{Plan}
@@ -13,8 +14,8 @@ use Rattle.tsb_step.specs.declared.inputs.Input.{Input}
 use Rattle.tsb_step.specs.declared.inputs.Input.TheVariants.{Tick}
 use Rattle.tsb_step.specs.State.{State, pedestrian_part}
 use Rattle.tsb_step.specs.Status.{RingStatus, status}
-use Rattle.tsb_step.specs.Tick.{runs, phases_given, over}
-use Rattle.tsb_step.specs.Waits.{phases_again}
+use Rattle.tsb_step.specs.Tick.{runs, phases_given, phase_read, over}
+use Rattle.tsb_step.specs.Waits.{phases_again, time_to_last}
 use Rattle.tsb_step.specs.Runs.{replay, AreTaken}
 use Rattle.tsb_step.specs.Laws.{IsConsistent}
 use Rattle.tsb_laws.specs.Stretches.{IsUntripped}
@@ -42,6 +43,12 @@ pub record EndsThen (part : State → Bool) (plan : Plan) (base later : List Inp
   pub before : (replay plan (later ++ base)).now < end_of (replay plan base) n → part (replay plan (later ++ base)) ≡ true
   pub at_end : (replay plan (later ++ base)).now ≡ end_of (replay plan base) n → part (replay plan (later ++ base)) ≡ false
 
+-- a time that had so much left has passed in the tick in which that runs out, and in no tick before; the tick `row` comes
+-- after the stretch
+pub record PassesThen (has_passed : State → Row → Bool) (plan : Plan) (base later : List Input) (row : Row) (n : ℕ) : Type 0 where
+  pub before : (replay plan (later ++ base)).now + 1 < end_of (replay plan base) n → has_passed (replay plan (later ++ base)) row ≡ false
+  pub at_end : (replay plan (later ++ base)).now + 1 ≡ end_of (replay plan base) n → has_passed (replay plan (later ++ base)) row ≡ true
+
 -- ## Walk and pedestrian clearance
 
 -- the walk time of p, which a preempt that ends p may cut short, is as long in the tick as it was shown; and p does not
@@ -66,3 +73,21 @@ abbrev pub ClearancesEndAsShown : Type 0
 ClearancesEndAsShown = (plan : Plan) (base later : List Input) (r : Ring) (p n : ℕ) → IsConsistent plan → AreTaken plan (later ++ base) →
     IsUntripped plan base later → IsShown (replay plan base) r p (λ x. x.clearance_left) n →
     InEachTick (KeepsClearance p (replay plan base)) plan base later → EndsThen (λ s. is_clearance (pedestrian_part s p)) plan base later n
+
+-- ## A green
+
+-- the time that the green of p has to last, whatever ends it, is as long in the tick as it was shown
+abbrev pub KeepsInitial : ℕ → State → State → Row → Type 0
+KeepsInitial p shown s row =
+    time_to_last s.plan (phases_given s row) p (ended_by (phases_given s row) p)
+    ≡ time_to_last shown.plan (phases_again shown) p (ended_by (phases_again shown) p)
+
+-- the green of p has lasted that time in the tick
+abbrev pub has_lasted : ℕ → State → Row → Bool
+has_lasted p s row = has_reached (phase_read s p).timer (time_to_last s.plan (phases_given s row) p (ended_by (phases_given s row) p))
+
+-- A green has lasted its initial time as shown.
+abbrev pub InitialsPassAsShown : Type 0
+InitialsPassAsShown = (plan : Plan) (base later : List Input) (row : Row) (r : Ring) (p n : ℕ) → IsConsistent plan → AreTaken plan (later ++ base) →
+    IsUntripped plan base later → IsShown (replay plan base) r p (λ x. x.initial_left) n →
+    InEachTick (KeepsInitial p (replay plan base)) plan base (Tick row ∷ later) → PassesThen (has_lasted p) plan base later row n

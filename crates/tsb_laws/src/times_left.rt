@@ -1,7 +1,7 @@
 //! What a status shows to be left of a time is when that time runs out, each law the contract of a function that does
 //! nothing. In each tick of the stretch the time has to be as long as it was shown. What has nothing left, as where a
 //! commit made a time shorter than has passed of it, runs out in the next tick.
-ghost use Rattle.tsb_laws.specs.TimesLeft.{ClearancesEndAsShown, WalksEndAsShown};
+ghost use Rattle.tsb_laws.specs.TimesLeft.{ClearancesEndAsShown, InitialsPassAsShown, WalksEndAsShown};
 
 /// A walk ends as the status shows. With n ticks left it goes on up to the n-th tick, and ends in it.
 ///
@@ -21,4 +21,15 @@ pub fn walks_end_as_shown()
 /// Witness: `a_clearance` of LeftRuns, of 10 ticks.
 pub fn clearances_end_as_shown()
     ensures { ClearancesEndAsShown }
+{}
+
+/// A green has lasted its initial time as the status shows. With n ticks left it has lasted that time in the n-th tick,
+/// and in none before; so the green goes on until then.
+///
+/// Needs: an untripped stretch. In each of its ticks the time that the green has to last is as long as it was shown.
+/// Not said: that the green ends then, which takes a gap, a maximum, a force-off or a preempt.
+/// Mistake: as of yellows (`initial_would_show_19`, `not_in_19`, `lasts_in_20`).
+/// Witness: `an_initial` of LeftRuns, of 20 ticks.
+pub fn initials_pass_as_shown()
+    ensures { InitialsPassAsShown }
 {}

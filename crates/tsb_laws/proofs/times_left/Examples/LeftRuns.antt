@@ -22,11 +22,11 @@ use Rattle.tsb_step.specs.declared.inputs.Input.TheVariants.{Tick}
 use Rattle.tsb_step.specs.State.{State, pedestrian_part}
 use Rattle.tsb_step.specs.Status.{RingStatus, status}
 use Rattle.tsb_step.specs.Tick.{phases_given}
-use Rattle.tsb_step.specs.Waits.{left, phases_again, served, lack, committed_wait, free_wait, wait}
+use Rattle.tsb_step.specs.Waits.{left, phases_again, time_to_last, served, lack, committed_wait, free_wait, wait}
 use Rattle.tsb_step.specs.Runs.{replay, AreTaken}
 use Rattle.tsb_step.specs.Laws.{IsConsistent}
 use Rattle.tsb_step.proofs.Examples.Scenes.{opened}
-use Rattle.tsb_laws.specs.TimesLeft.{IsShown, InEachTick, KeepsWalk, KeepsClearance}
+use Rattle.tsb_laws.specs.TimesLeft.{IsShown, InEachTick, KeepsWalk, KeepsClearance, KeepsInitial, has_lasted}
 use Rattle.tsb_laws.proofs.safety.Examples.PlanFits.{Fits, values_fit, quad_fits, consistent}
 use Rattle.tsb_laws.proofs.safety.Examples.TickRuns.{ticks, now_then, all_taken}
 use Rattle.tsb_laws.proofs.times_left.Examples.TickTests.{passes, each_by, IsStretch, ticks_stretch}
@@ -200,3 +200,46 @@ none_at_20 = refl
 clearance_would_show_9 : sooner 10 ((replay leaving walked).phases 2).pedestrian_timer ≡ 9
 unfolding opened leaving
 clearance_would_show_9 = refl
+
+-- ## Its initial time
+
+abbrev tests_initial : State → Row → Bool
+tests_initial s row = time_to_last s.plan (phases_given s row) 2 (ended_by (phases_given s row) 2) == 20
+
+lasts_on : passes tests_initial all_off (replay leaving begun) 20 ≡ true
+unfolding opened leaving
+lasts_on = refl
+
+initial_is_20 : time_to_last (replay leaving begun).plan (phases_again (replay leaving begun)) 2 (ended_by (phases_again (replay leaving begun)) 2) ≡ 20
+unfolding shown_opened
+initial_is_20 = refl
+
+an_initial : Meets begun (ticks all_off 19) (IsShown (replay leaving begun) Ring1 2 (λ x. x.initial_left) 20)
+    (InEachTick (KeepsInitial 2 (replay leaving begun)) leaving begun (Tick all_off ∷ ticks all_off 19))
+an_initial = record {
+  stretch = stretch_of 19 (omega arith);
+  shown = record {
+    phase = ap (λ (x : Option ℕ × Option ℕ × Option ℕ × Option ℕ). x.0) at_begin;
+    left = ap (λ (x : Option ℕ × Option ℕ × Option ℕ × Option ℕ). x.2) at_begin;
+  };
+  each = each_by (KeepsInitial 2 (replay leaving begun)) tests_initial keeps leaving all_off begun 20 lasts_on;
+}
+  where
+    keeps : (s : State) (row : Row) → tests_initial s row ≡ true → KeepsInitial 2 (replay leaving begun) s row
+    keeps s row h =
+        let all : time_to_last s.plan (phases_given s row) 2 (ended_by (phases_given s row) 2) ≡ 20 =
+        eqb-true (time_to_last s.plan (phases_given s row) 2 (ended_by (phases_given s row) 2)) 20 h in
+        let shown = initial_is_20 in
+        omega (arith, all, shown)
+
+lasts_in_20 : has_lasted 2 (replay leaving (ticks all_off 19 ++ begun)) all_off ≡ true
+unfolding opened leaving
+lasts_in_20 = refl
+
+not_in_19 : has_lasted 2 (replay leaving (ticks all_off 18 ++ begun)) all_off ≡ false
+unfolding opened leaving
+not_in_19 = refl
+
+initial_would_show_19 : sooner 20 ((replay leaving begun).phases 2).timer ≡ 19
+unfolding opened leaving
+initial_would_show_19 = refl
