@@ -4,15 +4,18 @@
 -- Each is of a stretch of a run, the inputs `later` that came after those of `base`, in which the time itself stays as
 -- it was shown in each tick. Other inputs may come at any place.
 use Rattle.std.specs.Prelude.{◌≡◌, ℕ, ◌+◌, ◌<◌, Bool, true, false, List, [], ◌∷◌, ◌++◌, Option, Some, max}
-use Rattle.tsb_step.specs.tsb_cells.Timer.{has_reached}
+use Rattle.tsb_step.specs.tsb_cells.Timer.{is_on, has_reached}
+use Rattle.tsb_step.specs.tsb_types.declared.interval.Interval.TheVariants.{Green}
 use Rattle.tsb_step.specs.tsb_types.declared.row.Row.{Row}
 use Rattle.tsb_step.specs.tsb_types.Intervals.{is_walk, is_clearance}
 use Rattle.tsb_step.specs.tsb_plan.Plan.{Plan}
 use Rattle.tsb_step.specs.tsb_ring.Rings.{Ring}
+use Rattle.tsb_step.specs.tsb_phase.Phase.{held_of}
+use Rattle.tsb_step.specs.tsb_phase.Green.{gap, reduction_timer, gap_has_expired}
 use Rattle.tsb_step.specs.tsb_phase.Pedestrian.{ended_by, walk_time, clearance_time, is_resting_in_walk}
 use Rattle.tsb_step.specs.declared.inputs.Input.{Input}
 use Rattle.tsb_step.specs.declared.inputs.Input.TheVariants.{Tick}
-use Rattle.tsb_step.specs.State.{State, pedestrian_part}
+use Rattle.tsb_step.specs.State.{State, interval, pedestrian_part}
 use Rattle.tsb_step.specs.Status.{RingStatus, status}
 use Rattle.tsb_step.specs.Tick.{runs, phases_given, phase_read, over}
 use Rattle.tsb_step.specs.Waits.{phases_again, time_to_last}
@@ -91,3 +94,20 @@ abbrev pub InitialsPassAsShown : Type 0
 InitialsPassAsShown = (plan : Plan) (base later : List Input) (row : Row) (r : Ring) (p n : ℕ) → IsConsistent plan → AreTaken plan (later ++ base) →
     IsUntripped plan base later → IsShown (replay plan base) r p (λ x. x.initial_left) n →
     InEachTick (KeepsInitial p (replay plan base)) plan base (Tick row ∷ later) → PassesThen (has_lasted p) plan base later row n
+
+-- a green without an output, as it was where it was shown: its gap is as long in the tick. A gap that is being reduced
+-- runs out sooner
+pub record KeepsGap (p : ℕ) (shown s : State) (row : Row) : Type 0 where
+  pub green : interval s p ≡ Green
+  pub quiet : (phases_given s row).output p ≡ false
+  pub time : gap s.plan p (reduction_timer s.plan (phases_given s row) p (held_of (phase_read s p))) ≡ gap shown.plan p (shown.phases p).reduction
+
+-- the gap of p has expired in the tick
+abbrev pub has_gapped : ℕ → State → Row → Bool
+has_gapped p s row = gap_has_expired s.plan (phases_given s row) p (held_of (phase_read s p))
+
+-- A gap expires as shown, where no output was on in the tick in which it was shown: then it runs already.
+abbrev pub GapsExpireAsShown : Type 0
+GapsExpireAsShown = (plan : Plan) (base later : List Input) (row : Row) (r : Ring) (p n : ℕ) → IsConsistent plan → AreTaken plan (later ++ base) →
+    IsUntripped plan base later → IsShown (replay plan base) r p (λ x. x.gap_left) n → is_on ((replay plan base).phases p).passage ≡ true →
+    InEachTick (KeepsGap p (replay plan base)) plan base (Tick row ∷ later) → PassesThen (has_gapped p) plan base later row n

@@ -1,7 +1,7 @@
 //! What a status shows to be left of a time is when that time runs out, each law the contract of a function that does
 //! nothing. In each tick of the stretch the time has to be as long as it was shown. What has nothing left, as where a
 //! commit made a time shorter than has passed of it, runs out in the next tick.
-ghost use Rattle.tsb_laws.specs.TimesLeft.{ClearancesEndAsShown, InitialsPassAsShown, WalksEndAsShown};
+ghost use Rattle.tsb_laws.specs.TimesLeft.{ClearancesEndAsShown, GapsExpireAsShown, InitialsPassAsShown, WalksEndAsShown};
 
 /// A walk ends as the status shows. With n ticks left it goes on up to the n-th tick, and ends in it.
 ///
@@ -32,4 +32,15 @@ pub fn clearances_end_as_shown()
 /// Witness: `an_initial` of LeftRuns, of 20 ticks.
 pub fn initials_pass_as_shown()
     ensures { InitialsPassAsShown }
+{}
+
+/// A gap expires as the status shows. With n ticks left it has expired in the n-th tick, and in none before.
+///
+/// Needs: an untripped stretch. No output of the phase was on in the tick that was shown. In each tick of the stretch the
+/// phase was Green, no output of it is on, and its gap is as long as it was shown.
+/// Not said: anything of a gap that is being reduced, which runs out sooner, or of one whose output is still on.
+/// Mistake: as of yellows (`gap_would_show_39`, `not_in_39`, `expires_in_40`).
+/// Witness: `a_gap` of LeftRuns, of 40 ticks.
+pub fn gaps_expire_as_shown()
+    ensures { GapsExpireAsShown }
 {}

@@ -1,8 +1,9 @@
 -- The initial time, the gap and the maximum of a green that are shown to have so much left have passed then.
 use Rattle.std.proofs.Common.{◌≡◌, ℕ, ◌+◌, ◌-◌, ◌<◌, nat_le, Bool, true, false, List, ◌∷◌, ◌++◌, Option, Some, None, refl, sym, ap, ◌∙◌}
 use Rattle.std.proofs.lemmas.Bool.{and_parts, true≢false}
-use Rattle.tsb_step.specs.tsb_cells.declared.timer.Timer.TheVariants.{On}
-use Rattle.tsb_step.specs.tsb_cells.Timer.{has_reached}
+use Rattle.tsb_step.specs.tsb_cells.declared.timer.Timer.{Timer}
+use Rattle.tsb_step.specs.tsb_cells.declared.timer.Timer.TheVariants.{Off, On}
+use Rattle.tsb_step.specs.tsb_cells.Timer.{is_on, has_reached}
 use Rattle.tsb_step.specs.tsb_types.declared.interval.Interval.TheVariants.{Green}
 use Rattle.tsb_step.specs.tsb_types.declared.row.Row.{Row}
 use Rattle.tsb_step.specs.tsb_types.Intervals.{is_green, is_dont_walk}
@@ -19,7 +20,7 @@ use Rattle.tsb_step.specs.State.{State, interval}
 use Rattle.tsb_step.specs.Status.{status, serving, initial_left}
 use Rattle.tsb_step.specs.Tick.{phases_given, phase_read, moves, next}
 use Rattle.tsb_step.specs.Step.{step}
-use Rattle.tsb_step.specs.Waits.{left, phases_again, time_to_last}
+use Rattle.tsb_step.specs.Waits.{left, gap_left, phases_again, time_to_last}
 use Rattle.tsb_step.specs.Runs.{replay, AreTaken}
 use Rattle.tsb_step.specs.Laws.{IsConsistent}
 use Rattle.tsb_step.specs.Good.{IsGood}
@@ -29,9 +30,9 @@ use Rattle.tsb_step.proofs.GoodLemmas.{good_run}
 use Rattle.tsb_step.proofs.TellLemmas.{starts_no_green, is_in_green}
 use Rattle.tsb_step.proofs.WaitedLemmas.{ended_was_ready}
 use Rattle.tsb_laws.specs.Stretches.{IsUntripped}
-use Rattle.tsb_laws.specs.TimesLeft.{IsShown, InEachTick, PassesThen, KeepsInitial, has_lasted}
+use Rattle.tsb_laws.specs.TimesLeft.{IsShown, InEachTick, PassesThen, KeepsInitial, has_lasted, KeepsGap, has_gapped}
 use Rattle.tsb_laws.proofs.operation.step.PhaseTimeLemmas.{Runs}
-use Rattle.tsb_laws.proofs.operation.green.PressedRunLemmas.{phase_stays}
+use Rattle.tsb_laws.proofs.operation.green.PressedRunLemmas.{phase_stays, not_ended}
 use Rattle.tsb_laws.proofs.times_left.CountLemmas.{timed_first, passes_then, where_shown, left_on, not_long}
 
 no_start : (s : State) (row : Row) (p : ℕ) → IsGood s → interval s p ≡ Green → is_started (moves s row) p ≡ false
@@ -125,3 +126,71 @@ initials_pass plan base later row r p n ok taken dark shown each =
     goes : (is : List Input) (row : Row) (k : ℕ) → AreTaken plan is → (replay plan is).trip ≡ None → KeepsInitial p (replay plan base) (replay plan is) row →
         k + 1 < limit → IsGreenFor p k (replay plan is) → IsGreenFor p (k + 1) (replay plan (Tick row ∷ is))
     goes is row k has still time early x = green_goes_on (replay plan is) row p k limit (good_run plan is ok has) still time early x
+
+-- ## A timer of a green
+
+-- while the phase is Green, a timer has run for so many ticks
+RunsWhileGreen : (Phase → Timer) → ℕ → ℕ → State → Type 0
+RunsWhileGreen of p n s = interval s p ≡ Green → of (s.phases p) ≡ On n
+
+on_runs : (t : Timer) → is_on t ≡ true → Runs t
+on_runs Off h = absurd cc
+on_runs (On n) h = record { count = n; is = refl }
+
+module _ (plan : Plan) (ok : IsConsistent plan) (of : Phase → Timer) (unforced : (x : Phase) (b : Bool) → of (record x { forced = b }) ≡ of x) (p : ℕ) where
+  timer_over_others : (k : ℕ) (s : State) (i : Input) → is_tick i ≡ false → s.trip ≡ None → RunsWhileGreen of p k s → RunsWhileGreen of p k (step s i)
+  unfolding RunsWhileGreen
+  timer_over_others k s i t still x =
+      λ e. phase_stays of unforced s i p t still ∙ x (sym (phase_stays (λ y. y.interval) (λ y f. refl) s i p t still) ∙ e)
+
+  -- a tick of a green that does not end
+  timer_goes_on : (is : List Input) (row : Row) (k : ℕ) → AreTaken plan is → (replay plan is).trip ≡ None → interval (replay plan is) p ≡ Green →
+      (is_started (moves (replay plan is) row) p ≡ false → is_ended (moves (replay plan is) row) p ≡ false → of ((replay plan is).phases p) ≡ On k →
+      of ((next (replay plan is) row).phases p) ≡ On (k + 1)) →
+      RunsWhileGreen of p k (replay plan is) → RunsWhileGreen of p (k + 1) (replay plan (Tick row ∷ is))
+  unfolding RunsWhileGreen
+  timer_goes_on is row k has still green runs_on x = λ e.
+      ap (λ (f : ℕ → Phase). of (f p)) (phases_then (replay plan is) row still)
+      ∙ runs_on starts (not_ended (replay plan is) row p green starts (sym (ap (λ (f : ℕ → Phase). (f p).interval) (phases_then (replay plan is) row still)) ∙ e)) (x green)
+    where
+      starts : is_started (moves (replay plan is) row) p ≡ false
+      starts = no_start (replay plan is) row p (good_run plan is ok has) green
+
+-- ## The gap
+
+shown_gap : (s : State) (r : Ring) (p n : ℕ) → IsShown s r p (λ x. x.gap_left) n → (is_green (interval s p) ≡ true) × (gap_left s.plan p (s.phases p) ≡ n)
+unfolding status
+shown_gap s r p n x = where_shown (λ q. is_green (interval s q)) (λ q. gap_left s.plan q (s.phases q)) (serving s r) p n x.phase x.left
+
+gap_by : (plan : Plan) (p n k : ℕ) (x : Phase) → x.passage ≡ On k → gap_left plan p x ≡ n → gap plan p x.reduction - k ≡ n
+gap_by plan p n k x e h = rw e at h
+
+pub gaps_expire : (plan : Plan) (base later : List Input) (row : Row) (r : Ring) (p n : ℕ) → IsConsistent plan → AreTaken plan (later ++ base) →
+    IsUntripped plan base later → IsShown (replay plan base) r p (λ x. x.gap_left) n → is_on ((replay plan base).phases p).passage ≡ true →
+    InEachTick (KeepsGap p (replay plan base)) plan base (Tick row ∷ later) → PassesThen (has_gapped p) plan base later row n
+unfolding RunsWhileGreen
+gaps_expire plan base later row r p n ok taken dark shown on each =
+    passes_then plan base (KeepsGap p (replay plan base)) (RunsWhileGreen (λ y. y.passage) p) limit run.count
+    (timer_over_others plan ok (λ y. y.passage) (λ y f. refl) p) goes begins (has_gapped p) reads later row n some taken dark each
+  where
+    limit : ℕ
+    limit = gap (replay plan base).plan p ((replay plan base).phases p).reduction
+
+    run : Runs ((replay plan base).phases p).passage
+    run = on_runs ((replay plan base).phases p).passage on
+
+    some : limit - run.count ≡ n
+    some = gap_by (replay plan base).plan p n run.count ((replay plan base).phases p) run.is (shown_gap (replay plan base) r p n shown).1
+
+    begins : RunsWhileGreen (λ y. y.passage) p run.count (replay plan base)
+    begins = λ e. run.is
+
+    goes : (is : List Input) (row : Row) (k : ℕ) → AreTaken plan is → (replay plan is).trip ≡ None → KeepsGap p (replay plan base) (replay plan is) row →
+        k + 1 < limit → RunsWhileGreen (λ y. y.passage) p k (replay plan is) → RunsWhileGreen (λ y. y.passage) p (k + 1) (replay plan (Tick row ∷ is))
+    goes is row k has still keeps early x =
+        timer_goes_on plan ok (λ y. y.passage) (λ y f. refl) p is row k has still keeps.green
+        (λ starts ends timer. rw (starts, keeps.green, ends, keeps.quiet, timer) refl) x
+
+    reads : (is : List Input) (row : Row) (k : ℕ) → AreTaken plan is → KeepsGap p (replay plan base) (replay plan is) row →
+        RunsWhileGreen (λ y. y.passage) p k (replay plan is) → has_gapped p (replay plan is) row ≡ nat_le limit (k + 1)
+    reads is row k has keeps x = rw (keeps.quiet, keeps.time, x keeps.green) refl

@@ -5,7 +5,8 @@ use Rattle.std.proofs.Common.{◌≡◌, ℕ, ◌+◌, ◌-◌, ◌≤◌, ◌==
 use Rattle.std.proofs.lemmas.Bool.{not-true, and_parts, eqb-true}
 use Rattle.tsb_step.specs.tsb_cells.declared.timer.Timer.{Timer}
 use Rattle.tsb_step.specs.tsb_cells.declared.timer.Timer.TheVariants.{Off, On}
-use Rattle.tsb_step.specs.tsb_types.Intervals.{is_walk, is_clearance}
+use Rattle.tsb_step.specs.tsb_cells.Timer.{is_on}
+use Rattle.tsb_step.specs.tsb_types.Intervals.{is_green, is_walk, is_clearance}
 use Rattle.tsb_step.specs.tsb_types.Sets.{all_off}
 use Rattle.tsb_step.specs.tsb_types.declared.row.Row.{Row}
 use Rattle.tsb_step.specs.tsb_plan.declared.object.Object.{Object}
@@ -13,20 +14,22 @@ use Rattle.tsb_step.specs.tsb_plan.declared.object.Object.TheVariants.{PhaseWalk
 use Rattle.tsb_step.specs.tsb_plan.Objects.{greatest}
 use Rattle.tsb_step.specs.tsb_plan.Plan.{Plan, with_values}
 use Rattle.tsb_step.specs.tsb_plan.Quad.{quad}
-use Rattle.tsb_step.specs.tsb_phase.Green.{gap}
+use Rattle.tsb_step.specs.tsb_phase.Green.{gap, reduction_timer}
 use Rattle.tsb_step.specs.tsb_phase.Pedestrian.{ended_by, walk_time, clearance_time, is_resting_in_walk}
+use Rattle.tsb_step.specs.tsb_phase.Phase.{held_of}
 use Rattle.tsb_step.specs.tsb_ring.Rings.{Ring1}
 use Rattle.tsb_step.specs.tsb_rules.Rules.{first_broken}
 use Rattle.tsb_step.specs.declared.inputs.Input.{Input}
 use Rattle.tsb_step.specs.declared.inputs.Input.TheVariants.{Tick}
-use Rattle.tsb_step.specs.State.{State, pedestrian_part}
+use Rattle.tsb_step.specs.State.{State, interval, pedestrian_part}
 use Rattle.tsb_step.specs.Status.{RingStatus, status}
-use Rattle.tsb_step.specs.Tick.{phases_given}
+use Rattle.tsb_step.specs.Tick.{phases_given, phase_read}
 use Rattle.tsb_step.specs.Waits.{left, phases_again, time_to_last, served, lack, committed_wait, free_wait, wait}
 use Rattle.tsb_step.specs.Runs.{replay, AreTaken}
 use Rattle.tsb_step.specs.Laws.{IsConsistent}
+use Rattle.tsb_step.proofs.TellLemmas.{is_in_green}
 use Rattle.tsb_step.proofs.Examples.Scenes.{opened}
-use Rattle.tsb_laws.specs.TimesLeft.{IsShown, InEachTick, KeepsWalk, KeepsClearance, KeepsInitial, has_lasted}
+use Rattle.tsb_laws.specs.TimesLeft.{IsShown, InEachTick, KeepsWalk, KeepsClearance, KeepsInitial, has_lasted, KeepsGap, has_gapped}
 use Rattle.tsb_laws.proofs.safety.Examples.PlanFits.{Fits, values_fit, quad_fits, consistent}
 use Rattle.tsb_laws.proofs.safety.Examples.TickRuns.{ticks, now_then, all_taken}
 use Rattle.tsb_laws.proofs.times_left.Examples.TickTests.{passes, each_by, IsStretch, ticks_stretch}
@@ -243,3 +246,56 @@ not_in_19 = refl
 initial_would_show_19 : sooner 20 ((replay leaving begun).phases 2).timer ≡ 19
 unfolding opened leaving
 initial_would_show_19 = refl
+
+-- ## Its gap
+
+abbrev tests_gap : State → Row → Bool
+tests_gap s row =
+    is_green (interval s 2) && (not ((phases_given s row).output 2)
+    && gap s.plan 2 (reduction_timer s.plan (phases_given s row) 2 (held_of (phase_read s 2))) == 40)
+
+rests_on : passes tests_gap all_off (replay leaving begun) 40 ≡ true
+unfolding opened leaving
+rests_on = refl
+
+gap_is_40 : gap (replay leaving begun).plan 2 ((replay leaving begun).phases 2).reduction ≡ 40
+unfolding opened leaving
+gap_is_40 = refl
+
+has_no_output : is_on ((replay leaving begun).phases 2).passage ≡ true
+unfolding opened leaving
+has_no_output = refl
+
+a_gap : Meets begun (ticks all_off 39) (IsShown (replay leaving begun) Ring1 2 (λ x. x.gap_left) 40)
+    (InEachTick (KeepsGap 2 (replay leaving begun)) leaving begun (Tick all_off ∷ ticks all_off 39))
+a_gap = record {
+  stretch = stretch_of 39 (omega arith);
+  shown = record {
+    phase = ap (λ (x : Option ℕ × Option ℕ × Option ℕ × Option ℕ). x.0) at_begin;
+    left = ap (λ (x : Option ℕ × Option ℕ × Option ℕ × Option ℕ). x.3) at_begin;
+  };
+  each = each_by (KeepsGap 2 (replay leaving begun)) tests_gap keeps leaving all_off begun 40 rests_on;
+}
+  where
+    keeps : (s : State) (row : Row) → tests_gap s row ≡ true → KeepsGap 2 (replay leaving begun) s row
+    keeps s row h =
+        let outer = and_parts (is_green (interval s 2)) (not ((phases_given s row).output 2)
+        && gap s.plan 2 (reduction_timer s.plan (phases_given s row) 2 (held_of (phase_read s 2))) == 40) h in
+        let inner = and_parts (not ((phases_given s row).output 2))
+        (gap s.plan 2 (reduction_timer s.plan (phases_given s row) 2 (held_of (phase_read s 2))) == 40) outer.1 in
+        let now : gap s.plan 2 (reduction_timer s.plan (phases_given s row) 2 (held_of (phase_read s 2))) ≡ 40 =
+        eqb-true (gap s.plan 2 (reduction_timer s.plan (phases_given s row) 2 (held_of (phase_read s 2)))) 40 inner.1 in
+        let shown = gap_is_40 in
+        record { green = is_in_green (interval s 2) outer.0; quiet = not-true ((phases_given s row).output 2) inner.0; time = omega (arith, now, shown) }
+
+expires_in_40 : has_gapped 2 (replay leaving (ticks all_off 39 ++ begun)) all_off ≡ true
+unfolding opened leaving
+expires_in_40 = refl
+
+not_in_39 : has_gapped 2 (replay leaving (ticks all_off 38 ++ begun)) all_off ≡ false
+unfolding opened leaving
+not_in_39 = refl
+
+gap_would_show_39 : sooner 40 ((replay leaving begun).phases 2).passage ≡ 39
+unfolding opened leaving
+gap_would_show_39 = refl
