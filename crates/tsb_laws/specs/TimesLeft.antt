@@ -11,7 +11,7 @@ use Rattle.tsb_step.specs.tsb_types.Intervals.{is_walk, is_clearance}
 use Rattle.tsb_step.specs.tsb_plan.Plan.{Plan}
 use Rattle.tsb_step.specs.tsb_ring.Rings.{Ring}
 use Rattle.tsb_step.specs.tsb_phase.Phase.{held_of}
-use Rattle.tsb_step.specs.tsb_phase.Green.{gap, reduction_timer, gap_has_expired}
+use Rattle.tsb_step.specs.tsb_phase.Green.{gap, reduction_timer, gap_has_expired, acting_maximum, has_maxed_out}
 use Rattle.tsb_step.specs.tsb_phase.Pedestrian.{ended_by, walk_time, clearance_time, is_resting_in_walk}
 use Rattle.tsb_step.specs.declared.inputs.Input.{Input}
 use Rattle.tsb_step.specs.declared.inputs.Input.TheVariants.{Tick}
@@ -111,3 +111,19 @@ abbrev pub GapsExpireAsShown : Type 0
 GapsExpireAsShown = (plan : Plan) (base later : List Input) (row : Row) (r : Ring) (p n : ℕ) → IsConsistent plan → AreTaken plan (later ++ base) →
     IsUntripped plan base later → IsShown (replay plan base) r p (λ x. x.gap_left) n → is_on ((replay plan base).phases p).passage ≡ true →
     InEachTick (KeepsGap p (replay plan base)) plan base (Tick row ∷ later) → PassesThen (has_gapped p) plan base later row n
+
+-- a green that has a conflict in the tick, and the maximum that acts on it is as long as it was shown
+pub record KeepsMaximum (p : ℕ) (shown s : State) (row : Row) : Type 0 where
+  pub green : interval s p ≡ Green
+  pub conflict : (phases_given s row).conflict p ≡ true
+  pub time : acting_maximum s.plan (runs s) p (s.phases p).running_maximum ≡ acting_maximum shown.plan (runs shown) p (shown.phases p).running_maximum
+
+-- p has maxed out in the tick
+abbrev pub is_maxed_out : ℕ → State → Row → Bool
+is_maxed_out p s row = has_maxed_out s.plan (phases_given s row) p (held_of (phase_read s p)) (s.phases p).running_maximum
+
+-- A green maxes out as shown.
+abbrev pub MaximumsPassAsShown : Type 0
+MaximumsPassAsShown = (plan : Plan) (base later : List Input) (row : Row) (r : Ring) (p n : ℕ) → IsConsistent plan → AreTaken plan (later ++ base) →
+    IsUntripped plan base later → IsShown (replay plan base) r p (λ x. x.maximum_left) n →
+    InEachTick (KeepsMaximum p (replay plan base)) plan base (Tick row ∷ later) → PassesThen (is_maxed_out p) plan base later row n

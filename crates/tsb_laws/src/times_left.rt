@@ -1,7 +1,7 @@
 //! What a status shows to be left of a time is when that time runs out, each law the contract of a function that does
 //! nothing. In each tick of the stretch the time has to be as long as it was shown. What has nothing left, as where a
 //! commit made a time shorter than has passed of it, runs out in the next tick.
-ghost use Rattle.tsb_laws.specs.TimesLeft.{ClearancesEndAsShown, GapsExpireAsShown, InitialsPassAsShown, WalksEndAsShown};
+ghost use Rattle.tsb_laws.specs.TimesLeft.{ClearancesEndAsShown, GapsExpireAsShown, InitialsPassAsShown, MaximumsPassAsShown, WalksEndAsShown};
 
 /// A walk ends as the status shows. With n ticks left it goes on up to the n-th tick, and ends in it.
 ///
@@ -43,4 +43,16 @@ pub fn initials_pass_as_shown()
 /// Witness: `a_gap` of LeftRuns, of 40 ticks.
 pub fn gaps_expire_as_shown()
     ensures { GapsExpireAsShown }
+{}
+
+/// A green maxes out as the status shows. With n ticks left it has maxed out in the n-th tick, and in none before.
+///
+/// Needs: an untripped stretch. In each of its ticks the phase was Green and has a conflict, and the maximum that acts on
+/// it is as long as it was shown.
+/// Not said: that the green ends then: its walk and its initial time come first, and the barrier may keep it.
+/// Mistake: a maximum that is shown from the beginning of the green (`maximum_would_show_29`, `not_maxed_in_29`,
+/// `maxes_out_in_30`).
+/// Witness: `a_maximum` of LeftRuns, of 30 ticks.
+pub fn maximums_pass_as_shown()
+    ensures { MaximumsPassAsShown }
 {}

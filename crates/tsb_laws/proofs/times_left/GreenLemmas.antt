@@ -1,5 +1,5 @@
 -- The initial time, the gap and the maximum of a green that are shown to have so much left have passed then.
-use Rattle.std.proofs.Common.{◌≡◌, ℕ, ◌+◌, ◌-◌, ◌<◌, nat_le, Bool, true, false, List, ◌∷◌, ◌++◌, Option, Some, None, refl, sym, ap, ◌∙◌}
+use Rattle.std.proofs.Common.{◌≡◌, ℕ, ◌+◌, ◌-◌, ◌<◌, nat_le, Bool, true, false, ◌&&◌, if◌then◌else◌, List, ◌∷◌, ◌++◌, Option, Some, None, option_map, refl, sym, ap, ◌∙◌}
 use Rattle.std.proofs.lemmas.Bool.{and_parts, true≢false}
 use Rattle.tsb_step.specs.tsb_cells.declared.timer.Timer.{Timer}
 use Rattle.tsb_step.specs.tsb_cells.declared.timer.Timer.TheVariants.{Off, On}
@@ -8,7 +8,7 @@ use Rattle.tsb_step.specs.tsb_types.declared.interval.Interval.TheVariants.{Gree
 use Rattle.tsb_step.specs.tsb_types.declared.row.Row.{Row}
 use Rattle.tsb_step.specs.tsb_types.Intervals.{is_green, is_dont_walk}
 use Rattle.tsb_step.specs.tsb_plan.Plan.{Plan}
-use Rattle.tsb_step.specs.tsb_phase.Green.{gap, initial_has_passed}
+use Rattle.tsb_step.specs.tsb_phase.Green.{gap, initial_has_passed, acting_maximum}
 use Rattle.tsb_step.specs.tsb_phase.Pedestrian.{ended_by, pedestrian_now}
 use Rattle.tsb_step.specs.tsb_phase.Phase.{Phase, Given, held_of}
 use Rattle.tsb_step.specs.tsb_phase.Ready.{is_ready, green_is_done, may_end}
@@ -17,8 +17,8 @@ use Rattle.tsb_step.specs.tsb_ring.Rings.{Ring}
 use Rattle.tsb_step.specs.declared.inputs.Input.{Input}
 use Rattle.tsb_step.specs.declared.inputs.Input.TheVariants.{Tick}
 use Rattle.tsb_step.specs.State.{State, interval}
-use Rattle.tsb_step.specs.Status.{status, serving, initial_left}
-use Rattle.tsb_step.specs.Tick.{phases_given, phase_read, moves, next}
+use Rattle.tsb_step.specs.Status.{status, serving, where_has, initial_left, maximum_left}
+use Rattle.tsb_step.specs.Tick.{runs, phases_given, phase_read, moves, next}
 use Rattle.tsb_step.specs.Step.{step}
 use Rattle.tsb_step.specs.Waits.{left, gap_left, phases_again, time_to_last}
 use Rattle.tsb_step.specs.Runs.{replay, AreTaken}
@@ -30,7 +30,7 @@ use Rattle.tsb_step.proofs.GoodLemmas.{good_run}
 use Rattle.tsb_step.proofs.TellLemmas.{starts_no_green, is_in_green}
 use Rattle.tsb_step.proofs.WaitedLemmas.{ended_was_ready}
 use Rattle.tsb_laws.specs.Stretches.{IsUntripped}
-use Rattle.tsb_laws.specs.TimesLeft.{IsShown, InEachTick, PassesThen, KeepsInitial, has_lasted, KeepsGap, has_gapped}
+use Rattle.tsb_laws.specs.TimesLeft.{IsShown, InEachTick, PassesThen, KeepsInitial, has_lasted, KeepsGap, has_gapped, KeepsMaximum, is_maxed_out}
 use Rattle.tsb_laws.proofs.operation.step.PhaseTimeLemmas.{Runs}
 use Rattle.tsb_laws.proofs.operation.green.PressedRunLemmas.{phase_stays, not_ended}
 use Rattle.tsb_laws.proofs.times_left.CountLemmas.{timed_first, passes_then, where_shown, left_on, not_long}
@@ -194,3 +194,72 @@ gaps_expire plan base later row r p n ok taken dark shown on each =
     reads : (is : List Input) (row : Row) (k : ℕ) → AreTaken plan is → KeepsGap p (replay plan base) (replay plan is) row →
         RunsWhileGreen (λ y. y.passage) p k (replay plan is) → has_gapped p (replay plan is) row ≡ nat_le limit (k + 1)
     reads is row k has keeps x = rw (keeps.quiet, keeps.time, x keeps.green) refl
+
+-- ## The maximum
+
+-- a maximum acts, and so much is left of it
+record Acts (o : Option ℕ) (t : Timer) (n : ℕ) : Type 0 where
+  most : ℕ
+  is : o ≡ Some most
+  some : left most t ≡ n
+
+acts : (o : Option ℕ) (t : Timer) (n : ℕ) → option_map (λ m. left m t) o ≡ Some n → Acts o t n
+acts None t n h = absurd cc
+acts (Some m) t n h = record { most = m; is = refl; some = cc }
+
+shown_maximum : (s : State) (r : Ring) (p n : ℕ) → IsShown s r p (λ x. x.maximum_left) n →
+    ((is_green (interval s p) && is_on (s.phases p).conflict) ≡ true) × (maximum_left s p ≡ Some n)
+unfolding status
+shown_maximum s r p n x =
+    has_shown (λ q. is_green (interval s q) && is_on (s.phases q).conflict) (maximum_left s) (serving s r) x.phase x.left
+  where
+    has_shown : (test : ℕ → Bool) (value : ℕ → Option ℕ) (o : Option ℕ) → o ≡ Some p → where_has test value o ≡ Some n →
+        (test p ≡ true) × (value p ≡ Some n)
+    has_shown test value o e h = go (test p) refl (rw e at h)
+      where
+        go : (b : Bool) → test p ≡ b → (if b then value p else None) ≡ Some n → (test p ≡ true) × (value p ≡ Some n)
+        go true k l = (k, l)
+        go false k l = absurd cc
+
+runs_shown : (s : State) (row : Row) → (phases_given s row).runs ≡ runs s
+unfolding phases_given
+runs_shown s row = refl
+
+maxed_by : (s : State) (row : Row) (p k most : ℕ) → (phases_given s row).conflict p ≡ true →
+    acting_maximum s.plan (runs s) p (s.phases p).running_maximum ≡ Some most → (s.phases p).conflict ≡ On k → is_maxed_out p s row ≡ nat_le most (k + 1)
+maxed_by s row p k most busy limit timer = rw (busy, runs_shown s row, limit, timer) refl
+
+pub maximums_pass : (plan : Plan) (base later : List Input) (row : Row) (r : Ring) (p n : ℕ) → IsConsistent plan → AreTaken plan (later ++ base) →
+    IsUntripped plan base later → IsShown (replay plan base) r p (λ x. x.maximum_left) n →
+    InEachTick (KeepsMaximum p (replay plan base)) plan base (Tick row ∷ later) → PassesThen (is_maxed_out p) plan base later row n
+unfolding RunsWhileGreen
+maximums_pass plan base later row r p n ok taken dark shown each =
+    passes_then plan base (KeepsMaximum p (replay plan base)) (RunsWhileGreen (λ y. y.conflict) p) it.most run.count
+    (timer_over_others plan ok (λ y. y.conflict) (λ y f. refl) p) goes begins (is_maxed_out p) reads later row n some taken dark each
+  where
+    parts : ((is_green (interval (replay plan base) p) && is_on ((replay plan base).phases p).conflict) ≡ true) × (maximum_left (replay plan base) p ≡ Some n)
+    parts = shown_maximum (replay plan base) r p n shown
+
+    it : Acts (acting_maximum (replay plan base).plan (runs (replay plan base)) p ((replay plan base).phases p).running_maximum) ((replay plan base).phases p).conflict n
+    it =
+        acts (acting_maximum (replay plan base).plan (runs (replay plan base)) p ((replay plan base).phases p).running_maximum) ((replay plan base).phases p).conflict n
+        parts.1
+
+    run : Runs ((replay plan base).phases p).conflict
+    run = on_runs ((replay plan base).phases p).conflict (and_parts (is_green (interval (replay plan base) p)) (is_on ((replay plan base).phases p).conflict) parts.0).1
+
+    some : it.most - run.count ≡ n
+    some = left_on it.most n run.count ((replay plan base).phases p).conflict run.is it.some
+
+    begins : RunsWhileGreen (λ y. y.conflict) p run.count (replay plan base)
+    begins = λ e. run.is
+
+    goes : (is : List Input) (row : Row) (k : ℕ) → AreTaken plan is → (replay plan is).trip ≡ None → KeepsMaximum p (replay plan base) (replay plan is) row →
+        k + 1 < it.most → RunsWhileGreen (λ y. y.conflict) p k (replay plan is) → RunsWhileGreen (λ y. y.conflict) p (k + 1) (replay plan (Tick row ∷ is))
+    goes is row k has still keeps early x =
+        timer_goes_on plan ok (λ y. y.conflict) (λ y f. refl) p is row k has still keeps.green
+        (λ starts ends timer. rw (starts, keeps.green, ends, keeps.conflict, timer) refl) x
+
+    reads : (is : List Input) (row : Row) (k : ℕ) → AreTaken plan is → KeepsMaximum p (replay plan base) (replay plan is) row →
+        RunsWhileGreen (λ y. y.conflict) p k (replay plan is) → is_maxed_out p (replay plan is) row ≡ nat_le it.most (k + 1)
+    reads is row k has keeps x = maxed_by (replay plan is) row p k it.most keeps.conflict (keeps.time ∙ it.is) (x keeps.green)

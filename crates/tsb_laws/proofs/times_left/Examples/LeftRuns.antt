@@ -1,7 +1,7 @@
 -- A run from power-up that meets the premises of the laws of times that are left of a green: 2 walks for 10 ticks and clears
 -- for 10, its green lasts 20 ticks at least and its gap is 40. Without a conflict it rests; where 1 is called it maxes out after
 -- 30. And mistakes that these laws refuse.
-use Rattle.std.proofs.Common.{◌≡◌, ℕ, ◌+◌, ◌-◌, ◌≤◌, ◌==◌, Bool, true, false, not, ◌&&◌, List, [], ◌∷◌, ◌++◌, Option, Some, None, refl, ap, arith}
+use Rattle.std.proofs.Common.{◌≡◌, ℕ, ◌+◌, ◌-◌, ◌≤◌, ◌==◌, Bool, true, false, not, ◌&&◌, List, [], ◌∷◌, ◌++◌, Option, Some, None, refl, sym, ap, arith, ◌∙◌}
 use Rattle.std.proofs.lemmas.Bool.{not-true, and_parts, eqb-true}
 use Rattle.tsb_step.specs.tsb_cells.declared.timer.Timer.{Timer}
 use Rattle.tsb_step.specs.tsb_cells.declared.timer.Timer.TheVariants.{Off, On}
@@ -14,7 +14,7 @@ use Rattle.tsb_step.specs.tsb_plan.declared.object.Object.TheVariants.{PhaseWalk
 use Rattle.tsb_step.specs.tsb_plan.Objects.{greatest}
 use Rattle.tsb_step.specs.tsb_plan.Plan.{Plan, with_values}
 use Rattle.tsb_step.specs.tsb_plan.Quad.{quad}
-use Rattle.tsb_step.specs.tsb_phase.Green.{gap, reduction_timer}
+use Rattle.tsb_step.specs.tsb_phase.Green.{gap, reduction_timer, acting_maximum}
 use Rattle.tsb_step.specs.tsb_phase.Pedestrian.{ended_by, walk_time, clearance_time, is_resting_in_walk}
 use Rattle.tsb_step.specs.tsb_phase.Phase.{held_of}
 use Rattle.tsb_step.specs.tsb_ring.Rings.{Ring1}
@@ -23,13 +23,13 @@ use Rattle.tsb_step.specs.declared.inputs.Input.{Input}
 use Rattle.tsb_step.specs.declared.inputs.Input.TheVariants.{Tick}
 use Rattle.tsb_step.specs.State.{State, interval, pedestrian_part}
 use Rattle.tsb_step.specs.Status.{RingStatus, status}
-use Rattle.tsb_step.specs.Tick.{phases_given, phase_read}
+use Rattle.tsb_step.specs.Tick.{runs, phases_given, phase_read}
 use Rattle.tsb_step.specs.Waits.{left, phases_again, time_to_last, served, lack, committed_wait, free_wait, wait}
 use Rattle.tsb_step.specs.Runs.{replay, AreTaken}
 use Rattle.tsb_step.specs.Laws.{IsConsistent}
 use Rattle.tsb_step.proofs.TellLemmas.{is_in_green}
-use Rattle.tsb_step.proofs.Examples.Scenes.{opened}
-use Rattle.tsb_laws.specs.TimesLeft.{IsShown, InEachTick, KeepsWalk, KeepsClearance, KeepsInitial, has_lasted, KeepsGap, has_gapped}
+use Rattle.tsb_step.proofs.Examples.Scenes.{opened, vehicle}
+use Rattle.tsb_laws.specs.TimesLeft.{IsShown, InEachTick, KeepsWalk, KeepsClearance, KeepsInitial, has_lasted, KeepsGap, has_gapped, KeepsMaximum, is_maxed_out}
 use Rattle.tsb_laws.proofs.safety.Examples.PlanFits.{Fits, values_fit, quad_fits, consistent}
 use Rattle.tsb_laws.proofs.safety.Examples.TickRuns.{ticks, now_then, all_taken}
 use Rattle.tsb_laws.proofs.times_left.Examples.TickTests.{passes, each_by, IsStretch, ticks_stretch}
@@ -299,3 +299,76 @@ not_in_39 = refl
 gap_would_show_39 : sooner 40 ((replay leaving begun).phases 2).passage ≡ 39
 unfolding opened leaving
 gap_would_show_39 = refl
+
+-- ## Its maximum, where 1 is called
+
+abbrev pub called : List Input
+called = Tick (vehicle 1) ∷ begun
+
+pub called_taken : AreTaken leaving called
+unfolding opened leaving
+called_taken = ((tt, refl), refl)
+
+pub called_at : (replay leaving called).now ≡ 2
+unfolding opened leaving
+called_at = refl
+
+-- the phase in service, and what is left of its maximum
+abbrev maximum_shown : State → Option ℕ × Option ℕ
+maximum_shown s = ((ring_1 s).phase, (ring_1 s).maximum_left)
+
+at_call : maximum_shown (replay leaving called) ≡ (Some 2, Some 30)
+unfolding shown_opened
+at_call = refl
+
+abbrev is_thirty : Option ℕ → Bool
+is_thirty None = false
+is_thirty (Some m) = m == 30
+
+thirty : (o : Option ℕ) → is_thirty o ≡ true → o ≡ Some 30
+thirty None h = cc
+thirty (Some m) h = ap Some (eqb-true m 30 h)
+
+abbrev tests_maximum : State → Row → Bool
+tests_maximum s row =
+    is_green (interval s 2) && ((phases_given s row).conflict 2 && is_thirty (acting_maximum s.plan (runs s) 2 (s.phases 2).running_maximum))
+
+presses_on : passes tests_maximum (vehicle 1) (replay leaving called) 30 ≡ true
+unfolding opened leaving
+presses_on = refl
+
+maximum_is_30 : acting_maximum (replay leaving called).plan (runs (replay leaving called)) 2 ((replay leaving called).phases 2).running_maximum ≡ Some 30
+unfolding opened leaving
+maximum_is_30 = refl
+
+a_maximum : Meets called (ticks (vehicle 1) 29) (IsShown (replay leaving called) Ring1 2 (λ x. x.maximum_left) 30)
+    (InEachTick (KeepsMaximum 2 (replay leaving called)) leaving called (Tick (vehicle 1) ∷ ticks (vehicle 1) 29))
+a_maximum = record {
+  stretch = ticks_stretch leaving (vehicle 1) called 29 leaving_consistent called_taken refl (let at = called_at in omega (arith, at));
+  shown = record { phase = ap (λ (x : Option ℕ × Option ℕ). x.0) at_call; left = ap (λ (x : Option ℕ × Option ℕ). x.1) at_call };
+  each = each_by (KeepsMaximum 2 (replay leaving called)) tests_maximum keeps leaving (vehicle 1) called 30 presses_on;
+}
+  where
+    keeps : (s : State) (row : Row) → tests_maximum s row ≡ true → KeepsMaximum 2 (replay leaving called) s row
+    keeps s row h =
+        let outer = and_parts (is_green (interval s 2))
+        ((phases_given s row).conflict 2 && is_thirty (acting_maximum s.plan (runs s) 2 (s.phases 2).running_maximum)) h in
+        let inner = and_parts ((phases_given s row).conflict 2) (is_thirty (acting_maximum s.plan (runs s) 2 (s.phases 2).running_maximum)) outer.1 in
+        record {
+          green = is_in_green (interval s 2) outer.0;
+          conflict = inner.0;
+          time = thirty (acting_maximum s.plan (runs s) 2 (s.phases 2).running_maximum) inner.1 ∙ sym maximum_is_30;
+        }
+
+maxes_out_in_30 : is_maxed_out 2 (replay leaving (ticks (vehicle 1) 29 ++ called)) (vehicle 1) ≡ true
+unfolding opened leaving
+maxes_out_in_30 = refl
+
+-- a mistake: it is timed from the beginning of the green, and not from that of the conflict
+maximum_would_show_29 : left 30 ((replay leaving called).phases 2).timer ≡ 29
+unfolding opened leaving
+maximum_would_show_29 = refl
+
+not_maxed_in_29 : is_maxed_out 2 (replay leaving (ticks (vehicle 1) 28 ++ called)) (vehicle 1) ≡ false
+unfolding opened leaving
+not_maxed_in_29 = refl
