@@ -1,4 +1,5 @@
 pub mod CountLemmas
+pub mod YellowLemmas
 pub mod WalkLemmas
 pub mod GreenLemmas
 pub mod Examples

@@ -5,10 +5,10 @@
 -- it was shown in each tick. Other inputs may come at any place.
 use Rattle.std.specs.Prelude.{◌≡◌, ℕ, ◌+◌, ◌<◌, Bool, true, false, List, [], ◌∷◌, ◌++◌, Option, Some, max}
 use Rattle.tsb_step.specs.tsb_cells.Timer.{is_on, has_reached}
-use Rattle.tsb_step.specs.tsb_types.declared.interval.Interval.TheVariants.{Green}
+use Rattle.tsb_step.specs.tsb_types.declared.interval.Interval.TheVariants.{Green, Yellow}
 use Rattle.tsb_step.specs.tsb_types.declared.row.Row.{Row}
-use Rattle.tsb_step.specs.tsb_types.Intervals.{is_walk, is_clearance}
-use Rattle.tsb_step.specs.tsb_plan.Plan.{Plan}
+use Rattle.tsb_step.specs.tsb_types.Intervals.{is_yellow, is_walk, is_clearance}
+use Rattle.tsb_step.specs.tsb_plan.Plan.{Plan, yellow_change}
 use Rattle.tsb_step.specs.tsb_ring.Rings.{Ring}
 use Rattle.tsb_step.specs.tsb_phase.Phase.{held_of}
 use Rattle.tsb_step.specs.tsb_phase.Green.{gap, reduction_timer, gap_has_expired, acting_maximum, has_maxed_out}
@@ -51,6 +51,18 @@ pub record EndsThen (part : State → Bool) (plan : Plan) (base later : List Inp
 pub record PassesThen (has_passed : State → Row → Bool) (plan : Plan) (base later : List Input) (row : Row) (n : ℕ) : Type 0 where
   pub before : (replay plan (later ++ base)).now + 1 < end_of (replay plan base) n → has_passed (replay plan (later ++ base)) row ≡ false
   pub at_end : (replay plan (later ++ base)).now + 1 ≡ end_of (replay plan base) n → has_passed (replay plan (later ++ base)) row ≡ true
+
+-- ## Yellow change and red clearance
+
+-- the yellow change of p is as long in the tick as it was where it was shown
+abbrev pub KeepsYellow : ℕ → State → State → Row → Type 0
+KeepsYellow p shown s row = yellow_change s.plan p ≡ yellow_change shown.plan p
+
+-- A yellow ends as shown.
+abbrev pub YellowsEndAsShown : Type 0
+YellowsEndAsShown = (plan : Plan) (base later : List Input) (r : Ring) (p n : ℕ) → IsConsistent plan → AreTaken plan (later ++ base) →
+    IsUntripped plan base later → IsShown (replay plan base) r p (λ x. x.yellow_left) n →
+    InEachTick (KeepsYellow p (replay plan base)) plan base later → EndsThen (λ s. is_yellow (interval s p)) plan base later n
 
 -- ## Walk and pedestrian clearance
 

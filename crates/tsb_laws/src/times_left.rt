@@ -1,7 +1,18 @@
 //! What a status shows to be left of a time is when that time runs out, each law the contract of a function that does
 //! nothing. In each tick of the stretch the time has to be as long as it was shown. What has nothing left, as where a
 //! commit made a time shorter than has passed of it, runs out in the next tick.
-ghost use Rattle.tsb_laws.specs.TimesLeft.{ClearancesEndAsShown, GapsExpireAsShown, InitialsPassAsShown, MaximumsPassAsShown, WalksEndAsShown};
+ghost use Rattle.tsb_laws.specs.TimesLeft.{ClearancesEndAsShown, GapsExpireAsShown, InitialsPassAsShown, MaximumsPassAsShown, WalksEndAsShown, YellowsEndAsShown};
+
+/// A yellow ends as the status shows. With n ticks left it goes on up to the n-th tick, and ends in it, whatever inputs
+/// come.
+///
+/// Needs: an untripped stretch. In each of its ticks the yellow change of the phase is as long as it was shown.
+/// Mistake: a status that shows what is left once the next tick has passed, `sooner` (`yellow_would_show_29`,
+/// `yellow_at_29`, `red_clear_at_30`).
+/// Witness: `a_yellow` of ClearingRuns, of 30 ticks.
+pub fn yellows_end_as_shown()
+    ensures { YellowsEndAsShown }
+{}
 
 /// A walk ends as the status shows. With n ticks left it goes on up to the n-th tick, and ends in it.
 ///

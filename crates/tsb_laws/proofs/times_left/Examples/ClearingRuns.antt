@@ -1,0 +1,114 @@
+-- A run from power-up that meets the premises of the laws of what is left of a clearance: preempt 1, which wants 1 and 6, ends
+-- the green of 2 at once. 2 is in yellow for 30 ticks and in red clearance for 10, and 1 waits for it. And mistakes that these
+-- laws refuse.
+use Rattle.std.proofs.Common.{◌≡◌, ℕ, true, List, [], ◌∷◌, ◌++◌, Option, Some, None, refl, ap, arith}
+use Rattle.tsb_step.specs.tsb_types.declared.interval.Interval.{Interval}
+use Rattle.tsb_step.specs.tsb_types.declared.interval.Interval.TheVariants.{Yellow, RedClear}
+use Rattle.tsb_step.specs.tsb_types.Sets.{all_off}
+use Rattle.tsb_step.specs.tsb_plan.declared.object.Object.{Object}
+use Rattle.tsb_step.specs.tsb_plan.declared.object.Object.TheVariants.{PreemptMinimumGreen, PreemptDwellPhase}
+use Rattle.tsb_step.specs.tsb_plan.Objects.{greatest}
+use Rattle.tsb_step.specs.tsb_plan.Plan.{Plan, yellow_change, with_values}
+use Rattle.tsb_step.specs.tsb_plan.Quad.{quad}
+use Rattle.tsb_step.specs.tsb_rules.Rules.{first_broken}
+use Rattle.tsb_step.specs.tsb_ring.Rings.{Ring1}
+use Rattle.tsb_step.specs.declared.inputs.Input.{Input}
+use Rattle.tsb_step.specs.declared.inputs.Input.TheVariants.{Tick, Switch}
+use Rattle.tsb_step.specs.declared.waits.Wait.{Wait}
+use Rattle.tsb_step.specs.declared.waits.Wait.TheVariants as waits
+use Rattle.tsb_step.specs.State.{State, interval}
+use Rattle.tsb_step.specs.Status.{RingStatus, status}
+use Rattle.tsb_step.specs.Waits.{left, phases_again, served, lack, committed_wait, free_wait, wait}
+use Rattle.tsb_step.specs.Runs.{replay, AreTaken}
+use Rattle.tsb_step.specs.Laws.{IsConsistent}
+use Rattle.tsb_step.proofs.Examples.Scenes.{opened, vehicle}
+use Rattle.tsb_laws.specs.TimesLeft.{IsShown, InEachTick, KeepsYellow}
+use Rattle.tsb_laws.proofs.safety.Examples.PlanFits.{Fits, values_fit, quad_fits, consistent}
+use Rattle.tsb_laws.proofs.safety.Examples.TickRuns.{ticks}
+use Rattle.tsb_laws.proofs.times_left.Examples.TickTests.{each_plan, IsStretch, ticks_stretch}
+use Rattle.tsb_laws.proofs.times_left.Examples.LeftRuns.{sooner}
+
+abbrev ending_values : List (Object × ℕ × ℕ)
+ending_values = (PreemptMinimumGreen, 1, 0) ∷ (PreemptDwellPhase, 1, 33) ∷ []
+
+unfoldable ending : Plan
+ending = with_values quad ending_values
+
+ending_fits : Fits greatest ending.value
+unfolding ending
+ending_fits = values_fit greatest ending_values quad refl (quad_fits greatest refl refl)
+
+ending_count : ending.phase_count ≡ 16
+unfolding quad ending
+ending_count = refl
+
+breaks_none : first_broken ending ≡ None
+unfolding opened ending
+breaks_none = refl
+
+ending_consistent : IsConsistent ending
+ending_consistent = consistent greatest ending ending_count breaks_none ending_fits
+
+-- what is shown of ring 1, opened
+unfoldable shown_opened : Unit {0}
+unfolding opened ending status served lack phases_again committed_wait free_wait wait
+shown_opened = tt
+
+-- a stretch with what is shown before it, and what each of its ticks has
+record Meets (base later : List Input) (Shown Each : Type 0) : Type 0 where
+  stretch : IsStretch ending base later
+  shown : Shown
+  each : Each
+
+-- what the status of ring 1 shows
+abbrev ring_1 : State → RingStatus
+ring_1 s = (status s).ring Ring1
+
+-- ## Its yellow
+
+-- the green of 2 ends in the second tick
+abbrev ended : List Input
+ended = Tick (vehicle 1) ∷ Switch 1 true ∷ Tick all_off ∷ []
+
+-- the phase in service, what is left of its yellow and of its red clearance, and what 1 waits for
+abbrev yellow_shown : State → Option ℕ × Option ℕ × Option ℕ × Option Wait
+yellow_shown s = ((ring_1 s).phase, (ring_1 s).yellow_left, (ring_1 s).red_clearance_left, (status s).wait 1)
+
+at_end : yellow_shown (replay ending ended) ≡ (Some 2, Some 30, None, Some (waits.Clears 2 40))
+unfolding shown_opened
+at_end = refl
+
+ended_at : (replay ending ended).now ≡ 2
+unfolding opened ending
+ended_at = refl
+
+ended_taken : AreTaken ending ended
+unfolding opened ending
+ended_taken = (((tt, refl), refl), refl)
+
+a_yellow : Meets ended (ticks (vehicle 1) 30) (IsShown (replay ending ended) Ring1 2 (λ x. x.yellow_left) 30)
+    (InEachTick (KeepsYellow 2 (replay ending ended)) ending ended (ticks (vehicle 1) 30))
+a_yellow = record {
+  stretch = ticks_stretch ending (vehicle 1) ended 30 ending_consistent ended_taken refl (let at = ended_at in omega (arith, at));
+  shown = record {
+    phase = ap (λ (x : Option ℕ × Option ℕ × Option ℕ × Option Wait). x.0) at_end;
+    left = ap (λ (x : Option ℕ × Option ℕ × Option ℕ × Option Wait). x.1) at_end;
+  };
+  each = each_plan (λ (x : Plan). yellow_change x 2) ending (vehicle 1) ended 30;
+}
+
+-- its interval, and what is shown then
+abbrev interval_shown : State → Interval × Option ℕ × Option ℕ
+interval_shown s = (interval s 2, (ring_1 s).phase, (ring_1 s).red_clearance_left)
+
+yellow_at_29 : interval_shown (replay ending (ticks (vehicle 1) 29 ++ ended)) ≡ (Yellow, Some 2, None)
+unfolding shown_opened
+yellow_at_29 = refl
+
+red_clear_at_30 : interval_shown (replay ending (ticks (vehicle 1) 30 ++ ended)) ≡ (RedClear, Some 2, Some 10)
+unfolding shown_opened
+red_clear_at_30 = refl
+
+yellow_would_show_29 : sooner (yellow_change (replay ending ended).plan 2) ((replay ending ended).phases 2).timer ≡ 29
+unfolding opened ending
+yellow_would_show_29 = refl
