@@ -1,5 +1,6 @@
 pub mod CountLemmas
 pub mod YellowLemmas
+pub mod RedClearLemmas
 pub mod WalkLemmas
 pub mod GreenLemmas
 pub mod Examples

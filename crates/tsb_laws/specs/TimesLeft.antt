@@ -8,7 +8,7 @@ use Rattle.tsb_step.specs.tsb_cells.Timer.{is_on, has_reached}
 use Rattle.tsb_step.specs.tsb_types.declared.interval.Interval.TheVariants.{Green, Yellow}
 use Rattle.tsb_step.specs.tsb_types.declared.row.Row.{Row}
 use Rattle.tsb_step.specs.tsb_types.Intervals.{is_yellow, is_walk, is_clearance}
-use Rattle.tsb_step.specs.tsb_plan.Plan.{Plan, yellow_change}
+use Rattle.tsb_step.specs.tsb_plan.Plan.{Plan, yellow_change, red_clear}
 use Rattle.tsb_step.specs.tsb_ring.Rings.{Ring}
 use Rattle.tsb_step.specs.tsb_phase.Phase.{held_of}
 use Rattle.tsb_step.specs.tsb_phase.Green.{gap, reduction_timer, gap_has_expired, acting_maximum, has_maxed_out}
@@ -63,6 +63,16 @@ abbrev pub YellowsEndAsShown : Type 0
 YellowsEndAsShown = (plan : Plan) (base later : List Input) (r : Ring) (p n : ℕ) → IsConsistent plan → AreTaken plan (later ++ base) →
     IsUntripped plan base later → IsShown (replay plan base) r p (λ x. x.yellow_left) n →
     InEachTick (KeepsYellow p (replay plan base)) plan base later → EndsThen (λ s. is_yellow (interval s p)) plan base later n
+
+-- its red clearance is
+abbrev pub KeepsRedClear : ℕ → State → State → Row → Type 0
+KeepsRedClear p shown s row = red_clear s.plan p ≡ red_clear shown.plan p
+
+-- A red clearance is done as shown: the phase is over in just that tick.
+abbrev pub RedClearsEndAsShown : Type 0
+RedClearsEndAsShown = (plan : Plan) (base later : List Input) (row : Row) (r : Ring) (p n : ℕ) → IsConsistent plan → AreTaken plan (later ++ base) →
+    IsUntripped plan base later → IsShown (replay plan base) r p (λ x. x.red_clearance_left) n →
+    InEachTick (KeepsRedClear p (replay plan base)) plan base (Tick row ∷ later) → PassesThen (λ s row. over s p) plan base later row n
 
 -- ## Walk and pedestrian clearance
 

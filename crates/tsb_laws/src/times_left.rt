@@ -1,7 +1,7 @@
 //! What a status shows to be left of a time is when that time runs out, each law the contract of a function that does
 //! nothing. In each tick of the stretch the time has to be as long as it was shown. What has nothing left, as where a
 //! commit made a time shorter than has passed of it, runs out in the next tick.
-ghost use Rattle.tsb_laws.specs.TimesLeft.{ClearancesEndAsShown, GapsExpireAsShown, InitialsPassAsShown, MaximumsPassAsShown, WalksEndAsShown, YellowsEndAsShown};
+ghost use Rattle.tsb_laws.specs.TimesLeft.{ClearancesEndAsShown, GapsExpireAsShown, InitialsPassAsShown, MaximumsPassAsShown, RedClearsEndAsShown, WalksEndAsShown, YellowsEndAsShown};
 
 /// A yellow ends as the status shows. With n ticks left it goes on up to the n-th tick, and ends in it, whatever inputs
 /// come.
@@ -12,6 +12,16 @@ ghost use Rattle.tsb_laws.specs.TimesLeft.{ClearancesEndAsShown, GapsExpireAsSho
 /// Witness: `a_yellow` of ClearingRuns, of 30 ticks.
 pub fn yellows_end_as_shown()
     ensures { YellowsEndAsShown }
+{}
+
+/// A red clearance is done as the status shows. With n ticks left the phase is over in the n-th tick, and in none before.
+///
+/// Needs: as `yellows_end_as_shown`, of the red clearance.
+/// Not said: that its ring then starts another phase. Until it does, the phase stays in red clearance.
+/// Mistake: as of yellows (`red_clearance_would_show_9`, `not_over_in_9`, `over_in_10`).
+/// Witness: `a_red_clearance` of ClearingRuns, of 10 ticks.
+pub fn red_clears_end_as_shown()
+    ensures { RedClearsEndAsShown }
 {}
 
 /// A walk ends as the status shows. With n ticks left it goes on up to the n-th tick, and ends in it.

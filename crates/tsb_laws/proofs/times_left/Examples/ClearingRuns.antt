@@ -1,14 +1,14 @@
 -- A run from power-up that meets the premises of the laws of what is left of a clearance: preempt 1, which wants 1 and 6, ends
 -- the green of 2 at once. 2 is in yellow for 30 ticks and in red clearance for 10, and 1 waits for it. And mistakes that these
 -- laws refuse.
-use Rattle.std.proofs.Common.{◌≡◌, ℕ, true, List, [], ◌∷◌, ◌++◌, Option, Some, None, refl, ap, arith}
+use Rattle.std.proofs.Common.{◌≡◌, ℕ, true, false, List, [], ◌∷◌, ◌++◌, Option, Some, None, refl, ap, arith}
 use Rattle.tsb_step.specs.tsb_types.declared.interval.Interval.{Interval}
 use Rattle.tsb_step.specs.tsb_types.declared.interval.Interval.TheVariants.{Yellow, RedClear}
 use Rattle.tsb_step.specs.tsb_types.Sets.{all_off}
 use Rattle.tsb_step.specs.tsb_plan.declared.object.Object.{Object}
 use Rattle.tsb_step.specs.tsb_plan.declared.object.Object.TheVariants.{PreemptMinimumGreen, PreemptDwellPhase}
 use Rattle.tsb_step.specs.tsb_plan.Objects.{greatest}
-use Rattle.tsb_step.specs.tsb_plan.Plan.{Plan, yellow_change, with_values}
+use Rattle.tsb_step.specs.tsb_plan.Plan.{Plan, yellow_change, red_clear, with_values}
 use Rattle.tsb_step.specs.tsb_plan.Quad.{quad}
 use Rattle.tsb_step.specs.tsb_rules.Rules.{first_broken}
 use Rattle.tsb_step.specs.tsb_ring.Rings.{Ring1}
@@ -18,13 +18,14 @@ use Rattle.tsb_step.specs.declared.waits.Wait.{Wait}
 use Rattle.tsb_step.specs.declared.waits.Wait.TheVariants as waits
 use Rattle.tsb_step.specs.State.{State, interval}
 use Rattle.tsb_step.specs.Status.{RingStatus, status}
+use Rattle.tsb_step.specs.Tick.{over}
 use Rattle.tsb_step.specs.Waits.{left, phases_again, served, lack, committed_wait, free_wait, wait}
 use Rattle.tsb_step.specs.Runs.{replay, AreTaken}
 use Rattle.tsb_step.specs.Laws.{IsConsistent}
 use Rattle.tsb_step.proofs.Examples.Scenes.{opened, vehicle}
-use Rattle.tsb_laws.specs.TimesLeft.{IsShown, InEachTick, KeepsYellow}
+use Rattle.tsb_laws.specs.TimesLeft.{IsShown, InEachTick, KeepsYellow, KeepsRedClear}
 use Rattle.tsb_laws.proofs.safety.Examples.PlanFits.{Fits, values_fit, quad_fits, consistent}
-use Rattle.tsb_laws.proofs.safety.Examples.TickRuns.{ticks}
+use Rattle.tsb_laws.proofs.safety.Examples.TickRuns.{ticks, now_then, all_taken}
 use Rattle.tsb_laws.proofs.times_left.Examples.TickTests.{each_plan, IsStretch, ticks_stretch}
 use Rattle.tsb_laws.proofs.times_left.Examples.LeftRuns.{sooner}
 
@@ -112,3 +113,37 @@ red_clear_at_30 = refl
 yellow_would_show_29 : sooner (yellow_change (replay ending ended).plan 2) ((replay ending ended).phases 2).timer ≡ 29
 unfolding opened ending
 yellow_would_show_29 = refl
+
+-- ## Its red clearance
+
+abbrev cleared : List Input
+cleared = ticks (vehicle 1) 30 ++ ended
+
+cleared_at : (replay ending cleared).now ≡ 32
+cleared_at = let at = ended_at in let clock = now_then ending (vehicle 1) ended 30 in omega (arith, at, clock)
+
+cleared_taken : AreTaken ending cleared
+cleared_taken = all_taken ending (vehicle 1) ended 30 ended_taken (let at = ended_at in omega (arith, at))
+
+a_red_clearance : Meets cleared (ticks (vehicle 1) 9) (IsShown (replay ending cleared) Ring1 2 (λ x. x.red_clearance_left) 10)
+    (InEachTick (KeepsRedClear 2 (replay ending cleared)) ending cleared (Tick (vehicle 1) ∷ ticks (vehicle 1) 9))
+a_red_clearance = record {
+  stretch = ticks_stretch ending (vehicle 1) cleared 9 ending_consistent cleared_taken refl (let at = cleared_at in omega (arith, at));
+  shown = record {
+    phase = ap (λ (x : Interval × Option ℕ × Option ℕ). x.1) red_clear_at_30;
+    left = ap (λ (x : Interval × Option ℕ × Option ℕ). x.2) red_clear_at_30;
+  };
+  each = each_plan (λ (x : Plan). red_clear x 2) ending (vehicle 1) cleared 10;
+}
+
+over_in_10 : over (replay ending (ticks (vehicle 1) 9 ++ cleared)) 2 ≡ true
+unfolding opened ending
+over_in_10 = refl
+
+not_over_in_9 : over (replay ending (ticks (vehicle 1) 8 ++ cleared)) 2 ≡ false
+unfolding opened ending
+not_over_in_9 = refl
+
+red_clearance_would_show_9 : sooner (red_clear (replay ending cleared).plan 2) ((replay ending cleared).phases 2).timer ≡ 9
+unfolding opened ending
+red_clearance_would_show_9 = refl
