@@ -3,4 +3,5 @@ pub mod YellowLemmas
 pub mod RedClearLemmas
 pub mod WalkLemmas
 pub mod GreenLemmas
+pub mod WaitLemmas
 pub mod Examples

@@ -5,7 +5,8 @@
 -- it was shown in each tick. Other inputs may come at any place.
 use Rattle.std.specs.Prelude.{◌≡◌, ℕ, ◌+◌, ◌<◌, Bool, true, false, List, [], ◌∷◌, ◌++◌, Option, Some, max}
 use Rattle.tsb_step.specs.tsb_cells.Timer.{is_on, has_reached}
-use Rattle.tsb_step.specs.tsb_types.declared.interval.Interval.TheVariants.{Green, Yellow}
+use Rattle.tsb_step.specs.tsb_types.declared.interval.Interval.{Interval}
+use Rattle.tsb_step.specs.tsb_types.declared.interval.Interval.TheVariants.{Red, Green, Yellow, RedClear}
 use Rattle.tsb_step.specs.tsb_types.declared.row.Row.{Row}
 use Rattle.tsb_step.specs.tsb_types.Intervals.{is_yellow, is_walk, is_clearance}
 use Rattle.tsb_step.specs.tsb_plan.Plan.{Plan, yellow_change, red_clear}
@@ -15,6 +16,7 @@ use Rattle.tsb_step.specs.tsb_phase.Green.{gap, reduction_timer, gap_has_expired
 use Rattle.tsb_step.specs.tsb_phase.Pedestrian.{ended_by, walk_time, clearance_time, is_resting_in_walk}
 use Rattle.tsb_step.specs.declared.inputs.Input.{Input}
 use Rattle.tsb_step.specs.declared.inputs.Input.TheVariants.{Tick}
+use Rattle.tsb_step.specs.declared.waits.Wait.TheVariants as waits
 use Rattle.tsb_step.specs.State.{State, interval, pedestrian_part}
 use Rattle.tsb_step.specs.Status.{RingStatus, status}
 use Rattle.tsb_step.specs.Tick.{runs, phases_given, phase_read, over}
@@ -149,3 +151,29 @@ abbrev pub MaximumsPassAsShown : Type 0
 MaximumsPassAsShown = (plan : Plan) (base later : List Input) (row : Row) (r : Ring) (p n : ℕ) → IsConsistent plan → AreTaken plan (later ++ base) →
     IsUntripped plan base later → IsShown (replay plan base) r p (λ x. x.maximum_left) n →
     InEachTick (KeepsMaximum p (replay plan base)) plan base (Tick row ∷ later) → PassesThen (is_maxed_out p) plan base later row n
+
+-- ## What waits show
+
+-- some phase waits for q to clear, of its own ring or across, and the status shows that this takes so long
+pub data ToClear (s : State) (q n : ℕ) : Type 0 where
+  here : (p : ℕ) → (status s).wait p ≡ Some (waits.Clears q n) → ToClear s q n
+  across : (p : ℕ) → (status s).wait p ≡ Some (waits.Across q n) → ToClear s q n
+
+-- q is in yellow change, with something left of it, or in red clearance. A yellow has nothing left only where a commit
+-- has made it shorter; then its clearance takes a tick more than is shown
+abbrev pub HasBegun : State → ℕ → Interval → Type 0
+HasBegun s q Red = ⊥
+HasBegun s q Green = ⊥
+HasBegun s q Yellow = has_reached (s.phases q).timer (yellow_change s.plan q) ≡ false
+HasBegun s q RedClear = Unit {0}
+
+-- its yellow change and its red clearance are as long in the tick as they were shown
+pub record KeepsBoth (q : ℕ) (shown s : State) (row : Row) : Type 0 where
+  pub yellow : yellow_change s.plan q ≡ yellow_change shown.plan q
+  pub red : red_clear s.plan q ≡ red_clear shown.plan q
+
+-- A clearance that a phase waits for is done as shown: q is over in just that tick.
+abbrev pub ClearancesAreOverAsShown : Type 0
+ClearancesAreOverAsShown = (plan : Plan) (base later : List Input) (row : Row) (q n : ℕ) → IsConsistent plan → AreTaken plan (later ++ base) →
+    IsUntripped plan base later → ToClear (replay plan base) q n → HasBegun (replay plan base) q (interval (replay plan base) q) →
+    InEachTick (KeepsBoth q (replay plan base)) plan base (Tick row ∷ later) → PassesThen (λ s row. over s q) plan base later row n

@@ -1,7 +1,7 @@
 //! What a status shows to be left of a time is when that time runs out, each law the contract of a function that does
 //! nothing. In each tick of the stretch the time has to be as long as it was shown. What has nothing left, as where a
 //! commit made a time shorter than has passed of it, runs out in the next tick.
-ghost use Rattle.tsb_laws.specs.TimesLeft.{ClearancesEndAsShown, GapsExpireAsShown, InitialsPassAsShown, MaximumsPassAsShown, RedClearsEndAsShown, WalksEndAsShown, YellowsEndAsShown};
+ghost use Rattle.tsb_laws.specs.TimesLeft.{ClearancesAreOverAsShown, ClearancesEndAsShown, GapsExpireAsShown, InitialsPassAsShown, MaximumsPassAsShown, RedClearsEndAsShown, WalksEndAsShown, YellowsEndAsShown};
 
 /// A yellow ends as the status shows. With n ticks left it goes on up to the n-th tick, and ends in it, whatever inputs
 /// come.
@@ -76,4 +76,17 @@ pub fn gaps_expire_as_shown()
 /// Witness: `a_maximum` of LeftRuns, of 30 ticks.
 pub fn maximums_pass_as_shown()
     ensures { MaximumsPassAsShown }
+{}
+
+/// A clearance that a phase waits for is done as shown. Where a phase waits for another to clear, n ticks long, that
+/// one is over in the n-th tick, and in none before.
+///
+/// Needs: an untripped stretch. In each of its ticks the yellow change and the red clearance of that phase are as long as
+/// they were shown. If the phase is in yellow, something is left of that. Nothing is left only where a commit has made it
+/// shorter, and then the clearance takes a tick more than is shown.
+/// Not said: that the phase that waits then starts. It may wait for something else.
+/// Mistake: a wait that leaves out the red clearance (`wait_would_show_30`, `not_over_in_30`).
+/// Witness: `a_wait` of ClearingRuns, of 40 ticks.
+pub fn clearances_are_over_as_shown()
+    ensures { ClearancesAreOverAsShown }
 {}

@@ -1,7 +1,7 @@
 -- A run from power-up that meets the premises of the laws of what is left of a clearance: preempt 1, which wants 1 and 6, ends
 -- the green of 2 at once. 2 is in yellow for 30 ticks and in red clearance for 10, and 1 waits for it. And mistakes that these
 -- laws refuse.
-use Rattle.std.proofs.Common.{◌≡◌, ℕ, true, false, List, [], ◌∷◌, ◌++◌, Option, Some, None, refl, ap, arith}
+use Rattle.std.proofs.Common.{zero, suc, ◌≡◌, ℕ, true, false, List, [], ◌∷◌, ◌++◌, Option, Some, None, refl, ap, arith}
 use Rattle.tsb_step.specs.tsb_types.declared.interval.Interval.{Interval}
 use Rattle.tsb_step.specs.tsb_types.declared.interval.Interval.TheVariants.{Yellow, RedClear}
 use Rattle.tsb_step.specs.tsb_types.Sets.{all_off}
@@ -23,9 +23,9 @@ use Rattle.tsb_step.specs.Waits.{left, phases_again, served, lack, committed_wai
 use Rattle.tsb_step.specs.Runs.{replay, AreTaken}
 use Rattle.tsb_step.specs.Laws.{IsConsistent}
 use Rattle.tsb_step.proofs.Examples.Scenes.{opened, vehicle}
-use Rattle.tsb_laws.specs.TimesLeft.{IsShown, InEachTick, KeepsYellow, KeepsRedClear}
+use Rattle.tsb_laws.specs.TimesLeft.{IsShown, InEachTick, KeepsYellow, KeepsRedClear, ToClear, here, HasBegun, KeepsBoth}
 use Rattle.tsb_laws.proofs.safety.Examples.PlanFits.{Fits, values_fit, quad_fits, consistent}
-use Rattle.tsb_laws.proofs.safety.Examples.TickRuns.{ticks, now_then, all_taken}
+use Rattle.tsb_laws.proofs.safety.Examples.TickRuns.{ticks, now_then, plan_then, all_taken}
 use Rattle.tsb_laws.proofs.times_left.Examples.TickTests.{each_plan, IsStretch, ticks_stretch}
 use Rattle.tsb_laws.proofs.times_left.Examples.LeftRuns.{sooner}
 
@@ -147,3 +147,36 @@ not_over_in_9 = refl
 red_clearance_would_show_9 : sooner (red_clear (replay ending cleared).plan 2) ((replay ending cleared).phases 2).timer ≡ 9
 unfolding opened ending
 red_clearance_would_show_9 = refl
+
+-- ## What 1 waits for: both together
+
+each_both : (n : ℕ) → InEachTick (KeepsBoth 2 (replay ending ended)) ending ended (ticks (vehicle 1) n)
+each_both zero = tt
+each_both (suc n) = (
+  each_both n,
+  record {
+    yellow = ap (λ (x : Plan). yellow_change x 2) (plan_then ending (vehicle 1) ended n);
+    red = ap (λ (x : Plan). red_clear x 2) (plan_then ending (vehicle 1) ended n);
+  },
+)
+
+has_begun : HasBegun (replay ending ended) 2 (interval (replay ending ended) 2)
+unfolding opened ending
+has_begun = refl
+
+a_wait : Meets ended (ticks (vehicle 1) 39) (ToClear (replay ending ended) 2 40)
+    (InEachTick (KeepsBoth 2 (replay ending ended)) ending ended (Tick (vehicle 1) ∷ ticks (vehicle 1) 39))
+a_wait = record {
+  stretch = ticks_stretch ending (vehicle 1) ended 39 ending_consistent ended_taken refl (let at = ended_at in omega (arith, at));
+  shown = here 1 (ap (λ (x : Option ℕ × Option ℕ × Option ℕ × Option Wait). x.3) at_end);
+  each = each_both 40;
+}
+
+-- a mistake: a wait that leaves out the red clearance
+wait_would_show_30 : left (yellow_change (replay ending ended).plan 2) ((replay ending ended).phases 2).timer ≡ 30
+unfolding opened ending
+wait_would_show_30 = refl
+
+not_over_in_30 : over (replay ending (ticks (vehicle 1) 29 ++ ended)) 2 ≡ false
+unfolding opened ending
+not_over_in_30 = refl
