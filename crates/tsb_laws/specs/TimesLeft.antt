@@ -9,7 +9,8 @@ use Rattle.tsb_step.specs.tsb_types.declared.interval.Interval.{Interval}
 use Rattle.tsb_step.specs.tsb_types.declared.interval.Interval.TheVariants.{Red, Green, Yellow, RedClear}
 use Rattle.tsb_step.specs.tsb_types.declared.row.Row.{Row}
 use Rattle.tsb_step.specs.tsb_types.Intervals.{is_yellow, is_walk, is_clearance}
-use Rattle.tsb_step.specs.tsb_plan.Plan.{Plan, yellow_change, red_clear}
+use Rattle.tsb_step.specs.tsb_types.Sets.{is_phase}
+use Rattle.tsb_step.specs.tsb_plan.Plan.{Plan, yellow_change, red_clear, red_revert}
 use Rattle.tsb_step.specs.tsb_ring.Rings.{Ring}
 use Rattle.tsb_step.specs.tsb_phase.Phase.{held_of}
 use Rattle.tsb_step.specs.tsb_phase.Green.{gap, reduction_timer, gap_has_expired, acting_maximum, has_maxed_out}
@@ -19,7 +20,7 @@ use Rattle.tsb_step.specs.declared.inputs.Input.TheVariants.{Tick}
 use Rattle.tsb_step.specs.declared.waits.Wait.TheVariants as waits
 use Rattle.tsb_step.specs.State.{State, interval, pedestrian_part}
 use Rattle.tsb_step.specs.Status.{RingStatus, status}
-use Rattle.tsb_step.specs.Tick.{runs, phases_given, phase_read, over}
+use Rattle.tsb_step.specs.Tick.{runs, phases_given, phase_read, over, reverted}
 use Rattle.tsb_step.specs.Waits.{phases_again, time_to_last}
 use Rattle.tsb_step.specs.Runs.{replay, AreTaken}
 use Rattle.tsb_step.specs.Laws.{IsConsistent}
@@ -177,3 +178,18 @@ abbrev pub ClearancesAreOverAsShown : Type 0
 ClearancesAreOverAsShown = (plan : Plan) (base later : List Input) (row : Row) (q n : ℕ) → IsConsistent plan → AreTaken plan (later ++ base) →
     IsUntripped plan base later → ToClear (replay plan base) q n → HasBegun (replay plan base) q (interval (replay plan base) q) →
     InEachTick (KeepsBoth q (replay plan base)) plan base (Tick row ∷ later) → PassesThen (λ s row. over s q) plan base later row n
+
+-- p waits for its red revert, or another phase that starts with it does; the status shows that this takes so long
+pub data ToRevert (s : State) (p n : ℕ) : Type 0 where
+  own : (status s).wait p ≡ Some (waits.RedRevert n) → ToRevert s p n
+  beside : (q : ℕ) → (status s).wait q ≡ Some (waits.Beside p n) → ToRevert s p n
+
+-- its red revert is as long in the tick as it was shown
+abbrev pub KeepsRevert : ℕ → State → State → Row → Type 0
+KeepsRevert p shown s row = red_revert s.plan p ≡ red_revert shown.plan p
+
+-- A red revert that a phase waits for has passed as shown, where it has begun: the phase is not in yellow change.
+abbrev pub RedRevertsPassAsShown : Type 0
+RedRevertsPassAsShown = (plan : Plan) (base later : List Input) (row : Row) (p n : ℕ) → IsConsistent plan → AreTaken plan (later ++ base) →
+    IsUntripped plan base later → is_phase p ≡ true → ToRevert (replay plan base) p n → is_yellow (interval (replay plan base) p) ≡ false →
+    InEachTick (KeepsRevert p (replay plan base)) plan base (Tick row ∷ later) → PassesThen (λ s row. reverted s p) plan base later row n

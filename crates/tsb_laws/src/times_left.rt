@@ -1,7 +1,7 @@
 //! What a status shows to be left of a time is when that time runs out, each law the contract of a function that does
 //! nothing. In each tick of the stretch the time has to be as long as it was shown. What has nothing left, as where a
 //! commit made a time shorter than has passed of it, runs out in the next tick.
-ghost use Rattle.tsb_laws.specs.TimesLeft.{ClearancesAreOverAsShown, ClearancesEndAsShown, GapsExpireAsShown, InitialsPassAsShown, MaximumsPassAsShown, RedClearsEndAsShown, WalksEndAsShown, YellowsEndAsShown};
+ghost use Rattle.tsb_laws.specs.TimesLeft.{ClearancesAreOverAsShown, ClearancesEndAsShown, GapsExpireAsShown, InitialsPassAsShown, MaximumsPassAsShown, RedClearsEndAsShown, RedRevertsPassAsShown, WalksEndAsShown, YellowsEndAsShown};
 
 /// A yellow ends as the status shows. With n ticks left it goes on up to the n-th tick, and ends in it, whatever inputs
 /// come.
@@ -89,4 +89,16 @@ pub fn maximums_pass_as_shown()
 /// Witness: `a_wait` of ClearingRuns, of 40 ticks.
 pub fn clearances_are_over_as_shown()
     ensures { ClearancesAreOverAsShown }
+{}
+
+/// A red revert that a phase waits for has passed as shown. A phase waits n ticks for its own red revert, or for that of
+/// the phase that starts with it. In the n-th tick that has passed, and in none before.
+///
+/// Needs: an untripped stretch. In each of its ticks the red revert is as long as it was shown. The phase is one of 1 to
+/// 16 and not in yellow change, as its red revert begins when that ends.
+/// Not said: that the phase then starts.
+/// Mistake: a wait that shows what is left once the next tick has passed (`would_show_19`, `not_in_19`, `reverts_in_20`).
+/// Witness: `a_red_revert` of RevertRuns, of 20 ticks.
+pub fn red_reverts_pass_as_shown()
+    ensures { RedRevertsPassAsShown }
 {}

@@ -2,3 +2,4 @@
 pub mod TickTests
 pub mod LeftRuns
 pub mod ClearingRuns
+pub mod RevertRuns
