@@ -4,4 +4,5 @@ pub mod RedClearLemmas
 pub mod WalkLemmas
 pub mod GreenLemmas
 pub mod WaitLemmas
+pub mod ForceOffLemmas
 pub mod Examples

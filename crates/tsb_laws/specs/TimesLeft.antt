@@ -11,6 +11,8 @@ use Rattle.tsb_step.specs.tsb_types.declared.row.Row.{Row}
 use Rattle.tsb_step.specs.tsb_types.Intervals.{is_yellow, is_walk, is_clearance}
 use Rattle.tsb_step.specs.tsb_types.Sets.{is_phase}
 use Rattle.tsb_step.specs.tsb_plan.Plan.{Plan, yellow_change, red_clear, red_revert}
+use Rattle.tsb_step.specs.tsb_plan.Parts.{cycle, offset}
+use Rattle.tsb_step.specs.tsb_coord.Coordinated.{force_off, agree}
 use Rattle.tsb_step.specs.tsb_ring.Rings.{Ring}
 use Rattle.tsb_step.specs.tsb_phase.Phase.{held_of}
 use Rattle.tsb_step.specs.tsb_phase.Green.{gap, reduction_timer, gap_has_expired, acting_maximum, has_maxed_out}
@@ -19,6 +21,7 @@ use Rattle.tsb_step.specs.declared.inputs.Input.{Input}
 use Rattle.tsb_step.specs.declared.inputs.Input.TheVariants.{Tick}
 use Rattle.tsb_step.specs.declared.waits.Wait.TheVariants as waits
 use Rattle.tsb_step.specs.State.{State, interval, pedestrian_part}
+use Rattle.tsb_step.specs.Signs.{local, IsInStep}
 use Rattle.tsb_step.specs.Status.{RingStatus, status}
 use Rattle.tsb_step.specs.Tick.{runs, phases_given, phase_read, over, reverted}
 use Rattle.tsb_step.specs.Waits.{phases_again, time_to_last}
@@ -193,3 +196,30 @@ abbrev pub RedRevertsPassAsShown : Type 0
 RedRevertsPassAsShown = (plan : Plan) (base later : List Input) (row : Row) (p n : ℕ) → IsConsistent plan → AreTaken plan (later ++ base) →
     IsUntripped plan base later → is_phase p ≡ true → ToRevert (replay plan base) p n → is_yellow (interval (replay plan base) p) ≡ false →
     InEachTick (KeepsRevert p (replay plan base)) plan base (Tick row ∷ later) → PassesThen (λ s row. reverted s p) plan base later row n
+
+-- ## Force-off
+
+-- the local counter is at the force-off instant of p
+abbrev pub is_at_instant : ℕ → State → Bool
+is_at_instant p s = agree (local s) (force_off s.plan (runs s) p)
+
+-- the local counter is in step in both states; the pattern that runs, its cycle and its offset, and the instant of p are
+-- as they were where they were shown
+pub record StaysInStep (p : ℕ) (shown s : State) : Type 0 where
+  pub in_step : IsInStep shown
+  pub still : IsInStep s
+  pub same_pattern : runs s ≡ runs shown
+  pub same_cycle : (m : ℕ) → runs shown ≡ Some m → cycle s.plan m ≡ cycle shown.plan m
+  pub same_offset : (m : ℕ) → runs shown ≡ Some m → offset s.plan m ≡ offset shown.plan m
+  pub same_instant : force_off s.plan (runs s) p ≡ force_off shown.plan (runs shown) p
+
+-- j ticks on, of n that were shown, a test holds once all n have passed, and not before
+pub record ComesThen (test : Bool) (j n : ℕ) : Type 0 where
+  pub before : j < n → test ≡ false
+  pub at_end : j ≡ n → test ≡ true
+
+-- The local counter comes to a force-off instant as shown.
+abbrev pub ForceOffsComeAsShown : Type 0
+ForceOffsComeAsShown = (plan : Plan) (base later : List Input) (r : Ring) (p n j : ℕ) → IsConsistent plan → AreTaken plan (later ++ base) →
+    IsShown (replay plan base) r p (λ x. x.force_off_in) n → StaysInStep p (replay plan base) (replay plan (later ++ base)) →
+    (replay plan (later ++ base)).now ≡ (replay plan base).now + j → ComesThen (is_at_instant p (replay plan (later ++ base))) j n

@@ -1,7 +1,7 @@
 //! What a status shows to be left of a time is when that time runs out, each law the contract of a function that does
 //! nothing. In each tick of the stretch the time has to be as long as it was shown. What has nothing left, as where a
 //! commit made a time shorter than has passed of it, runs out in the next tick.
-ghost use Rattle.tsb_laws.specs.TimesLeft.{ClearancesAreOverAsShown, ClearancesEndAsShown, GapsExpireAsShown, InitialsPassAsShown, MaximumsPassAsShown, RedClearsEndAsShown, RedRevertsPassAsShown, WalksEndAsShown, YellowsEndAsShown};
+ghost use Rattle.tsb_laws.specs.TimesLeft.{ClearancesAreOverAsShown, ClearancesEndAsShown, ForceOffsComeAsShown, GapsExpireAsShown, InitialsPassAsShown, MaximumsPassAsShown, RedClearsEndAsShown, RedRevertsPassAsShown, WalksEndAsShown, YellowsEndAsShown};
 
 /// A yellow ends as the status shows. With n ticks left it goes on up to the n-th tick, and ends in it, whatever inputs
 /// come.
@@ -101,4 +101,16 @@ pub fn clearances_are_over_as_shown()
 /// Witness: `a_red_revert` of RevertRuns, of 20 ticks.
 pub fn red_reverts_pass_as_shown()
     ensures { RedRevertsPassAsShown }
+{}
+
+/// The local counter comes to a force-off instant as the status shows. With n ticks left it is at the instant after n
+/// ticks, and not before.
+///
+/// Needs: that the local counter is in step in both states. The pattern that runs, its cycle, its offset and the instant
+/// of the phase are as they were.
+/// Not said: that the green ends then, for which it needs a conflict.
+/// Mistake: an instant that is counted from local zero (`would_show_760`, `there_at_19`).
+/// Witness: `a_force_off` of ForceOffRuns, of 19 ticks.
+pub fn force_offs_come_as_shown()
+    ensures { ForceOffsComeAsShown }
 {}

@@ -3,3 +3,4 @@ pub mod TickTests
 pub mod LeftRuns
 pub mod ClearingRuns
 pub mod RevertRuns
+pub mod ForceOffRuns
