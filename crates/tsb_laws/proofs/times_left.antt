@@ -5,4 +5,5 @@ pub mod WalkLemmas
 pub mod GreenLemmas
 pub mod WaitLemmas
 pub mod ForceOffLemmas
+pub mod LackLemmas
 pub mod Examples

@@ -13,12 +13,14 @@ use Rattle.tsb_step.specs.tsb_types.Sets.{is_phase}
 use Rattle.tsb_step.specs.tsb_plan.Plan.{Plan, yellow_change, red_clear, red_revert}
 use Rattle.tsb_step.specs.tsb_plan.Parts.{cycle, offset}
 use Rattle.tsb_step.specs.tsb_coord.Coordinated.{force_off, agree}
-use Rattle.tsb_step.specs.tsb_ring.Rings.{Ring}
+use Rattle.tsb_step.specs.tsb_ring.Rings.{Ring, own_ring}
 use Rattle.tsb_step.specs.tsb_phase.Phase.{held_of}
 use Rattle.tsb_step.specs.tsb_phase.Green.{gap, reduction_timer, gap_has_expired, acting_maximum, has_maxed_out}
 use Rattle.tsb_step.specs.tsb_phase.Pedestrian.{ended_by, walk_time, clearance_time, is_resting_in_walk}
 use Rattle.tsb_step.specs.declared.inputs.Input.{Input}
 use Rattle.tsb_step.specs.declared.inputs.Input.TheVariants.{Tick}
+use Rattle.tsb_step.specs.declared.waits.Lack.{Lack}
+use Rattle.tsb_step.specs.declared.waits.Lack.TheVariants as lacks
 use Rattle.tsb_step.specs.declared.waits.Wait.TheVariants as waits
 use Rattle.tsb_step.specs.State.{State, interval, pedestrian_part}
 use Rattle.tsb_step.specs.Signs.{local, IsInStep}
@@ -223,3 +225,18 @@ abbrev pub ForceOffsComeAsShown : Type 0
 ForceOffsComeAsShown = (plan : Plan) (base later : List Input) (r : Ring) (p n j : ℕ) → IsConsistent plan → AreTaken plan (later ++ base) →
     IsShown (replay plan base) r p (λ x. x.force_off_in) n → StaysInStep p (replay plan base) (replay plan (later ++ base)) →
     (replay plan (later ++ base)).now ≡ (replay plan base).now + j → ComesThen (is_at_instant p (replay plan (later ++ base))) j n
+
+-- ## What a green lacks
+
+-- what a green lacks is what the status of its ring shows to be left of that time. A force-off has none: the ring shows
+-- the phase
+abbrev pub IsLackShown : State → Ring → ℕ → Lack → Type 0
+IsLackShown s r q (lacks.Walk n) = IsShown s r q (λ x. x.walk_left) n
+IsLackShown s r q (lacks.Clearance n) = IsShown s r q (λ x. x.clearance_left) n
+IsLackShown s r q (lacks.Initial n) = IsShown s r q (λ x. x.initial_left) n
+IsLackShown s r q (lacks.Gap n) = IsShown s r q (λ x. x.gap_left) n
+IsLackShown s r q lacks.ForceOff = ((status s).ring r).phase ≡ Some q
+
+-- What a green lacks is what its ring shows, of whatever state.
+abbrev pub LacksAreShown : Type 0
+LacksAreShown = (s : State) (p q : ℕ) (l : Lack) → (status s).wait p ≡ Some (waits.Green q l) → IsLackShown s (own_ring s.plan p) q l

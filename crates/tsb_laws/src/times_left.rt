@@ -1,7 +1,7 @@
 //! What a status shows to be left of a time is when that time runs out, each law the contract of a function that does
 //! nothing. In each tick of the stretch the time has to be as long as it was shown. What has nothing left, as where a
 //! commit made a time shorter than has passed of it, runs out in the next tick.
-ghost use Rattle.tsb_laws.specs.TimesLeft.{ClearancesAreOverAsShown, ClearancesEndAsShown, ForceOffsComeAsShown, GapsExpireAsShown, InitialsPassAsShown, MaximumsPassAsShown, RedClearsEndAsShown, RedRevertsPassAsShown, WalksEndAsShown, YellowsEndAsShown};
+ghost use Rattle.tsb_laws.specs.TimesLeft.{ClearancesAreOverAsShown, ClearancesEndAsShown, ForceOffsComeAsShown, GapsExpireAsShown, InitialsPassAsShown, LacksAreShown, MaximumsPassAsShown, RedClearsEndAsShown, RedRevertsPassAsShown, WalksEndAsShown, YellowsEndAsShown};
 
 /// A yellow ends as the status shows. With n ticks left it goes on up to the n-th tick, and ends in it, whatever inputs
 /// come.
@@ -113,4 +113,15 @@ pub fn red_reverts_pass_as_shown()
 /// Witness: `a_force_off` of ForceOffRuns, of 19 ticks.
 pub fn force_offs_come_as_shown()
     ensures { ForceOffsComeAsShown }
+{}
+
+/// What a green lacks is what its ring shows to be left. A phase may wait for a green of its ring that lacks its walk, its
+/// pedestrian clearance, its initial time or its gap. Then the status of the ring shows just as much to be left of that,
+/// and the laws above are of such waits too.
+///
+/// Needs: nothing; it is of any state.
+/// Mistake: a wait that shows the whole walk (`would_lack_10`).
+/// Witness: `a_lack` of LackRuns.
+pub fn lacks_are_shown()
+    ensures { LacksAreShown }
 {}

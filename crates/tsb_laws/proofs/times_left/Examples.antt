@@ -2,5 +2,6 @@
 pub mod TickTests
 pub mod LeftRuns
 pub mod ClearingRuns
+pub mod LackRuns
 pub mod RevertRuns
 pub mod ForceOffRuns
