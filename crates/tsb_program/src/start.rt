@@ -11,7 +11,7 @@ use tsb_words::WordsError;
 /// `Memory` where there is no memory for the words or for that stack, and `Bad` where a word is not UTF-8.
 pub fn words_given(rt: &HostRuntime) -> Result<Vec<String>, WordsError> {
     let words: Vec<String> = env::args(rt)?.collect(rt.alloc())?;
-    if has_stack(rt.alloc(), (words.len() % 256) as u8) {
+    if has_stack(rt.alloc(), words.len() as u64) {
         Ok(words)
     } else {
         Err(WordsError::Memory)
