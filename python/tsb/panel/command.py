@@ -17,6 +17,7 @@ from tsb.programs import marked
 
 PROGRAM = "python3 -m tsb panel"
 PORTS = 65_535  # the greatest port
+RUNS = Path("panel_runs")  # where runs are kept, if no word says where
 
 
 def _words() -> argparse.ArgumentParser:
@@ -33,7 +34,7 @@ def _words() -> argparse.ArgumentParser:
         "--runs",
         type=Path,
         metavar="FOLDER",
-        default=Path("panel_runs"),
+        default=RUNS,
         help="where runs are kept; panel_runs without it",
     )
     words.add_argument("--port", type=port, default=0, help="0 for any that is free")
@@ -58,7 +59,8 @@ def main(words: Sequence[str]) -> int:
     try:
         source = _source(given.plan, given.log)
         layout = None if given.layout is None else Layout.read(given.layout)
-        return asyncio.run(_serve(source, Keep(given.runs.resolve()), layout, given))
+        keep = Keep(given.runs.resolve())
+        return asyncio.run(serve(source, keep, layout, given.port, given.open))
     except OSError as fault:
         raise Error(f"{fault.filename or 'panel'}: {fault.strerror}") from None
 
@@ -75,9 +77,15 @@ def _source(plan: Path, log: Path | None) -> Source:
     return source
 
 
-async def _serve(
-    source: Source, keep: Keep, layout: Layout | None, given: argparse.Namespace
+async def serve(
+    source: Source,
+    keep: Keep,
+    layout: Layout | None = None,
+    port: int = 0,
+    is_opened: bool = False,
 ) -> int:
+    """Serves a panel at a port, 0 for any that is free, until it is interrupted, and
+    opens it in the browser if that is asked; the status to end with."""
     try:
         from aiohttp import web
 
@@ -89,17 +97,17 @@ async def _serve(
     await runner.setup()
     assert runner.server is not None
     door = Door(runner.server, panel.busy)
-    port = None
+    server = None
     try:
-        port = await asyncio.get_running_loop().create_server(door, HOST, given.port)
-        panel.port = port.sockets[0].getsockname()[1]
+        server = await asyncio.get_running_loop().create_server(door, HOST, port)
+        panel.port = server.sockets[0].getsockname()[1]
         print(f"{marked(shown(source.name))}: {panel.address}", flush=True)
-        if given.open:
+        if is_opened:
             webbrowser.open(panel.address)
         await _interrupted(panel.watch())
     finally:
-        if port is not None:
-            port.close()
+        if server is not None:
+            server.close()
         await panel.close()
         await runner.cleanup()
     return 0

@@ -33,14 +33,15 @@ class NotKept(Error):
 
 @dataclass(frozen=True)
 class Source:
-    """What a run begins with: a plan's text, a log, and inputs that are given again
-    up to a tick."""
+    """What a run begins with: a plan's text, a log, inputs that are given again up to
+    the tick `end`, and the tick to go back to from there, if there is one."""
 
     name: str
     plan: bytes
     log: Log
     given: tuple[tuple[int, Given], ...] = ()
     end: int = 0
+    back_to: int | None = None
 
     @classmethod
     def read(cls, plan: Path, log: Path | None) -> "Source":

@@ -40,6 +40,8 @@ class Run:
                     self._take(tick - self.now)
                 for what in given:
                     self.give(what)
+            if source.back_to is not None:
+                self.go(source.back_to)
         except BaseException:
             self.bench.close()
             raise
