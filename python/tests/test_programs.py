@@ -154,7 +154,7 @@ for it in pkgutil.iter_modules(getattr(found, "__path__", [])):
 """
 
 
-@pytest.mark.parametrize("command", ["panel", "report", "sweep", "new"])
+@pytest.mark.parametrize("command", ["panel", "report", "sweep", "new", "test"])
 def test_a_command_needs_what_is_installed_for_it(command: str) -> None:
     """`python/setup.sh COMMAND` installs it, and no other package is imported."""
     text = (programs.REPOSITORY / "python/setup.sh").read_text()
@@ -162,7 +162,7 @@ def test_a_command_needs_what_is_installed_for_it(command: str) -> None:
     assert said is not None
     installed = (said[1] or said[2] or "").split()
     others = [it for name, it in MODULES.items() if name not in installed]
-    assert len(others) < len(MODULES) or command in ("sweep", "new")
+    assert len(others) < len(MODULES) or command in ("sweep", "new", "test")
     words = [sys.executable, "-c", ALL_OF, command, *others]
     done = subprocess.run(words, capture_output=True, text=True)
     assert (done.returncode, done.stderr) == (0, "")

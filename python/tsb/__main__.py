@@ -19,7 +19,7 @@ from tsb.errors import Error, NoProgram, shown
 from tsb.options import nearest
 
 # Modules with a function `main(words)`, which gives the status to end with.
-COMMANDS = ("new", "sumo", "sweep", "panel", "report")
+COMMANDS = ("new", "sumo", "sweep", "panel", "report", "test")
 CLOSED = 141  # the status where nobody reads any more: 128 and SIGPIPE
 
 

@@ -8,7 +8,7 @@ a sort or a filter left out; a minimum made a maximum. It is tried by the tests 
 module (`TESTS`), in a fork of a process that has what all of them import. A mutant that
 runs too long counts as noticed. Those of `EQUAL` are the same program, each with its
 reason, and are not tried. It prints those that survive, and of each module a row of the
-table in docs/trust/EVIDENCE.md: its mutants, how many were noticed, are equal, and are left.
+table in python/README.md: its mutants, how many were noticed, are equal, and are left.
 The last line is `N passed, M failed`: one passes where it is noticed, and with `--least`
 as many may fail as that leaves. Without modules it is all of them, and `quick` those
 whose tests are.
@@ -35,6 +35,19 @@ SECONDS = 60  # of a processor, that the tests of a mutant have at most
 LONGER, MORE = 3, 3  # a mutant has so many times what they take without one, and so many seconds beside it
 SLOWER = 10  # times that they may take by the clock, on a machine that does much else
 HAND, PARTS = ["tests/test_boundaries.py"], ["tests/test_parts_by_hand.py"]
+SCENARIOS = [f"tests/test_scenarios.py::{it}" for it in """
+    test_what_is_met test_a_call_that_still_waits test_long_lists_are_cut test_a_fault_names_file_line_and_word
+    test_a_sum_is_what_its_terms_are test_values_count_by_their_units test_comments_ends_of_lines_and_spaces
+    test_files_of_strangers test_a_fault_that_a_run_finds test_faults_of_plans test_the_text_of_a_failure
+    test_an_input_acts_in_its_tick_and_a_command_in_the_next test_lines_take_the_place_of_the_log
+    test_commands_of_a_session test_a_lamp_trips_after_its_tick test_a_refused_command_ends_the_run
+    test_a_verify_that_finds_a_rule_broken test_values_of_the_plan test_needs test_included_settings
+    test_the_plan_of_version_1_is_the_same_with_a_value_laid_over test_rows_have_what_lines_turn
+    test_one_index_and_all_of_them test_commands_by_tick test_events_before_the_first_tick
+    test_another_plan_is_in_the_command test_failures_are_in_the_order_of_their_lines
+    test_the_greatest_and_the_least_of_each test_two_heads_and_the_last_tick test_a_panel_begins_at_the_tick
+    test_a_panel_of_a_refused_command test_many_lines_on_one_run
+""".split()]
 # The tests of each module that can notice a mistake in it: fast ones first.
 TESTS = {
     "measures": [*HAND, "tests/test_measures.py", "tests/test_cycles.py"],
@@ -58,9 +71,10 @@ TESTS = {
         "test_a_program_of_type_nema_is_read_back"))],
     "sumo.trips": PARTS,
     "sumo.peers": PARTS,
+    **{f"scenario.{it}": SCENARIOS for it in ("times", "words", "text", "expect", "play")},
 }
-# The modules whose tests start no processes of a sweep: `quick` for all of them.
-QUICK = [it for it in TESTS if it not in ("tasks", "sweep")]
+# The modules whose tests start no processes of a sweep, and few programs: `quick` for all of them.
+QUICK = [it for it in TESTS if it not in ("tasks", "sweep") and not it.startswith("scenario.")]
 # Mutants that are the same program: why.
 SORTED = "two columns are sorted stably whatever the kind is"
 NAMED = "columns are taken by name"
@@ -141,6 +155,12 @@ EQUAL = {
     "panel.track add: it.tick >= self.end -> it.tick > self.end": "a tick that is known shows the same",
     "panel.track cut: tick < self.end -> tick <= self.end": "nothing lies behind the end",
     "sumo.nema _whole: abs(whole - value) > 1e-09 -> abs(whole - value) >= 1e-09": "no time is just so near to a whole one",
+    "scenario.expect of: 3 -> 4": "a head has two digits at most",
+    "scenario.play _advance: if tick <= bench.now: return -> if False: return": NO_TICKS,
+    "scenario.play _advance: tick <= bench.now -> tick < bench.now": NO_TICKS,
+    "scenario.play _advance: it.tick > first -> it.tick >= first": NO_TICKS,
+    "scenario.play _looked: sorted(bench.status.waits.items()) -> list(bench.status.waits.items())":
+        "a status has them by phase",
     "sumo.peers answers: False -> True": "a bench that keeps events answers the same",
     "sumo.peers _next_green: 4 -> 5": "phase 5 is no through phase",
 }
