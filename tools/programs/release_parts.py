@@ -18,6 +18,7 @@ import tempfile
 import time
 import tomllib
 import zipfile
+from typing import Any
 
 from tools.pages import manual_pages, written
 from tools.prover.proved_programs import RELEASED, Proof
@@ -34,7 +35,7 @@ sys.exit(console())
 # Pages that go with the programs, and what the Debian package asks for.
 PAGES = ["README.md", "CHANGELOG.md", "LICENSE-APACHE", "LICENSE-MIT", "SECURITY.md"]
 DEPENDS = "python3 (>= 3.11), python3-numpy, python3-pandas (>= 1.5), python3-tqdm"
-RECOMMENDS = "python3-aiohttp, python3-jinja2, python3-matplotlib, python3-dask, python3-distributed"
+RECOMMENDS = "python3-aiohttp, python3-jinja2, python3-matplotlib, python3-dask, python3-distributed, python3-pytest"
 
 
 @dataclasses.dataclass(frozen=True)
@@ -93,9 +94,23 @@ def proved(release: Release) -> str:
             f"The gate passed:\n\n{release.proof.table.rstrip()}\n")
 
 
+def project_of(release: Release) -> dict[str, Any]:
+    """What python/pyproject.toml says of the package."""
+    project: dict[str, Any] = tomllib.loads((release.top / "python/pyproject.toml").read_text())["project"]
+    return project
+
+
+def information(release: Release) -> dict[str, str]:
+    """What an installed package says of itself, by file: its command too, and the plugin that pytest finds by it."""
+    groups = {"console_scripts": {COMMAND: "tsb.__main__:console"}, **project_of(release)["entry-points"]}
+    points = [line for group, names in groups.items()
+              for line in (f"[{group}]", *(f"{name} = {it}" for name, it in names.items()), "")]
+    return {"METADATA": metadata(release), "entry_points.txt": "\n".join(points)}
+
+
 def metadata(release: Release) -> str:
     """What a wheel says of itself, by python/pyproject.toml."""
-    project = tomllib.loads((release.top / "python/pyproject.toml").read_text())["project"]
+    project = project_of(release)
     lines = ["Metadata-Version: 2.1", f"Name: {project['name']}", f"Version: {release.version()}",
              f"Summary: {project['description']}", "License: Apache-2.0 OR MIT",
              f"Requires-Python: {project['requires-python']}"]
@@ -112,8 +127,7 @@ def wheel(release: Release, to: pathlib.Path) -> None:
     files = {it: (release.top / "python" / it).read_bytes() for it in release.sources()}
     files |= {f"{release.name()}.data/scripts/{it}": release.programs[it].read_bytes() for it in RELEASED}
     files |= {f"{info}/{it}": (release.top / it).read_bytes() for it in PAGES if it.startswith("LICENSE")}
-    texts = {"METADATA": metadata(release),
-             "entry_points.txt": f"[console_scripts]\n{COMMAND} = tsb.__main__:console\n",
+    texts = {**information(release),
              "WHEEL": f"Wheel-Version: 1.0\nGenerator: tsb\nRoot-Is-Purelib: false\nTag: {tag}\n",
              "PROVED.txt": proved(release)}
     files |= {f"{info}/{it}": text.encode() for it, text in texts.items()}
@@ -146,6 +160,8 @@ def debian(release: Release, to: pathlib.Path) -> None:
         root = pathlib.Path(folder, "root")
         for it in release.sources():
             _put(root / "usr/lib/python3/dist-packages" / it, (release.top / "python" / it).read_bytes())
+        for name, text in information(release).items():
+            _put(root / f"usr/lib/python3/dist-packages/{release.name()}.dist-info" / name, text.encode())
         for name, path in release.programs.items():
             _put(root / "usr/bin" / name, path.read_bytes(), 0o755)
         _put(root / "usr/bin" / COMMAND, CONSOLE.encode(), 0o755)

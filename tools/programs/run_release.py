@@ -49,8 +49,8 @@ def ran(words: list[str | pathlib.Path], room: pathlib.Path, more: dict[str, str
     return done.stdout
 
 
-def asked(programs: pathlib.Path, room: pathlib.Path, more: dict[str, str]) -> None:
-    """Asks an installed release for a check, a record, a version and the first answer of a panel."""
+def asked(programs: pathlib.Path, python: pathlib.Path, room: pathlib.Path, more: dict[str, str]) -> None:
+    """Asks an installed release for a check, a record, a version, a test by pytest and the first answer of a panel."""
     plan, log = EXAMPLES / "quad.json", EXAMPLES / "preempt_and_undo.log"
     check(ran([programs / "tsb", "check", plan], room, more) == "plan ok\n", "tsb check")
     words: list[str | pathlib.Path] = ["record", "--from", "2026-11-22 07:00:00", "--device", "7", plan, log]
@@ -58,6 +58,8 @@ def asked(programs: pathlib.Path, room: pathlib.Path, more: dict[str, str]) -> N
     check("7,2026-11-22 07:00:05.0,4,2\n" in record, "tsb_field record")
     line = "0000001 RGRRRGRR-------- -D-------------- G--- 0 ----\n"
     check(ran([programs / "tsb_live", plan], room, more, f"{16 * '0'} {8 * '0'} 0000\n") == line, "tsb_live")
+    collected = [python, "-m", "pytest", "-q", "-p", "no:cacheprovider", EXAMPLES / "acceptance/minimum_green.scenario"]
+    check("1 passed" in ran(collected, room, more), "pytest has no plugin for scenario files")
     version = manual_pages.version(TOP)
     for name, told in {"tsb-py": "tsb", "tsb_field": "tsb_field", "tsb_live": "tsb_live"}.items():
         check(ran([programs / name, "--version"], room, more) == f"{told} {version}\n", f"{name} --version")
@@ -82,7 +84,7 @@ def the_wheel_works(made: pathlib.Path, room: pathlib.Path) -> None:
     words: list[str | pathlib.Path] = ["install", "-q", "--no-index", "--no-deps", *made.glob("*.whl")]
     pip = next(PIP.glob("pip-*.whl"))
     ran([room / "venv/bin/python", pip / "pip", *words], room, {"PIP_DISABLE_PIP_VERSION_CHECK": "1"})
-    asked(room / "venv/bin", room, {})
+    asked(room / "venv/bin", room / "venv/bin/python", room, {})
 
 
 def the_debian_package_works(made: pathlib.Path, room: pathlib.Path) -> None:
@@ -97,7 +99,7 @@ def the_debian_package_works(made: pathlib.Path, room: pathlib.Path) -> None:
     ran([*dpkg, "--install", package], room, DPKG)
     programs = root / "usr/bin"
     packages = str(root / "usr/lib/python3/dist-packages")
-    asked(programs, room, {"PYTHONPATH": packages, "PATH": f"{programs}:{os.defpath}"})
+    asked(programs, pathlib.Path("/usr/bin/python3"), room, {"PYTHONPATH": packages, "PATH": f"{programs}:{os.defpath}"})
     listed = ran([*dpkg, "--listfiles", "tsb"], room, DPKG).splitlines()
     check("/usr/bin/tsb-py" in listed, "dpkg --listfiles")
     ran([*dpkg, "--remove", "tsb"], room, DPKG)
