@@ -206,7 +206,7 @@ def test_the_questions_of_the_readme(room: Path) -> None:
     rows = re.findall(r"^\| [^|]*\? \| (.*) \|$", (TOP / "README.md").read_text(), re.M)
     typed_ones = [it for row in rows for it in re.findall(r"`(tsb\S* .*?)`", row)]
     commands = [it for it in typed_ones if it != "tsb run"]
-    assert len(rows) == 10 and len(commands) == 9
+    assert len(rows) == 11 and len(commands) == 10
     for command in commands:
         served(room, command)
 

@@ -14,14 +14,15 @@ MANUAL = "MANUAL"
 # The question of each part of the site, and its pages by their documents. A number is a chapter of the manual.
 PARTS: dict[str, list[str]] = {
     "Use it": ["MANUAL 1", "MANUAL 2", "MANUAL 3", "MANUAL 4", "MANUAL 5", "MANUAL 6", "MANUAL 7", "MANUAL 8",
-               "MANUAL 9", "TUTORIAL", "REVIEW", "FIELD", "LIVE", "PYTHON", "PANEL", "SUMO",
+               "MANUAL 9", "TUTORIAL", "REVIEW", "FIELD", "LIVE", "PYTHON", "SCENARIOS", "PANEL", "SUMO",
                "EXAMPLES", "GLOSSARY"],
     "Trust it": ["PROVED", "SAFETY", "EVIDENCE", "PEERS", "SPEED", "READING", "WRONG_BODIES", "LAWS"],
     "Work on it": ["CONTRIBUTING", "CONTRACTS", "DECISIONS", "DEFINITIONS", "CHANGELOG", "SECURITY"],
 }
 HOME = "index"
 # What such a page is called in the navigation, where its heading is too long.
-SHORT = {"FIELD": "Event logs and diagrams", "PYTHON": "Python, reports, sweeps", "READING": "From a question to its rule"}
+SHORT = {"FIELD": "Event logs and diagrams", "PYTHON": "Python, reports, sweeps", "READING": "From a question to its rule",
+         "SCENARIOS": "Tests of a plan"}
 # Documents that are not in the folders of docs/.
 ELSEWHERE = {HOME: "README.md", "CONTRIBUTING": "CONTRIBUTING.md", "CHANGELOG": "CHANGELOG.md",
              "SECURITY": "SECURITY.md", "EXAMPLES": "examples/README.md"}
