@@ -133,6 +133,7 @@ FAULTS = {
     "expect event 5": "a.scenario:1: 5: the line ends here: give its parameter",
     "expect event x 4": "a.scenario:1: x: give a code of an event",
     "expect event 256 4": "a.scenario:1: 256: give a code of an event of 0 to 255",
+    "expect event 12345678901 4": "a.scenario:1: 12345678901: give a code of an event",
     "expect no walk 4": "a.scenario:1: no: no head: P1 to P16, W1 to W16 and O1 to O4 are"
     " heads",
     "expect wait 17 at most 5": "a.scenario:1: 17: give a phase of 1 to 16",
@@ -645,6 +646,7 @@ def test_needs(write: Write) -> None:
         "needs phaseWalk.4": "phaseWalk.4 is 0",
         "needs phaseRing.4 2": "phaseRing.4 is 1, not 2",
         "set phaseWalk.4 7\nneeds phaseWalk.4": "phaseWalk.4 is 0",
+        "needs phaseWalk.4 4294967295": "phaseWalk.4 is 0, not 4294967295",
         "needs phaseWalk.4 0": None,
         "needs phaseWalk.4\nat 1-phaseWalk.2 V4 on": "phaseWalk.4 is 0",
     }.items():
