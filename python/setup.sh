@@ -10,7 +10,7 @@ here=$(cd "$(dirname "${BASH_SOURCE[0]}")" && pwd)
 python=/usr/bin/python3
 packages="python3 python3-numpy python3-pandas python3-tqdm"
 declare -A more=([panel]="python3-aiohttp" [report]="python3-jinja2 python3-matplotlib" [sweep]="" [new]=""
-    [diff]=""
+    [diff]="" [sheet]="python3-jinja2" [plan]=""
     [sumo]="sumo sumo-tools"
     [tests]="python3-pytest python3-pytest-asyncio python3-hypothesis python3-mypy python3-dask python3-distributed
         python3-selenium chromium chromium-driver python3-pip-whl")

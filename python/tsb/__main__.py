@@ -21,10 +21,12 @@ from tsb.options import nearest
 # Modules with a function `main(words)`, which gives the status to end with.
 COMMANDS = (
     "new", "sumo", "sweep", "panel", "report",
-    "diff",
+    "diff", "sheet", "plan",
 )  # fmt: skip
 # Those whose modules have other names.
-MODULES: dict[str, str] = {}
+MODULES = {
+    "plan": "exchange.plans",
+}
 CLOSED = 141  # the status where nobody reads any more: 128 and SIGPIPE
 
 
