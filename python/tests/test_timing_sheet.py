@@ -39,7 +39,7 @@ def called(*words: str | Path) -> "subprocess.CompletedProcess[str]":
 @settings(max_examples=60, deadline=None)
 @given(plans())
 def test_out_and_in_is_the_plan(plan: Plan) -> None:
-    """Of any version, also one that breaks the rules; and saved by a spreadsheet, with
+    """Plans have any version and may break the rules. A spreadsheet may save them with
     all cells between quotes or with semicolons and commas in 4,0."""
     text = text_of(plan)
     assert is_sheet(text) and plan_of(text) == plan
@@ -124,7 +124,7 @@ WRONG = [
 
 @pytest.mark.parametrize("change, said", WRONG, ids=[said for _, said in WRONG])
 def test_a_cell_that_is_wrong(change: tuple[str, str], said: str) -> None:
-    """It is named by its column and row, with what stands there."""
+    """It is named by its column and row, with its text."""
     plan = Plan()
     plan["phaseWalk"][3] = 7
     text = text_of(plan)

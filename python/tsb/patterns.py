@@ -60,7 +60,7 @@ def timings_of(plan: Plan) -> dict[int, Timing]:
 
 def _greens(plan: Plan) -> dict[int, dict[int, int]]:
     """The green that each split leaves, by pattern and phase. A review says it in
-    advice A12 where a walk is longer; so it is asked of a copy in which all are."""
+    advice A12 where a walk is longer: a copy is reviewed in which all are."""
     copy = plan.wide(NEWEST)
     for name in ("phaseWalk", "phasePedestrianClear"):
         copy[name] = dict.fromkeys(plan.phases, ALL)
@@ -93,8 +93,8 @@ def _run(
     the yields.
 
     In the tick in which a phase turns green its status says in how many ticks its
-    instant comes; so many ticks later the local counter is read. At a yield an event
-    says that the counter stands there.
+    instant comes; so many ticks later the local counter is read. At a yield there is an
+    event.
     """
     force_offs: dict[int, int] = {}
     yields: dict[int, int] = {}

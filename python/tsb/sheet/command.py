@@ -69,8 +69,8 @@ def main(words: Sequence[str]) -> int:
 
 
 def _write(given: argparse.Namespace) -> None:
-    """Writes what was asked for. The CSV comes first, of which `tsb check` is not
-    asked: a plan that breaks a rule can be mended there."""
+    """Writes what was asked for. The CSV comes first, and no rule is judged
+    for it: a plan that breaks one can be mended there."""
     text = files.up_to(given.plan, LONGEST)
     plan = _named(given.plan, lambda: Plan.of_text(text))
     if given.csv is not None:

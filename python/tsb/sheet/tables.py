@@ -15,8 +15,8 @@ TITLES = {"": "Unit", SPLITS: "Splits", SEQUENCE: "Sequences"}
 @dataclass(frozen=True)
 class Table:
     """The objects of one index: the rows of each, and the columns, which are the
-    numbers of the last part of an index. The other parts, as the table of a split,
-    tell rows of an object apart."""
+    numbers of the last part of an index. An object has a row for each
+    of the other parts, as the table of a split."""
 
     title: str
     objects: Sequence[Object]
