@@ -1,17 +1,17 @@
 """What differs between two plans: lines, what follows from them, and the command."""
 
-import subprocess
-import sys
 from pathlib import Path
+from typing import NamedTuple
 
 import pytest
 import tsb
 from hypothesis import given, settings
 from hypothesis import strategies as st
 from tsb import Plan, seconds
-from tsb.diff import Change, laid_over, lines_of
+from tsb.__main__ import main
+from tsb.diff import Change, following, laid_over, lines_of, timing_lines
 from tsb.manual import NEWEST, OBJECTS
-from tsb.patterns import timings_of
+from tsb.patterns import Timing, timings_of
 
 
 @st.composite
@@ -48,15 +48,18 @@ def test_each_kind_of_line(examples: Path) -> None:
     b["phasePassage"][2] = seconds(2.5)
     b["phaseConcurrency"][2] = {5}
     b["phaseConcurrency"][1] = ()
-    b["phaseWalk"][2] = 0
+    b["phaseWalk"][2], b["phaseWalk"][16] = 0, 5
+    b["overlapIncludedPhases"][2] = {16, 1}
     b["vehicleDetectorMaxPresence"][2] = 5
     b["overlapType"][1] = 1
     assert list(map(str, a.diff(b))) == [
         "phaseConcurrency.1: 48 -> 0 (no phase)",
         "phaseConcurrency.2: 48 -> 16 (phase 5)",
         "phaseWalk.2: 7 -> 0 (0 s)",
+        "phaseWalk.16: 0 -> 5 (5 s)",
         "phasePassage.2: 30 -> 25 (2.5 s)",
         "vehicleDetectorMaxPresence.2: 0 -> 5 (5 min)",
+        "overlapIncludedPhases.2: 0 -> 32769 (phases 1, 16)",
         "overlapType.1: 0 -> 1",
         "splitTime.19 (table 2, phase 3): 0 -> 7 (7 s)",
         "sequenceData.17 (sequence 1, ring 2, place 1): 5 -> 6",
@@ -124,6 +127,13 @@ def test_force_off_of_a_long_crosswalk(examples: Path) -> None:
     assert timings_of(plan)[1].force_offs[5] == 605
 
 
+def test_tenths(examples: Path) -> None:
+    """The split of phase 4 has 25 s, 5.1 s of them yellow and red clearance. It ends 40
+    s after that of phase 2, so the instant is 10 × 40 - 51."""
+    timing = timings_of(Plan.read(examples / "main_and_oak.json"))[1]
+    assert (timing.greens[4], timing.force_offs[4]) == (199, 349)
+
+
 def test_lead_and_lag(examples: Path) -> None:
     """In pattern 2 phase 6 comes before 5: its split ends 15 s before that of 2, so its
     instant is 10 × (40 - 55) - 50, which is 800 in a cycle of 100 s. That of 5 is 950.
@@ -136,6 +146,7 @@ def test_a_phase_that_others_keep_out(examples: Path) -> None:
     """With all called, 6 is served beside 1, and 5 not at all: 5 is asked for alone."""
     plan = Plan.read(examples / "coordination.json")
     plan["phaseConcurrency"][1], plan["phaseConcurrency"][5] = {6}, {2}
+    plan["splitMode"] = dict.fromkeys(range(1, 9), 2)  # (maximum recall)
     instants = timings_of(plan)[1].force_offs
     assert (instants[1], instants[5], len(instants)) == (550, 550, 8)
 
@@ -154,13 +165,26 @@ def test_a_phase_that_a_pattern_omits_has_no_instant(examples: Path) -> None:
 # The command
 
 
-def diff(*words: str | Path) -> "subprocess.CompletedProcess[str]":
-    """`python3 -m tsb diff` with these words."""
-    whole = [sys.executable, "-m", "tsb", "diff", *map(str, words)]
-    return subprocess.run(whole, capture_output=True, text=True)
+class Done(NamedTuple):
+    """How a command ended."""
+
+    status: int
+    stdout: str
+    stderr: str
 
 
-def test_what_follows(examples: Path, tmp_path: Path) -> None:
+def called(capsys: pytest.CaptureFixture[str], *words: str | Path) -> Done:
+    """`python3 -m tsb` with these words."""
+    try:
+        status = main(list(map(str, words)))
+    except SystemExit as ended:  # (as argparse ends for bad words)
+        status = int(str(ended.code))
+    return Done(status, *capsys.readouterr())
+
+
+def test_what_follows(
+    examples: Path, tmp_path: Path, capsys: pytest.CaptureFixture[str]
+) -> None:
     """5 s more for the left turns 3 and 7, taken from 4 and 8: by hand the instants of
     3 and 7 come 5 s later, as their splits end so much later. A faster yellow of 2, by
     0.5 s, moves its yield by so much."""
@@ -170,9 +194,11 @@ def test_what_follows(examples: Path, tmp_path: Path) -> None:
         plan["splitTime"][table, phase] = split
     plan["phaseYellowChange"][2] = 35
     plan["patternCycleTime"][2] = 0
+    for name in ("CycleTime", "SplitNumber", "SequenceNumber"):
+        plan[f"pattern{name}"][8] = plan[f"pattern{name}"][1]
     plan.write(tmp_path / "b.json")
-    done = diff(examples / "coordination.json", tmp_path / "b.json")
-    assert (done.returncode, done.stderr) == (1, "")
+    done = called(capsys, "diff", examples / "coordination.json", tmp_path / "b.json")
+    assert (done.status, done.stderr) == (1, "")
     assert done.stdout.partition("\n\n")[2].splitlines() == [
         "pattern 1, phase 3: split 15.0 s -> 20.0 s",
         "pattern 1, phase 4: split 30.0 s -> 25.0 s",
@@ -183,36 +209,57 @@ def test_what_follows(examples: Path, tmp_path: Path) -> None:
         "pattern 1, phase 7: force-off at 10.0 s -> 15.0 s",
         "pattern 1, phase 2: yield at 95.0 s -> 95.5 s",
         "pattern 2: not in use",
+        "pattern 8: in use",
+    ]
+
+
+def test_times_of_a_pattern() -> None:
+    """Phase by phase, of splits first; a phase that has no such time has none."""
+    a = Timing({2: 400, 8: 300}, {2: 350}, {2: 950, 8: 0}, {2: 950})
+    b = Timing({2: 355, 8: 345}, {8: 250}, {2: 950, 1: 5}, {})
+    assert list(timing_lines(a, b)) == [
+        "phase 2: split 40.0 s -> 35.5 s",
+        "phase 8: split 30.0 s -> 34.5 s",
+        "phase 1: force-off at none -> 0.5 s",
+        "phase 8: force-off at 0.0 s -> none",
+        "phase 2: yield at 95.0 s -> none",
     ]
 
 
 def test_concurrency_by_phases(examples: Path) -> None:
-    """Each pair once, and whether it goes together now."""
+    """Each pair once, by its numbers, and whether it goes together now."""
     a = Plan.read(examples / "quad.json")
     b = a.wide()
-    b["phaseConcurrency"][1], b["phaseConcurrency"][5] = {6}, {2}
-    said = ["", "phases 1 and 5 are no longer concurrent"]
-    assert list(lines_of(a, b, ("a", "b")))[2:] == said
-    assert list(lines_of(b, a, ("b", "a")))[2:] == ["", "phases 1 and 5 are concurrent"]
+    for name in ("phaseConcurrency", "patternCycleTime"):
+        b[name] = {}
+    b["phaseConcurrency"] = {1: {5}, 5: {1}, 2: {6}, 6: {2}, 3: {7}, 7: {3}}
+    pairs = [(1, 6), (2, 5), (3, 8), (4, 7), (4, 8)]
+    told = list(following(a, b))[: len(pairs)]
+    assert told == [f"phases {p} and {q} are no longer concurrent" for p, q in pairs]
+    told = list(following(b, a))[: len(pairs)]
+    assert told == [f"phases {p} and {q} are concurrent" for p, q in pairs]
 
 
-def test_statuses(examples: Path, tmp_path: Path) -> None:
-    """0 for plans that are alike, 1 for others, 2 after a fault, which names the file."""
+def test_statuses(
+    examples: Path, tmp_path: Path, capsys: pytest.CaptureFixture[str]
+) -> None:
+    """0 for plans that are alike, 1 for others, 2 after a fault, which names the
+    file."""
     quad, refused = examples / "quad.json", examples / "two_short_yellow.json"
     Plan.read(quad).wide().write(tmp_path / "wide.json")
-    done = diff(quad, tmp_path / "wide.json")
-    assert (done.returncode, done.stdout, done.stderr) == (0, "", "")
+    done = called(capsys, "diff", quad, tmp_path / "wide.json")
+    assert done == (0, "", "")
     (tmp_path / "none.json").write_text('{"version": 2, "phaseWalk": {"2": 300}}')
     for path, said in (
         (tmp_path / "none.json", ": phaseWalk: 300 is not in 0 to 255 (seconds)"),
         (tmp_path / "gone.json", ": No such file or directory"),
     ):
-        done = diff(quad, path)
-        assert (done.returncode, done.stdout) == (2, "")
-        assert done.stderr == f"python3 -m tsb diff: {path}{said}\n"
-    assert diff(quad).returncode == 2
-    done = diff(examples / "two.json", refused)
-    assert done.returncode == 1
+        done = called(capsys, "diff", quad, path)
+        assert done == (2, "", f"python3 -m tsb diff: {path}{said}\n")
+    assert called(capsys, "diff", quad).status == 2
+    assert called(capsys, "diff", refused, refused) == (0, "", "")
+    done = called(capsys, "diff", examples / "two.json", refused)
+    assert done.status == 1
     assert done.stdout.endswith(f"\n\n{refused}: plan: rule K8\n")
 
 

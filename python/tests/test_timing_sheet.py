@@ -5,8 +5,6 @@ import hashlib
 import io
 import re
 import shutil
-import subprocess
-import sys
 from html.parser import HTMLParser
 from pathlib import Path
 from typing import Any
@@ -14,23 +12,13 @@ from typing import Any
 import pytest
 import tsb
 from hypothesis import given, settings
-from test_diff import plans
+from test_diff import called, plans
 from tsb import Plan
+from tsb.__main__ import main
 from tsb.sheet import command
 from tsb.sheet.spreadsheet import column_of, is_sheet, plan_of, text_of
 
 BROWSER = [it for it in command.BROWSERS if shutil.which(it)]
-
-
-def sheet(*words: str | Path) -> "subprocess.CompletedProcess[str]":
-    """`python3 -m tsb sheet` with these words."""
-    return called("sheet", *words)
-
-
-def called(*words: str | Path) -> "subprocess.CompletedProcess[str]":
-    """`python3 -m tsb` with these words."""
-    whole = [sys.executable, "-m", "tsb", *map(str, words)]
-    return subprocess.run(whole, capture_output=True, text=True)
 
 
 # Tables of CSV
@@ -113,6 +101,7 @@ WRONG = [
     (("splitTime,table 2,", "splitTime,table 9,"), "cell B73: table 9: it is 1 to 8"),
     (("phaseWalk,,", ",,"), "cell A17: the row has values, and no object"),
     (("Phases,of,unit,1,2", "Phases,of,unit,1,1"), "cell E3: 1: the column comes twice"),
+    (("Phases,of,unit,1,2", "Phases,of,unit,x,2"), "cell D3: x: no column of 1 to 16"),
     (("Phases,of,unit,1,2", "Phases,of,unit,1,17"), "cell E3: 17: no column of 1 to 16"),
     (("unitMax2,,yes or no,", "unitMax2,,yes or no,1,1"), "cell E59: 1: no number stands"
      " above it"),
@@ -136,13 +125,15 @@ def test_a_cell_that_is_wrong(change: tuple[str, str], said: str) -> None:
 
 def test_all_wrong_cells_are_listed() -> None:
     """Up to twenty, and how many more there are."""
-    text = text_of(Plan()).replace("yes or no" + "," * 16, "yes or no" + ",2" * 16, 2)
-    with pytest.raises(tsb.Error) as told:
-        plan_of(text)
-    lines = str(told.value).splitlines()
-    assert lines[0] == "cell D4: 2: phaseEnabled: not in 0 to 1 (yes or no)"
-    assert lines[16].startswith("cell D5: 2: phaseNonLock: ")
-    assert lines[20:] == ["and 12 more cells"]
+    text = text_of(Plan()).replace("yes or no" + "," * 16, "yes or no" + ",2" * 16, 1)
+    for others, rest in ((4, []), (5, ["and 1 more"]), (16, ["and 12 more"])):
+        cells = ",2" * others + "," * (16 - others)
+        with pytest.raises(tsb.Error) as told:
+            plan_of(text.replace("yes or no" + "," * 16, "yes or no" + cells, 1))
+        lines = str(told.value).splitlines()
+        assert lines[0] == "cell D4: 2: phaseEnabled: not in 0 to 1 (yes or no)"
+        assert lines[16].startswith("cell D5: 2: phaseNonLock: ")
+        assert lines[20:] == rest
 
 
 def test_what_a_hand_may_change() -> None:
@@ -176,31 +167,40 @@ def test_texts_of_strangers(text: str, said: str) -> None:
     assert str(told.value) == said
 
 
+def test_bounds() -> None:
+    """A text of just 1 MiB is read, and 40 signs of a cell are shown."""
+    text = "tsb timing sheet,version,2\n"
+    assert plan_of(text.ljust(1 << 20, "\n")) == Plan()
+    for long, said in ((40, "9" * 40), (41, "9" * 40 + "..")):
+        with pytest.raises(tsb.Error, match=f"cell D3: {said}: phaseWalk: no number"):
+            plan_of(f"{text}Phases,,,1\nphaseWalk,,,{'9' * long}\n")
+
+
 def test_columns_have_letters() -> None:
     assert [column_of(it) for it in (0, 25, 26, 51, 52, 701, 702)] == [
         "A", "Z", "AA", "AZ", "BA", "ZZ", "AAA"
     ]  # fmt: skip
 
 
-def test_csv_by_the_commands(examples: Path, tmp_path: Path) -> None:
+def test_csv_by_the_commands(
+    examples: Path, tmp_path: Path, capsys: pytest.CaptureFixture[str]
+) -> None:
     """A sheet out, a value changed in it, and in; no file is written over."""
     table, back = tmp_path / "sheet.csv", tmp_path / "plan.json"
     plan = examples / "main_and_oak.json"
-    done = sheet(plan, "--csv", table)
-    assert (done.returncode, done.stdout, done.stderr) == (0, "", "")
-    done = sheet(plan, "--csv", table)
+    assert called(capsys, "sheet", plan, "--csv", table) == (0, "", "")
     said = f"python3 -m tsb sheet: {table}: there is such a file: name another\n"
-    assert (done.returncode, done.stderr) == (1, said)
+    assert called(capsys, "sheet", plan, "--csv", table) == (1, "", said)
     text = table.read_text()
     table.write_text(text.replace("seconds,3.0,4.0,", "seconds,3.0,4.5,"))
-    done = called("plan", table, "--out", back)
-    assert done.returncode == 0, done.stderr
+    done = called(capsys, "plan", table, "--out", back)
+    assert done.status == 0, done.stderr
     assert done.stdout.endswith("tsb check: plan ok\n")
     lines = list(map(str, Plan.read(plan).diff(Plan.read(back))))
     assert lines == ["phaseYellowChange.2: 40 -> 45 (4.5 s)"]
     table.write_text(text.replace("seconds,3.0,4.0,", "seconds,3.0,4.55,"))
-    done = called("plan", table, "--out", tmp_path / "other.json")
-    assert (done.returncode, done.stdout) == (1, "")
+    done = called(capsys, "plan", table, "--out", tmp_path / "other.json")
+    assert (done.status, done.stdout) == (1, "")
     assert done.stderr == (
         f"{table}: cell E26: 4.55: phaseYellowChange: no whole number of tenths of a"
         " second\n"
@@ -250,8 +250,7 @@ def page(tmp_path_factory: pytest.TempPathFactory) -> tuple[Path, Tables]:
     """The sheet of the plan that the manual's chapter 8 works out."""
     examples = Path(__file__).resolve().parents[2] / "examples"
     path = tmp_path_factory.mktemp("sheet") / "sheet.html"
-    done = sheet(examples / "coordination.json", "--out", path)
-    assert (done.returncode, done.stdout, done.stderr) == (0, "", "")
+    assert main(["sheet", str(examples / "coordination.json"), "--out", str(path)]) == 0
     return path, Tables(path.read_text())
 
 
@@ -279,11 +278,13 @@ def test_what_the_page_has(page: tuple[Path, Tables], examples: Path) -> None:
     ]  # fmt: skip
 
 
-def test_advices_and_preempts(examples: Path, tmp_path: Path) -> None:
+def test_advices_and_preempts(
+    examples: Path, tmp_path: Path, capsys: pytest.CaptureFixture[str]
+) -> None:
     """The advices are those of a review; a preempt and walks have their rows."""
     path, plan = tmp_path / "sheet.html", Plan.read(examples / "main_and_oak.json")
-    done = sheet(examples / "main_and_oak.json", "--out", path, "--title", "Main & Oak")
-    assert done.returncode == 0, done.stderr
+    words = [examples / "main_and_oak.json", "--out", path, "--title", "Main & Oak"]
+    assert called(capsys, "sheet", *words) == (0, "", "")
     found = Tables(path.read_text())
     assert found.texts["li"] == plan.review() != []
     assert found.texts["h1"][-1].endswith("Main & Oak")
@@ -293,35 +294,44 @@ def test_advices_and_preempts(examples: Path, tmp_path: Path) -> None:
     ]  # fmt: skip
 
 
-def test_split_tables_of_no_pattern(examples: Path, tmp_path: Path) -> None:
+def test_split_tables_of_no_pattern(
+    examples: Path, tmp_path: Path, capsys: pytest.CaptureFixture[str]
+) -> None:
     """They are on the sheet too, and a plan without patterns has no times of them."""
     plan = Plan.read(examples / "first_plan.json")
     plan["splitTime"][2, 4] = 20
     plan.write(tmp_path / "plan.json")
-    assert sheet(tmp_path / "plan.json", "--out", tmp_path / "s.html").returncode == 0
+    words = [tmp_path / "plan.json", "--out", tmp_path / "s.html"]
+    assert called(capsys, "sheet", *words) == (0, "", "")
     found = Tables((tmp_path / "s.html").read_text())
     assert found.row("splitTime") == ["seconds", "20"]
     assert "split (s)" not in {it[0] for it in found.rows if it}
 
 
-def test_a_plan_that_is_refused(examples: Path, tmp_path: Path) -> None:
+def test_a_plan_that_is_refused(
+    examples: Path, tmp_path: Path, capsys: pytest.CaptureFixture[str]
+) -> None:
     """It has no page, and what was there stays. It has its tables, to mend it there."""
     plan, path = examples / "two_short_yellow.json", tmp_path / "s.html"
     path.write_text("before")
-    done = sheet(plan, "--csv", tmp_path / "s.csv", "--out", path)
-    assert done.returncode == 1
+    done = called(capsys, "sheet", plan, "--csv", tmp_path / "s.csv", "--out", path)
+    assert (done.status, done.stdout) == (1, "")
     assert done.stderr.startswith(f"python3 -m tsb sheet: {plan}: plan: rule K8: ")
     assert path.read_text() == "before"
     assert plan_of((tmp_path / "s.csv").read_text()) == Plan.read(plan)
-    done = sheet(plan)
-    assert done.returncode == 2
+    done = called(capsys, "sheet", plan)
+    assert (done.status, done.stdout) == (2, "")
     assert done.stderr.endswith(
         "sheet: error: name a file by --out or --csv, at least\n"
     )
-    done = sheet(tmp_path / "none.json", "--out", path)
-    assert (done.returncode, done.stderr) == (
-        1, f"python3 -m tsb sheet: {tmp_path / 'none.json'}: No such file or directory\n"
-    )  # fmt: skip
+    none = tmp_path / "none.json"
+    said = f"python3 -m tsb sheet: {none}: No such file or directory\n"
+    assert called(capsys, "sheet", none, "--out", path) == (1, "", said)
+    none.write_text("{}")
+    done = called(capsys, "sheet", none, "--out", path)
+    assert done.stderr.startswith(f"python3 -m tsb sheet: {none}: plan: version")
+    said = f"python3 -m tsb sheet: {tmp_path}/no/s.csv: No such file or directory\n"
+    assert called(capsys, "sheet", plan, "--csv", tmp_path / "no/s.csv")[2] == said
 
 
 @pytest.mark.skipif(not BROWSER, reason="there is no Chromium")
@@ -351,10 +361,12 @@ def test_the_page_in_a_browser(page: tuple[Path, Tables], tmp_path: Path) -> Non
 
 
 @pytest.mark.skipif(not BROWSER, reason="there is no Chromium")
-def test_a_pdf(examples: Path, tmp_path: Path) -> None:
+def test_a_pdf(
+    examples: Path, tmp_path: Path, capsys: pytest.CaptureFixture[str]
+) -> None:
     path = tmp_path / "sheet.pdf"
-    done = sheet(examples / "coordination.json", "--out", path)
-    assert (done.returncode, done.stderr) == (0, "")
+    words = [examples / "coordination.json", "--out", path]
+    assert called(capsys, "sheet", *words) == (0, "", "")
     assert path.read_bytes().startswith(b"%PDF-")
 
 

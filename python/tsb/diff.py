@@ -113,7 +113,8 @@ def following(a: Plan, b: Plan) -> Iterator[str]:
             used = "in use" if pattern in of_b else "not in use"
             yield f"pattern {pattern}: {used}"
             continue
-        yield from _timing(f"pattern {pattern}", of_a[pattern], of_b[pattern])
+        for it in timing_lines(of_a[pattern], of_b[pattern]):
+            yield f"pattern {pattern}, {it}"
 
 
 def _concurrency(a: Plan, b: Plan) -> Iterator[str]:
@@ -134,8 +135,8 @@ def _pairs(plan: Plan) -> frozenset[tuple[int, int]]:
     )
 
 
-def _timing(where: str, a: Timing, b: Timing) -> Iterator[str]:
-    """What differs of a pattern's times."""
+def timing_lines(a: Timing, b: Timing) -> Iterator[str]:
+    """What differs between the times of a pattern in two plans."""
     for what, of_a, of_b in (
         ("split", a.splits, b.splits),
         ("force-off at", a.force_offs, b.force_offs),
@@ -143,7 +144,7 @@ def _timing(where: str, a: Timing, b: Timing) -> Iterator[str]:
     ):
         for phase in _unlike(of_a, of_b):
             was, now = (_time(it.get(phase)) for it in (of_a, of_b))
-            yield f"{where}, phase {phase}: {what} {was} -> {now}"
+            yield f"phase {phase}: {what} {was} -> {now}"
 
 
 def _unlike(a: Mapping[int, int], b: Mapping[int, int]) -> Collection[int]:

@@ -52,7 +52,7 @@ def timings_of(plan: Plan) -> dict[int, Timing]:
     found = {}
     for pattern in wide["patternCycleTime"]:
         table = wide["patternSplitNumber"][pattern]
-        splits = {it: 10 * wide["splitTime"][table, it] for it in sorted(wide.phases)}
+        splits = {it: 10 * wide["splitTime"][table, it] for it in wide.phases}
         force_offs, yields = _instants(wide, pattern)
         found[pattern] = Timing(splits, greens.get(pattern, {}), force_offs, yields)
     return found
@@ -81,9 +81,8 @@ def _instants(plan: Plan, pattern: int) -> tuple[dict[int, int], dict[int, int]]
     table = plan["patternSplitNumber"][pattern]
     for phase in plan.phases - set(force_offs):
         if plan["splitMode"][table, phase] != OMITTED:
-            alone, _ = _run(plan, pattern, {phase})
-            force_offs |= {it: instant for it, instant in alone.items() if it == phase}
-    return dict(sorted(force_offs.items())), dict(sorted(yields.items()))
+            force_offs |= _run(plan, pattern, {phase})[0]
+    return force_offs, yields
 
 
 def _run(
@@ -92,8 +91,8 @@ def _run(
     """The force-off instants of the phases that are served where these are called, and
     the yields.
 
-    In the tick in which a phase turns green its status says in how many ticks its
-    instant comes; so many ticks later the local counter is read. At a yield there is an
+    In a tick in which a phase is green its status says in how many ticks its instant
+    comes; so many ticks later the local counter is read. At a yield there is an
     event.
     """
     force_offs: dict[int, int] = {}
@@ -101,12 +100,12 @@ def _run(
     with Bench(_calling(plan, called)) as bench:
         bench.set_pattern(pattern)
         shown = bench.changes(CYCLES * 10 * plan["patternCycleTime"][pattern])
-        greens = {phase: it.tick for it in reversed(shown) for phase in it.greens}
+        greens = {phase: it.tick for it in shown for phase in it.greens}
         points = {it.parameter: it.tick for it in bench.events if it.code == YIELD}
         places = [(tick, phase, force_offs) for phase, tick in greens.items()]
         places += [(tick, phase, yields) for phase, tick in points.items()]
         # (the bench only goes backwards)
-        for tick, phase, found in sorted(places, key=lambda it: it[:2], reverse=True):
+        for tick, phase, found in sorted(places, key=lambda it: it[0], reverse=True):
             bench.seek(tick)
             left = 0 if found is yields else _force_off_in(bench.status, phase)
             if left is not None:

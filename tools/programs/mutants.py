@@ -35,6 +35,7 @@ SECONDS = 60  # of a processor, that the tests of a mutant have at most
 LONGER, MORE = 3, 3  # a mutant has so many times what they take without one, and so many seconds beside it
 SLOWER = 10  # times that they may take by the clock, on a machine that does much else
 HAND, PARTS = ["tests/test_boundaries.py"], ["tests/test_parts_by_hand.py"]
+DIFF = ["tests/test_diff.py"]
 # The tests of each module that can notice a mistake in it: fast ones first.
 TESTS = {
     "measures": [*HAND, "tests/test_measures.py", "tests/test_cycles.py"],
@@ -53,6 +54,12 @@ TESTS = {
     "panel.marks": PARTS,
     "panel.run": [*PARTS, *(f"tests/test_panel_parts.py::{it}" for it in (
         "test_the_last_tick_of_a_run", "test_anything_after_anything"))],
+    "diff": DIFF,
+    "patterns": DIFF,
+    "sheet.spreadsheet": [f"tests/test_timing_sheet.py::{it}" for it in (
+        "test_out_and_in_is_the_plan", "test_the_tables", "test_a_cell_that_is_wrong",
+        "test_all_wrong_cells_are_listed", "test_what_a_hand_may_change", "test_texts_of_strangers",
+        "test_columns_have_letters")],
     "sumo.nema": ["tests/test_nema.py", f"{PARTS[0]}::test_the_offset_of_a_program_of_type_nema", *(f"tests/test_sumo.py::{it}" for it in (
         "test_cycles_of_programs_of_type_nema", "test_phases_of_nema_in_no_ring",
         "test_a_program_of_type_nema_is_read_back"))],

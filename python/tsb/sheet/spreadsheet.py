@@ -77,7 +77,7 @@ def plan_of(text: str) -> Plan:
         reading.take(number, [it.strip() for it in cells])
     if faults := reading.faults:
         more = len(faults) - FAULTS_MOST
-        rest = [f"and {more} more cells"] if more > 0 else []
+        rest = [f"and {more} more"] if more > 0 else []
         raise Error("\n".join([*faults[:FAULTS_MOST], *rest]))
     return reading.plan
 
