@@ -297,14 +297,18 @@ def test_advices_and_preempts(
 def test_split_tables_of_no_pattern(
     examples: Path, tmp_path: Path, capsys: pytest.CaptureFixture[str]
 ) -> None:
-    """They are on the sheet too, and a plan without patterns has no times of them."""
+    """They are on the sheet too, and so are values of phases that are not enabled. A
+    plan without patterns has no times of them."""
     plan = Plan.read(examples / "first_plan.json")
-    plan["splitTime"][2, 4] = 20
+    plan["splitTime"][2, 4], plan["splitMode"][3, 9] = 20, 5
+    plan["phaseWalk"][9] = 7
     plan.write(tmp_path / "plan.json")
     words = [tmp_path / "plan.json", "--out", tmp_path / "s.html"]
     assert called(capsys, "sheet", *words) == (0, "", "")
     found = Tables((tmp_path / "s.html").read_text())
-    assert found.row("splitTime") == ["seconds", "20"]
+    assert found.row("splitTime, table 2") == ["seconds", "20", "0"]
+    assert found.row("splitMode, table 3") == ["", "none", "omitted"]
+    assert found.row("phaseWalk") == ["seconds", "0", "0", "7"]
     assert "split (s)" not in {it[0] for it in found.rows if it}
 
 

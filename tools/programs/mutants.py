@@ -79,6 +79,7 @@ ANYWAY = "it is written over, or none, in any case"
 BELOW = "numpy takes any number below 0 as -1"
 AGAIN = "marks that are known are found again"
 LATER = "all differences are sorted afterwards"
+LONGER_RUN = "a longer run of a pattern has the same instants"
 EQUAL = {
     "measures walk_waits: 1 -> 2": "no event has a code below 0",
     "measures arriving: 'stable' -> 'quicksort'": SORTED,
@@ -119,6 +120,9 @@ EQUAL = {
     "report.differences _pairs: sorted({int(k) for it in known for k in it[name].unique()}) -> list({int(k) for it in "
     "known for k in it[name].unique()})": LATER,
     "report.runs with_inputs_of: True -> False": "rows are numbered anew afterwards",
+    "patterns : 3 -> 4": LONGER_RUN,
+    "patterns _run: 10 -> 11": LONGER_RUN,
+    "patterns : 1 -> 2": "either force mode ends a late green, and neither moves an instant",
     "panel.tape _with_hands: if not hands: return row -> if False: return row": SHORTER,
     "panel.run : 500 -> 501": PIECES,
     "panel.run : 20000 -> 20001": PIECES,

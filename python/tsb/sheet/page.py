@@ -2,8 +2,9 @@
 
 import hashlib
 import re
-from collections.abc import Collection, Iterator, Mapping, Sequence
+from collections.abc import Iterator, Mapping, Sequence
 from dataclasses import dataclass
+from itertools import product
 
 import jinja2
 from markupsafe import Markup
@@ -17,17 +18,18 @@ from tsb.sheet.tables import Table, index_of, tables, unit_in
 from tsb.values import SEQUENCES, phases_of, time_of
 
 PHASES, SPLITS, SEQUENCE, PATTERNS = "Phases", "Splits", "Sequences", "Patterns"
+# Tables that have places of their own; all others follow one another.
+IN_PLACES = (PHASES, SPLITS, SEQUENCE, PATTERNS)
+SAME = "–"  # of a phase and itself
 
 
 @dataclass(frozen=True)
 class Grid:
-    """A table of the page: its title, the names of its columns, its rows, and what is
-    said below it."""
+    """A table of the page: its title, the names of its columns, and its rows."""
 
     title: str
     head: Sequence[str]
     rows: Sequence[Sequence[str]]
-    note: str = ""
 
 
 @dataclass(frozen=True)
@@ -49,7 +51,7 @@ def page_of(name: str, text: bytes, plan: Plan, title: str | None) -> str:
     )
     wide = plan.wide(NEWEST)
     by_title = {it.title: it for it in tables(NEWEST)}
-    others = [it for title, it in by_title.items() if title not in _IN_PLACES]
+    others = [it for title, it in by_title.items() if title not in IN_PLACES]
     found: str = pages.get_template("page.html.j2").render(
         title=marked(title or f"Timing sheet: {name}"),
         facts=_facts(name, text, plan),
@@ -57,16 +59,12 @@ def page_of(name: str, text: bytes, plan: Plan, title: str | None) -> str:
         phases=grid_of(by_title[PHASES], wide),
         patterns=grid_of(by_title[PATTERNS], wide),
         timings=list(_timings(wide, timings_of(plan))),
-        unused=_unused_splits(by_title[SPLITS], wide),
+        other_splits=_other_splits(by_title[SPLITS], wide),
         intergreens=intergreens(wide),
         others=[it for table in others if (it := grid_of(table, wide)).rows],
         advices=plan.review(),
     )
     return found
-
-
-SAME = "–"  # of a phase and itself
-_IN_PLACES = (PHASES, SPLITS, SEQUENCE, PATTERNS)
 
 
 def _facts(name: str, text: bytes, plan: Plan) -> list[tuple[str, str]]:
@@ -80,27 +78,23 @@ def _facts(name: str, text: bytes, plan: Plan) -> list[tuple[str, str]]:
 
 
 def grid_of(table: Table, plan: Plan) -> Grid:
-    """The objects of a table that are not all 0, at the indices that have a value; of
-    phases at those that are enabled."""
+    """The objects of a table that are not all 0, and the columns with a value."""
     rows = [
         (what, of)
         for what, of in table.rows()
         if any(plan[what.name][index_of(of, it)] for it in table.columns)
     ]
-    if table.title == PHASES:
-        columns: Collection[int] = sorted(plan.phases)
-    else:
-        columns = [
-            column for column in table.columns
-            if any(plan[what.name][index_of(of, column)] for what, of in rows)
-        ]  # fmt: skip
-    named = list(map(str, columns)) if len(table.columns) > 1 else [""]
-    cells = [
-        [what.name, unit_told(what), *(
-            shown_in(what, plan[what.name][index_of(of, it)]) for it in columns
-        )]
-        for what, of in rows
+    columns = [
+        it for it in table.columns
+        if any(plan[what.name][index_of(of, it)] for what, of in rows)
     ]  # fmt: skip
+    named = list(map(str, columns)) if len(table.columns) > 1 else [""]
+    cells = []
+    for what, of in rows:
+        values = plan[what.name]
+        name = f"{what.name}, {table.of(of)}" if of else what.name
+        shown = (shown_in(what, values[index_of(of, it)]) for it in columns)
+        cells.append([name, unit_told(what), *shown])
     return Grid(table.title, ["", "unit", *named], cells)
 
 
@@ -158,7 +152,9 @@ def _timings(plan: Plan, timings: Mapping[int, Timing]) -> Iterator[Grid]:
         rows = {
             "split (s)": _tenths(timing.splits),
             "split mode": {it: _mode(plan, table, it) for it in phases},
-            "coordinated": {it: "yes" for it in timing.yields},
+            "coordinated": {
+                it: "yes" for it in phases if plan["splitCoordPhase"][table, it]
+            },
             "green of the split (s)": _tenths(timing.greens),
             "walk + clearance (s)": _pedestrians(plan),
             "force-off at (s)": _tenths(timing.force_offs),
@@ -190,16 +186,14 @@ def _pedestrians(plan: Plan) -> dict[int, str]:
     return {it: f"{walks[it]} + {clearances[it]}" for it in walks if it in plan.phases}
 
 
-def _unused_splits(table: Table, plan: Plan) -> Grid | None:
-    """The split tables that no used pattern has."""
+def _other_splits(table: Table, plan: Plan) -> Grid:
+    """The splits that no table of a pattern shows: those of no used pattern, and of
+    phases that are not enabled."""
     used = {plan["patternSplitNumber"][it] for it in plan["patternCycleTime"]}
     rest = plan.wide(NEWEST)
-    for number in used:
-        for what in table.objects:
-            for phase in table.columns:
-                rest[what.name][number, phase] = 0
-    found = grid_of(table, rest)
-    return found if found.rows else None
+    for what, number, phase in product(table.objects, used, plan.phases):
+        rest[what.name][number, phase] = 0
+    return grid_of(table, rest)
 
 
 def intergreens(plan: Plan) -> Grid:
