@@ -283,7 +283,13 @@ def test_advices_and_preempts(
 ) -> None:
     """The advices are those of a review; a preempt and walks have their rows."""
     path, plan = tmp_path / "sheet.html", Plan.read(examples / "main_and_oak.json")
-    words = [examples / "main_and_oak.json", "--out", path, "--title", "Main & Oak"]
+    words: list[str | Path] = [
+        examples / "main_and_oak.json",
+        "--out",
+        path,
+        "--title",
+        "Main & Oak",
+    ]
     assert called(capsys, "sheet", *words) == (0, "", "")
     found = Tables(path.read_text())
     assert found.texts["li"] == plan.review() != []
@@ -303,7 +309,7 @@ def test_split_tables_of_no_pattern(
     plan["splitTime"][2, 4], plan["splitMode"][3, 9] = 20, 5
     plan["phaseWalk"][9] = 7
     plan.write(tmp_path / "plan.json")
-    words = [tmp_path / "plan.json", "--out", tmp_path / "s.html"]
+    words: list[str | Path] = [tmp_path / "plan.json", "--out", tmp_path / "s.html"]
     assert called(capsys, "sheet", *words) == (0, "", "")
     found = Tables((tmp_path / "s.html").read_text())
     assert found.row("splitTime, table 2") == ["seconds", "20", "0"]
@@ -369,7 +375,7 @@ def test_a_pdf(
     examples: Path, tmp_path: Path, capsys: pytest.CaptureFixture[str]
 ) -> None:
     path = tmp_path / "sheet.pdf"
-    words = [examples / "coordination.json", "--out", path]
+    words: list[str | Path] = [examples / "coordination.json", "--out", path]
     assert called(capsys, "sheet", *words) == (0, "", "")
     assert path.read_bytes().startswith(b"%PDF-")
 
