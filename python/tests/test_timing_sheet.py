@@ -340,6 +340,9 @@ def test_a_plan_that_is_refused(
     none.write_text("{}")
     done = called(capsys, "sheet", none, "--out", path)
     assert done.stderr.startswith(f"python3 -m tsb sheet: {none}: plan: version")
+    good = examples / "quad.json"
+    said = "python3 -m tsb sheet: /dev/full: No space left on device\n"
+    assert called(capsys, "sheet", good, "--out", "/dev/full") == (1, "", said)
     said = f"python3 -m tsb sheet: {tmp_path}/no/s.csv: No such file or directory\n"
     assert called(capsys, "sheet", plan, "--csv", tmp_path / "no/s.csv")[2] == said
 

@@ -41,11 +41,11 @@ def word(path: AnyPath) -> str:
 
 def write(path: Path, text: bytes) -> None:
     """Writes a file as a whole: what was there stays until all is written."""
-    if path.exists() and not path.is_file():
-        path.write_bytes(text)
-        return
     part = path.with_name(f".{uuid.uuid4().hex}.part")
     try:
+        if path.exists() and not path.is_file():
+            path.write_bytes(text)
+            return
         part.write_bytes(text)
         os.replace(part, path)
     except OSError as fault:
@@ -54,15 +54,15 @@ def write(path: Path, text: bytes) -> None:
 
 
 def create(path: Path, text: bytes) -> None:
-    """Writes a file that is new, as a whole; `Error` where there is one of its name,
-    which stays as it is."""
-    part = path.with_name(f".{uuid.uuid4().hex}.part")
+    """Writes a file that is new; `Error` where there is one of its name, which stays as
+    it is. A file that can't be written to its end is not left behind."""
     try:
-        part.write_bytes(text)
-        os.link(part, path)
+        file = path.open("xb")
     except FileExistsError:
         raise Error(f"{path}: there is such a file: name another") from None
+    try:
+        with file:
+            file.write(text)
     except OSError as fault:
+        path.unlink(missing_ok=True)
         raise OSError(fault.errno, fault.strerror, str(path)) from None
-    finally:
-        part.unlink(missing_ok=True)

@@ -59,7 +59,7 @@ TESTS = {
     "sheet.spreadsheet": [f"tests/test_timing_sheet.py::{it}" for it in (
         "test_out_and_in_is_the_plan", "test_the_tables", "test_a_cell_that_is_wrong",
         "test_all_wrong_cells_are_listed", "test_what_a_hand_may_change", "test_texts_of_strangers",
-        "test_columns_have_letters")],
+        "test_columns_have_letters", "test_bounds")],
     "sumo.nema": ["tests/test_nema.py", f"{PARTS[0]}::test_the_offset_of_a_program_of_type_nema", *(f"tests/test_sumo.py::{it}" for it in (
         "test_cycles_of_programs_of_type_nema", "test_phases_of_nema_in_no_ring",
         "test_a_program_of_type_nema_is_read_back"))],
