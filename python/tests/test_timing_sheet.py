@@ -141,7 +141,8 @@ def test_what_a_hand_may_change() -> None:
     of their own table, lists with commas, and a number with a plus."""
     text = (
         "tsb timing sheet;version;3\nPhases;;;4;2\nphaseWalk;;;7;+9,0\n;;;;\n"
-        "phaseConcurrency;;;5,6;1+2\nUnit;;;1\nunitRedRevert;;;2,5\n"
+        "phaseConcurrency;;;5,6;1+2\nphaseMinimumGreen\nUnit;;;1\nunitRedRevert;;;2,5\n"
+        "Overlaps;;;1\noverlapIncludedPhases;;;0\n"
     )
     plan = Plan(3)
     plan["phaseWalk"] = {4: 7, 2: 9}
@@ -157,6 +158,10 @@ def test_what_a_hand_may_change() -> None:
         ("tsb timing sheet,version,2\n" + "," * (1 << 20), "too large: over 1 MiB"),
         ("tsb timing sheet,version,2\nPhases,,,1\nphaseWalk,,,\x1b[31m" + 99 * "9",
          "cell D3: ?[31m" + 35 * "9" + "..: phaseWalk: no number"),
+        ("tsb timing sheet,version,2\nPhases,,,1\nphaseWalk,table 1\n",
+         "cell B3: table 1: empty it"),
+        ("tsb timing sheet,version,1\nPhases,,,1\nphaseConcurrency,,,5 9\n",
+         "cell D3: 5 9: phaseConcurrency: no phases of 1 to 8 with spaces between"),
         ("tsb timing sheet,version", "cell C1: an empty cell is no version of a plan"
          " text: 1, 2 or 3"),
     ],
