@@ -3,13 +3,14 @@
 # installs what is missing by apt-get, and is quick and quiet where nothing is. It works from any directory.
 #
 #   python/setup.sh && python/.venv/bin/python -m tsb
-#   python/setup.sh panel       no more than these commands of tsb need, of panel, report, sweep, sumo, new and test
+#   python/setup.sh panel       no more than these commands of tsb need, as panel and report
 set -eu -o pipefail
 
 here=$(cd "$(dirname "${BASH_SOURCE[0]}")" && pwd)
 python=/usr/bin/python3
 packages="python3 python3-numpy python3-pandas python3-tqdm"
 declare -A more=([panel]="python3-aiohttp" [report]="python3-jinja2 python3-matplotlib" [sweep]="" [new]="" [test]=""
+    [diff]="" [sheet]="python3-jinja2" [plan]=""
     [sumo]="sumo sumo-tools"
     [tests]="python3-pytest python3-pytest-asyncio python3-pytest-xdist python3-hypothesis python3-mypy python3-dask python3-distributed
         python3-selenium chromium chromium-driver python3-pip-whl")

@@ -153,10 +153,36 @@ def test_the_way_back(quad: Path) -> None:
         ways: list[Callable[[int], object]]
         ways = [bench.back, bench.seek, bench.step, bench.changes]
         for way in ways:
-            with pytest.raises(tsb.OutOfRange, match="-1: a number of ticks is 0"):
+            with pytest.raises(tsb.OutOfRange, match="-1: give a .*, 0 or more; a second"):
                 way(-1)
         assert bench.undo() == "tick" and bench.now == 49
         assert bench.seek(0).tick == 0
+
+
+@pytest.mark.parametrize(
+    "wrong, said",
+    [
+        (lambda bench: bench.step(10.5), "step 10.5: give a number of ticks, as a whole"
+         " number; a second has 10 ticks"),
+        (lambda bench: bench.back(-3), "back -3: give a number of ticks, 0 or more; a"
+         " second has 10 ticks"),
+        (lambda bench: bench.seek("7:42"), "seek '7:42': give a tick, counted from"
+         " power-up, as a whole number; a second has 10 ticks"),
+        (lambda bench: bench.tick(vehicles=4), "4: give the numbers of inputs in a list,"
+         " as [4], or a digit for each"),
+        (lambda bench: bench.tick(preempts=["a"]), "['a']: give the numbers of inputs in"
+         " a list, as [1, 4], or a digit for each"),
+    ],
+)  # fmt: skip
+def test_a_wrong_call_says_what_to_give(
+    quad: Path, wrong: Callable[[Bench], object], said: str
+) -> None:
+    """And the bench is as it was."""
+    with Bench(quad) as bench:
+        bench.step(5)
+        with pytest.raises(tsb.OutOfRange) as told:
+            wrong(bench)
+        assert str(told.value) == said and bench.now == 5
 
 
 def test_when(quad: Path) -> None:

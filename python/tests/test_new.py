@@ -227,24 +227,35 @@ def test_without_the_programs(tmp_path: Path, monkeypatch: pytest.MonkeyPatch) -
     assert not out.exists()
 
 
+CLOSING = """\
+plan.json: through 2 4 6 8, left 1 3 5 7; pattern 1 has a cycle of 110 s
+tsb check: plan ok; tsb_field review: no advice
+Fill in what only the street can say; these values hold its place:
+  phaseYellowChange: speed of the approach, grade
+  phaseRedClear: speed, distance through the intersection
+  phasePedestrianClear: distance from curb to curb, at 3.5 feet a second
+  phasePassage, phaseMinimumGap: length and distance of the detectors, speed
+  vehicleDetectorCallPhase, pedestrianDetectorCallPhase: channels of the cabinet (now n calls phase n)
+  patternCycleTime, patternOffsetTime, splitTime: counts of vehicles, distances to the next signals
+No advice asks for these, since a plan has no speeds and distances. But as they
+grow, a review says what no longer fits: a walk in its split (A12) or its
+maximum (A13), a minimum green in its split (A27, A43).
+"""
+
+
 def test_the_words_of_the_documents(top: Path, tmp_path: Path) -> None:
-    """Both pages have the command, which writes the plan of eight phases; the listing
-    of commands has it."""
-    (command,) = {
-        line
-        for page in ("PYTHON", "TUTORIAL")
-        for line in re.findall(
-            r"^python/\.venv/bin/python -m tsb new .*$",
-            (top / f"docs/use/{page}.md").read_text(), re.M,
-        )
-    }  # fmt: skip
+    """The page has the command, which writes the plan of eight phases and says what to
+    fill in; the listing of commands has it."""
+    (command,) = re.findall(
+        r"^python/\.venv/bin/python -m tsb new .*$",
+        (top / "docs/use/PYTHON.md").read_text(), re.M,
+    )  # fmt: skip
     words = command.split()[1:]
     done = subprocess.run(
         [sys.executable, *words], cwd=tmp_path, capture_output=True, text=True,
         check=True,
     )  # fmt: skip
-    text = (top / "docs/use/PYTHON.md").read_text()
-    assert f"```\n{done.stdout}```\n" in text
+    assert done.stdout == CLOSING
     with made(EIGHT) as out:
         assert (tmp_path / words[-1]).read_text() == out.read_text()
     listed = subprocess.run(

@@ -99,6 +99,9 @@ cp examples/hour_of_traffic.log day.log
 #: beginning then ends with 130.)
 SERVER = re.compile(r"((?:\S+ -m tsb|tsb-py) panel\b.*)")
 SERVED = r"{ timeout --preserve-status --signal=INT 8 \1 || [ $? = 130 ]; }"
+#: A comparison of plans, whose status is 1 where they differ: that is no fault.
+DIFF = re.compile(r"((?:\S+ -m tsb|tsb-py) diff \S+ \S+)")
+DIFFERS = r"{ \1 || [ $? = 1 ]; }"
 #: An answer of tsb_live, as docs/use/LIVE.md shows it: all other lines are given.
 ANSWER = re.compile(r"\d{7} .*|event \d{7} .*|ok")
 
@@ -194,7 +197,7 @@ def test_commands_of_a_page(page: str, room: Path) -> None:
 def served(room: Path, script: str) -> str:
     """What a script writes; a server in it is stopped after some seconds, and has to
     print its address before."""
-    told = typed(room, SERVER.sub(SERVED, script))
+    told = typed(room, DIFF.sub(DIFFERS, SERVER.sub(SERVED, script)))
     assert not SERVER.search(script) or "http://127.0.0.1:" in told, script
     return told
 
@@ -206,7 +209,7 @@ def test_the_questions_of_the_readme(room: Path) -> None:
     rows = re.findall(r"^\| [^|]*\? \| (.*) \|$", (TOP / "README.md").read_text(), re.M)
     typed_ones = [it for row in rows for it in re.findall(r"`(tsb\S* .*?)`", row)]
     commands = [it for it in typed_ones if it != "tsb run"]
-    assert len(rows) == 11 and len(commands) == 10
+    assert len(rows) == 13 and len(commands) == 12
     for command in commands:
         served(room, command)
 

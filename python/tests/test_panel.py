@@ -671,6 +671,26 @@ def test_the_plan_is_saved_by_its_button(page: Page, tmp_path: Path) -> None:
     assert page.text("keep-said") == "plan.json: made up to tick 0"
 
 
+def test_what_was_committed_beside_the_plan_of_the_file(page: Page) -> None:
+    """A row for each value that differs, until the commit is undone."""
+    same = "The plan in effect is that of the file."
+    assert page.text("committed-says") == same and not page.shows("committed")
+    page.click("begin")
+    page.set("phaseMaximum1", 4, 44)
+    page.set("splitTime", 18, 25)
+    assert page.text("committed-says") == same
+    page.click("verify")
+    page.click("commit")
+    rows = page.find("committed").text.splitlines()[1:]
+    assert rows == [
+        "phaseMaximum1 4 20 (seconds) 44 (seconds)",
+        "splitTime 18 (table 2, phase 2) 0 (seconds) 25 (seconds)",
+    ]
+    assert page.text("committed-says") == ""
+    page.click("undo")
+    assert page.text("committed-says") == same and not page.shows("committed")
+
+
 def test_marks_at_each_change(page: Page) -> None:
     """For a value that is watched."""
     page.click("vehicle-4")

@@ -415,11 +415,12 @@ def _answering(path: str) -> Talk:
 
 def _counted(what: str, count: int) -> int:
     """A number of ticks, or of one."""
-    if isinstance(count, bool) or not isinstance(count, Integral):
-        raise OutOfRange(f"{what} {count!r}: a number of ticks is a whole one")
-    if count < 0:
-        raise OutOfRange(f"{what} {count}: a number of ticks is 0 or more")
-    return int(count)
+    is_whole = isinstance(count, Integral) and not isinstance(count, bool)
+    if is_whole and count >= 0:
+        return int(count)
+    give = "a tick, counted from power-up" if what == "seek" else "a number of ticks"
+    number = "as a whole number" if not is_whole else "0 or more"
+    raise OutOfRange(f"{what} {count!r}: give {give}, {number}; a second has 10 ticks")
 
 
 def _changed(before: Display, shown: Lines) -> Iterator[Display]:

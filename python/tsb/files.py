@@ -1,7 +1,9 @@
-"""Files that are read: never more of one than it may have, nor what never ends."""
+"""Files that are read, never more of one than it may have, nor what never ends; and
+files that are written, as a whole or not at all."""
 
 import os
 import stat
+import uuid
 from os import PathLike
 from pathlib import Path
 
@@ -35,3 +37,32 @@ def word(path: AnyPath) -> str:
     """A path as a word of a command, which is no option however it begins."""
     text = os.fspath(path)
     return f"./{text}" if text.startswith("-") else text
+
+
+def write(path: Path, text: bytes) -> None:
+    """Writes a file as a whole: what was there stays until all is written."""
+    part = path.with_name(f".{uuid.uuid4().hex}.part")
+    try:
+        if path.exists() and not path.is_file():
+            path.write_bytes(text)
+            return
+        part.write_bytes(text)
+        os.replace(part, path)
+    except OSError as fault:
+        part.unlink(missing_ok=True)
+        raise OSError(fault.errno, fault.strerror, str(path)) from None
+
+
+def create(path: Path, text: bytes) -> None:
+    """Writes a file that is new; `Error` where there is one of its name, which stays as
+    it is. A file that can't be written to its end is not left behind."""
+    try:
+        file = path.open("xb")
+    except FileExistsError:
+        raise Error(f"{path}: there is such a file: name another") from None
+    try:
+        with file:
+            file.write(text)
+    except OSError as fault:
+        path.unlink(missing_ok=True)
+        raise OSError(fault.errno, fault.strerror, str(path)) from None

@@ -10,7 +10,7 @@ from collections.abc import Iterable, Iterator, MutableMapping
 from datetime import timedelta
 from os import PathLike
 from pathlib import Path
-from typing import Any
+from typing import TYPE_CHECKING, Any
 
 from tsb.errors import NOT_JSON, NoSuchObject, OutOfRange, PlanFault, shown
 from tsb.files import up_to
@@ -25,6 +25,9 @@ from tsb.values import (
     phases_of,
     wide_index,
 )
+
+if TYPE_CHECKING:
+    from tsb.diff import Change
 
 OK = "plan ok"
 LONGEST = 1 << 20  # bytes of a plan's text
@@ -206,9 +209,9 @@ class Plan:
         for at, phase in enumerate(order + [0] * (count - len(order)), 1):
             values[number, ring, at] = phase
 
-    def wide(self) -> "Plan":
-        """The same plan in version 2."""
-        plan = Plan()
+    def wide(self, version: int = 2) -> "Plan":
+        """The same plan in version 2, or 3."""
+        plan = Plan(version)
         for name, values in self.items():
             taken = plan[name]
             for index, value in values.items():
@@ -232,6 +235,14 @@ class Plan:
             file.flush()
             done = run("tsb_field", ["review", file.name], statuses=(0, 1))
         return done.stdout.decode().splitlines()
+
+    def diff(self, other: "Plan") -> "list[Change]":
+        """The values in which another plan differs from this one, in the order of the
+        manual; none where both texts give one plan. The text of each is its line of
+        `python3 -m tsb diff`, and `tsb.diff.laid_over` lays them over this plan."""
+        from tsb.diff import changes
+
+        return changes(self, other)
 
     def check(self) -> None:
         """Asks `tsb check`; raises the `PlanFault` that it finds, if any."""

@@ -8,6 +8,7 @@ import re
 from bisect import bisect_right
 from collections.abc import Iterable, Iterator
 from dataclasses import dataclass
+from numbers import Integral
 from operator import index
 from os import PathLike
 from pathlib import Path
@@ -37,7 +38,8 @@ def digits(on: On, count: int) -> str:
     try:
         numbers = [index(number) for number in on]
     except TypeError:
-        what = "numbers of inputs as [1, 4], or a digit for each"
+        listed = f"[{on}]" if isinstance(on, Integral) else "[1, 4]"
+        what = f"the numbers of inputs in a list, as {listed}, or a digit for each"
         raise OutOfRange(f"{on!r}: give {what}") from None
     for number in numbers:
         if not 1 <= number <= count:

@@ -14,6 +14,7 @@ Index = int | tuple[int, int] | tuple[int, int, int]
 
 RINGS, TABLES, SEQUENCES = 2, 8, 4
 SPLITS, SEQUENCE = "16 (table", "32 (sequence"
+TENTH, SECOND = timedelta(milliseconds=100), timedelta(seconds=1)
 
 
 def seconds(count: float) -> timedelta:
@@ -122,6 +123,21 @@ def _sum(what: Object, phases: Iterable[int], version: int) -> int:
     if wrong := [it for it in members if not 1 <= it <= 16]:
         raise OutOfRange(f"{what.name}: there is no phase {wrong[0]}")
     return sum(1 << (it - 1) for it in members)
+
+
+def time_of(what: Object, number: int) -> str:
+    """A value that is a time, in seconds or minutes without their name: `2.5` of 25
+    tenths."""
+    tenths = what.time == TENTH
+    return f"{number // 10}.{number % 10}" if tenths else str(number)
+
+
+def unit_of(what: Object) -> str:
+    """The unit in which `time_of` gives the values of an object: `s` or `min`, and
+    nothing of one that is no time."""
+    if what.time is None:
+        return ""
+    return "min" if what.time > SECOND else "s"
 
 
 def phases_of(number: int) -> frozenset[int]:

@@ -48,6 +48,7 @@ SCENARIOS = [f"tests/test_scenarios.py::{it}" for it in """
     test_the_greatest_and_the_least_of_each test_two_heads_and_the_last_tick test_a_panel_begins_at_the_tick
     test_a_panel_of_a_refused_command test_many_lines_on_one_run
 """.split()]
+DIFF = ["tests/test_diff.py"]
 # The tests of each module that can notice a mistake in it: fast ones first.
 TESTS = {
     "measures": [*HAND, "tests/test_measures.py", "tests/test_cycles.py"],
@@ -66,6 +67,12 @@ TESTS = {
     "panel.marks": PARTS,
     "panel.run": [*PARTS, *(f"tests/test_panel_parts.py::{it}" for it in (
         "test_the_last_tick_of_a_run", "test_anything_after_anything"))],
+    "diff": DIFF,
+    "patterns": DIFF,
+    "sheet.spreadsheet": [f"tests/test_timing_sheet.py::{it}" for it in (
+        "test_out_and_in_is_the_plan", "test_the_tables", "test_a_cell_that_is_wrong",
+        "test_all_wrong_cells_are_listed", "test_what_a_hand_may_change", "test_texts_of_strangers",
+        "test_columns_have_letters", "test_bounds")],
     "sumo.nema": ["tests/test_nema.py", f"{PARTS[0]}::test_the_offset_of_a_program_of_type_nema", *(f"tests/test_sumo.py::{it}" for it in (
         "test_cycles_of_programs_of_type_nema", "test_phases_of_nema_in_no_ring",
         "test_a_program_of_type_nema_is_read_back"))],
@@ -86,6 +93,7 @@ ANYWAY = "it is written over, or none, in any case"
 BELOW = "numpy takes any number below 0 as -1"
 AGAIN = "marks that are known are found again"
 LATER = "all differences are sorted afterwards"
+LONGER_RUN = "a longer run of a pattern has the same instants"
 EQUAL = {
     "measures walk_waits: 1 -> 2": "no event has a code below 0",
     "measures arriving: 'stable' -> 'quicksort'": SORTED,
@@ -126,6 +134,9 @@ EQUAL = {
     "report.differences _pairs: sorted({int(k) for it in known for k in it[name].unique()}) -> list({int(k) for it in "
     "known for k in it[name].unique()})": LATER,
     "report.runs with_inputs_of: True -> False": "rows are numbered anew afterwards",
+    "patterns : 3 -> 4": LONGER_RUN,
+    "patterns _run: 10 -> 11": LONGER_RUN,
+    "patterns : 1 -> 2": "either force mode ends a late green, and neither moves an instant",
     "panel.tape _with_hands: if not hands: return row -> if False: return row": SHORTER,
     "panel.run : 500 -> 501": PIECES,
     "panel.run : 20000 -> 20001": PIECES,

@@ -31,6 +31,7 @@ class Run:
         try:
             self.track = Track(self.bench.show())
             self.plan, self.serial = self.bench.plan, next(_serials)
+            self.file_plan = self.plan
             self._plan_text = self.plan.text
             self.tape = Tape(source.log)
             self.watched: list[Watched] = []

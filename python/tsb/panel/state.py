@@ -8,10 +8,9 @@ from tsb.panel.layout import Layout, layout_of
 from tsb.panel.run import Run, is_tripped
 from tsb.programs import marked
 from tsb.status import Edits, Status
-from tsb.values import parts_of
+from tsb.values import RINGS, SEQUENCES, parts_of
 
 GIVEN_SHOWN = 100  # inputs that a page lists, the newest
-SEQUENCES, RINGS = 4, 2
 
 
 def state_of(run: Run) -> dict[str, Any]:
@@ -101,6 +100,10 @@ def plan_told(run: Run, layout: Layout | None) -> dict[str, Any]:
         "preempts": sorted(plan["preemptDwellPhase"]),
         "patterns": sorted(plan["patternCycleTime"]),
         "values": {name: dict(values) for name, values in plan.items()},
+        "committed": [
+            {**vars(it), "unit": OBJECTS[it.name].unit}
+            for it in run.file_plan.diff(plan)
+        ],
     }
 
 

@@ -1,12 +1,10 @@
 """`python3 -m tsb report`: what it does, and its faults."""
 
-import os
 import sys
-import uuid
 import warnings
 from collections.abc import Sequence
-from pathlib import Path
 
+from tsb import files
 from tsb.errors import Error
 from tsb.report.numbers import Numbers
 from tsb.report.page import page_of
@@ -26,7 +24,7 @@ def main(words: Sequence[str]) -> int:
         several = len(runs), given.consecutive
         numbers = [Numbers(run, place, *several) for place, run in enumerate(runs)]
         text = page_of(numbers, given.title, notes)
-        _write(given.out, text.encode(errors="replace"))
+        files.write(given.out, text.encode(errors="replace"))
     except OSError as fault:
         where = fault.filename or given.out
         print(f"{PROGRAM}: {where}: {fault.strerror or fault}", file=sys.stderr)
@@ -37,17 +35,3 @@ def main(words: Sequence[str]) -> int:
     for note in notes:
         print(f"{PROGRAM}: {note}", file=sys.stderr)
     return 0
-
-
-def _write(path: Path, text: bytes) -> None:
-    """Writes a file as a whole: what was there stays until all is written."""
-    if path.exists() and not path.is_file():
-        path.write_bytes(text)
-        return
-    part = path.with_name(f".{uuid.uuid4().hex}.part")
-    try:
-        part.write_bytes(text)
-        os.replace(part, path)
-    except OSError as fault:
-        part.unlink(missing_ok=True)
-        raise OSError(fault.errno, fault.strerror, str(path)) from None

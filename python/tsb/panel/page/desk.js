@@ -62,6 +62,12 @@ export class Desk {
   draw(plan) {
     this.plan = plan;
     this.describe();
+    const changes = plan.committed;
+    say(byId("committed-says"), changes.length ? "" : "The plan in effect is that of the file.");
+    byId("committed").hidden = !changes.length;
+    byId("committed").tBodies[0].replaceChildren(...changes.map((it) => el("tr", {},
+      el("td", {}, it.name), el("td", {}, this.named({ object: it.name, index: it.index })),
+      el("td", {}, inUnit(it.before, it.unit)), el("td", {}, inUnit(it.after, it.unit)))));
   }
 
   describe() {
