@@ -1,0 +1,88 @@
+-- Options at 0, over runs: a run in which every option is 0 is that of the controller whose definitions have no
+-- options, which PlainStep has. The laws here are the contract of a function in src/options.rt, and proved there.
+use Rattle.std.specs.Prelude.{◌≡◌, ℕ, Bool, true, false, List, [], ◌∷◌}
+use Rattle.tsb_step.specs.tsb_plan.declared.object.Object.{Object}
+use Rattle.tsb_step.specs.tsb_plan.declared.object.Object.TheVariants.{CoordForceMode, CoordMaximumMode, PatternPermissiveTime, PatternLeadLag, PhasePedestrianRecycle, CoordCorrectionMode, CoordCorrectionLimit, OverlapAcrossRings, PreemptChoosesAnew}
+use Rattle.tsb_step.specs.tsb_plan.Plan.{Plan}
+use Rattle.tsb_step.specs.declared.inputs.Input.{Input}
+use Rattle.tsb_step.specs.declared.inputs.Input.TheVariants.{Set}
+use Rattle.tsb_step.specs.State.{State}
+use Rattle.tsb_step.specs.Signs.{display, field, local, IsInStep}
+use Rattle.tsb_step.specs.Runs.{replay}
+use Rattle.tsb_laws.specs.Differing.{DifferIn, IsSameBut}
+use Rattle.tsb_laws.specs.Options.{HasNoOptions}
+use Rattle.tsb_laws.specs.PlainStep as plain
+
+-- the options, those of HasNoOptions. coordCorrectionLimit is none: it is read by coordCorrectionMode alone
+abbrev pub is_option : Object → Bool
+is_option CoordForceMode = true
+is_option CoordMaximumMode = true
+is_option PatternPermissiveTime = true
+is_option PatternLeadLag = true
+is_option PhasePedestrianRecycle = true
+is_option CoordCorrectionMode = true
+is_option OverlapAcrossRings = true
+is_option PreemptChoosesAnew = true
+is_option o = false
+
+-- the input sets no option to another value than 0
+abbrev pub SetsNoOption : Input → Type 0
+SetsNoOption (Set station id v) = is_option id.object ≡ true → v ≡ 0
+SetsNoOption i = Unit {0}
+
+-- no input of the list does
+abbrev pub SetNoOption : List Input → Type 0
+SetNoOption [] = Unit {0}
+SetNoOption (i ∷ is) = SetsNoOption i × SetNoOption is
+
+-- A run from a plan whose options are 0 is that of the controller without options, state by state. It is over inputs of
+-- every kind, and none sets an option.
+abbrev pub RunsAreThoseWithoutOptions : Type 0
+RunsAreThoseWithoutOptions = (plan : Plan) (is : List Input) → HasNoOptions plan → SetNoOption is →
+    replay plan is ≡ plain.replay plan is
+
+-- what a state shows is what that controller shows, and its local counter is in step
+pub record ShowsTheSameWithoutOptions (s : State) : Type 0 where
+  pub heads : display s ≡ plain.display s
+  pub lamps : field s ≡ plain.field s
+  pub counter : local s ≡ plain.local s
+  pub in_step : IsInStep s
+
+-- So it is in each state of such a run.
+abbrev pub ShowWhatIsShownWithoutOptions : Type 0
+ShowWhatIsShownWithoutOptions = (plan : Plan) (is : List Input) → HasNoOptions plan → SetNoOption is →
+    ShowsTheSameWithoutOptions (replay plan is)
+
+-- ## That the controller without options reads none
+
+-- the options, and the limit that one of them alone reads
+abbrev pub is_of_options : Object → Bool
+is_of_options CoordCorrectionLimit = true
+is_of_options o = is_option o
+
+-- the input sets none of them
+abbrev pub SetsNoneOf : Input → Type 0
+SetsNoneOf (Set station id v) = is_of_options id.object ≡ false
+SetsNoneOf i = Unit {0}
+
+-- no input of the list does
+abbrev pub SetNoneOf : List Input → Type 0
+SetNoneOf [] = Unit {0}
+SetNoneOf (i ∷ is) = SetsNoneOf i × SetNoneOf is
+
+-- Two plans that differ in options alone, whatever these are, give the same run of that controller: states that differ
+-- in them alone, over inputs of every kind, as long as none sets an option.
+abbrev pub ReadsNoOption : Type 0
+ReadsNoOption = (x y : Plan) (is : List Input) → DifferIn is_of_options x y → SetNoneOf is →
+    IsSameBut is_of_options (plain.replay x is) (plain.replay y is)
+
+-- what it shows of two states
+pub record ShowTheSameWithoutOptions (s t : State) : Type 0 where
+  pub heads : plain.display t ≡ plain.display s
+  pub lamps : plain.field t ≡ plain.field s
+  pub counter : plain.local t ≡ plain.local s
+
+-- Nor does it show one.
+abbrev pub ShowsNoOption : Type 0
+ShowsNoOption = (x y : Plan) (is : List Input) → DifferIn is_of_options x y → SetNoneOf is →
+    ShowTheSameWithoutOptions (plain.replay x is) (plain.replay y is)
