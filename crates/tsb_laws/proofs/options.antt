@@ -5,6 +5,7 @@ pub mod RingLemmas
 pub mod PreemptLemmas
 pub mod HeadLemmas
 pub mod RuleLemmas
+pub mod FoundLemmas
 pub mod LimitLemmas
 pub mod TickLemmas
 pub mod RunLemmas
@@ -15,4 +16,5 @@ pub mod SilentLemmas
 pub mod PlainRunLemmas
 pub mod ReadLemmas
 pub mod ReadRunLemmas
+pub mod AloneLemmas
 pub mod Examples

@@ -1,7 +1,10 @@
 -- The step of a controller that has no options, and its runs. A tick is joined as in Tick of tsb_step, of the parts
--- without options. Force-offs come at their instants alone, the local counter is always in step, no phase walks again
--- within its green, and no ring gives up what it is committed to. State, inputs, desk and refusals are those of the
--- controller.
+-- without options. Force-offs come at their instants alone, and the local counter is always in step. No phase walks again
+-- within its green, and no maximum is dynamic. Each overlap is a normal one. No ring gives up what it is committed to.
+--
+-- State, inputs, desk and refusals are those of the controller. What the state has of options is as it was at power-up,
+-- and nothing here reads it: how the local counter comes into step, and the running maximum and the last ending of each
+-- phase. Nor does anything here read `recycle` and `walks`, which phase timing and calls are given.
 use Rattle.std.specs.Prelude.{ℕ, ◌+◌, Bool, true, false, if◌then◌else◌, List, [], ◌∷◌, Option, is_some, option_map}
 use Rattle.tsb_step.specs.tsb_types.declared.lamp.Lamp.{Lamp}
 use Rattle.tsb_step.specs.tsb_types.declared.flow.Moves.{Moves}
@@ -89,7 +92,7 @@ moved s row = record {
   starts = ring_moves.is_started (moves s row);
 }
 
--- the same as the calls are given it; no walk begins within a green
+-- the same as the calls are given it
 abbrev pub done : State → Row → settled.Done
 done s row = record {
   starts = ring_moves.is_started (moves s row);
@@ -108,7 +111,7 @@ next s row = record {
   pattern = s.pattern;
   correction = s.correction;
   detectors = tick.new_detectors s row;
-  memories = settled.next s.plan (tick.calls_given s row) (done s row) s.memories;
+  memories = plain.memories_after s.plan (tick.calls_given s row) (done s row) s.memories;
   phases = λ p. plain.next s.plan (phases_given s row) (moved s row) p (s.phases p);
   rings = rings_next.next s.plan s.rings (rings_given s row);
   preempts = preempts.next s.plan (tick.preempts_given s row) s.preempts;

@@ -1,13 +1,12 @@
 //! Options at 0 over runs: such a run is that of a controller without options, and what only an option reads does not
 //! matter while it is 0. Each law is the contract of a function that does nothing.
 ghost use Rattle.tsb_laws.specs.CorrectionLimits.{LimitsChangeNoRun, LimitsShowNothing};
-ghost use Rattle.tsb_laws.specs.WithoutOptions.{ReadsNoOption, RunsAreThoseWithoutOptions, ShowWhatIsShownWithoutOptions, ShowsNoOption};
+ghost use Rattle.tsb_laws.specs.WithoutOptions.{OptionsAloneRead, OptionsAreAllThatVersion1Lacks, ReadsNoOption, RunsAreThoseWithoutOptions, ShowWhatIsShownWithoutOptions, ShowsNoOption};
 
-/// `runs`: A run in which the options are 0 is that of a controller without options. The step of that controller reads
-/// none of the eight options, nor the correction limit. A run with a plan whose options are 0 is the same, state by
-/// state, over inputs of every kind.
+/// `runs`: A run in which the options are 0 is that of a controller without options. With a plan whose options are 0 the
+/// state is the same after each input, of whatever kind.
 ///
-/// Needs: each option 0 in the plan at power-up, and no edit that gives an option another value.
+/// Needs: each option 0 in the plan at power-up, and no edit that gives one another value.
 /// Not said: anything of a run in which one option is 0 and another is not.
 /// Mistake: a local counter that goes on from where that of the old pattern stood, `goes_on` (`is_in_step_then`,
 /// `is_in_step_without`, `would_begin_ahead`).
@@ -20,12 +19,17 @@ ghost use Rattle.tsb_laws.specs.WithoutOptions.{ReadsNoOption, RunsAreThoseWitho
 /// Mistake: as of runs.
 /// Witness: `an_off_run` of OffRuns.
 ///
-/// `reads`: The controller without options reads none. Two plans that differ in the options and the correction limit
-/// alone, whatever these are, give the same run of it, over inputs of every kind. So what the other two clauses say is
-/// said of a controller that has no options at all.
+/// `lists`: The options are the objects that version 1 of plan texts does not have. There are eleven, and two objects
+/// that one of these alone reads: the step of the dynamic maximum and the correction limit.
 ///
-/// Needs: no edit of these objects. One of `overlapAcrossRings` that changes it is of the structure, and the rings
-/// forget what they started last.
+/// Mistake: a list without the modifier phases of overlaps, `without_modifiers` (`is_later`, `would_be_left_out`).
+/// Witness: none is needed, as the law asks for nothing.
+///
+/// `reads`: The controller without options reads none. Two plans that differ in those thirteen objects alone, whatever
+/// these are, give the same run of it, over inputs of every kind.
+///
+/// Needs: no edit of these objects. An edit that changes an option of overlaps is of the structure, and the rings forget
+/// what they started last.
 /// Mistake: a K23 that asks for a permissive time in the controller without options, `first_broken_of_times`
 /// (`breaks_none`, `would_break_k23`).
 /// Witness: `a_read` of ReadRuns.
@@ -36,18 +40,27 @@ ghost use Rattle.tsb_laws.specs.WithoutOptions.{ReadsNoOption, RunsAreThoseWitho
 /// Mistake: a local counter that comes into step by the correction mode, `by_correction` (`is_at_12`,
 /// `would_be_at_110`).
 /// Witness: `a_read` of ReadRuns.
+///
+/// `alone`: What an option alone reads does not matter while the options are 0. Two plans whose options are 0, and that
+/// differ in the step of a dynamic maximum or in the correction limit, give the same run.
+///
+/// Needs: each option 0 in both plans, and no edit of the thirteen objects.
+/// Not said: anything of the step where the limit of its dynamic maximum is 0 and another option is not.
+/// Mistake: a maximum that is dynamic by its step alone, `by_step` (`is_not_dynamic`, `would_be_dynamic`).
+/// Witness: `read_alone` of ReadRuns.
 pub fn options_off_run_as_without()
     ensures runs { RunsAreThoseWithoutOptions }
     ensures shows { ShowWhatIsShownWithoutOptions }
+    ensures lists { OptionsAreAllThatVersion1Lacks }
     ensures reads { ReadsNoOption }
     ensures hides { ShowsNoOption }
+    ensures alone { OptionsAloneRead }
 {}
 
 /// `runs`: The correction limit changes no run while the correction mode is 0. Two plans that differ in
 /// `coordCorrectionLimit` alone come to states that differ in it alone, over inputs of every kind.
 ///
 /// Needs: `coordCorrectionMode` 0 in the plan in effect where each of the inputs comes.
-/// Not said: anything of other options. Each is one object, which nothing else reads.
 /// Mistake: a counter that comes into step the short way, whatever the mode, `whatever_the_mode` (`is_in_step_then`,
 /// `would_be_91`, `would_be_84`).
 /// Witness: `a_run` of LimitRuns.

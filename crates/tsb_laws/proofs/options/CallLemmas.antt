@@ -12,29 +12,29 @@ module _ (plan : Plan) (v : Object → ℕ → ℕ) where
   actuations-same = refl
 
   pub counted-same : counted (with_options plan v) ≡ counted plan
-  unfolding counted
-  counted-same = rw actuations-same refl
+  unfolding counted actuations
+  counted-same = refl
 
   pub has_button-same : has_button (with_options plan v) ≡ has_button plan
   unfolding has_button
   has_button-same = refl
 
   pub pedestrian_memory-same : pedestrian_memory (with_options plan v) ≡ pedestrian_memory plan
-  unfolding pedestrian_memory
-  pedestrian_memory-same = rw has_button-same refl
+  unfolding pedestrian_memory has_button
+  pedestrian_memory-same = refl
 
   pub has_output-same : has_output (with_options plan v) ≡ has_output plan
   unfolding has_output
   has_output-same = refl
 
   pub vehicle_memory-same : vehicle_memory (with_options plan v) ≡ vehicle_memory plan
-  unfolding vehicle_memory
-  vehicle_memory-same = rw has_output-same refl
+  unfolding vehicle_memory has_output
+  vehicle_memory-same = refl
 
   pub is_callable-same : is_callable (with_options plan v) ≡ is_callable plan
-  unfolding is_callable
-  is_callable-same = rw has_output-same refl
+  unfolding is_callable has_output
+  is_callable-same = refl
 
   pub has_conflict-same : has_conflict (with_options plan v) ≡ has_conflict plan
-  unfolding has_conflict
-  has_conflict-same = rw is_callable-same refl
+  unfolding has_conflict is_callable has_output
+  has_conflict-same = refl

@@ -10,8 +10,8 @@ AreEach Holds (e ∷ es) = Holds e × AreEach Holds es
 
 pub each_with : (Holds : Edit → Type 0) (e : Edit) (es : List Edit) → Holds e → AreEach Holds es → AreEach Holds (with_edit e es)
 each_with Holds e [] one all = (one, tt)
-each_with Holds e (x ∷ es) one all = go (is_of e.id x)
+each_with Holds e (x ∷ es) one all = go (is_of e.id x) (each_with Holds e es one all.1)
   where
-    go : (b : Bool) → AreEach Holds (if b then e ∷ es else x ∷ with_edit e es)
-    go true = (one, all.1)
-    go false = (all.0, each_with Holds e es one all.1)
+    go : (b : Bool) → AreEach Holds (with_edit e es) → AreEach Holds (if b then e ∷ es else x ∷ with_edit e es)
+    go true rest = (one, all.1)
+    go false rest = (all.0, rest)

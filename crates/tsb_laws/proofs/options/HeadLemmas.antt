@@ -1,9 +1,9 @@
 -- What heads and the monitor make of a plan does not see the options.
-use Rattle.std.proofs.Common.{◌≡◌, ℕ, ◌==◌, Bool, true, false, List, [], ◌∷◌, ◌&&◌, refl, ap}
+use Rattle.std.proofs.Common.{◌≡◌, ℕ, refl}
 use Rattle.tsb_step.specs.tsb_plan.declared.object.Object.{Object}
 use Rattle.tsb_step.specs.tsb_plan.Plan.{Plan}
 use Rattle.tsb_step.specs.tsb_heads.Monitoring.{conflict_of, conflict, green_to_red}
-use Rattle.tsb_step.specs.tsb_heads.Overlaps.{has_green_modifier, has_yellow_modifier, is_kept_green, is_on_last_yellow, is_on_yellow, lasts, some_lasts}
+use Rattle.tsb_step.specs.tsb_heads.Overlaps.{is_on_yellow}
 use Rattle.tsb_laws.proofs.options.DifferLemmas.{with_options}
 
 module _ (plan : Plan) (v : Object → ℕ → ℕ) where
@@ -12,20 +12,12 @@ module _ (plan : Plan) (v : Object → ℕ → ℕ) where
   conflict_of-same = refl
 
   pub conflict-same : conflict (with_options plan v) ≡ conflict plan
-  unfolding conflict
-  conflict-same = rw conflict_of-same refl
+  unfolding conflict conflict_of
+  conflict-same = refl
 
   pub green_to_red-same : green_to_red (with_options plan v) ≡ green_to_red plan
   unfolding green_to_red
   green_to_red-same = refl
-
-  pub has_green_modifier-same : has_green_modifier (with_options plan v) ≡ has_green_modifier plan
-  unfolding has_green_modifier
-  has_green_modifier-same = refl
-
-  pub has_yellow_modifier-same : has_yellow_modifier (with_options plan v) ≡ has_yellow_modifier plan
-  unfolding has_yellow_modifier
-  has_yellow_modifier-same = refl
 
   pub is_on_yellow-same : is_on_yellow (with_options plan v) ≡ is_on_yellow plan
   unfolding is_on_yellow

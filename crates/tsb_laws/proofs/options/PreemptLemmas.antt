@@ -12,17 +12,17 @@ module _ (plan : Plan) (v : Object → ℕ → ℕ) where
   requesting-same = refl
 
   pub beginning-same : beginning (with_options plan v) ≡ beginning plan
-  unfolding beginning
-  beginning-same = rw requesting-same refl
+  unfolding beginning requesting
+  beginning-same = refl
 
   pub dwell_ends-same : dwell_ends (with_options plan v) ≡ dwell_ends plan
-  unfolding dwell_ends
-  dwell_ends-same = rw beginning-same refl
+  unfolding dwell_ends beginning requesting
+  dwell_ends-same = refl
 
   pub all_green-same : all_green (with_options plan v) ≡ all_green plan
   unfolding all_green
   all_green-same = refl
 
   pub new_service-same : new_service (with_options plan v) ≡ new_service plan
-  unfolding new_service
-  new_service-same = rw (beginning-same, all_green-same) refl
+  unfolding new_service beginning requesting all_green
+  new_service-same = refl

@@ -23,7 +23,8 @@ use Rattle.tsb_laws.specs.PlainStep as plain
 use Rattle.tsb_laws.specs.WithoutOptions.{is_of_options, SetsNoneOf, SetNoneOf, ShowTheSameWithoutOptions}
 use Rattle.tsb_laws.proofs.options.DifferLemmas.{with_options, as_others, from_others, values_differ}
 use Rattle.tsb_laws.proofs.options.EachEditLemmas.{AreEach, each_with}
-use Rattle.tsb_laws.proofs.options.ReadLemmas.{first_broken-same, swapped, field-same, display-same, ticked-same, lamp-same}
+use Rattle.tsb_laws.proofs.options.FoundLemmas.{swapped}
+use Rattle.tsb_laws.proofs.options.ReadLemmas.{first_broken-same, field-same, display-same, ticked-same, lamp-same}
 
 -- ## As equations
 

@@ -5,8 +5,8 @@ use Rattle.tsb_step.specs.tsb_plan.declared.object.Object.{Object}
 use Rattle.tsb_step.specs.tsb_plan.Plan.{Plan}
 use Rattle.tsb_step.specs.tsb_rules.SequenceRules.{rises}
 use Rattle.tsb_step.specs.tsb_coord.Coordinated.{force_off}
-use Rattle.tsb_step.specs.tsb_rules.PatternRules.{split_sum, side_sum, split_end, coordinated_count}
-use Rattle.tsb_step.specs.tsb_rules.Rules.{broken_by_extensions, broken_by_parts, broken_by_phases, broken_by_rings, first_broken}
+use Rattle.tsb_step.specs.tsb_rules.PatternRules.{split_sum, side_sum, split_end, fills, coordinated_count, coordinated_agree}
+use Rattle.tsb_step.specs.tsb_rules.Rules.{broken_by_phases, broken_by_rings}
 use Rattle.tsb_laws.proofs.options.DifferLemmas.{with_options}
 
 module _ (plan : Plan) (v : Object → ℕ → ℕ) where
@@ -22,20 +22,30 @@ module _ (plan : Plan) (v : Object → ℕ → ℕ) where
   split_sum-same = refl
 
   pub side_sum-same : side_sum (with_options plan v) ≡ side_sum plan
-  unfolding side_sum
-  side_sum-same = rw split_sum-same refl
+  unfolding side_sum split_sum
+  side_sum-same = refl
 
   pub split_end-same : split_end (with_options plan v) ≡ split_end plan
-  unfolding split_end
-  split_end-same = rw side_sum-same refl
+  unfolding split_end side_sum split_sum
+  split_end-same = refl
 
   pub force_off-same : force_off (with_options plan v) ≡ force_off plan
-  unfolding force_off
-  force_off-same = rw split_end-same refl
+  unfolding force_off split_end side_sum split_sum
+  force_off-same = refl
 
   pub coordinated_count-same : coordinated_count (with_options plan v) ≡ coordinated_count plan
   unfolding coordinated_count
   coordinated_count-same = refl
+
+  -- K19 of a pattern and a split table
+  pub fills-same : (n t : ℕ) → fills (with_options plan v) n t ≡ fills plan n t
+  unfolding side_sum split_sum
+  fills-same n t = refl
+
+  -- K20 of a sequence and a split table, where splits may end apart or not
+  pub agree-same : (apart : Bool) (s t : ℕ) → coordinated_agree (with_options plan v) apart s t ≡ coordinated_agree plan apart s t
+  unfolding coordinated_count split_end side_sum split_sum
+  agree-same apart s t = refl
 
   pub broken_by_phases-same : broken_by_phases (with_options plan v) ≡ broken_by_phases plan
   unfolding broken_by_phases

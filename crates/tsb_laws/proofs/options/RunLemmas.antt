@@ -8,6 +8,8 @@ use Rattle.tsb_step.specs.tsb_plan.Objects.{is_structural}
 use Rattle.tsb_step.specs.tsb_plan.Parts.{correction_mode}
 use Rattle.tsb_step.specs.tsb_plan.Plan.{Plan}
 use Rattle.tsb_step.specs.tsb_rules.Rules.{first_broken}
+use Rattle.tsb_step.specs.tsb_coord.declared.correction.Correction.{Correction}
+use Rattle.tsb_step.specs.tsb_coord.Coordinated.{selects}
 use Rattle.tsb_step.specs.tsb_ring.Rings as rings
 use Rattle.tsb_step.specs.tsb_transact.Calls as desk
 use Rattle.tsb_step.specs.tsb_transact.Commit.{changes_some, is_preempt_list}
@@ -18,8 +20,10 @@ use Rattle.tsb_step.specs.State.{State, start, restarted}
 use Rattle.tsb_step.specs.Signs.{display, field, local, watched}
 use Rattle.tsb_step.specs.Step.{step, verdict, with_lamp, with_pattern, reset, committed, found}
 use Rattle.tsb_step.specs.Runs.{replay}
+use Rattle.tsb_step.proofs.tsb_coord.CorrectionLemmas.{in_step_at_once, local_in_step}
 use Rattle.tsb_laws.specs.Differing.{DifferIn, IsSameBut}
 use Rattle.tsb_laws.specs.CorrectionLimits.{is_limit, CorrectsAtOnce, ShowAndRefuseTheSame}
+use Rattle.tsb_laws.proofs.operation.pattern.OptionLemmas.{begins_at_once}
 use Rattle.tsb_laws.proofs.options.DifferLemmas.{with_limit, as_others, from_others, limit_alone, corrects_at_once, values_differ, changes_same}
 use Rattle.tsb_laws.proofs.options.LimitLemmas.{first_broken-same}
 use Rattle.tsb_laws.proofs.options.TickLemmas.{swapped, display-same, field-same, watched-same, ticked-same}
@@ -88,7 +92,9 @@ step-same s v (inputs.Tick row) off =
     (ticked-same s row v (corrects_at_once s.plan off) (corrects_at_once (with_limit s.plan v) off))
 step-same s v (inputs.Pattern n) off =
     of_swap (with_pattern n s) (with_pattern n (swapped s v)) v
-    (rw (corrects_at_once s.plan off, corrects_at_once (with_limit s.plan v) off) refl)
+    (ap (λ (c : Correction). record (with_pattern n (swapped s v)) { correction = c })
+    (begins_at_once (with_limit s.plan v) (selects n) s.now (local (swapped s v)) (corrects_at_once (with_limit s.plan v) off)
+    ∙ sym (begins_at_once s.plan (selects n) s.now (local s) (corrects_at_once s.plan off))))
 step-same s v (inputs.Fault lamp) off = of_swap (with_lamp lamp s) (with_lamp lamp (swapped s v)) v (lamp-same s v lamp)
 step-same s v inputs.Reset off = of_swap (reset s) (reset (swapped s v)) v (reset-same s v)
 step-same s v (inputs.Verify station) off =
@@ -108,7 +114,9 @@ runs_same x y (i ∷ is) d off =
 -- ## What is shown and refused
 
 local-same : (s : State) (v : Object → ℕ → ℕ) → correction_mode s.plan ≡ AtOnce → correction_mode (with_limit s.plan v) ≡ AtOnce → local (swapped s v) ≡ local s
-local-same s v mode other = rw (mode, other) refl
+local-same s v mode other =
+    local_in_step (with_limit s.plan v) s.pattern s.correction s.now (in_step_at_once (with_limit s.plan v) s.pattern s.correction s.now other)
+    ∙ sym (local_in_step s.plan s.pattern s.correction s.now (in_step_at_once s.plan s.pattern s.correction s.now mode))
 
 refuses-same : (s : State) (v : Object → ℕ → ℕ) (i : Input) → verdict (swapped s v) i ≡ verdict s i
 unfolding verdict

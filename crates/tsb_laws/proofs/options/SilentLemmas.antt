@@ -3,7 +3,7 @@ use Rattle.std.proofs.Common.{◌≡◌, ℕ, ◌+◌, ◌==◌, nat_le, Bool, t
 use Rattle.std.proofs.lemmas.Bool.{and_parts}
 use Rattle.tsb_step.specs.tsb_types.declared.lamp.Lamp.{Lamp}
 use Rattle.tsb_step.specs.tsb_plan.declared.object.Object.{Object}
-use Rattle.tsb_step.specs.tsb_plan.declared.object.Object.TheVariants.{CoordForceMode, CoordMaximumMode, PatternPermissiveTime, PatternLeadLag, PhasePedestrianRecycle, CoordCorrectionMode, OverlapAcrossRings, PreemptChoosesAnew}
+use Rattle.tsb_step.specs.tsb_plan.declared.object.Object.TheVariants.{PhaseDynamicMaxLimit, OverlapType, OverlapModifierPhases, CoordForceMode, CoordMaximumMode, PatternPermissiveTime, PatternLeadLag, PhasePedestrianRecycle, CoordCorrectionMode, OverlapAcrossRings, PreemptChoosesAnew}
 use Rattle.tsb_step.specs.tsb_plan.Objects.{order}
 use Rattle.tsb_step.specs.tsb_plan.Plan.{Plan, is_same, with_value}
 use Rattle.tsb_step.specs.tsb_transact.declared.edit.Edit.{Edit}
@@ -16,18 +16,17 @@ use Rattle.tsb_step.specs.Step.{step}
 use Rattle.tsb_step.specs.Runs.{replay}
 use Rattle.tsb_step.proofs.ClearLemmas.{plan_stays}
 use Rattle.tsb_step.proofs.DeskLemmas.{leave_the_desk}
-use Rattle.tsb_laws.specs.Options.{HasNoOptions}
-use Rattle.tsb_laws.specs.WithoutOptions.{is_option, SetsNoOption, SetNoOption}
+use Rattle.tsb_laws.specs.WithoutOptions.{HasEachAtZero, is_option, SetsNoOption, SetNoOption}
 use Rattle.tsb_laws.proofs.options.EachEditLemmas.{AreEach, each_with}
 
 -- ## Objects by their places
 
 is_place_of_option : ℕ → Bool
-is_place_of_option n = (nat_le 61 n && nat_le n 69) && not (n == 67)
+is_place_of_option n = nat_le 57 n && (nat_le n 69 && (not (n == 58) && not (n == 67)))
 
 by_place : (o : Object) → is_option o ≡ is_place_of_option (order o)
 unfolding is_place_of_option
-by_place CoordForceMode = refl
+by_place PhaseDynamicMaxLimit = refl
 by_place o = refl
 
 option_alike : (o q : Object) → (order o == order q) ≡ true → is_option q ≡ true → is_option o ≡ true
@@ -44,16 +43,21 @@ value_stays plan o i v sets q k is none = go (is_same o i q k) refl
     go true same = sets (option_alike o q (and_parts (order o == order q) (i == k) same).0 is)
     go false other = none
 
-value_silent : (plan : Plan) (o : Object) (i v : ℕ) → HasNoOptions plan → (is_option o ≡ true → v ≡ 0) → HasNoOptions (with_value plan o i v)
+value_silent : (plan : Plan) (o : Object) (i v : ℕ) → HasEachAtZero plan → (is_option o ≡ true → v ≡ 0) → HasEachAtZero (with_value plan o i v)
 value_silent plan o i v none sets = record {
-  coord_force_mode = value_stays plan o i v sets CoordForceMode 1 refl none.coord_force_mode;
-  coord_maximum_mode = value_stays plan o i v sets CoordMaximumMode 1 refl none.coord_maximum_mode;
-  pattern_permissive_time = λ n. value_stays plan o i v sets PatternPermissiveTime n refl (none.pattern_permissive_time n);
-  pattern_lead_lag = λ n. value_stays plan o i v sets PatternLeadLag n refl (none.pattern_lead_lag n);
-  phase_pedestrian_recycle = λ p. value_stays plan o i v sets PhasePedestrianRecycle p refl (none.phase_pedestrian_recycle p);
-  coord_correction_mode = value_stays plan o i v sets CoordCorrectionMode 1 refl none.coord_correction_mode;
-  overlap_across_rings = λ n. value_stays plan o i v sets OverlapAcrossRings n refl (none.overlap_across_rings n);
-  preempt_chooses_anew = λ n. value_stays plan o i v sets PreemptChoosesAnew n refl (none.preempt_chooses_anew n);
+  options = record {
+    coord_force_mode = value_stays plan o i v sets CoordForceMode 1 refl none.options.coord_force_mode;
+    coord_maximum_mode = value_stays plan o i v sets CoordMaximumMode 1 refl none.options.coord_maximum_mode;
+    pattern_permissive_time = λ n. value_stays plan o i v sets PatternPermissiveTime n refl (none.options.pattern_permissive_time n);
+    pattern_lead_lag = λ n. value_stays plan o i v sets PatternLeadLag n refl (none.options.pattern_lead_lag n);
+    phase_pedestrian_recycle = λ p. value_stays plan o i v sets PhasePedestrianRecycle p refl (none.options.phase_pedestrian_recycle p);
+    coord_correction_mode = value_stays plan o i v sets CoordCorrectionMode 1 refl none.options.coord_correction_mode;
+    overlap_across_rings = λ n. value_stays plan o i v sets OverlapAcrossRings n refl (none.options.overlap_across_rings n);
+    preempt_chooses_anew = λ n. value_stays plan o i v sets PreemptChoosesAnew n refl (none.options.preempt_chooses_anew n);
+  };
+  phase_dynamic_max_limit = λ p. value_stays plan o i v sets PhaseDynamicMaxLimit p refl (none.phase_dynamic_max_limit p);
+  overlap_type = λ n. value_stays plan o i v sets OverlapType n refl (none.overlap_type n);
+  overlap_modifier_phases = λ n. value_stays plan o i v sets OverlapModifierPhases n refl (none.overlap_modifier_phases n);
 }
 
 -- the edit sets no option
@@ -64,7 +68,7 @@ IsSilentEdit e = is_option e.id.object ≡ true → e.value ≡ 0
 abbrev pub AreSilent : List Edit → Type 0
 AreSilent es = AreEach IsSilentEdit es
 
-pub edits_silent : (es : List Edit) (plan : Plan) → HasNoOptions plan → AreSilent es → HasNoOptions (with_edits plan es)
+pub edits_silent : (es : List Edit) (plan : Plan) → HasEachAtZero plan → AreSilent es → HasEachAtZero (with_edits plan es)
 edits_silent [] plan none silent = none
 edits_silent (e ∷ es) plan none silent =
     edits_silent es (with_value plan e.id.object e.id.index e.value)
@@ -74,7 +78,7 @@ edits_silent (e ∷ es) plan none silent =
 
 -- the options are 0 in the plan in effect, and no edit of the desk sets one
 pub record IsSilent (s : State) : Type 0 where
-  pub plan : HasNoOptions s.plan
+  pub plan : HasEachAtZero s.plan
   pub edits : AreSilent s.desk.edits
 
 lamp_leaves_plan : (s : State) (lamp : Option Lamp) → (step s (inputs.Fault lamp)).plan ≡ s.plan
@@ -96,7 +100,7 @@ reset_leaves_plan s = go (is_some s.trip)
 -- an input that leaves plan and desk
 left_silent : (s t : State) → t.plan ≡ s.plan → t.desk ≡ s.desk → IsSilent s → IsSilent t
 left_silent s t plan desk silent = record {
-  plan = subst (λ (q : Plan). HasNoOptions q) (sym plan) silent.plan;
+  plan = subst (λ (q : Plan). HasEachAtZero q) (sym plan) silent.plan;
   edits = subst (λ (d : Desk). AreSilent d.edits) (sym desk) silent.edits;
 }
 
@@ -122,6 +126,6 @@ step_silent s (inputs.Commit station) silent sets = record {
 }
 step_silent s (inputs.Abort station) silent sets = record { plan = silent.plan; edits = tt }
 
-pub run_silent : (plan : Plan) (is : List Input) → HasNoOptions plan → SetNoOption is → IsSilent (replay plan is)
+pub run_silent : (plan : Plan) (is : List Input) → HasEachAtZero plan → SetNoOption is → IsSilent (replay plan is)
 run_silent plan [] none sets = record { plan = none; edits = tt }
 run_silent plan (i ∷ is) none sets = step_silent (replay plan is) i (run_silent plan is none sets.1) sets.0

@@ -1,6 +1,6 @@
 -- Two plans that differ in the correction limit, and a run that meets the premises of its law: pattern 1 is selected while
 -- pattern 2 runs, so that the local counter would have to come into step. And a mistake that the law refuses.
-use Rattle.std.proofs.Common.{◌≡◌, ℕ, List, [], ◌∷◌, Some, refl}
+use Rattle.std.proofs.Common.{◌≡◌, ℕ, Bool, if◌then◌else◌, List, [], ◌∷◌, Some, refl, sym, ap, ◌∙◌}
 use Rattle.tsb_step.specs.tsb_types.Sets.{all_off}
 use Rattle.tsb_step.specs.tsb_plan.Parts.{cycle, correction_limit}
 use Rattle.tsb_step.specs.tsb_plan.Plan.{Plan}
@@ -29,7 +29,14 @@ record LimitRun (x y : Plan) (is : List Input) : Type 0 where
 
 a_run : LimitRun ten twenty changed
 unfolding opened ten twenty
-a_run = record { differ = record { phase_count = refl; side_count = refl; value = λ o i h. rw (h, h) refl }; at_once = ((((tt, refl), refl), refl), refl) }
+a_run = record {
+  differ = record {
+    phase_count = refl;
+    side_count = refl;
+    value = λ o i out. ap (λ (b : Bool). if b then 20 else quad.value o i) out ∙ sym (ap (λ (b : Bool). if b then 10 else quad.value o i) out);
+  };
+  at_once = ((((tt, refl), refl), refl), refl);
+}
 
 -- 100 ticks after a selection that was 100 ticks ahead
 abbrev selected : Correction
