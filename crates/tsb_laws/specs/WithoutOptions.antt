@@ -1,11 +1,11 @@
 -- Options at 0, over runs: a run in which every option is 0 is that of the controller whose definitions have no
 -- options, which PlainStep has. The laws here are the contract of a function in src/options.rt, and proved there.
-use Rattle.std.specs.Prelude.{◌≡◌, ℕ, Bool, true, false, not, List, [], ◌∷◌}
+use Rattle.std.specs.Prelude.{◌≡◌, ℕ, Bool, true, false, not, ◌&&◌, List, [], ◌∷◌}
 use Rattle.tsb_step.specs.tsb_plan.declared.object.Object.{Object}
 use Rattle.tsb_step.specs.tsb_plan.declared.object.Object.TheVariants.{PhaseDynamicMaxLimit, PhaseDynamicMaxStep, OverlapType, OverlapModifierPhases, CoordForceMode, CoordMaximumMode, PatternPermissiveTime, PatternLeadLag, PhasePedestrianRecycle, CoordCorrectionMode, CoordCorrectionLimit, OverlapAcrossRings, PreemptChoosesAnew}
 use Rattle.tsb_step.specs.tsb_plan.declared.version.Version.{Version}
 use Rattle.tsb_step.specs.tsb_plan.declared.version.Version.TheVariants.{One, Two, Three}
-use Rattle.tsb_step.specs.tsb_plan.Objects.{since}
+use Rattle.tsb_step.specs.tsb_plan.Objects.{is_structural, since}
 use Rattle.tsb_step.specs.tsb_plan.Plan.{Plan}
 use Rattle.tsb_step.specs.declared.inputs.Input.{Input}
 use Rattle.tsb_step.specs.declared.inputs.Input.TheVariants.{Set}
@@ -89,20 +89,21 @@ ShowWhatIsShownWithoutOptions = (plan : Plan) (is : List Input) → HasEachAtZer
 
 -- ## That the controller without options reads none
 
--- the input sets none of them
-abbrev pub SetsNoneOf : Input → Type 0
-SetsNoneOf (Set station id v) = is_of_options id.object ≡ false
-SetsNoneOf i = Unit {0}
+-- the input sets none of the three options of overlaps. They are of the structure: a commit that changes one makes the
+-- rings forget what they started last
+abbrev pub SetsNoOverlapOption : Input → Type 0
+SetsNoOverlapOption (Set station id v) = (is_of_options id.object && is_structural id.object) ≡ false
+SetsNoOverlapOption i = Unit {0}
 
 -- no input of the list does
-abbrev pub SetNoneOf : List Input → Type 0
-SetNoneOf [] = Unit {0}
-SetNoneOf (i ∷ is) = SetsNoneOf i × SetNoneOf is
+abbrev pub SetNoOverlapOption : List Input → Type 0
+SetNoOverlapOption [] = Unit {0}
+SetNoOverlapOption (i ∷ is) = SetsNoOverlapOption i × SetNoOverlapOption is
 
 -- Two plans that differ in options alone, whatever these are, give the same run of that controller: states that differ
--- in them alone, over inputs of every kind, as long as none sets an option.
+-- in them alone, over inputs of every kind. Any other option may be set.
 abbrev pub ReadsNoOption : Type 0
-ReadsNoOption = (x y : Plan) (is : List Input) → DifferIn is_of_options x y → SetNoneOf is →
+ReadsNoOption = (x y : Plan) (is : List Input) → DifferIn is_of_options x y → SetNoOverlapOption is →
     IsSameBut is_of_options (plain.replay x is) (plain.replay y is)
 
 -- what it shows of two states
@@ -113,13 +114,13 @@ pub record ShowTheSameWithoutOptions (s t : State) : Type 0 where
 
 -- Nor does it show one.
 abbrev pub ShowsNoOption : Type 0
-ShowsNoOption = (x y : Plan) (is : List Input) → DifferIn is_of_options x y → SetNoneOf is →
+ShowsNoOption = (x y : Plan) (is : List Input) → DifferIn is_of_options x y → SetNoOverlapOption is →
     ShowTheSameWithoutOptions (plain.replay x is) (plain.replay y is)
 
 -- ## What an option alone reads
 
 -- So two plans whose options are 0 give the same run of the controller itself, whatever they have of the two objects
--- that an option alone reads.
+-- that an option alone reads. These may be set.
 abbrev pub OptionsAloneRead : Type 0
-OptionsAloneRead = (x y : Plan) (is : List Input) → HasEachAtZero x → HasEachAtZero y → DifferIn is_of_options x y → SetNoneOf is →
-    IsSameBut is_of_options (replay x is) (replay y is)
+OptionsAloneRead = (x y : Plan) (is : List Input) → HasEachAtZero x → HasEachAtZero y → DifferIn is_of_options x y →
+    SetNoOption is → SetNoOverlapOption is → IsSameBut is_of_options (replay x is) (replay y is)

@@ -28,8 +28,8 @@ ghost use Rattle.tsb_laws.specs.WithoutOptions.{OptionsAloneRead, OptionsAreAllT
 /// `reads`: The controller without options reads none. Two plans that differ in those thirteen objects alone, whatever
 /// these are, give the same run of it, over inputs of every kind.
 ///
-/// Needs: no edit of these objects. An edit that changes an option of overlaps is of the structure, and the rings forget
-/// what they started last.
+/// Needs: no edit of the three that are of overlaps. One that changes them is of the structure, and the rings forget what
+/// they started last.
 /// Mistake: a K23 that asks for a permissive time in the controller without options, `first_broken_of_times`
 /// (`breaks_none`, `would_break_k23`).
 /// Witness: `a_read` of ReadRuns.
@@ -44,7 +44,7 @@ ghost use Rattle.tsb_laws.specs.WithoutOptions.{OptionsAloneRead, OptionsAreAllT
 /// `alone`: What an option alone reads does not matter while the options are 0. Two plans whose options are 0, and that
 /// differ in the step of a dynamic maximum or in the correction limit, give the same run.
 ///
-/// Needs: each option 0 in both plans, and no edit of the thirteen objects.
+/// Needs: each option 0 in both plans, no edit that gives one another value, and none of those of overlaps.
 /// Not said: anything of the step where the limit of its dynamic maximum is 0 and another option is not.
 /// Mistake: a maximum that is dynamic by its step alone, `by_step` (`is_not_dynamic`, `would_be_dynamic`).
 /// Witness: `read_alone` of ReadRuns.

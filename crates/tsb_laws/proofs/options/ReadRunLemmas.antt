@@ -20,7 +20,7 @@ use Rattle.tsb_step.specs.Step.{committed, reset, with_desk}
 use Rattle.tsb_laws.specs.Differing.{DifferIn, IsSameBut}
 use Rattle.tsb_laws.specs.PlainParts as parts
 use Rattle.tsb_laws.specs.PlainStep as plain
-use Rattle.tsb_laws.specs.WithoutOptions.{is_of_options, SetsNoneOf, SetNoneOf, ShowTheSameWithoutOptions}
+use Rattle.tsb_laws.specs.WithoutOptions.{is_of_options, SetsNoOverlapOption, SetNoOverlapOption, ShowTheSameWithoutOptions}
 use Rattle.tsb_laws.proofs.options.DifferLemmas.{with_options, as_others, from_others, values_differ}
 use Rattle.tsb_laws.proofs.options.EachEditLemmas.{AreEach, each_with}
 use Rattle.tsb_laws.proofs.options.FoundLemmas.{swapped}
@@ -39,17 +39,26 @@ as_swap s t x = x.rest ∙ ap (λ (q : Plan). record s { plan = q }) (as_others 
 
 -- ## Edits
 
+-- it is of no option of overlaps
 abbrev IsOther : Edit → Type 0
-IsOther e = is_of_options e.id.object ≡ false
+IsOther e = (is_of_options e.id.object && is_structural e.id.object) ≡ false
 
-sees-same : (plan : Plan) (v : Object → ℕ → ℕ) (test : Object → Bool) (es : List Edit) → AreEach IsOther es →
-    changes_some test (with_options plan v) es ≡ changes_some test plan es
-sees-same plan v test [] others = refl
-sees-same plan v test (e ∷ es) others =
-    ap₂ (λ (b rest : Bool). (test e.id.object && not ((if b then v e.id.object e.id.index else plan.value e.id.object e.id.index) == e.value)) || rest)
-    others.0 (sees-same plan v test es others.1)
+-- one of an option that is not of the structure does not count, whatever it changes
+counts-same : (option structural : Bool) (x y n : ℕ) → (option && structural) ≡ false →
+    (structural && not ((if option then x else y) == n)) ≡ (structural && not (y == n))
+counts-same true true x y n other = cc
+counts-same true false x y n other = refl
+counts-same false structural x y n other = refl
 
-others_step : (s : State) (i : Input) → AreEach IsOther s.desk.edits → SetsNoneOf i → AreEach IsOther (plain.step s i).desk.edits
+sees-same : (plan : Plan) (v : Object → ℕ → ℕ) (es : List Edit) → AreEach IsOther es →
+    changes_some is_structural (with_options plan v) es ≡ changes_some is_structural plan es
+sees-same plan v [] others = refl
+sees-same plan v (e ∷ es) others =
+    ap₂ (λ (b rest : Bool). b || rest)
+    (counts-same (is_of_options e.id.object) (is_structural e.id.object) (v e.id.object e.id.index) (plan.value e.id.object e.id.index) e.value others.0)
+    (sees-same plan v es others.1)
+
+others_step : (s : State) (i : Input) → AreEach IsOther s.desk.edits → SetsNoOverlapOption i → AreEach IsOther (plain.step s i).desk.edits
 unfolding plain.step plain.watched
 others_step s (inputs.Tick row) others sets = go (is_some s.trip)
   where
@@ -72,7 +81,7 @@ others_step s (inputs.Commit station) others sets = tt
 others_step s (inputs.Abort station) others sets = tt
 others_step s i others sets = others
 
-others_run : (plan : Plan) (is : List Input) → SetNoneOf is → AreEach IsOther (plain.replay plan is).desk.edits
+others_run : (plan : Plan) (is : List Input) → SetNoOverlapOption is → AreEach IsOther (plain.replay plan is).desk.edits
 others_run plan [] sets = tt
 others_run plan (i ∷ is) sets = others_step (plain.replay plan is) i (others_run plan is sets.1) sets.0
 
@@ -99,7 +108,7 @@ commits-same s v others = record {
   rest = ap (λ (b : Bool). record (committed s) {
     plan = desk.committed_plan (with_options s.plan v) s.desk;
     rings = if b then rings.forgotten s.rings else s.rings;
-  }) (sees-same s.plan v is_structural s.desk.edits others);
+  }) (sees-same s.plan v s.desk.edits others);
 }
 
 step-same : (s : State) (v : Object → ℕ → ℕ) (i : Input) → AreEach IsOther s.desk.edits →
@@ -116,7 +125,7 @@ step-same s v i others = of_swap (plain.step s i) (plain.step (swapped s v) i) v
 
 -- ## Runs
 
-pub reads_none : (x y : Plan) (is : List Input) → DifferIn is_of_options x y → SetNoneOf is →
+pub reads_none : (x y : Plan) (is : List Input) → DifferIn is_of_options x y → SetNoOverlapOption is →
     IsSameBut is_of_options (plain.replay x is) (plain.replay y is)
 reads_none x y [] d sets = record { plan = d; rest = refl }
 reads_none x y (i ∷ is) d sets =
@@ -125,7 +134,7 @@ reads_none x y (i ∷ is) d sets =
     (sym (as_swap (plain.replay x is) (plain.replay y is) before))
     (step-same (plain.replay x is) (plain.replay y is).plan.value i (others_run x is sets.1))
 
-pub shows_none : (x y : Plan) (is : List Input) → DifferIn is_of_options x y → SetNoneOf is →
+pub shows_none : (x y : Plan) (is : List Input) → DifferIn is_of_options x y → SetNoOverlapOption is →
     ShowTheSameWithoutOptions (plain.replay x is) (plain.replay y is)
 shows_none x y is d sets =
     let same : plain.replay y is ≡ swapped (plain.replay x is) (plain.replay y is).plan.value =

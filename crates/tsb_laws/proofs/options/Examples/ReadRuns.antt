@@ -1,9 +1,9 @@
--- Two plans that differ in options, and a run of the controller without options with each: pattern 2 is selected while
--- pattern 1 runs. And mistakes that its law refuses.
-use Rattle.std.proofs.Common.{◌≡◌, ℕ, nat_lt, Bool, true, false, if◌then◌else◌, List, [], ◌∷◌, Option, Some, None, refl, ap}
+-- Two plans that differ in options, and a run of the controller without options with each: a station sets an option, and
+-- pattern 2 is selected while pattern 1 runs. And mistakes that the laws refuse.
+use Rattle.std.proofs.Common.{◌≡◌, ℕ, nat_lt, Bool, true, false, if◌then◌else◌, List, [], ◌∷◌, ◌++◌, Option, Some, None, refl, ap}
 use Rattle.tsb_step.specs.tsb_types.Sets.{all_off}
 use Rattle.tsb_step.specs.tsb_plan.declared.object.Object.{Object}
-use Rattle.tsb_step.specs.tsb_plan.declared.object.Object.TheVariants.{PhaseDynamicMaxStep, OverlapModifierPhases, PatternPermissiveTime, CoordCorrectionMode, CoordCorrectionLimit}
+use Rattle.tsb_step.specs.tsb_plan.declared.object.Object.TheVariants.{PhaseDynamicMaxStep, OverlapModifierPhases, CoordMaximumMode, PatternPermissiveTime, CoordCorrectionMode, CoordCorrectionLimit}
 use Rattle.tsb_step.specs.tsb_plan.Objects.{since}
 use Rattle.tsb_step.specs.tsb_plan.Plan.{Plan, dynamic_maximum_step}
 use Rattle.tsb_step.specs.tsb_plan.Quad.{quad}
@@ -16,11 +16,11 @@ use Rattle.tsb_step.specs.tsb_coord.declared.correction.Correction.{Correction}
 use Rattle.tsb_step.specs.tsb_coord.Coordinated.{local}
 use Rattle.tsb_step.specs.tsb_coord.Correction.{local_now}
 use Rattle.tsb_step.specs.declared.inputs.Input.{Input}
-use Rattle.tsb_step.specs.declared.inputs.Input.TheVariants.{Tick, Pattern}
+use Rattle.tsb_step.specs.declared.inputs.Input.TheVariants.{Tick, Pattern, Begin, Set, Verify, Commit}
 use Rattle.tsb_step.proofs.Examples.Scenes.{opened}
 use Rattle.tsb_laws.specs.Differing.{DifferIn, with_others}
 use Rattle.tsb_laws.specs.PlainParts as plain
-use Rattle.tsb_laws.specs.WithoutOptions.{is_of_options, is_of_version_1, HasEachAtZero, SetNoneOf}
+use Rattle.tsb_laws.specs.WithoutOptions.{is_of_options, is_of_version_1, HasEachAtZero, SetNoOption, SetNoOverlapOption}
 use Rattle.tsb_laws.proofs.options.Examples.OffRuns.{quad_at_zero}
 
 -- a permissive time of a whole cycle, the short way with a limit of 20 percent, and each other option 1
@@ -37,19 +37,23 @@ optional = with_others is_of_options quad options
 abbrev changed : List Input
 changed = Tick all_off ∷ Pattern 2 ∷ Tick all_off ∷ Pattern 1 ∷ Tick all_off ∷ []
 
+-- a station sets this object first
+abbrev set_and_changed : Object → ℕ → List Input
+set_and_changed o n = changed ++ (Commit 1 ∷ Verify 1 ∷ Set 1 (record { object = o; index = 1 }) n ∷ Begin 1 ∷ [])
+
 record ReadRun (x y : Plan) (is : List Input) : Type 0 where
   differ : DifferIn is_of_options x y
-  sets : SetNoneOf is
+  sets : SetNoOverlapOption is
 
-a_read : ReadRun quad optional changed
+a_read : ReadRun quad optional (set_and_changed CoordMaximumMode 2)
 unfolding optional
 a_read = record {
   differ = record {
     phase_count = refl;
     side_count = refl;
-    value = λ o i h. ap (λ (b : Bool). if b then options o i else quad.value o i) h;
+    value = λ o i out. ap (λ (b : Bool). if b then options o i else quad.value o i) out;
   };
-  sets = (tt, (tt, (tt, (tt, (tt, tt)))));
+  sets = (tt, (tt, (tt, (tt, (tt, (tt, (tt, (refl, (tt, tt)))))))));
 }
 
 -- ## A rule K23 in the controller without options
@@ -108,9 +112,10 @@ record AloneRun (x y : Plan) (is : List Input) : Type 0 where
   none : HasEachAtZero x
   other : HasEachAtZero y
   differ : DifferIn is_of_options x y
-  sets : SetNoneOf is
+  sets : SetNoOption is
+  leaves : SetNoOverlapOption is
 
-read_alone : AloneRun quad stepping changed
+read_alone : AloneRun quad stepping (set_and_changed PhaseDynamicMaxStep 30)
 unfolding stepping
 read_alone = record {
   none = quad_at_zero;
@@ -134,7 +139,8 @@ read_alone = record {
     side_count = refl;
     value = λ o i out. ap (λ (b : Bool). if b then alone o i else quad.value o i) out;
   };
-  sets = (tt, (tt, (tt, (tt, (tt, tt)))));
+  sets = (tt, (tt, (tt, (tt, (tt, (tt, (tt, ((λ option. cc), (tt, tt)))))))));
+  leaves = (tt, (tt, (tt, (tt, (tt, (tt, (tt, (refl, (tt, tt)))))))));
 }
 
 abbrev by_step : Plan → ℕ → Bool
