@@ -2,6 +2,7 @@
 -- pattern 2 runs, so that the local counter would have to come into step. And a mistake that the law refuses.
 use Rattle.std.proofs.Common.{◌≡◌, ℕ, Bool, if◌then◌else◌, List, [], ◌∷◌, Some, refl, sym, ap, ◌∙◌}
 use Rattle.tsb_step.specs.tsb_types.Sets.{all_off}
+use Rattle.tsb_step.specs.tsb_types.declared.interval.Interval.TheVariants.{Green}
 use Rattle.tsb_step.specs.tsb_plan.Parts.{cycle, correction_limit}
 use Rattle.tsb_step.specs.tsb_plan.Plan.{Plan}
 use Rattle.tsb_step.specs.tsb_plan.Quad.{quad}
@@ -9,6 +10,8 @@ use Rattle.tsb_step.specs.tsb_coord.declared.correction.Correction.{Correction}
 use Rattle.tsb_step.specs.tsb_coord.Correction.{by_short_way, ahead_in}
 use Rattle.tsb_step.specs.declared.inputs.Input.{Input}
 use Rattle.tsb_step.specs.declared.inputs.Input.TheVariants.{Tick, Pattern}
+use Rattle.tsb_step.specs.Runs.{replay}
+use Rattle.tsb_step.specs.State.{interval}
 use Rattle.tsb_step.proofs.Examples.Scenes.{opened}
 use Rattle.tsb_laws.specs.Differing.{DifferIn, with_others}
 use Rattle.tsb_laws.specs.CorrectionLimits.{is_limit, CorrectsAtOnce}
@@ -37,6 +40,15 @@ a_run = record {
   };
   at_once = ((((tt, refl), refl), refl), refl);
 }
+
+-- pattern 1 runs after it, and 2 is Green
+runs_then : (replay twenty changed).pattern ≡ Some 1
+unfolding opened twenty
+runs_then = refl
+
+is_green_then : interval (replay twenty changed) 2 ≡ Green
+unfolding opened twenty
+is_green_then = refl
 
 -- 100 ticks after a selection that was 100 ticks ahead
 abbrev selected : Correction

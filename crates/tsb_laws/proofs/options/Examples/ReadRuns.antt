@@ -2,6 +2,7 @@
 -- pattern 2 is selected while pattern 1 runs. And mistakes that the laws refuse.
 use Rattle.std.proofs.Common.{◌≡◌, ℕ, nat_lt, Bool, true, false, if◌then◌else◌, List, [], ◌∷◌, ◌++◌, Option, Some, None, refl, ap}
 use Rattle.tsb_step.specs.tsb_types.Sets.{all_off}
+use Rattle.tsb_step.specs.tsb_types.declared.interval.Interval.TheVariants.{Green}
 use Rattle.tsb_step.specs.tsb_plan.declared.object.Object.{Object}
 use Rattle.tsb_step.specs.tsb_plan.declared.object.Object.TheVariants.{PhaseDynamicMaxStep, OverlapModifierPhases, CoordMaximumMode, PatternPermissiveTime, CoordCorrectionMode, CoordCorrectionLimit}
 use Rattle.tsb_step.specs.tsb_plan.Objects.{since}
@@ -17,11 +18,13 @@ use Rattle.tsb_step.specs.tsb_coord.Coordinated.{local}
 use Rattle.tsb_step.specs.tsb_coord.Correction.{local_now}
 use Rattle.tsb_step.specs.declared.inputs.Input.{Input}
 use Rattle.tsb_step.specs.declared.inputs.Input.TheVariants.{Tick, Pattern, Begin, Set, Verify, Commit}
+use Rattle.tsb_step.specs.State.{interval}
 use Rattle.tsb_step.proofs.Examples.Scenes.{opened}
 use Rattle.tsb_laws.specs.Differing.{DifferIn, with_others}
 use Rattle.tsb_laws.specs.PlainParts as plain
+use Rattle.tsb_laws.specs.PlainStep as plain_step
 use Rattle.tsb_laws.specs.WithoutOptions.{is_of_options, is_of_version_1, HasEachAtZero, SetNoOption, SetNoOverlapOption}
-use Rattle.tsb_laws.proofs.options.Examples.OffRuns.{quad_at_zero}
+use Rattle.tsb_laws.proofs.options.Examples.OffRuns.{opened_without, quad_at_zero}
 
 -- a permissive time of a whole cycle, the short way with a limit of 20 percent, and each other option 1
 abbrev options : Object → ℕ → ℕ
@@ -55,6 +58,15 @@ a_read = record {
   };
   sets = (tt, (tt, (tt, (tt, (tt, (tt, (tt, (refl, (tt, tt)))))))));
 }
+
+-- the option is set in it, and 2 is Green
+is_set : (plain_step.replay quad (set_and_changed CoordMaximumMode 2)).plan.value CoordMaximumMode 1 ≡ 2
+unfolding opened opened_without
+is_set = refl
+
+is_green_then : interval (plain_step.replay quad (set_and_changed CoordMaximumMode 2)) 2 ≡ Green
+unfolding opened opened_without
+is_green_then = refl
 
 -- ## A rule K23 in the controller without options
 
