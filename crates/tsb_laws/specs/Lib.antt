@@ -85,3 +85,12 @@ pub mod PlayRecords
 pub mod CalledStarts
 -- when the times run out that a status shows
 pub mod TimesLeft
+-- plans that differ in some objects alone
+pub mod Differing
+-- the controller whose definitions have no options: its parts, its step and its runs
+pub mod PlainParts
+pub mod PlainStep
+-- that runs in which the options are 0 are the runs of that controller
+pub mod WithoutOptions
+-- that the correction limit changes no run while the correction mode is 0
+pub mod CorrectionLimits

@@ -43,6 +43,7 @@ use Rattle.tsb_laws.specs.LateGreens.{IsInLateSpan, IsLateGreen}
 use Rattle.tsb_laws.specs.PatternEnds.{LacksOnlyItsEnd, HasWaitedInPattern, HasMaxedInPattern, IsInPermissiveTime}
 use Rattle.tsb_laws.specs.LitHeads.{KeepsLitHeads, StaysOrClears}
 use Rattle.tsb_laws.specs.OverlapPhases.{GoesWithPhases}
+use Rattle.tsb_laws.specs.PlainStep as without_options
 use Rattle.tsb_laws.specs.PreemptChoices.{HasChosen, ChoiceTakesAtMost, time_by_choice, time_to_chosen_dwell}
 use Rattle.tsb_laws.specs.PreemptDwells.{BeginsService, is_served}
 use Rattle.tsb_laws.specs.CalledStarts.{EntersByCall}
@@ -56,6 +57,7 @@ use Rattle.tsb_laws.specs.Stretches.{IsUntripped, has_held_since, NoneChooses, l
 use Rattle.tsb_laws.specs.ServedCalls.{HasBeenPressed, IsDoneWithin, IsFullyConcurrent, HasWaited, TurnsTakeAtMost, IsToCome, time_to_come, is_outside, time_to_cross, time_to_serve, longest_initial}
 use Rattle.tsb_laws.specs.UnwantedGreens.{WaitsFor}
 use Rattle.tsb_laws.specs.WantedStarts.{MayStart, IsKeptBy}
+use Rattle.tsb_laws.specs.WithoutOptions.{HasEachAtZero, SetNoOption, ShowsTheSameWithoutOptions}
 use Rattle.tsb_laws.specs.CoordinatedGreens.{HasGoneOn, IsAwaited, ComesInCycle, is_pressed_in_pattern, IsForcedWithin, KeepsAtBarrier, is_out, is_called_in_pattern, TurnsInPattern, time_to_be_served}
 
 -- ## Of a state, and of the next input
@@ -379,6 +381,14 @@ MakesWay plan is = (row : Row) (r : Ring) (p : ℕ) → service (replay plan is)
     has_conflict (replay plan is) row p ≡ true →
     (interval (replay plan (Tick row ∷ is)) p ≢ Green) ⊎ KeepsAtBarrier (replay plan is) row (other r)
 
+-- with options at 0, in the plan and in each edit, it is the state of the controller without options after these inputs
+abbrev pub IsAsWithoutOptions : Plan → List Input → State → Type 0
+IsAsWithoutOptions plan is s = HasEachAtZero plan → SetNoOption is → s ≡ without_options.replay plan is
+
+-- and it shows what that controller shows
+abbrev pub ShowsAsWithoutOptions : Plan → List Input → State → Type 0
+ShowsAsWithoutOptions plan is s = HasEachAtZero plan → SetNoOption is → ShowsTheSameWithoutOptions s
+
 -- ## All laws of runs, each by the name of its function
 
 -- of the state s after the inputs `is` from power-up with `plan`
@@ -469,3 +479,6 @@ pub record KeepsLaws (plan : Plan) (is : List Input) (s : State) : Type 0 where
   pub recycled_walks_end_in_time : EndsRecycledWalks plan is
   pub phases_are_served_in_patterns_called : ServesInPatterns is_called_in_pattern plan is
   pub phases_are_served_in_patterns_coordinated : ServesInPatterns is_out plan is
+  -- options
+  pub options_off_run_as_without : IsAsWithoutOptions plan is s
+  pub options_off_run_as_without_shows : ShowsAsWithoutOptions plan is s

@@ -8,7 +8,8 @@
 //! of 16 phases shows for a plan of version 1 what the bench of 8 shows, and `one_text` that the text of a session is
 //! one, but for memory. `play` says the laws of runs of each bench that a list of commands leaves. `operation` is how
 //! calls, greens, overlaps and preempts go on, as an engineer expects it of each run, and `starts` says what lets a phase
-//! start. `times_left` says that what a status shows to be left of a time is when that runs out.
+//! start. `times_left` says that what a status shows to be left of a time is when that runs out. `options` says that a
+//! run in which the options are 0 is that of a controller without options.
 #![tactic(auto)]
 
 pub mod desk;
@@ -16,6 +17,7 @@ pub mod events;
 pub mod heads;
 pub mod one_text;
 pub mod operation;
+pub mod options;
 pub mod play;
 pub mod safety;
 pub mod starts;

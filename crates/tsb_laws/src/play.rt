@@ -16,12 +16,13 @@ use std::alloc::Global;
 use tsb_bench::{Answer, Bench, Checked, Cmd, Input, Lamp, Refusal, play};
 
 /// The bench that `play` leaves keeps the laws of runs. From power-up with this plan, after these commands with these
-/// answers, each law of runs of tsb_step, of `safety`, of `heads` and of `operation` holds of its state, of the inputs
-/// that remain and of the next input, whatever that is (`KeepsLaws`). So it is of each state that it can go back to. At
-/// each moment a session is where `play` leaves the commands so far.
+/// answers, each law of runs of tsb_step, of `safety`, `heads`, `operation` and `options` holds of its state, of the
+/// inputs that remain and of the next input, whatever that is (`KeepsLaws`). So it is of each state that it can go back
+/// to. At each moment a session is where `play` leaves the commands so far.
 ///
 /// Needs: what `play` promises, in its clauses `taken`, `state` and `earlier`.
-/// Not said: laws of two runs (`desks_act_by_plans`); laws of any state or of a layer, which need no run.
+/// Not said: laws of two runs (`desks_act_by_plans`, `limits_change_no_run`); laws of any state or of a layer, which
+/// need no run.
 /// Mistake: an input that is carried out though it was refused, `carried_out` (`breaks_none`, `would_break_K5`).
 /// Witness: `are_right`, `are_taken` of Mistakes, a session with a commit that E7 refuses.
 pub fn plays_keep_the_laws(plan: Checked, commands: &[Cmd], answers: &[Answer], bench: &Bench)

@@ -25,6 +25,7 @@ use Rattle.tsb_step.proofs.YellowLemmas.{clears_in_yellow}
 use Rattle.tsb_laws.specs.PlayLaws.{KeepsLaws}
 use Rattle.tsb_laws.specs.PlayRecords.{KeepsRecords}
 use Rattle.tsb_laws.specs.Runs.{IsHeld, IsRun, AreTyped}
+use Rattle.tsb_laws.proofs.options.PlainRunLemmas.{runs_agree, shows_agree}
 use Rattle.tsb_laws.proofs.heads.ClearLemmas.{phase_clears, overlap_clears}
 use Rattle.tsb_laws.proofs.heads.LitLemmas.{keeps_lit_heads}
 use Rattle.tsb_laws.proofs.operation.step.CalmLemmas.{calm_run}
@@ -170,6 +171,8 @@ module _ (plan : Plan) (held : IsHeld plan) where
         rw e (served_in_pattern plan base later k j h r c ok (few plan held) (rw e at taken) dark full running stepped own times out);
     phases_are_served_in_patterns_coordinated = λ base later k j h r c e dark full running stepped own times out.
         rw e (coordinated_in_time plan base later k j h r c ok (few plan held) (rw e at taken) dark full running stepped own times out);
+    options_off_run_as_without = runs_agree plan is;
+    options_off_run_as_without_shows = shows_agree plan is;
   }
     where
       ok : IsConsistent plan

@@ -34,7 +34,7 @@ two_has_none = record {
   preempt_chooses_anew = λ n. refl;
 }
 
-quad_has_none : HasNoOptions quad
+pub quad_has_none : HasNoOptions quad
 unfolding quad
 quad_has_none = record {
   coord_force_mode = refl;
