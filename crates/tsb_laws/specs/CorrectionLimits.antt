@@ -2,7 +2,7 @@
 -- limit, which is read by how a local counter comes into step (coordCorrectionMode). The laws here are the contract of a
 -- function in src/options.rt, and proved there. Every other option is one object, which `RunsAreThoseWithoutOptions` of
 -- WithoutOptions speaks of.
-use Rattle.std.specs.Prelude.{◌≡◌, ℕ, Bool, true, false, List, [], ◌∷◌}
+use Rattle.std.specs.Prelude.{◌≡◌, Bool, true, false, List, [], ◌∷◌}
 use Rattle.tsb_step.specs.tsb_plan.declared.object.Object.{Object}
 use Rattle.tsb_step.specs.tsb_plan.declared.object.Object.TheVariants.{CoordCorrectionLimit, CoordCorrectionMode}
 use Rattle.tsb_step.specs.tsb_plan.Plan.{Plan}

@@ -5,7 +5,7 @@
 -- State, inputs, desk and refusals are those of the controller. What the state has of options is as it was at power-up,
 -- and nothing here reads it: how the local counter comes into step, and the running maximum and the last ending of each
 -- phase. Nor does anything here read `recycle` and `walks`, which phase timing and calls are given.
-use Rattle.std.specs.Prelude.{ℕ, ◌+◌, Bool, true, false, if◌then◌else◌, List, [], ◌∷◌, Option, is_some, option_map}
+use Rattle.std.specs.Prelude.{ℕ, ◌+◌, Bool, false, if◌then◌else◌, List, [], ◌∷◌, Option, is_some, option_map}
 use Rattle.tsb_step.specs.tsb_types.declared.lamp.Lamp.{Lamp}
 use Rattle.tsb_step.specs.tsb_types.declared.flow.Moves.{Moves}
 use Rattle.tsb_step.specs.tsb_types.declared.row.Row.{Row}

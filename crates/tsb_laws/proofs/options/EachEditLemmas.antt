@@ -1,5 +1,5 @@
 -- What holds of each edit of a desk.
-use Rattle.std.proofs.Common.{◌≡◌, Bool, true, false, if◌then◌else◌, List, [], ◌∷◌}
+use Rattle.std.proofs.Common.{Bool, true, false, if◌then◌else◌, List, [], ◌∷◌}
 use Rattle.tsb_step.specs.tsb_transact.declared.edit.Edit.{Edit}
 use Rattle.tsb_step.specs.tsb_transact.Desk.{is_of, with_edit}
 

@@ -17,7 +17,7 @@ use Rattle.tsb_step.specs.declared.inputs.Input.{Input}
 use Rattle.tsb_step.specs.declared.inputs.Input.TheVariants as inputs
 use Rattle.tsb_step.specs.State.{State, restarted}
 use Rattle.tsb_step.specs.Signs.{shown, display, field, local, watched}
-use Rattle.tsb_step.specs.Step.{step, ticked, with_pattern, with_lamp, with_desk, found}
+use Rattle.tsb_step.specs.Step.{step, ticked, with_pattern, with_lamp, with_desk}
 use Rattle.tsb_step.specs.Runs.{replay}
 use Rattle.tsb_step.specs.Tick as tick
 use Rattle.tsb_laws.specs.Options.{OptionsOff}

@@ -1,5 +1,5 @@
 -- Where the options are 0, a tick is that of the controller without options.
-use Rattle.std.proofs.Common.{◌≡◌, ℕ, ◌+◌, ◌-◌, Bool, true, false, not, ◌&&◌, ◌||◌, if◌then◌else◌, Option, None, refl, sym, ap, ap₂, ◌∙◌}
+use Rattle.std.proofs.Common.{◌≡◌, ℕ, ◌+◌, ◌-◌, Bool, true, false, not, ◌&&◌, ◌||◌, if◌then◌else◌, refl, ap, ap₂, ◌∙◌}
 use Rattle.std.proofs.Math.Path.{fun_ext}
 use Rattle.std.proofs.lemmas.Bool.{and_right}
 use Rattle.tsb_step.specs.tsb_types.declared.flow.Moves.{Moves}
@@ -8,7 +8,7 @@ use Rattle.tsb_step.specs.tsb_types.Clip.{clipped}
 use Rattle.tsb_step.specs.tsb_types.Flow.{gives_walk}
 use Rattle.tsb_step.specs.tsb_types.Intervals.{is_green, is_dont_walk}
 use Rattle.tsb_step.specs.tsb_types.Sets.{is_phase}
-use Rattle.tsb_step.specs.tsb_calls.Memories.{Memories, pedestrian_memory}
+use Rattle.tsb_step.specs.tsb_calls.Memories.{pedestrian_memory}
 use Rattle.tsb_step.specs.tsb_calls.Settled as settled
 use Rattle.tsb_step.specs.tsb_coord.Correction.{is_in_step}
 use Rattle.tsb_step.specs.tsb_phase.Phase as phase

@@ -1,17 +1,13 @@
 -- The controller without options reads none: two plans that differ in options alone give the same run of it.
 use Rattle.std.proofs.Common.{◌≡◌, ℕ, ◌+◌, ◌==◌, Bool, true, false, not, ◌&&◌, ◌||◌, if◌then◌else◌, List, [], ◌∷◌, map, Option, is_some, refl, sym, ap, ap₂, subst, ◌∙◌}
-use Rattle.std.specs.List.{list_any}
-use Rattle.tsb_step.specs.tsb_types.declared.lamp.Lamp.{Lamp}
-use Rattle.tsb_step.specs.tsb_types.declared.row.Row.{Row}
 use Rattle.tsb_step.specs.tsb_plan.declared.object.Object.{Object}
 use Rattle.tsb_step.specs.tsb_plan.Objects.{is_structural}
 use Rattle.tsb_step.specs.tsb_plan.Plan.{Plan}
 use Rattle.tsb_step.specs.tsb_rules.declared.rules.Rule.{Rule}
-use Rattle.tsb_step.specs.tsb_coord.Coordinated as coordination
 use Rattle.tsb_step.specs.tsb_ring.Rings as rings
 use Rattle.tsb_step.specs.tsb_transact.Calls as desk
-use Rattle.tsb_step.specs.tsb_transact.Commit.{changes, changes_some}
-use Rattle.tsb_step.specs.tsb_transact.Desk.{Desk, value_put, with_edits}
+use Rattle.tsb_step.specs.tsb_transact.Commit.{changes_some}
+use Rattle.tsb_step.specs.tsb_transact.Desk.{value_put, with_edits}
 use Rattle.tsb_step.specs.tsb_transact.declared.edit.Edit.{Edit}
 use Rattle.tsb_step.specs.declared.inputs.Input.{Input}
 use Rattle.tsb_step.specs.declared.inputs.Input.TheVariants as inputs

@@ -1,11 +1,11 @@
 -- What rings make of a plan does not see the options.
-use Rattle.std.proofs.Common.{◌≡◌, ℕ, ◌==◌, Bool, true, false, ◌&&◌, ◌||◌, if◌then◌else◌, Option, Some, None, is_some, is_none, refl, ap, ap₂, ◌∙◌}
+use Rattle.std.proofs.Common.{◌≡◌, ℕ, Bool, ◌&&◌, ◌||◌, if◌then◌else◌, Option, Some, None, is_some, is_none, refl, ap, ap₂, ◌∙◌}
 use Rattle.std.proofs.Math.Path.{fun_ext}
 use Rattle.tsb_step.specs.tsb_types.Intervals.{is_green}
 use Rattle.tsb_step.specs.tsb_types.declared.flow.RingMoves.{RingMoves}
-use Rattle.tsb_step.specs.tsb_types.Lists.{first, some_passes, or_else, or_number}
+use Rattle.tsb_step.specs.tsb_types.Lists.{first, or_else, or_number}
 use Rattle.tsb_step.specs.tsb_plan.declared.object.Object.{Object}
-use Rattle.tsb_step.specs.tsb_plan.Plan.{Plan, phases, is_concurrent}
+use Rattle.tsb_step.specs.tsb_plan.Plan.{Plan, phases}
 use Rattle.tsb_step.specs.tsb_ring.declared.want.Want.{Want}
 use Rattle.tsb_step.specs.tsb_ring.declared.want.Want.TheVariants.{Cross, Rest, Stop}
 use Rattle.tsb_step.specs.tsb_ring.Crossings.{joins, wants_cross, begins, target_side, entry_by_calls, entry_for, entry, own_commitment, committed}

@@ -1,5 +1,5 @@
 -- Two plans that differ in the correction limit alone give the same run while the mode is 0.
-use Rattle.std.proofs.Common.{◌≡◌, ℕ, ◌+◌, Bool, true, false, if◌then◌else◌, List, [], ◌∷◌, map, Option, Some, None, is_some, refl, sym, ap, ap₂, subst, ◌∙◌}
+use Rattle.std.proofs.Common.{◌≡◌, ℕ, Bool, true, false, if◌then◌else◌, List, [], ◌∷◌, map, Option, is_some, refl, sym, ap, subst, ◌∙◌}
 use Rattle.tsb_step.specs.tsb_types.declared.lamp.Lamp.{Lamp}
 use Rattle.tsb_step.specs.tsb_plan.declared.object.Object.{Object}
 use Rattle.tsb_step.specs.tsb_plan.declared.object.Object.TheVariants.{CoordCorrectionLimit, CoordCorrectionMode}
@@ -16,7 +16,7 @@ use Rattle.tsb_step.specs.tsb_transact.Commit.{changes_some, is_preempt_list}
 use Rattle.tsb_step.specs.tsb_transact.Desk.{value_put, with_edits}
 use Rattle.tsb_step.specs.declared.inputs.Input.{Input}
 use Rattle.tsb_step.specs.declared.inputs.Input.TheVariants as inputs
-use Rattle.tsb_step.specs.State.{State, start, restarted}
+use Rattle.tsb_step.specs.State.{State, restarted}
 use Rattle.tsb_step.specs.Signs.{display, field, local, watched}
 use Rattle.tsb_step.specs.Step.{step, verdict, with_lamp, with_pattern, reset, committed, found}
 use Rattle.tsb_step.specs.Runs.{replay}

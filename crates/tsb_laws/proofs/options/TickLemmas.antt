@@ -12,7 +12,6 @@ use Rattle.tsb_step.specs.tsb_rules.PatternRules.{split_sum, side_sum, split_end
 use Rattle.tsb_step.specs.tsb_calls.Memories as calls
 use Rattle.tsb_step.specs.tsb_calls.Settled as settled
 use Rattle.tsb_step.specs.tsb_coord.Coordinated.{asks_force_off, asks_recycle, force_off}
-use Rattle.tsb_step.specs.tsb_coord.Correction.{forces, lets_walk_again}
 use Rattle.tsb_step.specs.tsb_detect.Detector.{Detector}
 use Rattle.tsb_step.specs.tsb_heads.Displays.{flashing, laid_over}
 use Rattle.tsb_step.specs.tsb_heads.Heads.{Heads, Shown}
