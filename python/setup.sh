@@ -3,16 +3,17 @@
 # installs what is missing by apt-get, and is quick and quiet where nothing is. It works from any directory.
 #
 #   python/setup.sh && python/.venv/bin/python -m tsb
-#   python/setup.sh panel       no more than these commands of tsb need, of panel, report, sweep, sumo and new
+#   python/setup.sh panel       no more than these commands of tsb need, of panel, report, sweep, sumo, new, preempt,
+#                               oids, plan, utdf, snmp and pull
 set -eu -o pipefail
 
 here=$(cd "$(dirname "${BASH_SOURCE[0]}")" && pwd)
 python=/usr/bin/python3
 packages="python3 python3-numpy python3-pandas python3-tqdm"
 declare -A more=([panel]="python3-aiohttp" [report]="python3-jinja2 python3-matplotlib" [sweep]="" [new]=""
-    [sumo]="sumo sumo-tools"
+    [sumo]="sumo sumo-tools" [preempt]="" [oids]="" [plan]="" [utdf]="" [snmp]="python3-pysnmp4" [pull]="python3-pysnmp4"
     [tests]="python3-pytest python3-pytest-asyncio python3-hypothesis python3-mypy python3-dask python3-distributed
-        python3-selenium chromium chromium-driver python3-pip-whl")
+        python3-selenium chromium chromium-driver python3-pip-whl snmp")
 for word in "${@:-${!more[@]}}"; do
     for it in $word; do
         [[ -v more[$it] ]] || { echo "python/setup.sh: there is no command $it: ${!more[*]}" >&2; exit 2; }

@@ -19,15 +19,31 @@ from tsb.errors import Error, NoProgram, shown
 from tsb.options import nearest
 
 # Modules with a function `main(words)`, which gives the status to end with.
-COMMANDS = ("new", "sumo", "sweep", "panel", "report")
+COMMANDS = (
+    "new", "sumo", "sweep", "panel", "report",
+    "preempt", "oids", "utdf", "plan", "snmp", "pull",
+)  # fmt: skip
+# Those whose modules have other names.
+MODULES = {
+    "oids": "exchange.oids",
+    "utdf": "exchange.utdf",
+    "plan": "exchange.plans",
+    "snmp": "exchange.snmp",
+    "pull": "exchange.pull",
+}
 CLOSED = 141  # the status where nobody reads any more: 128 and SIGPIPE
+
+
+def module(name: str) -> str:
+    """The module of a command."""
+    return f"tsb.{MODULES.get(name, name)}"
 
 
 def commands() -> Iterator[tuple[str, str]]:
     """The commands that there are, each with the first line of what it says of
     itself."""
     for name in COMMANDS:
-        found = importlib.util.find_spec(f"tsb.{name}")
+        found = importlib.util.find_spec(module(name))
         if found is not None and found.origin is not None:
             text = Path(found.origin).read_text(encoding="utf-8")
             said = ast.get_docstring(ast.parse(text)) or ""
@@ -88,7 +104,7 @@ def main(words: list[str]) -> int:
         print(unknown(name), file=sys.stderr)
         return 2
     try:
-        status: int = importlib.import_module(f"tsb.{name}").main(more)
+        status: int = importlib.import_module(module(name)).main(more)
     except Error as fault:
         print(fault, file=sys.stderr)
         return 1
