@@ -1,8 +1,8 @@
 """Finds the moment of an input log from which a preempt waits longest for its green.
 
 Each moment is tried: the bench goes there, switches the preempt on, lets time pass
-until all phases of its first stage are green, and takes all of it back. What a worksheet
-adds up of the plan's values stands beside it. docs/use/FIELD.md has an example.
+until all phases of its first stage are green, and takes all of it back. Beside it comes
+what a worksheet adds up of the plan's values. docs/use/FIELD.md has an example.
 """
 
 import argparse
@@ -141,7 +141,8 @@ def rows(plan: Plan, number: int, found: Tries, within: int) -> Iterator[str]:
     """The lines that are printed."""
     stage, phases = first_stage(plan, number)
     named = " and ".join(map(str, sorted(phases)))
-    yield marked(f"preempt {number}: its {stage} stage is phase {named}, all green")
+    kind = "phase" if len(phases) == 1 else "phases"
+    yield marked(f"preempt {number}: the wait for the green of {stage} {kind} {named}")
     delay = 10 * plan["preemptDelay"][number]
     yield _row("delay", delay)
     of = sums(plan, number, phases)

@@ -190,8 +190,8 @@ def _bulk(agent: Agent, asked: _Message) -> _Answer:
 # What is asked of an agent
 
 
-class Told(NamedTuple):
-    """What an agent told: the number of the request, its error, and OIDs with values,
+class Reply(NamedTuple):
+    """What an agent answered: the number of the request, its error, and OIDs with values,
     None for a value of a type that plans don't have."""
 
     request: int
@@ -216,8 +216,8 @@ def request(
     return bytes(encoder.encode(message))
 
 
-def told(datagram: bytes) -> Told:
-    """What an answer tells; `Error` where it is none."""
+def reply(datagram: bytes) -> Reply:
+    """What an answer says; `Error` where it is none."""
     try:
         found = _Message(datagram)
         if not found.asks("GetResponsePDU" if found.version == V1 else "ResponsePDU"):
@@ -228,7 +228,7 @@ def told(datagram: bytes) -> Told:
         raise Error("it answered with no answer of SNMP") from None
     ends = (rfc1905.EndOfMibView, rfc1905.NoSuchObject, rfc1905.NoSuchInstance)
     is_end = any(isinstance(value, ends) for _, value in found.values)
-    return Told(number, error, list(_printed(found.values)), is_end)
+    return Reply(number, error, list(_printed(found.values)), is_end)
 
 
 def _printed(

@@ -1,8 +1,8 @@
 """The objects of NTCIP 1202 v02 that a plan's objects are of, by their OIDs.
 
-The tables are from memory of the standard: docs/use/EXCHANGE.md says so. `TABLES` has a
-row for each table and each group of objects without an index, with the columns that a
-plan has (`form`), and names of others, so that what has no place is named.
+The tables are from memory of the standard: docs/use/EXCHANGE.md says so. `TABLES` has
+each table, and each group of objects without an index. A column has a `form` where a
+plan has it too. The others are there by name, so that what has no place is named.
 """
 
 from collections.abc import Iterator, Mapping
@@ -66,7 +66,7 @@ class Table:
 
     @property
     def root(self) -> Oid:
-        """The OID of which all of its objects' OIDs begin."""
+        """What the OIDs of all its objects begin with."""
         return ASC + self.place
 
     def has(self, row: Row) -> bool:

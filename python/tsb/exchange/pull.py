@@ -22,7 +22,7 @@ from tsb.panel.command import port
 from tsb.progress import progress
 
 try:
-    from tsb.exchange.messages import V1, V2C, Told, request, told
+    from tsb.exchange.messages import V1, V2C, Reply, reply, request
 except ImportError as missing:  # (the rest of the package goes without it)
     raise Error(f"SNMP needs pysnmp: python/setup.sh ({missing})") from None
 
@@ -55,8 +55,8 @@ class Manager:
         """Closes the socket."""
         self._socket.close()
 
-    def after(self, oid: Oid) -> Told:
-        """What the agent tells of the value after an OID."""
+    def after(self, oid: Oid) -> Reply:
+        """What the agent answers of the value after an OID."""
         self._number = (self._number + 1) % (1 << 31)
         asks = request(
             "GetNextRequestPDU", self._version, self._community, self._number, [oid]
@@ -73,7 +73,7 @@ class Manager:
         what = "no answer: is the community right, and the version?"
         raise Error(f"{self._name}: {what}")
 
-    def _answer(self) -> Told | None:
+    def _answer(self) -> Reply | None:
         """The answer to the last request; None where none comes in time."""
         until = time.monotonic() + TIMEOUT
         while (left := until - time.monotonic()) > 0:
@@ -82,7 +82,7 @@ class Manager:
                 datagram = self._socket.recv(LONGEST)
             except TimeoutError:
                 break
-            found = told(datagram)
+            found = reply(datagram)
             if found.request == self._number:
                 return found
         return None

@@ -21,8 +21,8 @@ class Remark(NamedTuple):
     why: str
 
     def follows(self, other: "Remark") -> bool:
-        """Whether this is of the next line, or of none as the other is, and of the next
-        row of the other's object, with the same value and the same reason."""
+        """Whether this is of the line and the row after the other's, with the same
+        object, value and reason."""
         line = other.line + (1 if self.line else 0)
         row = (*other.row[:-1], other.row[-1] + 1) if other.row else ()
         told = (line, other.name, row, other.value, other.why)

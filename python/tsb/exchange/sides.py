@@ -52,7 +52,7 @@ def _groups(
 def _before(
     groups: Sequence[Group], orders: Sequence[Sequence[int]]
 ) -> set[tuple[int, int]]:
-    """Pairs of phases, of which the first one's group is served before the second's in
+    """Pairs of phases, where the first one's group is served before the second's in
     some order, with all that follows from it."""
     of = {it: group for group in groups for it in group}
     pairs = {
@@ -71,7 +71,7 @@ def _before(
 
 
 def _joined(groups: Sequence[Group], before: Collection[tuple[int, int]]) -> list[Group]:
-    """The groups, of which those that come before one another are one."""
+    """The groups, where those that come before one another are made one."""
     found: list[Group] = []
     for group in groups:
         same = [

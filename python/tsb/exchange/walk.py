@@ -16,6 +16,7 @@ LONGEST = 16 << 20  # bytes of a walk
 DIGITS = 16  # octets in a line of hexadecimal digits
 DEPTH = 128  # numbers of an OID, at most
 LARGEST = (1 << 32) - 1  # of a number in an OID
+END = "End of MIB"  # what snmpwalk -v1 prints last
 
 # What an OID begins with: also as snmpwalk prints it without -On.
 _ROOTS = {".1": (1,), "1": (1,), "iso": (1,)}
@@ -58,7 +59,7 @@ def lines_of(text: str) -> Iterator[Line]:
         if left:
             yield _line(begun, left)
             left = ""
-        if not line.strip():
+        if line.strip() in ("", END):
             continue
         if _BEGUN.match(line) is None:
             raise Error(f"walk line {number}: it is no line of snmpwalk -On")
