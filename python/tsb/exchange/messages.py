@@ -5,6 +5,7 @@ A message that is no request of these versions, or has another community, has no
 Communities are in no error and in no text.
 """
 
+import itertools
 from collections.abc import Iterable, Sequence
 from typing import Any, NamedTuple
 
@@ -25,6 +26,8 @@ LONGEST = 65_000  # bytes of an answer
 TOO_BIG = 1
 #: The errors of SNMPv2c in place of those of SNMPv1: notWritable, wrongValue, genErr.
 ERRORS_2C = {Fault.NO_SUCH_NAME: 17, Fault.BAD_VALUE: 10, Fault.GENERAL: 5}
+#: What comes in place of a value where there is none.
+ENDS = (rfc1905.EndOfMibView, rfc1905.NoSuchObject, rfc1905.NoSuchInstance)
 #: What is raised of bytes that are no message.
 _BAD = (PyAsn1Error, PySnmpError, ValueError, TypeError, IndexError, OverflowError)
 
@@ -192,7 +195,8 @@ def _bulk(agent: Agent, asked: _Message) -> _Answer:
 
 class Reply(NamedTuple):
     """What an agent answered: the number of the request, its error, and OIDs with values,
-    None for a value of a type that plans don't have."""
+    None for a value of a type that plans don't have. It ends where the agent has none
+    to follow."""
 
     request: int
     error: int
@@ -201,14 +205,18 @@ class Reply(NamedTuple):
 
 
 def request(
-    kind: str, version: int, community: bytes, number: int, oids: Iterable[Oid]
-) -> bytes:
-    """The bytes of a request that only reads."""
+    kind: str, version: int, community: bytes, number: int, oids: Iterable[Oid],
+    turns: int = 0,
+) -> bytes:  # fmt: skip
+    """The bytes of a request that only reads; a bulk request has so many turns."""
     module = api.protoModules[version]
     pdu = getattr(module, kind)()
-    module.apiPDU.setDefaults(pdu)
-    module.apiPDU.setRequestID(pdu, number)
-    module.apiPDU.setVarBinds(pdu, [(oid, module.Null("")) for oid in oids])
+    of = module.apiBulkPDU if turns else module.apiPDU
+    of.setDefaults(pdu)
+    of.setRequestID(pdu, number)
+    of.setVarBinds(pdu, [(oid, module.Null("")) for oid in oids])
+    if turns:
+        of.setMaxRepetitions(pdu, turns)
     message = module.Message()
     module.apiMessage.setDefaults(message)
     module.apiMessage.setCommunity(message, community)
@@ -226,9 +234,9 @@ def reply(datagram: bytes) -> Reply:
         number = int(found.module.apiPDU.getRequestID(found.pdu))
     except (*_BAD, KeyError, AttributeError, RecursionError):
         raise Error("it answered with no answer of SNMP") from None
-    ends = (rfc1905.EndOfMibView, rfc1905.NoSuchObject, rfc1905.NoSuchInstance)
-    is_end = any(isinstance(value, ends) for _, value in found.values)
-    return Reply(number, error, list(_printed(found.values)), is_end)
+    values = list(itertools.takewhile(lambda it: not isinstance(it[1], ENDS), found.values))
+    ends = len(values) < len(found.values)
+    return Reply(number, error, list(_printed(values)), ends)
 
 
 def _printed(

@@ -14,6 +14,7 @@ from pathlib import Path
 from tsb import files
 from tsb.errors import Error, shown
 from tsb.exchange import oids
+from tsb.exchange.forms import Value
 from tsb.exchange.objects import ASC, Oid
 from tsb.exchange.plans import Made, written
 from tsb.exchange.walk import Line, dotted, printed
@@ -31,6 +32,7 @@ PORT = 161
 COMMUNITY = b"public"
 TIMEOUT, TRIES = 2.0, 4  # seconds for an answer, and how often it is asked for
 MOST = 200_000  # values of a walk
+TURNS = 25  # values that a bulk request asks for
 LONGEST = 65_535  # bytes of an answer
 NO_SUCH_NAME = 2  # with which a walk by SNMPv1 ends
 
@@ -56,11 +58,12 @@ class Manager:
         self._socket.close()
 
     def after(self, oid: Oid) -> Reply:
-        """What the agent answers of the value after an OID."""
+        """What the agent answers of the value after an OID; by SNMPv2c of several."""
         self._number = (self._number + 1) % (1 << 31)
-        asks = request(
-            "GetNextRequestPDU", self._version, self._community, self._number, [oid]
-        )
+        is_bulk = self._version == V2C
+        kind = "GetBulkRequestPDU" if is_bulk else "GetNextRequestPDU"
+        of = (kind, self._version, self._community, self._number, [oid])
+        asks = request(*of, TURNS if is_bulk else 0)
         for _ in range(TRIES):
             try:
                 self._socket.send(asks)
@@ -89,21 +92,22 @@ class Manager:
 
     def walk(self, root: Oid) -> Iterator[Line]:
         """All values below an OID, as lines of a walk."""
-        oid = root
-        for number in progress(range(1, MOST + 2), "values"):
+        oid, number = root, 0
+        while number < MOST:
             found = self.after(oid)
             if found.error not in (0, NO_SUCH_NAME):
                 raise Error(f"{self._name}: {dotted(oid)}: error {found.error}")
-            if found.error or found.ends or len(found.values) != 1:
+            values = [] if found.error else found.values
+            for after, value, text in values:
+                if after[: len(root)] != root:
+                    return
+                if after <= oid:
+                    what = f"{dotted(after)} comes after {dotted(oid)}"
+                    raise Error(f"{self._name}: {what}")
+                oid, number = after, number + 1
+                yield Line(number, oid, value, _said(oid, value, text))
+            if found.ends or not values:
                 return
-            after, value, text = found.values[0]
-            if after[: len(root)] != root:
-                return
-            if after <= oid:
-                raise Error(f"{self._name}: {dotted(after)} comes after {dotted(oid)}")
-            said = text if value is None else printed(after, value).partition(" = ")[2]
-            yield Line(number, after, value, said)
-            oid = after
         raise Error(f"{self._name}: over {MOST} values")
 
 
@@ -112,6 +116,11 @@ def _address(host: str, number: int) -> tuple[int, int, str, tuple[str, int]]:
     found = socket.getaddrinfo(host, number, type=socket.SOCK_DGRAM)
     kind, _, proto, name, address = found[0]
     return kind, proto, name, (str(address[0]), int(address[1]))
+
+
+def _said(oid: Oid, value: Value | None, text: str) -> str:
+    """A value as snmpwalk prints it."""
+    return text if value is None else printed(oid, value).partition(" = ")[2]
 
 
 def community(path: Path | None) -> bytes:
@@ -157,7 +166,7 @@ def main(words: Sequence[str]) -> int:
     version = V1 if given.version == "1" else V2C
     manager = Manager(given.host, given.port, community(given.community), version)
     try:
-        lines = list(manager.walk(ASC))
+        lines = list(progress(manager.walk(ASC), "values"))
     finally:
         manager.close()
     if given.walk is not None:

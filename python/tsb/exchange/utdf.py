@@ -132,13 +132,23 @@ class Reading:
             elif cells[0].upper() == "RECORDNAME":
                 columns[section] = cells[2:]
             elif section in columns and len(cells) >= 2 and cells[1]:
-                name, node, *values = cells
-                pairs = zip(columns[section], values, strict=False)
-                found = {key: Cell(line, it) for key, it in pairs if it}
-                of = self._nodes.setdefault(node, Node(node)).sections
-                of.setdefault(section, {})[name] = found
+                self._row(section, line, columns[section], cells)
             elif any(cells[1:]):
-                raise Error(f"UTDF line {line}: a row of [{section}] without a node")
+                what = f"a row of [{section}] without a node, or before RECORDNAME"
+                raise Error(f"UTDF line {line}: {what}")
+
+    def _row(self, section: str, line: int, names: list[str], cells: list[str]) -> None:
+        """Takes a row of a section that a plan has."""
+        name, node, *values = cells
+        rows = self._nodes.setdefault(node, Node(node)).sections.setdefault(section, {})
+        if name in rows:
+            what = ",".join(values)
+            self._tell(line, name, what, "a line before has it too, and counts")
+            return
+        pairs = zip(names, values, strict=False)
+        rows[name] = {key: Cell(line, it) for key, it in pairs if it}
+        if more := ",".join(values[len(names) :]).strip(","):
+            self._tell(line, name, more, "no column is named for it")
 
     def _tell(self, line: int, name: str, value: str, why: str) -> None:
         self.remarks.append(Remark(line, name, (), value, why))
@@ -206,10 +216,16 @@ class Reading:
             self._give("phaseMinimumGap", phase, passage, "as phasePassage")
         for node in self._nodes.values():
             if node.name != self.node:
-                for section, rows in node.sections.items():
-                    for record in rows.values():
-                        for line in {it.line for it in record.values()}:
-                            self._tell(line, f"[{section}]", "", "it is of another node")
+                self._tell_other(node)
+        # (what has no line was given at the end)
+        self.remarks.sort(key=lambda it: (it.line == 0, it.line))
+
+    def _tell_other(self, node: Node) -> None:
+        """Names the lines of another node."""
+        for section, rows in node.sections.items():
+            lines = {it.line for record in rows.values() for it in record.values()}
+            for line in sorted(lines):
+                self._tell(line, f"[{section}]", "", "it is of another node")
 
     def _of_phases(self, name: str, record: Record) -> Iterator[tuple[int, Cell]]:
         """The cells of a row of [Phases] by their phases."""
@@ -330,7 +346,8 @@ class Reading:
                 self._tell(cell.line, name, cell.text, f"there is no phase {it}")
 
     def _split(self) -> None:
-        """Gives splits: each is the maximum green with yellow and red clearance."""
+        """Gives splits: each is the maximum green with yellow and red clearance, where
+        the file has all three."""
         records = self._sections[PHASES]
         for phase in self.plan.phases:
             parts = [
@@ -339,7 +356,7 @@ class Reading:
                 if (cell := records.get(name, {}).get(f"D{phase}")) is not None
                 and (number := self._number(cell, f"{name} D{phase}")) is not None
             ]
-            if not parts:
+            if len(parts) < 3:
                 continue
             split = sum((number for _, number in parts), Decimal())
             cell = Cell(parts[0][0].line, str(split))
@@ -357,6 +374,7 @@ class Reading:
         file's columns."""
         phases, counts = (records.get(it, {}) for it in ("DetectPhase1", "numDetects"))
         channel = 0
+        used = set()
         for movement, cell in phases.items():
             said = f"DetectPhase1 {movement}"
             count = counts.get(movement)
@@ -364,6 +382,7 @@ class Reading:
             if not phase or count is None or not self._whole(count, "numDetects"):
                 continue
             channel += 1
+            used.add(movement)
             self._set(cell, said, "vehicleDetectorCallPhase", channel, phase)
             why = f"given, for {movement}"
             name = "vehicleDetectorCallPhase"
@@ -373,9 +392,17 @@ class Reading:
                 if more is not None and channel <= object_of(of).count:
                     self._time(more, f"{row} {movement}", of, channel)
         for name, record in records.items():
-            if name not in ("DetectPhase1", "numDetects", *DETECTORS) and record:
-                text = ", ".join(f"{at} {it.text}" for at, it in record.items())
-                self._tell(next(iter(record.values())).line, name, text, NO_PLACE)
+            if name in ("DetectPhase1", "numDetects", *DETECTORS):
+                left = {at: it for at, it in record.items() if at not in used}
+                self._tell_row(name, left, "it is of no detector with a phase")
+            else:
+                self._tell_row(name, record, NO_PLACE)
+
+    def _tell_row(self, name: str, record: Record, why: str) -> None:
+        """Names the values of a row, if it has some."""
+        for line in sorted({it.line for it in record.values()}):
+            text = ", ".join(f"{at} {it.text}" for at, it in record.items())
+            self._tell(line, name, text, why)
 
 
 def beside(plan: Plan, phase: int) -> set[int]:
@@ -555,6 +582,7 @@ def main(words: Sequence[str]) -> int:
     given = _words().parse_args(words)
     try:
         plan = Plan.read(given.plan)
+        plan.check()
         plan = plan.wide() if plan.version == 1 else plan
         sections = Sections(plan, given.pattern, given.node)
         text = "".join(f"{line}\n" for line in sections.lines())
