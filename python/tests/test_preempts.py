@@ -52,9 +52,9 @@ def test_tries_beside_sessions(examples: Path) -> None:
 
 
 def test_the_lines(examples: Path, capsys: pytest.CaptureFixture[str]) -> None:
-    """Rows of a worksheet, by hand from the plan: phase 2 has the lesser of 12 s and the
-    preempt's 5 s of green, no walk, the lesser of 12 s and 6 s of clearance, 4.3 s of
-    yellow and 1.5 s of red clearance; phase 6 has the same, and comes later."""
+    """Rows of a worksheet, by hand from the plan. Phase 2 has the lesser of 12 s and the
+    preempt's 5 s of green, no walk, and the lesser of 12 s and 6 s of clearance. It has
+    4.3 s of yellow and 1.5 s of red clearance. Phase 6 has the same, and comes later."""
     files = [str(examples / it) for it in ("railroad.json", "railroad.log")]
     assert main(["preempt", files[0], "1", files[1], "--ticks", "300"]) == 0
     assert capsys.readouterr().out.removeprefix("UNPROVED: ") == """\

@@ -379,8 +379,8 @@ class Nothing(Agent):
 
 
 def test_bulk_requests(agent: Agent) -> None:
-    """Of the first values the next one, of the others so many turns, until there is no
-    more room or nothing more."""
+    """The next one of the first values, and so many turns of the others, until there is
+    no more room or nothing more."""
     module = api.protoModules[V2C]
 
     def asked(once: int, turns: int, *oids_asked: tuple[int, ...]) -> list[object]:

@@ -74,8 +74,8 @@ def test_plans_out_and_in(
 
 
 def test_sections_by_hand(examples: Path, capsys: pytest.CaptureFixture[str]) -> None:
-    """The manual's intersection in its pattern: the maximum green is what the split
-    leaves, so 15 - 3.0 - 1.0 = 11.0 s of phase 1, and 25 - 3.6 - 1.5 = 19.9 s of 4."""
+    """The manual's intersection in its pattern. The maximum green is what the split
+    leaves: 15 - 3.0 - 1.0 = 11.0 s of phase 1, and 25 - 3.6 - 1.5 = 19.9 s of phase 4."""
     plan = str(examples / "main_and_oak.json")
     assert main(["utdf", plan, "--pattern", "1", "--node", "12"]) == 0
     told = capsys.readouterr()
