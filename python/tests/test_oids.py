@@ -370,6 +370,16 @@ def test_a_walk_that_is_too_long(
         # The side street comes first.
         ({2: 1, 4: 1, 6: 2, 8: 2}, {2: [6], 4: [8]}, [[4, 2], [8, 6]],
          {4: 1, 8: 1, 2: 2, 6: 2}),
+        # A phase that is not there is passed over.
+        ({2: 1, 4: 1}, {}, [[9, 4, 2, 7]], {4: 1, 2: 2}),
+        # Groups that come before one another in two sequences are one side.
+        ({1: 1, 3: 1, 6: 2, 2: 2}, {1: [6]}, [[1, 3], [3, 1]],
+         {1: 1, 3: 1, 6: 1, 2: 2}),
+        # So are three, each before the next.
+        ({1: 1, 2: 1, 3: 1}, {}, [[1, 2], [2, 3], [3, 1]], {1: 1, 2: 1, 3: 1}),
+        # Where there are five groups, two of one ring that follow one another are one.
+        ({1: 1, 2: 2, 3: 1, 4: 1, 5: 1, 8: 2}, {5: [8]}, [[1, 3, 4, 5], [2, 8]],
+         {1: 1, 2: 2, 3: 3, 4: 3, 5: 4, 8: 4}),
         # Groups that come in turns are one side.
         ({1: 1, 2: 1, 3: 1, 5: 2}, {1: [5], 3: [5]}, [[1, 2, 3], [5]],
          {1: 1, 2: 1, 3: 1, 5: 1}),
@@ -406,6 +416,12 @@ def test_remarks_that_follow_one_another() -> None:
         Remark(9, "[links]", (), "", "no place"),
         Remark(10, "[links]", (), "", "no place"),
         Remark(11, "text", (), "x" * 300 + "\x1b", "no place"),
+        Remark(12, "text", (), "x" * 200, "no place"),
+        Remark(0, "splitTime", (1, 15), "9", "given"),
+        Remark(0, "splitTime", (1, 16), "9", "given"),
+        Remark(0, "splitTime", (2, 17), "9", "given"),
+        Remark(0, "text", (), "", "no place"),
+        Remark(0, "text", (), "", "no place"),
     ]
     assert list(lines_of(of)) == [
         "lines 3 to 4: phaseReduceBy.1 to .2 = 0: no place",
@@ -415,6 +431,11 @@ def test_remarks_that_follow_one_another() -> None:
         "unitMax2.1 = 1: no place",
         "lines 9 to 10: [links]: no place",
         f"line 11: text = {'x' * 200}.. (301 characters): no place",
+        f"line 12: text = {'x' * 200}: no place",
+        "splitTime.1.15 to .16 = 9: given",
+        "splitTime.2.17 = 9: given",
+        "text: no place",
+        "text: no place",
     ]
 
 
