@@ -10,10 +10,11 @@ here=$(cd "$(dirname "${BASH_SOURCE[0]}")" && pwd)
 python=/usr/bin/python3
 packages="python3 python3-numpy python3-pandas python3-tqdm"
 declare -A more=([panel]="python3-aiohttp" [report]="python3-jinja2 python3-matplotlib" [sweep]="" [new]="" [test]=""
-    [diff]="" [sheet]="python3-jinja2" [plan]=""
+    [diff]="" [sheet]="python3-jinja2" [plan]="" [preempt]="" [oids]="" [utdf]="" [snmp]="python3-pysnmp4"
+    [pull]="python3-pysnmp4"
     [sumo]="sumo sumo-tools"
     [tests]="python3-pytest python3-pytest-asyncio python3-pytest-xdist python3-hypothesis python3-mypy python3-dask python3-distributed
-        python3-selenium chromium chromium-driver python3-pip-whl")
+        python3-selenium chromium chromium-driver python3-pip-whl snmp")
 for word in "${@:-${!more[@]}}"; do
     for it in $word; do
         [[ -v more[$it] ]] || { echo "python/setup.sh: there is no command $it: ${!more[*]}" >&2; exit 2; }

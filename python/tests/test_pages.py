@@ -54,6 +54,8 @@ LEFT_OUT = {
     r"\S*python3? -m tools\.reference\.": "the reference is not in the repository",
     r"\S*python3? -m tools\.programs\.run_cases\b": "the gate runs it, as it is long",
     r"\S*\$?python -m distributed\.cli\.": "it needs several machines",
+    r"python3 -m tsb snmp\b": "test_snmp.py serves it, at a port that is free",
+    r"snmp(get|set) \S": "test_snmp.py asks an agent by them",
     r"\S*\$?python -m tsb sweep .*--scheduler\b": "it needs several machines",
     r"cd crates/tsb_layer_runs\b": "the gate proves and runs that program",
     r"\.\./out/tsb_layer_runs\b": "the gate proves and runs that program",
@@ -73,13 +75,14 @@ FILES = {
         "quad.json": "examples/quad.json",
     },
 }
-#: A day for the questions of the README: an hour of traffic from midnight on, and the
-#: first 100 s of traffic of SUMO.
+#: A day for the questions of the README: an hour of traffic from midnight on, the walk
+#: of a controller, and the first 100 s of traffic of SUMO.
 DAY = """
 mkdir -p days
 echo "step 36000" | tsb_field record --from "2026-11-22 00:00:00" --device 7 \\
     examples/quad.json examples/hour_of_traffic.log > day.csv
 cp day.csv days/2026-11-22.csv
+python3 -m tsb oids examples/main_and_oak.json > walk.txt
 python3 -m tsb sumo example crossroads
 cp crossroads/* .
 grep -Ev 'depart="[0-9]{3,}' crossroads/routes.xml > routes.xml
@@ -208,9 +211,8 @@ def test_the_questions_of_the_readme(room: Path) -> None:
     typed(room, DAY)
     rows = re.findall(r"^\| [^|]*\? \| (.*) \|$", (TOP / "README.md").read_text(), re.M)
     typed_ones = [it for row in rows for it in re.findall(r"`(tsb\S* .*?)`", row)]
-    commands = [it for it in typed_ones if it != "tsb run"]
-    assert len(rows) == 13 and len(commands) == 12
-    for command in commands:
+    assert len(rows) == 14 and len(typed_ones) == 14
+    for command in typed_ones:
         served(room, command)
 
 

@@ -1,34 +1,26 @@
-"""How long a train waits for its track green, whatever its moment: the recipe of
-docs/use/FIELD.md, where rings serve what they are committed to, and where they choose anew."""
+"""How long a preempt waits for its green, whatever its moment: `python3 -m tsb preempt`."""
 
-import itertools
 import json
+import subprocess
+import sys
 from pathlib import Path
 
 import pytest
-from tsb import programs
+from tsb import Bench, Log, Plan, programs
+from tsb.__main__ import main
+from tsb.preempt import Tries, first_stage, sums, tries
 
-# The moments that are tried: the train's input comes on in the tick after each of these.
-MOMENTS = range(1, 901)
-# A try lasts for so many ticks.
-TRIED = 300
+#: What a try of a moment waits for here, at most.
+WITHIN = 300
 
 
-def waits(plan: Path, log: Path) -> dict[int, int]:
-    """For each moment how many ticks pass from the request to the first line that has
-    the track green of phases 4 and 7."""
-    tries = [f"seek {it}\npreempt 1 on\nstep {TRIED}\n" for it in reversed(MOMENTS)]
-    commands = f"step {MOMENTS[-1]}\n" + "".join(tries)
-    done = programs.run("tsb", ["run", plan, log], commands.encode())
-    shown = [it.split() for it in done.stdout.decode().splitlines()]
-    # The lines of each try come behind its `ok`.
-    parts = itertools.groupby(shown, lambda it: it == ["ok"])
-    tried = [list(lines) for is_ok, lines in parts if not is_ok][1:]
-    found = [
-        next(i for i, it in enumerate(lines) if it[4] == "1" and it[1][3::3][:2] == "GG")
-        for lines in tried
-    ]
-    return dict(zip(reversed(MOMENTS), found, strict=True))
+def anew(examples: Path, folder: Path, option: int) -> Path:
+    """The plan at the railroad, with the option to choose anew or without."""
+    plan = json.loads((examples / "railroad.json").read_text())
+    plan |= {"version": 3, "preemptChoosesAnew": {"1": option}}
+    path = folder / "plan.json"
+    path.write_text(json.dumps(plan))
+    return path
 
 
 @pytest.mark.parametrize(("option", "longest", "at"), [(0, 163, 171), (1, 118, 625)])
@@ -37,9 +29,143 @@ def test_the_worst_moment_of_a_train(
 ) -> None:
     """It waits for 16.3 s. Where the preempt chooses anew it waits for the 11.8 s that a
     worksheet adds up: 6 s of pedestrian clearance, 5.8 s of yellow and red clearance."""
-    plan = json.loads((examples / "railroad.json").read_text())
-    plan |= {"version": 3, "preemptChoosesAnew": {"1": option}}
-    (tmp_path / "plan.json").write_text(json.dumps(plan))
-    found = waits(tmp_path / "plan.json", examples / "railroad.log")
-    assert max(found.values()) == longest == found[at]
-    assert found[171] == (59 if option else 163)
+    path = anew(examples, tmp_path, option)
+    with Bench(path, examples / "railroad.log", events=False) as bench:
+        found = tries(bench, 1, frozenset({4, 7}), 900, WITHIN)
+    assert found.worst == (longest, at) and not found.in_service
+    assert found.waits[171] == (59 if option else 163)
+    assert sorted(found.waits) == list(range(1, 901))
+
+
+def test_tries_beside_sessions(examples: Path) -> None:
+    """Some moments, each as a session of its own by `tsb run`."""
+    plan, log = examples / "railroad.json", examples / "railroad.log"
+    with Bench(plan, log, events=False) as bench:
+        found = tries(bench, 1, frozenset({4, 7}), 200, WITHIN)
+    for at in (1, 57, 171, 172, 200):
+        commands = f"step {at}\npreempt 1 on\nstep {WITHIN}\n"
+        done = programs.run("tsb", ["run", plan, log], commands.encode())
+        lines = [it.split() for it in done.stdout.decode().splitlines()[at + 1 :]]
+        first = next(i for i, it in enumerate(lines)
+                     if it[4] == "1" and it[1][3] + it[1][6] == "GG")  # fmt: skip
+        assert found.waits[at] == first
+
+
+def test_the_lines(examples: Path, capsys: pytest.CaptureFixture[str]) -> None:
+    """Rows of a worksheet, by hand from the plan. Phase 2 has the lesser of 12 s and the
+    preempt's 5 s of green, no walk, and the lesser of 12 s and 6 s of clearance. It has
+    4.3 s of yellow and 1.5 s of red clearance. Phase 6 has the same, and comes later."""
+    files = [str(examples / it) for it in ("railroad.json", "railroad.log")]
+    assert main(["preempt", files[0], "1", files[1], "--ticks", "300"]) == 0
+    assert capsys.readouterr().out.removeprefix("UNPROVED: ") == """\
+preempt 1: the wait for the green of track phases 4 and 7
+delay                       0.0 s
+conflicting vehicle        10.8 s  phase 2: green 5.0, yellow 4.3, red clearance 1.5
+conflicting pedestrian     11.8 s  phase 2: walk 0.0, clearance 6.0, yellow 4.3, red clearance 1.5
+sum by hand                11.8 s  delay and the longer one
+worst found                16.3 s  from tick 171
+300 moments tried, 300 with the green
+the worst found is longer than the sum by hand: see preemptChoosesAnew, docs/use/MANUAL.md
+"""
+
+
+def test_moments_in_service_and_moments_without_a_green(
+    examples: Path, tmp_path: Path, capsys: pytest.CaptureFixture[str]
+) -> None:
+    """They are counted apart, and the status is 1 where a green did not come in time."""
+    row = "0000000000000000 00000000"
+    (tmp_path / "day.log").write_text(f"0000101 {row} 1000\n0000111 {row} 0000\n")
+    files = [str(examples / "railroad.json"), "1", str(tmp_path / "day.log")]
+    assert main(["preempt", *files, "--within", "1"]) == 1
+    told = capsys.readouterr().out.splitlines()[-4:]
+    assert told == [
+        "sum by hand                11.8 s  delay and the longer one",
+        "100 moments tried, 0 with the green",
+        "not within 1 s: 100 moments, as tick 1",
+        "left out, as a preempt was in service: 11 moments, as tick 101",
+    ]
+
+
+def test_a_pattern_and_a_delay(
+    examples: Path, capsys: pytest.CaptureFixture[str]
+) -> None:
+    """A pattern is selected before the first tick. A delay is part of the wait: 1 s, and
+    17.5 s of phase 2: 4 s of walk, 8 s of clearance, 4.0 s of yellow, 1.5 s of red."""
+    files = [str(examples / it) for it in ("main_and_oak.json", "main_and_oak.log")]
+    words = ["preempt", files[0], "1", files[1], "--pattern", "1", "--ticks", "100"]
+    assert main(words) == 0
+    told = capsys.readouterr().out.splitlines()
+    assert told[0].endswith("preempt 1: the wait for the green of dwell phases 4 and 7")
+    assert told[1] == "delay                       1.0 s"
+    assert told[4] == "sum by hand                18.5 s  delay and the longer one"
+    with Bench(files[0], files[1], events=False) as bench:
+        bench.set_pattern(1)
+        found = tries(bench, 1, frozenset({4, 7}), 100, WITHIN)
+    assert found.worst is not None
+    wait, at = found.worst
+    said = f"worst found             {wait // 10:>5}.{wait % 10} s  from tick {at}"
+    assert told[5] == said
+
+
+def test_sums_of_a_plan_by_hand() -> None:
+    """The greatest of each row; of equal ones the lower phase. Phases without a walk
+    have no row, and those of the stage don't have to end."""
+    plan = Plan(3)
+    plan["phaseEnabled"] = dict.fromkeys((1, 2, 4, 6), 1)
+    plan["phaseMinimumGreen"] = {1: 5, 2: 12, 4: 30, 6: 12}
+    plan["phaseYellowChange"] = {1: 30, 2: 43, 4: 60, 6: 43}
+    plan["phaseRedClear"] = {1: 25, 2: 15, 4: 60, 6: 15}
+    plan["phaseWalk"] = {4: 7, 6: 7}
+    plan["phasePedestrianClear"] = {4: 20, 6: 12}
+    plan["preemptMinimumGreen"][1] = 8
+    plan["preemptMinimumWalk"][1] = 20
+    plan["preemptEnterPedClear"][1] = 9
+    plan["preemptDwellPhase"][1] = {4}
+    assert first_stage(plan, 1) == ("dwell", frozenset({4}))
+    rows = sums(plan, 1, frozenset({4}))
+    # 8 s, 4.3 s and 1.5 s of phase 2; 7 s, 9 s, 4.3 s and 1.5 s of phase 6.
+    assert [(name, it.phase, it.total) for name, it in rows.items()] == [
+        ("conflicting vehicle", 2, 138), ("conflicting pedestrian", 6, 218),
+    ]  # fmt: skip
+    plan["preemptTrackPhase"][1] = {2}
+    assert first_stage(plan, 1) == ("track", frozenset({2}))
+
+
+def test_no_tries() -> None:
+    """Nothing was found then."""
+    assert Tries({}, [3]).worst is None
+    assert Tries({1: None, 2: 5, 3: 5}, []).worst == (5, 2)
+
+
+@pytest.mark.parametrize(
+    ("plan", "number", "log", "said"),
+    [
+        ("railroad.json", "2", "railroad.log", "preempt 2 has no track phases and no dwell phases"),
+        ("railroad.json", "1", "empty.log", "empty.log: it has no rows: give --ticks"),
+        ("two_short_yellow.json", "1", "empty.log", "two_short_yellow.json: plan: rule K8: "),
+        ("railroad.json", "1", "cut_short.log", "cut_short.log: log line 1: malformed"),
+        ("railroad.json", "1", "none.log", "none.log: No such file or directory"),
+    ],
+)  # fmt: skip
+def test_files_that_are_refused(
+    plan: str, number: str, log: str, said: str, examples: Path
+) -> None:
+    """One line on standard error, with the file's name."""
+    words = ["preempt", plan, number, log]
+    done = subprocess.run(
+        [sys.executable, "-m", "tsb", *words], cwd=examples, capture_output=True, text=True
+    )
+    assert (done.returncode, done.stdout) == (1, "")
+    assert done.stderr.startswith(said) and done.stderr.count("\n") == 1
+
+
+def test_rows_of_the_log_act_in_each_try(examples: Path, tmp_path: Path) -> None:
+    """A try from a moment sees the rows after it, and leaves nothing for the next: with
+    another order of moments each waits as long."""
+    log = Log.read(examples / "railroad.log")
+    with Bench(examples / "railroad.json", log, events=False) as bench:
+        whole = tries(bench, 1, frozenset({4, 7}), 60, WITHIN)
+    for at in (60, 30, 1):
+        with Bench(examples / "railroad.json", log, events=False) as bench:
+            found = tries(bench, 1, frozenset({4, 7}), at, WITHIN)
+        assert found.waits[at] == whole.waits[at]

@@ -133,7 +133,7 @@ def test_the_list_of_what_there_is(tmp_path: Path) -> None:
     words = [sys.executable, "-m", "tsb"]
     done = subprocess.run(words, capture_output=True, text=True, check=True)
     assert all(str(programs.find(it)) in done.stdout for it in programs.PROGRAMS)
-    assert all(f"  {it} " in done.stdout for it in ("panel", "sumo", "sweep"))
+    assert all(f"  {it} " in done.stdout for it in ("panel", "sumo", "sweep", "plan"))
     bad = subprocess.run([*words, "walk"], capture_output=True, text=True, check=False)
     assert bad.returncode == 2 and "no command walk" in bad.stderr
 
@@ -144,17 +144,23 @@ MODULES = {
     "python3-matplotlib": "matplotlib", "python3-dask": "dask",
     "python3-distributed": "distributed", "python3-selenium": "selenium",
     "python3-pytest": "pytest", "python3-hypothesis": "hypothesis",
+    "python3-pysnmp4": "pysnmp",
     "sumo-tools": "sumolib",
 }  # fmt: skip
 ALL_OF = """import importlib, pkgutil, sys
 sys.modules.update(dict.fromkeys(sys.argv[2:]))
-found = importlib.import_module(f"tsb.{sys.argv[1]}")
+from tsb.__main__ import module
+found = importlib.import_module(module(sys.argv[1]))
 for it in pkgutil.iter_modules(getattr(found, "__path__", [])):
     importlib.import_module(f"{found.__name__}.{it.name}")
 """
 
 
-@pytest.mark.parametrize("command", ["panel", "report", "sweep", "new", "test"])
+#: Commands that go without any of these.
+BARE = ["sweep", "new", "test", "preempt", "oids", "plan", "utdf"]
+
+
+@pytest.mark.parametrize("command", ["panel", "report", "snmp", "pull", *BARE])
 def test_a_command_needs_what_is_installed_for_it(command: str) -> None:
     """`python/setup.sh COMMAND` installs it, and no other package is imported."""
     text = (programs.REPOSITORY / "python/setup.sh").read_text()
@@ -162,7 +168,7 @@ def test_a_command_needs_what_is_installed_for_it(command: str) -> None:
     assert said is not None
     installed = (said[1] or said[2] or "").split()
     others = [it for name, it in MODULES.items() if name not in installed]
-    assert len(others) < len(MODULES) or command in ("sweep", "new", "test")
+    assert len(others) < len(MODULES) or command in BARE
     words = [sys.executable, "-c", ALL_OF, command, *others]
     done = subprocess.run(words, capture_output=True, text=True)
     assert (done.returncode, done.stderr) == (0, "")

@@ -21,11 +21,15 @@ from tsb.options import nearest
 # Modules with a function `main(words)`, which gives the status to end with.
 COMMANDS = (
     "new", "sumo", "sweep", "panel", "report", "test",
-    "diff", "sheet", "plan",
+    "diff", "sheet", "preempt", "oids", "utdf", "plan", "snmp", "pull",
 )  # fmt: skip
 # Those whose modules have other names.
 MODULES = {
+    "oids": "exchange.oids",
+    "utdf": "exchange.utdf",
     "plan": "exchange.plans",
+    "snmp": "exchange.snmp",
+    "pull": "exchange.pull",
 }
 CLOSED = 141  # the status where nobody reads any more: 128 and SIGPIPE
 

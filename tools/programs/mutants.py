@@ -76,6 +76,15 @@ TESTS = {
     "sumo.nema": ["tests/test_nema.py", f"{PARTS[0]}::test_the_offset_of_a_program_of_type_nema", *(f"tests/test_sumo.py::{it}" for it in (
         "test_cycles_of_programs_of_type_nema", "test_phases_of_nema_in_no_ring",
         "test_a_program_of_type_nema_is_read_back"))],
+    "exchange.forms": ["tests/test_oids.py"],
+    "exchange.remarks": [f"tests/test_oids.py::{it}" for it in (
+        "test_remarks_that_follow_one_another", "test_what_a_walk_has_no_place_for", "test_a_walk_of_a_street")],
+    "exchange.sides": ["tests/test_oids.py::test_sides_by_hand", "tests/test_oids.py::test_examples_out_and_in"],
+    "exchange.walk": ["tests/test_oids.py"],
+    "exchange.utdf": ["tests/test_utdf.py"],
+    "preempt": [f"tests/test_preempts.py::{it}" for it in (
+        "test_sums_of_a_plan_by_hand", "test_no_tries", "test_the_lines",
+        "test_moments_in_service_and_moments_without_a_green", "test_a_pattern_and_a_delay")],
     "sumo.trips": PARTS,
     "sumo.peers": PARTS,
     **{f"scenario.{it}": SCENARIOS for it in ("times", "words", "text", "expect", "play")},
@@ -92,7 +101,7 @@ SHORTER = "a shorter way to the same"
 ANYWAY = "it is written over, or none, in any case"
 BELOW = "numpy takes any number below 0 as -1"
 AGAIN = "marks that are known are found again"
-LATER = "all differences are sorted afterwards"
+LATER = "all of them are sorted afterwards"
 LONGER_RUN = "a longer run of a pattern has the same instants"
 EQUAL = {
     "measures walk_waits: 1 -> 2": "no event has a code below 0",
@@ -121,6 +130,10 @@ EQUAL = {
     "forms _clocked: 1000 -> 1001": "a table has no moment before 1677",
     "forms _clocked: 0 -> 1 (3)": ANYWAY,
     "forms _since_1970: 0 -> 1 (4)": ANYWAY,
+    "exchange.sides _groups: sorted(rings) -> list(rings)": LATER,
+    "exchange.sides _joined: any(((a, b) in before and (b, a) in before for a in it for b in gro.. -> all(((a, b) in "
+    "before and (b, a) in before for a in it for b in gro..": "pairs are of all phases of two groups",
+    "exchange.remarks follows: 0 -> 1 (2)": "a line after another one is 2 at least",
     "tasks _measured: if not measures: return -> if False: return": "it gives nothing in any case",
     "tasks one_run: True -> False": "rows are written without their numbers",
     "tasks _log: 2 -> 3": "it names a line of the package in any case",

@@ -35,7 +35,8 @@ sys.exit(console())
 # Pages that go with the programs, and what the Debian package asks for.
 PAGES = ["README.md", "CHANGELOG.md", "LICENSE-APACHE", "LICENSE-MIT", "SECURITY.md"]
 DEPENDS = "python3 (>= 3.11), python3-numpy, python3-pandas (>= 1.5), python3-tqdm"
-RECOMMENDS = "python3-aiohttp, python3-jinja2, python3-matplotlib, python3-dask, python3-distributed, python3-pytest"
+RECOMMENDS = ("python3-aiohttp, python3-jinja2, python3-matplotlib, python3-dask, python3-distributed, "
+              "python3-pysnmp4, python3-pytest")
 
 
 @dataclasses.dataclass(frozen=True)

@@ -1,4 +1,4 @@
-"""Makes a plan of a file of another form: the tables of a timing sheet.
+"""Makes a plan of a file: lines of snmpwalk, Synchro's UTDF, or tables of a sheet.
 
 What a plan has no place for is printed, a line for each value.
 """
@@ -10,6 +10,8 @@ from pathlib import Path
 
 from tsb import files
 from tsb.errors import Error, PlanFault, shown
+from tsb.exchange import oids, utdf, walk
+from tsb.exchange.remarks import Remark, lines_of
 from tsb.options import Words
 from tsb.plan import OK, Plan
 from tsb.sheet import spreadsheet
@@ -20,9 +22,11 @@ LONGEST = 16 << 20  # bytes of a file
 
 @dataclass(frozen=True)
 class Made:
-    """A plan that was made of a file, and what it was made of."""
+    """A plan that was made of a file, what it has no place for, and what it was made
+    of."""
 
     plan: Plan
+    remarks: Sequence[Remark]
     of: str
 
 
@@ -36,13 +40,28 @@ class Reader:
     read: Callable[[str, argparse.Namespace], Made]
 
 
+def _of_walk(text: str, given: argparse.Namespace) -> Made:
+    """The plan of the lines of a walk."""
+    reading = oids.plan_of(walk.lines_of(text))
+    said = f"{len(reading.taken)} of {reading.lines} values of a walk"
+    return Made(reading.plan, reading.remarks, said)
+
+
+def _of_utdf(text: str, given: argparse.Namespace) -> Made:
+    """The plan of a node of a UTDF file."""
+    found = utdf.plan_of(text, given.node)
+    return Made(found.plan, found.remarks, f"node {found.node} of a UTDF file")
+
+
 def _of_sheet(text: str, given: argparse.Namespace) -> Made:
     """The plan of the tables of a timing sheet."""
-    return Made(spreadsheet.plan_of(text), "the tables of a timing sheet")
+    return Made(spreadsheet.plan_of(text), (), "the tables of a timing sheet")
 
 
 #: The forms that files have: the first that a text has is taken.
 READERS = [
+    Reader("lines of snmpwalk -On", walk.is_walk, _of_walk),
+    Reader("UTDF", utdf.is_utdf, _of_utdf),
     Reader("tables of python3 -m tsb sheet --csv", spreadsheet.is_sheet, _of_sheet),
 ]
 
@@ -66,14 +85,15 @@ def read(path: Path, given: argparse.Namespace) -> Made:
 
 
 def written(made: Made, out: Path) -> Iterable[str]:
-    """Writes a plan to a file, and gives the lines that say what was read, and what
-    `tsb check` says. A file that is there stays."""
+    """Writes a plan to a file, and gives the lines that say what was read, what has no
+    place, and what `tsb check` says. A file that is there stays."""
     try:
         with out.open("x", encoding="utf-8") as file:
             file.write(made.plan.text)
     except FileExistsError:
         raise Error(f"{out}: there is such a file: name another") from None
     yield f"{shown(out)}: of {made.of}"
+    yield from lines_of(made.remarks)
     yield f"tsb check: {_judged(made.plan)}"
 
 
@@ -87,11 +107,14 @@ def _words() -> argparse.ArgumentParser:
     words = Words(
         prog=PROGRAM,
         description="Makes a plan of a file: " + ", ".join(it.name for it in READERS),
-        epilog="docs/use/PYTHON.md says what is read.",
+        epilog="docs/use/EXCHANGE.md says what is read.",
         allow_abbrev=False,
     )
     words.add_argument("file", type=Path, metavar="FILE")
     words.add_argument("--out", type=Path, required=True, metavar="PLAN")
+    words.add_argument(
+        "--node", metavar="ID", help="of a UTDF file with several, the node"
+    )
     return words
 
 
