@@ -41,7 +41,8 @@ use Rattle.tsb_text.specs.declared.error.SessionError.{SessionError}
 use Rattle.tsb_text.specs.tsb_plan.Plan.{Plan}
 use Rattle.tsb_text.specs.tsb_plan_text.declared.error.PlanError.{PlanError}
 use Rattle.tsb_words.specs.FieldProgram.{Spells}
-use Rattle.tsb_words.specs.Near.{field_near, has_bad_from}
+use Rattle.tsb_words.specs.Near.{field_near}
+use Rattle.tsb_words.specs.Wrong.{Wrong, field_wrong}
 use Rattle.tsb_words.specs.FieldWords.{Wish, diagram, events, log, recording, reviewing, seen}
 use Rattle.tsb_words.specs.declared.field_files.Asked.{Asked}
 use Rattle.tsb_words.specs.declared.field_files.DiagramAsked.{DiagramAsked}
@@ -238,13 +239,13 @@ DidWish (diagram path title seconds from told_by) status files before after =
     Pictured status (form_of title seconds from) told_by files path before after
 DidWish (reviewing plan) status files before after = ReadsNothing (Reviewed status plan (files plan)) before after
 
--- what was done for what the words ask, where this right word is near a bad one, or `--from` names no moment
-abbrev pub Did : Option (List ℕ) → Bool → Result Asked WordsError → ℕ → (List ℕ → Option (List ℕ)) → (before after : Devices) → Type 0
-Did near bad_from (Ok asked) status files before after = DidWish (seen asked) status files before after
-Did near bad_from (Err fault) status files before after = OnlyTells (TellsWords near (usage_for bad_from) fault status) before after
+-- what was done for what the words ask, where this right word is near a bad one, or this is wrong with them
+abbrev pub Did : Option (List ℕ) → Option Wrong → Result Asked WordsError → ℕ → (List ℕ → Option (List ℕ)) → (before after : Devices) → Type 0
+Did near wrong (Ok asked) status files before after = DidWish (seen asked) status files before after
+Did near wrong (Err fault) status files before after = OnlyTells (TellsWords near (usage_for wrong) fault status) before after
 
 -- the page that words ask for, if any, is written, with nothing read; else what the words ask was done
 abbrev pub Answered : Option (List ℕ) → List (List ℕ) → ℕ → (List ℕ → Option (List ℕ)) → (before after : Devices) → Type 0
 Answered (Some page) words status files before after = ReadsNothing (Wrote status 0 page) before after
 Answered None words status files before after =
-    (answer : Result Asked WordsError) × Spells words answer × Did (field_near words) (has_bad_from words) answer status files before after
+    (answer : Result Asked WordsError) × Spells words answer × Did (field_near words) (field_wrong words) answer status files before after
