@@ -11,7 +11,7 @@ import shutil
 from tools.programs import field_rules, field_words
 from tools.programs.field_rules import HEADER
 from tools.programs.run_program import (
-    ENDLESS, EXAMPLES, FULL, HINT, INPUT, NOT_JSON, TORN, VERSION, WRITE, Run, not_read,
+    ENDLESS, EXAMPLES, FULL, HINT, INPUT, IS_LOG, MARK, NOT_JSON, TORN, VERSION, WRITE, Run, not_read,
 )
 
 USAGE = (
@@ -1021,7 +1021,7 @@ def cycle_runs():
 def plan_faults():
     """Plans that are refused or can't be read, each with the status and the lines that it ends with."""
     yield from ((path, 3, not_read(path)) for path in ["none.json", "folder", TORN])
-    yield "car.log", 1, NOT_JSON + b"plan line 1, column 2: expected nothing more\n"
+    yield "car.log", 1, NOT_JSON + IS_LOG
     yield ENDLESS, 1, b"plan: too large\n"
     yield "two_short_yellow.json", 1, b"plan: rule K8\n"
 

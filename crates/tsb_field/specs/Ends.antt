@@ -8,13 +8,13 @@ use Rattle.tsb_program.specs.Read.{HasLog, HasPlan, RefusesLog, RefusesPlanAt}
 use Rattle.tsb_program.specs.Failures.{Fails}
 use Rattle.tsb_program.specs.Lines.{Wrote}
 use Rattle.tsb_program.specs.Told.{FailsToReadFile, RefusesAt, RefusesLogText, TellsInputEnd}
-use Rattle.tsb_program.specs.tsb_plan_notes.declared.place.JsonPlace.{JsonPlace}
+use Rattle.tsb_program.specs.declared.clue.PlanClue.{PlanClue}
 use Rattle.tsb_program.specs.declared.failure.Failure.{Failure}
 use Rattle.tsb_program.specs.declared.failure.Failure.TheVariants.{Memory, Input, Write}
 use Rattle.tsb_program.specs.tsb_lines.Seen.{Seen}
 use Rattle.tsb_program.specs.declared.read.ReadError.{ReadError}
 use Rattle.tsb_program.specs.declared.read.ReadError.TheVariants as faults
-use Rattle.tsb_log_text.specs.declared.error.LogError.{LogError}
+use Rattle.tsb_program.specs.declared.read.RefusedLog.{RefusedLog}
 use Rattle.tsb_log_text.specs.declared.log.LogRow.{LogRow}
 use Rattle.tsb_event_text.specs.declared.times.Moment.{Moment}
 use Rattle.tsb_field_display.specs.Remaining.{changes_of, last_tick, remaining}
@@ -63,7 +63,7 @@ NamesLog files None rows = rows ≡ []
 NamesLog files (Some path) rows = HasLog (files path) rows
 
 -- the file at this path, where words name one, has no log, for this fault
-abbrev pub NamesNoLog : (List ℕ → Option (List ℕ)) → Option (List ℕ) → LogError → Type 0
+abbrev pub NamesNoLog : (List ℕ → Option (List ℕ)) → Option (List ℕ) → RefusedLog → Type 0
 NamesNoLog files None fault = ⊥
 NamesNoLog files (Some path) fault = RefusesLog (files path) fault
 
@@ -75,10 +75,10 @@ FailsNamed (Some path) status told tells = FailsToReadFile path status told tell
 -- there is no log: with 1 because the one named is refused, or because its file or memory failed
 abbrev pub Stops : (List ℕ → Option (List ℕ)) → Option (List ℕ) → ℕ → Seen → Seen → Type 0
 Stops files path status told tells =
-    ((fault : LogError) × NamesNoLog files path fault × RefusesLogText fault status told tells) ⊎ FailsNamed path status told tells
+    ((fault : RefusedLog) × NamesNoLog files path fault × RefusesLogText fault status told tells) ⊎ FailsNamed path status told tells
 
 -- what came of reading the log that words name
-abbrev pub LogNamed : Result (List LogRow) (ReadError LogError) → (List ℕ → Option (List ℕ)) → Option (List ℕ) → Type 0
+abbrev pub LogNamed : Result (List LogRow) (ReadError RefusedLog) → (List ℕ → Option (List ℕ)) → Option (List ℕ) → Type 0
 LogNamed (Ok rows) files path = NamesLog files path rows
 LogNamed (Err (faults.Refused fault)) files path = NamesNoLog files path fault
 LogNamed (Err (faults.Failed why)) files path = IsSome path
@@ -133,12 +133,12 @@ ToldOn status from device rows before after = Drawn (IsEvents from device) statu
 
 -- ## `record`
 
--- there is no run on the files of these names: with 1 because the plan is refused, which is told with the place at which its
--- text stops being JSON, or because there is a plan and the log is refused; or because a file or memory failed
+-- there is no run on the files of these names: with 1 because the plan is refused, which is told with what is said of its
+-- text, or because there is a plan and the log is refused; or because a file or memory failed
 abbrev pub NoRun : (plan rows : List ℕ) → (List ℕ → Option (List ℕ)) → ℕ → Seen → Seen → Type 0
 NoRun plan rows files status told tells =
-    ((fault : PlanError) × (place : Option JsonPlace) × RefusesPlanAt (files plan) fault place × RefusesAt fault place status told tells)
-    ⊎ (((found : Plan) × HasPlan (files plan) found × (fault : LogError) × RefusesLog (files rows) fault × RefusesLogText fault status told tells)
+    ((fault : PlanError) × (clue : Option PlanClue) × RefusesPlanAt (files plan) fault clue × RefusesAt fault clue status told tells)
+    ⊎ (((found : Plan) × HasPlan (files plan) found × (fault : RefusedLog) × RefusesLog (files rows) fault × RefusesLogText fault status told tells)
     ⊎ (FailsToReadFile plan status told tells ⊎ ((found : Plan) × HasPlan (files plan) found × FailsToReadFile rows status told tells)))
 
 -- the events of the inputs that remain are written; or nothing is: memory failed, or with 2 a tick has no time
