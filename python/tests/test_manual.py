@@ -65,6 +65,10 @@ def test_other_faults_say_when_they_come() -> None:
     line = "plan: phaseWalk.2: out of range"
     assert str(PlanFault(line)) == f"{line}: over the greatest value of the object"
     assert PlanFault("plan: not JSON").rule is None
+    swapped = PlanFault(
+        "plan: too large\nplan line 1, column 1: it looks like an input log"
+    )
+    assert swapped.place == "line 1, column 1: it looks like an input log"
     placed = PlanFault("plan: not JSON\nplan line 1, column 2: expected nothing more")
     assert placed.line == "plan: not JSON"
     assert placed.place == "line 1, column 2: expected nothing more"

@@ -134,8 +134,8 @@ def test_what_a_review_says() -> None:
     ]
     said = programs.run("tsb_field", ["review", DEPOT]).stdout.decode().splitlines()
     assert [it for it in said if it.startswith("A43 ")] == [
-        f"A43 phase {it}: its permissive time of 6 s can leave less than the minimum"
-        " green of phase 3 before its force-off in pattern 2"
+        f"A43 phase {it}: its permissive time of 6 s is over the 5 s that leave"
+        " phase 3 its minimum green before its force-off in pattern 2"
         for it in (2, 6)
     ]
     assert [it for it in said if it.startswith("A56 ")] == [

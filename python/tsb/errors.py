@@ -12,6 +12,7 @@ from tsb.manual import REFUSALS, RULES, Refusal, Rule, plan_fault
 
 #: The line of a text that is no plan, behind which a second one has the place.
 NOT_JSON = "plan: not JSON"
+TOO_LARGE = "plan: too large"
 
 
 def shown(text: object, keeps: str = "") -> str:
@@ -115,12 +116,13 @@ class PlanFault(Error):
 
     `line` is that of `tsb check`, as `plan: rule K8`. `rule` is the rule that the
     plan breaks, with its cure, and None where the text is no plan. `place` is where the
-    text stops being JSON, as the programs print it in a second line, and else None.
+    text stops being JSON and why, as the programs print it in a second line, and else
+    None.
     """
 
     def __init__(self, lines: str) -> None:
-        # A name in a line may have a line feed, but this one has no name.
-        is_placed = lines.startswith(f"{NOT_JSON}\n")
+        # A name in a line may have a line feed, but these have no name.
+        is_placed = lines.startswith((f"{NOT_JSON}\n", f"{TOO_LARGE}\n"))
         line, place = lines.split("\n", 1) if is_placed else (shown(lines), "")
         self.line = line
         self.place: str | None = place.removeprefix("plan ") or None

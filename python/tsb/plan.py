@@ -12,7 +12,14 @@ from os import PathLike
 from pathlib import Path
 from typing import TYPE_CHECKING, Any
 
-from tsb.errors import NOT_JSON, NoSuchObject, OutOfRange, PlanFault, shown
+from tsb.errors import (
+    NOT_JSON,
+    TOO_LARGE,
+    NoSuchObject,
+    OutOfRange,
+    PlanFault,
+    shown,
+)
 from tsb.files import up_to
 from tsb.manual import OBJECTS
 from tsb.programs import run
@@ -117,7 +124,7 @@ class Plan:
         """The plan of a JSON text. `PlanFault`, `NoSuchObject` or `OutOfRange` says
         what is wrong with it; rules are not judged here (`check`)."""
         if len(text) > LONGEST:
-            raise PlanFault("plan: too large")
+            raise PlanFault(TOO_LARGE)
         try:
             told = json.loads(text)
         except (ValueError, RecursionError) as fault:

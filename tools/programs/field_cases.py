@@ -8,10 +8,10 @@ import json
 import pathlib
 import shutil
 
-from tools.programs import field_rules
+from tools.programs import field_rules, field_words
 from tools.programs.field_rules import HEADER
 from tools.programs.run_program import (
-    ENDLESS, EXAMPLES, FULL, HINT, INPUT, NOT_JSON, TORN, VERSION, WRITE, Run, not_read,
+    ENDLESS, EXAMPLES, FULL, HINT, INPUT, IS_LOG, MARK, NOT_JSON, TORN, VERSION, WRITE, Run, not_read,
 )
 
 USAGE = (
@@ -23,8 +23,7 @@ USAGE = (
     b"    or tsb_field diagram [--log LOG] [--title TEXT] [--seconds-per-line N] [--from TIME [--events FILE]]\n"
     b"    or tsb_field review PLAN\n"
 )
-NO_TIME = b'--from: a time is YYYY-MM-DD HH:MM:SS, such as "2026-11-22 07:00:00"\n'
-MARK = b"\xef\xbb\xbf"
+A_TIME = b'a time is YYYY-MM-DD HH:MM:SS, such as "2026-11-22 07:00:00"\n'
 
 AT = "2026-11-22 07:00:00"
 FROM = ["--from", AT]
@@ -36,6 +35,40 @@ RECORD = ["record", *FROM, "--device", "1001", "quad.json"]
 # The last moment of tick 6,000,000, and the first one behind it.
 LAST, BEHIND = "2026-11-29 05:39:59.999999999", "2026-11-29 05:40:00"
 MOST_ROWS = 1_720_740
+
+# Words, and what is printed of them: written by hand from docs/use/FIELD.md.
+WRONG = [
+    (["frob"], b'there is no command "frob": log, record, events, diagram or review'),
+    (["-h"], b'there is no command "-h": log, record, events, diagram or review'),
+    ([*LOG, "--title", "x"], b"--title: the command has no such option; --help after it lists all"),
+    ([*LOG, "--zone", "EST"], b'--zone "EST": a zone is an offset such as -07:00, or Z'),
+    ([*LOG, "--zone=-Z"], b'--zone "-Z": a zone is an offset such as -07:00, or Z'),
+    ([*LOG, "--zone", "-Z"], b"--zone has no value (one that begins with a hyphen comes after =): a zone is an offset such as -07:00, or Z"),
+    ([*LOG, "--zone", "-07:00"],
+     b"--zone has no value (one that begins with a hyphen comes after =): a zone is an offset such as -07:00, or Z"),
+    ([*LOG, "--zone=a\tb\"c\u00e9"], b'--zone "a?b?c??": a zone is an offset such as -07:00, or Z'),
+    ([*LOG, "--zone=" + "x" * 41], b'--zone "' + b"x" * 40 + b'": a zone is an offset such as -07:00, or Z'),
+    ([*LOG, "--time-form", "month"], b'--time-form "month": a form is year-first, month-first, day-first, seconds or milliseconds'),
+    ([*LOG, "--time-form", "year-frist"], b'--time-form "year-frist": did you mean year-first?'),
+    ([*LOG, "--time-form=second"], b'--time-form "second": did you mean seconds?'),
+    ([*LOG, "--sort-within", "3601"], b'--sort-within "3601": a number of seconds is 1 to 3600'),
+    ([*LOG, "--count=5"], b'--count "5": it takes no value'),
+    ([*LOG, "--count", "--count"], b"--count comes twice"),
+    ([*LOG, "--vehicle", "5=17"], b'--vehicle "5=17": CHANNEL=DETECTOR, with a detector from 1 to 16'),
+    ([*LOG, "--pedestrian", "5"], b'--pedestrian "5": CHANNEL=DETECTOR, with a detector from 1 to 8'),
+    ([*LOG, "--preempt", "1=5"], b'--preempt "1=5": CHANNEL=INPUT, with an input from 1 to 4'),
+    ([*LOG, "--as-outputs"], b"--as-outputs has no value (one that begins with a hyphen comes after =): a name or a text has to follow"),
+    (["log", "--from", "2026-11-22 07:00"], b'--from "2026-11-22 07:00": ' + A_TIME[:-1]),
+    (["log"], b"--from has to be given: " + A_TIME[:-1]),
+    (["diagram", "--events", "car.log"], b"--from has to be given: " + A_TIME[:-1]),
+    (["events", *FROM], b"--device has to be given: a device has no double quote, no end of a line and at most 900 bytes"),
+    (["events", *FROM, "--device", 'a"b'], b'--device "a?b": a device has no double quote, no end of a line and at most 900 bytes'),
+    (["diagram", "--seconds-per-line", "0"], b'--seconds-per-line "0": a number of seconds is 1 to 86400'),
+    ([*LOG, "export.csv"], b"log names no file: it reads an event log from standard input"),
+    (RECORD, b"record names two files, PLAN and LOG"),
+    ([*EVENTS, "car.log"], b"this command names files by options alone: it reads what `tsb run` answers from standard input"),
+    (["review"], b"review names one file, PLAN"),
+]
 
 # What is printed of what was left out.
 LEFT = b"left out: %d rows of other devices, %d events of channels without an input, %d lines that are no rows\n"
@@ -49,6 +82,11 @@ MONTH_FIRST, DAY_FIRST, OF_SECONDS, OF_MILLISECONDS = (
 # What is printed of a line that ends before the field of a column, and of one of more than 1,000 bytes.
 ENDS, LONG = b"%b: the line ends before it", b"over 1000 bytes (is it a text with lines?)"
 GIB = 1 << 30
+
+
+def bad(words, commands=b"", **places):
+    """A run of bad words, with what is printed of them."""
+    return Run(words, 2, b"", field_words.line(words) or USAGE, commands, **places)
 
 
 def told(*events, end=b"\n"):
@@ -461,7 +499,7 @@ def sort_runs():
     yield logged((EXPORT_FOLDER / "a23_unsorted.csv").read_bytes(), ticked(BOTH), "--sort-within=1")
     for words in [["--sort=1"], ["--sort", "--sort"], ["--sort-within"], ["--sort-within=0"], ["--sort-within=3601"], ["--sort-within=1.5"],
                   ["--sort-within="], ["--sort-within=1", "--sort-within=1"], ["--sort-within=60s"], ["--sorted"]]:
-        yield Run([*LOG, *words], 2, b"", USAGE, CAR)
+        yield bad([*LOG, *words], CAR)
 
 
 # Delays and extensions of a plan, in tenths of a second, and what is printed of each detector.
@@ -502,7 +540,7 @@ def outputs_runs():
         yield Run([*LOG, "--as-outputs", path], status, b"", line, stdin=TORN)
         yield Run([*LOG, "--as-outputs", path], status, b"", line, CAR, stdout=FULL)
     for words in [["--as-outputs"], ["--as-outputs=quad.json", *twice], ["--as-outputs", "quad.json", "twice.json"]]:
-        yield Run([*LOG, *words], 2, b"", USAGE, CAR)
+        yield bad([*LOG, *words], CAR)
 
 
 def line_faults():
@@ -774,14 +812,18 @@ def word_runs():
         ["diagram", "--title", "a", "--title", "b"], [b"\xff"], [*LOG, "--device", b"\xff"],
         ["diagram", "--title", b"\xc3"],
     ]:
-        yield Run(words, 2, b"", USAGE, CAR)
+        yield bad(words, CAR)
     for words in [
         ["log", "--from", "07:00"], ["log", "--from", "2026-11-22"], ["log", "--from", "2026-11-22 07:00:00Z"],
         ["log", "--from", "2026-02-29 07:00:00"], ["log", "--from", ""], ["log", "--from=2026-11-22 07:00"],
         ["record", "--device", "7", "--from=x", "quad.json", "car.log"], ["events", "--from=x", "--", "--from"],
         ["diagram", *FROM, "--from", "07:00"], ["what", "--from", "x"], ["log", "--from", "--from"],
     ]:
-        yield Run(words, 2, b"", NO_TIME, CAR)
+        yield bad(words, CAR)
+    for words, said in WRONG:
+        yield Run(words, 2, b"", said + b"\n", CAR)
+    for words in [[], ["log", *FROM, "--help"], ["review", "--help", "tee.json"], [b"\xff"], [*LOG, "--device", b"\xff"]]:
+        yield Run(words, 2, b"", USAGE, CAR)
     for words, right in [
         (["Log", *FROM], b"log"), (["lgo"], b"log"), (["dagram"], b"diagram"), (["--hlep"], b"--help"),
         (["reviews", "quad.json"], b"review"), ([*LOG, "--devise", "7"], b"--device"), ([*LOG, "--zones=Z"], b"--zone"),
@@ -904,13 +946,13 @@ def form_of_record_runs():
         yield Run(asked, 0, record(*sorted(first), *ASKED), b"", SWITCHES)
         yield Run([*asked, "--go-on"], 0, record(*sorted(first)), b"command 1: x: bad command\n", b"x\nstep 1\n")
         for option in options:
-            yield Run([*asked, option], 2, b"", USAGE, b"step 1\n")
-            yield Run([*asked[:1], option, *RECORD[1:], "asked.log", f"{option}=1"], 2, b"", USAGE, b"step 1\n")
+            yield bad([*asked, option], b"step 1\n")
+            yield bad([*asked[:1], option, *RECORD[1:], "asked.log", f"{option}=1"], b"step 1\n")
     turned = ["record", "--outputs", "delayed.json", *FROM, "--recalls", "forms.log", "--device=1001"]
     yield Run(turned, 0, record(*sorted([*FIRST, *SERVED])), b"", b"step 1\n")
     for words in [[*LOG, "--recalls"], [*LOG, "--outputs"], [*EVENTS, "--recalls"], [*EVENTS, "--outputs"],
                   [*RECORD, "empty.log", "--as-outputs"]]:
-        yield Run(words, 2, b"", USAGE, b"step 1\n")
+        yield bad(words, b"step 1\n")
 
 
 # In coming_into_step.json phases 2 and 6 are coordinated. Pattern 1 has a cycle of 80 s, and they yield at 750; pattern 2
@@ -979,7 +1021,7 @@ def cycle_runs():
 def plan_faults():
     """Plans that are refused or can't be read, each with the status and the lines that it ends with."""
     yield from ((path, 3, not_read(path)) for path in ["none.json", "folder", TORN])
-    yield "car.log", 1, NOT_JSON + b"plan line 1, column 2: expected nothing more\n"
+    yield "car.log", 1, NOT_JSON + IS_LOG
     yield ENDLESS, 1, b"plan: too large\n"
     yield "two_short_yellow.json", 1, b"plan: rule K8\n"
 
@@ -991,7 +1033,7 @@ def record_faults():
         yield Run([*plan, path, "none.log"], status, b"", line, b"step 1\n")
     for path, status, line in log_faults():
         yield Run([*RECORD, path], status, b"", line, b"x\n")
-        yield Run([*RECORD, path, "more"], 2, b"", USAGE, stdin=TORN, stdout=FULL)
+        yield bad([*RECORD, path, "more"], stdin=TORN, stdout=FULL)
     for words in [
         [*RECORD], [*RECORD, "empty.log", "more"], ["record", "quad.json", "empty.log"],
         [*RECORD, "--log", "empty.log"], ["record", *FROM, "quad.json", "empty.log"],
@@ -999,7 +1041,7 @@ def record_faults():
         ["record", "--device", "7", "quad.json", "empty.log"], [*RECORD, *FROM, "empty.log"],
         [*RECORD, "empty.log", "--go-on=1"], [*RECORD, "--go-on", "empty.log", "--go-on"], [*RECORD, "empty.log", "--strict"],
     ]:
-        yield Run(words, 2, b"", USAGE, b"step 1\n")
+        yield bad(words, b"step 1\n")
     words = [*RECORD, "empty.log"]
     yield Run(words, 3, b"", INPUT, stdin=TORN)
     yield Run(words, 3, b"", WRITE, b"step 1\n", stdout=FULL)
@@ -1066,8 +1108,8 @@ def stream_runs():
         for path, status, line in log_faults():
             yield Run([*words, "--log", path], status, b"", line, ALL_LINES)
             yield Run([*words, "--log", path], status, b"", line, stdin=TORN, stdout=FULL)
-            yield Run([*words, "--log", path, "more"], 2, b"", USAGE, stdin=TORN, stdout=FULL)
-    yield Run(["log", "--from", "x", "--device", "8"], 2, b"", NO_TIME, b"x\n")
+            yield bad([*words, "--log", path, "more"], stdin=TORN, stdout=FULL)
+    yield Run(["log", "--from", "x", "--device", "8"], 2, b"", b'--from "x": ' + A_TIME, b"x\n")
 
 
 def fill(folder):

@@ -179,8 +179,16 @@ def behind_ends(text: bytes, at: int, closing: list[bytes]) -> tuple[int, bool]:
     return at, True
 
 
+# How an input log begins: by a comment, or by a tick of seven digits and a space.
+INPUT_LOG = re.compile(rb"#|\d.{6} ", re.DOTALL)
+
+
 def second_line(text: bytes) -> bytes | None:
-    """The line that says where a text stops, if it does."""
+    """The line that says where a text that is no JSON stops, or what it looks like, if it does stop."""
+    if text.startswith(b"\xef\xbb\xbf"):
+        return b"plan line 1, column 1: a byte order mark: save the text without it\n"
+    if INPUT_LOG.match(text):
+        return b"plan line 1, column 1: it looks like an input log\n"
     try:
         go_through(text)
     except Stopped as stopped:
@@ -217,7 +225,7 @@ def worked() -> list[bytes]:
     """Texts that were chosen by hand."""
     deep = [b"[" * count + b"]" * count for count in (DEPTH, DEPTH + 1)]
     return [b"", b" ", b"{", b"{}x", b"[1,]", b'{"a":1,}', b'{"a" 1}', b"{'a':1}", b'{"a":01}', b'{"a":1.}', b'{"a":-}', b'{"a":1e}',
-            b'{"a":1e+}', b'["\\x"]', b'["\\u12', b'["\n"]', b"[tru]", b"[nulll]", b"// a\n{}", b"\xef\xbb\xbf{}", b'["\xed\xa0\x80"]',
+            b'{"a":1e+}', b'["\\x"]', b'["\\u12', b'["\n"]', b"[tru]", b"[nulll]", b"// a\n{}", b"\xef\xbb\xbf{}", b"\xef\xbb{}", b"# a\n{}", b"0000001 1", b"12345678 1", b"0.00000 x", b'["\xed\xa0\x80"]',
             b'["\xf4\x90\x80\x80"]', b'["\xc0\x80"]', b'{"a":[1\r\n 2]}', b"1e999", b'["\\ud800"]', *deep]
 
 

@@ -2,8 +2,10 @@
 import json
 import pathlib
 import random
+import re
 from typing import Any
 
+from tools.pages.manual_table import COMMANDS
 from tools.programs.live_from_log import ALL_OFF
 from tools.programs.live_kit import a_log, a_row, commands_of, difference, ran, ran_on
 
@@ -168,3 +170,22 @@ def first_status(live: pathlib.Path) -> list[str]:
     ended = ran([live, EXAMPLES / "two.json"], ALL_OFF + b"\nstatus\nstep 6\nstatus\nundo\nstatus\n")
     found = [json.loads(line)["tick"] for line in ended[1].splitlines() if line.startswith(b"{")]
     return [] if found == [1, 7, 6] else [f"status: its ticks are {found}"]
+
+
+# --- help ---
+
+# What each of its lines begins with: a row, the commands of docs/use/MANUAL.md, chapter 6, and those of docs/use/LIVE.md.
+HELPED = ["ROW", "step", "changes", "back", "seek", "undo", "show", "status", "plan", "edits", "when", "when", "begin", "set", "verify",
+          "commit", "abort", "pattern", "preempt", "fault", "reset", "events", "echo", "save", "help", "quit"]
+
+
+def helped(live: pathlib.Path) -> list[str]:
+    """`help`: a line for each command, behind its echo, as no display line; nothing has changed then."""
+    ended = ran([live, "--strict", EXAMPLES / "two.json"], b"step 3\necho on\nhelp\nshow\nhelp me\n")
+    first, ok, asked, *lines, last, bad, answer = ended[1].decode().splitlines()[2:]
+    names = [line.split(" ")[0] for line in lines]
+    told = [line for line in lines if not re.fullmatch(r"[A-Za-z][A-Za-z0-9 ]{25}\S.*", line)]
+    right = (ok, asked, last, bad, answer) == ("ok", "> help", first, "> help me", "bad command")
+    if (ended[0], names, told) == (4, HELPED, []) and right and set(COMMANDS) < set(names):
+        return []
+    return [f"help: {ended}"]

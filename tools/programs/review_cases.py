@@ -230,16 +230,16 @@ CASES = [
          ["phase 7: its maximum of 14 s is under the 15 s of green that its split leaves in pattern 1"], {"coordMaximumMode.1": 1}),
     # The instant of phases 3 and 7 is 15 s after the end of the coordinated splits, and their minimum green 5 s.
     Case(43, {"patternPermissiveTime.1": 11},
-         [f"phase {p}: its permissive time of 11 s can leave less than the minimum green of phase 3 before its force-off in pattern 1"
+         [f"phase {p}: its permissive time of 11 s is over the 10 s that leave phase 3 its minimum green before its force-off in pattern 1"
           for p in (2, 6)], {"patternPermissiveTime.1": 10}),
     Case(43, {"patternPermissiveTime.1": 10, "phaseMinimumGreen.7": 6, "coordForceMode.1": 2},
-         [f"phase {p}: its permissive time of 10 s can leave less than the minimum green of phase 7 before its force-off in pattern 1"
+         [f"phase {p}: its permissive time of 10 s is over the 9 s that leave phase 7 its minimum green before its force-off in pattern 1"
           for p in (2, 6)], {"splitMode.7": 5}),
     Case(43, {"patternPermissiveTime.1": 11, **FOURTH, "patternPermissiveTime.4": 11},
-         [f"phase {p}: its permissive time of 11 s can leave less than the minimum green of phase 3 before its force-off in pattern 1, 4"
+         [f"phase {p}: its permissive time of 11 s is over the 10 s that leave phase 3 its minimum green before its force-off in pattern 1, 4"
           for p in (2, 6)], {"patternPermissiveTime.1": 10, "patternPermissiveTime.4": 10}),
     Case(43, {"patternPermissiveTime.1": 11, **FOURTH, "patternPermissiveTime.4": 12},
-         [f"phase {p}: its permissive time of {time} s can leave less than the minimum green of phase 3 before its force-off in pattern {n}"
+         [f"phase {p}: its permissive time of {time} s is over the 10 s that leave phase 3 its minimum green before its force-off in pattern {n}"
           for n, time in ((1, 11), (4, 12)) for p in (2, 6)], {"patternPermissiveTime.1": 10, "patternPermissiveTime.4": 10}),
     # Phase 5 behind phase 6 takes the end of its split to another time than that of phase 2.
     Case(44, {"patternLeadLag.1": 1},

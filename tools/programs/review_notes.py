@@ -16,7 +16,7 @@ Pairs = list[tuple[str, Any]]
 
 MANUAL = json.loads((TOP / "python/tsb/manual.json").read_text())
 OBJECTS: dict[str, dict[str, Any]] = MANUAL["objects"]
-UNITS = ["seconds", "tenths of a second", "minutes"]
+UNITS = {**{it: it for it in ("seconds", "tenths of a second", "minutes")}, "list of phases": "list of phases, a sum of 2^(phase-1)"}
 MOST = 2**32 - 1
 # How many letters the right name and another may have in the one place where they differ, the nearest first.
 DIFFERENCES = [(1, 0), (0, 1), (1, 1), (2, 2), (2, 1), (1, 2), *(it for count in range(2, 8) for it in ((count, 0), (0, count)))]
@@ -55,9 +55,19 @@ def shown(value: Any) -> str:
 
 
 def unit_of(name: str) -> str | None:
-    """The unit of an object's values, where they are times."""
-    unit = OBJECTS[name]["unit"].split(", ")[0]
-    return unit if unit in UNITS else None
+    """The unit of an object's values, where they are times, and what a list of phases is."""
+    return UNITS.get(OBJECTS[name]["unit"].split(", ")[0])
+
+
+def why_not(value: Any) -> str:
+    """Why a value is no whole number as plans have it."""
+    if not isinstance(value, Number):
+        return "is no whole number"
+    if value.startswith("-"):
+        return "is negative"
+    if "e" in value.lower():
+        return "has an exponent"
+    return "is no whole number" if "." in value else "is too large"
 
 
 def is_whole(value: Any) -> bool:
@@ -106,7 +116,7 @@ def of_table(name: str, entries: Pairs) -> Iterator[str]:
         yield from again(f"{name}.{index}", at, entries)
         unit, most = unit_of(name), OBJECTS[name]["greatest"]
         if not is_whole(value):
-            yield f"{name}.{index}: {shown(value)} is no whole number" + (f": {unit}{meant(name, value)}" if unit else "")
+            yield f"{name}.{index}: {shown(value)} {why_not(value)}" + (f": {unit}{meant(name, value)}" if unit else "")
         elif int(value) > most:
             yield f"{name}.{index}: {shown(value)} is out of range, 0 to {most}" + (f": {unit}" if unit else "")
 

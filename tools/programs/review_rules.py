@@ -173,11 +173,12 @@ class Plan:
             return None
         return next((q for q, instant in self.waiting(pattern, phase) if instant <= late), None)
 
-    def short(self, pattern: int, phase: int) -> int | None:
+    def short(self, pattern: int, phase: int) -> tuple[int, int] | None:
         """The first phase that begins with less than its minimum green left, where a phase yields at the end of its
-        permissive time."""
+        permissive time; with the longest permissive time that leaves it so much, in tenths of a second."""
         time = self.permissive(pattern)
-        return next((q for q, instant in self.waiting(pattern, phase) if instant - time < 10 * self.phase("MinimumGreen", q)), None)
+        left = ((q, instant - 10 * self.phase("MinimumGreen", q)) for q, instant in self.waiting(pattern, phase))
+        return next(((q, max(most, 0)) for q, most in left if most < time), None)
 
     # Of a preempt and an overlap
 
@@ -348,7 +349,7 @@ def actuation(plan: Plan) -> Iterator[tuple[int, str]]:
 
 def coordination(plan: Plan) -> Iterator[tuple[int, str]]:
     """Advices A27 to A29, A42, A43, A45 and A46."""
-    shorts: dict[tuple[int, int, int], list[int]] = collections.defaultdict(list)
+    shorts: dict[tuple[int, int, int, int], list[int]] = collections.defaultdict(list)
     for n in plan.patterns:
         for p in plan.enabled:
             omitted = plan.mode(n, p) == OMITTED
@@ -368,14 +369,14 @@ def coordination(plan: Plan) -> Iterator[tuple[int, str]]:
                            f"that its split leaves in pattern {n}")
             short = plan.short(n, p) if plan.coordinated(n, p) and plan.permissive(n) else None
             if short:
-                shorts[p, plan.permissive(n), short].append(n)
+                shorts[p, plan.permissive(n), *short].append(n)
             called = plan.phase("PedRecall", p) or plan.mode(n, p) in (WALK, BOTH)
             if plan.walks(p) and plan.recycles(p) and plan.coordinated(n, p) and called:
                 yield 46, (f"phase {p}: its walk begins again after each clearance in pattern {n}, "
                            "since it has pedestrian recall and pedestrian recycle")
-    for (p, time, short), alike in shorts.items():
-        yield 43, (f"phase {p}: its permissive time of {seconds(time)} s can leave less than the minimum green "
-                   f"of phase {short} before its force-off in pattern {listed(alike)}")
+    for (p, time, q, most), alike in shorts.items():
+        yield 43, (f"phase {p}: its permissive time of {seconds(time)} s is over the {seconds(most)} s that leave "
+                   f"phase {q} its minimum green before its force-off in pattern {listed(alike)}")
     for p in plan.enabled:
         if plan.recycles(p) and not (plan.walks(p) and any(plan.coordinated(n, p) for n in plan.patterns)):
             yield 45, (f"phase {p}: its pedestrian recycle has no effect, "

@@ -4,8 +4,8 @@ tools/programs/run_field.py runs them with those of tools/programs/field_cases.p
 """
 from collections.abc import Iterator
 
-from tools.programs.field_cases import USAGE
-from tools.programs.run_program import ENDLESS, FULL, NOT_JSON, RULE, TORN, WRITE, Run, not_read
+from tools.programs.field_cases import bad
+from tools.programs.run_program import EMPTY, ENDLESS, FULL, IS_LOG, NOT_JSON, RULE, TORN, WRITE, Run, not_read
 
 NO_REVERT = b"A16 unit: red reverts are under 2 s, that of phase %d is 0 s\n"
 APART = b"A39 overlap 1: it includes phases 1 and 8 of two rings that are not concurrent, so it turns yellow between them\n"
@@ -29,8 +29,8 @@ def runs() -> Iterator[Run]:
         yield Run(["review", name], 3, b"", WRITE, stdout=FULL)
         yield Run(["review", name], 3, b"", b"", stdout=FULL, stderr=FULL)
     for name, line in [
-        ("two_short_yellow.json", RULE + SHORT_YELLOW), ("car.log", NOT_JSON + b"plan line 1, column 2: expected nothing more\n"), (ENDLESS, b"plan: too large\n"),
-        ("/dev/null", NOT_JSON + b"plan line 1, column 1, where the text ends: expected a value\n"),
+        ("two_short_yellow.json", RULE + SHORT_YELLOW), ("car.log", NOT_JSON + IS_LOG), (ENDLESS, b"plan: too large\n"),
+        ("/dev/null", NOT_JSON + EMPTY),
         ("main_and_oak_1.json", b"plan: rule K1\nK1 unit: no phase is enabled\n"),
     ]:
         yield Run(["review", name], 1, line, b"", stdin=TORN)
@@ -38,4 +38,4 @@ def runs() -> Iterator[Run]:
     for name in ["none.json", "folder", TORN]:
         yield Run(["review", name], 3, b"", not_read(name), stdout="/dev/null")
     for words in ["", "tee.json empty.log", "--log=empty.log tee.json", "tee.json --help", "tee.json --count"]:
-        yield Run(["review", *words.split()], 2, b"", USAGE, stdout="/dev/null")
+        yield bad(["review", *words.split()], stdout="/dev/null")

@@ -32,7 +32,13 @@ READ, WRITE = b"read fault\n", b"write fault\n"
 INPUT = READ + b"standard input\n"
 CAUSES = {"folder": b": a folder"} | dict.fromkeys(["", "help", "none.json", "none.log"], b": no such file")
 OK, RULE, NOT_JSON = b"plan ok\n", b"plan: rule K8\n", b"plan: not JSON\n"
-LONGEST_PLAN, LONGEST_COMMANDS = 1 << 20, 16 << 20
+# Second lines of texts that are refused.
+EMPTY = b"plan line 1, column 1, where the text ends: expected a value\n"
+IS_LOG, IS_PLAN = b"plan line 1, column 1: it looks like an input log\n", b"log line 1: it looks like a plan\n"
+A_MARK = b"a byte order mark: save the text without it\n"
+MARK = b"\xef\xbb\xbf"
+ROW = b"0000010 0100000000000000 00000000 0000\n"
+LONGEST_PLAN, LONGEST_COMMANDS, LONGEST_LOG = 1 << 20, 16 << 20, 64 << 20
 MEMORY = b"memory\n"
 
 # What reading a plan may take of memory, in MiB, and texts that make large trees: the first is read, the others aren't.
@@ -161,7 +167,16 @@ def file_runs():
         yield Run(["check", path], 1, b"plan: too large\n")
         yield Run(["run", path, "empty.log"], 1, b"", b"plan: too large\n")
     yield Run(["run", "two.json", ENDLESS], 1, b"", b"log: too large\n", b"step 1\n")
-    yield Run(["run", "two.json", "two.json"], 1, b"", b"log line 1: malformed\n", b"step 1\n")
+    # Each refused text has a second line, where there is something to say of it.
+    yield Run(["run", "two.json", "two.json"], 1, b"", b"log line 1: malformed\n" + IS_PLAN, b"step 1\n")
+    yield Run(["run", "two.json", "too_long.log"], 1, b"", b"log: too large\n" + IS_PLAN, b"step 1\n")
+    yield Run(["run", "two.json", "marked.log"], 1, b"", b"log line 1: malformed\nlog line 1: " + A_MARK, b"step 1\n")
+    yield Run(["run", "marked.json", "none.log"], 1, b"", NOT_JSON + b"plan line 1, column 1: " + A_MARK, b"step 1\n")
+    yield Run(["run", "same_tick.log", "two.json"], 1, b"", NOT_JSON + IS_LOG, b"step 1\n")
+    yield Run(["run", "long.log", "two.json"], 1, b"", b"plan: too large\n" + IS_LOG, b"step 1\n")
+    yield Run(["run", "blank.json", "none.log"], 1, b"", NOT_JSON + EMPTY, b"step 1\n")
+    for path in ["marked.json", "same_tick.log", "blank.json"]:
+        yield Run(["check", path], 1, NOT_JSON)
     for path in ["many_versions.json", "many_indices.json"]:
         yield Run(["check", path], 0, OK)
     yield Run(["check", "many_members.json"], 1, b"plan: a: no such object\n")
@@ -234,8 +249,10 @@ def live_runs():
     long = "n" * 180 + ".json"
     yield Run([long + "/" + long], 3, b"", READ + b'file "' + f"{long}/{long}"[:200].encode() + b'": no such file\n', commands)
     yield Run(['"two".json'], 3, b"", READ + b'file "?two?.json": no such file\n', commands)
-    yield Run(["blank.json"], 1, b"", NOT_JSON + b"plan line 1, column 1, where the text ends: expected a value\n", commands)
-    yield Run(["same_tick.log"], 1, b"", NOT_JSON + b"plan line 1, column 2: expected nothing more\n", commands)
+    yield Run(["blank.json"], 1, b"", NOT_JSON + EMPTY, commands)
+    yield Run(["same_tick.log"], 1, b"", NOT_JSON + IS_LOG, commands)
+    yield Run(["long.log"], 1, b"", b"plan: too large\n" + IS_LOG, commands)
+    yield Run(["marked.json"], 1, b"", NOT_JSON + b"plan line 1, column 1: " + A_MARK, commands)
     yield Run(["longest.json"], 0, session, b"", commands)
     yield Run(["two.json"], 0)
     yield Run(["two.json"], 0, session, b"", commands[:-1])
@@ -341,6 +358,10 @@ def fill(folder):
         (folder / name).write_bytes(plan)
     (folder / "longest.json").write_bytes(plan.ljust(LONGEST_PLAN))
     (folder / "too_long.json").write_bytes(plan.ljust(LONGEST_PLAN + 1))
+    (folder / "too_long.log").write_bytes(plan.ljust(LONGEST_LOG + 1))
+    (folder / "long.log").write_bytes(ROW.ljust(LONGEST_PLAN + 1, b"\n"))
+    (folder / "marked.json").write_bytes(MARK + plan)
+    (folder / "marked.log").write_bytes(MARK + ROW)
     for name in ["two.json ", " two.json"]:
         shutil.copy(folder / "two_short_yellow.json", folder / name)
     long_texts(folder)

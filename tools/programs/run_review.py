@@ -34,7 +34,9 @@ NOTED = re.compile(r"^```\n(\"phase.*)\n```\n\n.* `(plan: [^`]+)`.*\n\n```notes\
 REVIEWED_PLANS = ["first_plan.json", "main_and_oak.json", "tee.json"]
 # What notes on a text say.
 KINDS = ["it stands twice", "is no whole number: seconds", "is no whole number: tenths of a second, ", "is no whole number: minutes",
-         "is out of range", "no such index", "no such object, did you mean"]
+         "is negative", "has an exponent", "is too large", ": list of phases, ", "is out of range", "no such index",
+         "no such object, did you mean"]
+WRONG = "is no whole number|is negative|has an exponent|is too large"
 # What a review ends with.
 REVIEWED, REFUSED = 0, 1
 # What `tsb check` says of a plan that breaks a rule begins so.
@@ -223,7 +225,7 @@ def note_faults(programs: Programs, texts: int, seed: int) -> list[str]:
         if answer != (status, "".join(f"{it}\n" for it in lines), ""):
             faults.append(f"{text}: {answer}, by the reading {lines}")
         where = re.fullmatch(r"plan: (.*): not a whole number\n", line)
-        if where and not any(re.match(rf"{re.escape(where[1])}: .* is no whole number", it) for it in told):
+        if where and not any(re.match(rf"{re.escape(where[1])}: .* (?:{WRONG})", it) for it in told):
             faults.append(f"{text}: nothing is told of {where[1]}")
         where = re.fullmatch(r"plan: (.*): (?:no such object|out of range)\n", line, re.S)
         if where and not any(it.startswith(f"{where[1]}: ") for it in told):

@@ -10,7 +10,6 @@ use Rattle.tsb_text.specs.tsb_objects.declared.checked.Checked.{Checked}
 use Rattle.tsb_text.specs.tsb_plan.Plan.{Plan}
 use Rattle.tsb_text.specs.tsb_plan.Two.{two}
 use Rattle.tsb_text.specs.tsb_plan_text.declared.error.PlanError.{PlanError}
-use Rattle.tsb_program.specs.tsb_log_text.declared.error.LogError.{LogError}
 use Rattle.tsb_text.specs.declared.error.SessionError.{SessionError}
 use Rattle.tsb_text.specs.Answers.{Setup}
 use Rattle.tsb_text.specs.Blame.{Blames}
@@ -20,12 +19,14 @@ use Rattle.tsb_program.specs.Runs.{TellsWords}
 use Rattle.tsb.specs.Lines.{usage}
 use Rattle.tsb_program.specs.Devices.{Devices, OnlyTells, ReadsNothing}
 use Rattle.tsb_program.specs.Lines.{TellsEnd, Wrote, log_line, plan_line}
-use Rattle.tsb_program.specs.Told.{FailsFile, FailsToReadFile}
+use Rattle.tsb_program.specs.Told.{FailsFile, FailsToReadFile, RefusesAt}
 use Rattle.tsb_program.specs.Failures.{Fails}
 use Rattle.tsb_program.specs.declared.failure.Failure.TheVariants.{Memory}
 use Rattle.tsb_program.specs.declared.read.ReadError.{ReadError}
 use Rattle.tsb_program.specs.declared.read.ReadError.TheVariants as faults
-use Rattle.tsb_program.specs.Read.{HasLog, HasPlan, RefusesLog, RefusesPlan}
+use Rattle.tsb_program.specs.Read.{HasLog, HasPlan, RefusesLog, RefusesPlan, RefusesPlanAt}
+use Rattle.tsb_program.specs.declared.clue.PlanClue.{PlanClue}
+use Rattle.tsb_program.specs.declared.read.RefusedLog.{RefusedLog}
 
 -- what is found of the plan in a file: with 0 that its text gives one, with 1 the fault that it has
 abbrev pub Finds : Option (List ℕ) → ℕ → List ℕ → Type 0
@@ -65,11 +66,12 @@ Talked status given before after =
     × Blames result after.input.failed after.output.failed after.output.flushed × EndsSo result status before.errors after.errors
 
 -- there is no session on the files of these names: with 1 because the plan is refused, or because there is a plan and the
--- log is refused, each told by its own line; or because a file, which is named, or memory failed
+-- log is refused, each with its own line and what there is to say of its text; or because a file, which is named, or memory
+-- failed
 abbrev pub Stops : ℕ → (plan log : List ℕ) → (List ℕ → Option (List ℕ)) → Seen → Seen → Type 0
 Stops status plan log files told tells =
-    ((status ≡ 1) × (fault : PlanError) × RefusesPlan (files plan) fault × Tells told tells (plan_line fault))
-    ⊎ (((status ≡ 1) × (found : Plan) × HasPlan (files plan) found × (fault : LogError) × RefusesLog (files log) fault × Tells told tells (log_line fault))
+    ((fault : PlanError) × (clue : Option PlanClue) × RefusesPlanAt (files plan) fault clue × RefusesAt fault clue status told tells)
+    ⊎ (((status ≡ 1) × (found : Plan) × HasPlan (files plan) found × (fault : RefusedLog) × RefusesLog (files log) fault × Tells told tells (log_line fault))
     ⊎ (FailsToReadFile plan status told tells ⊎ ((found : Plan) × HasPlan (files plan) found × FailsToReadFile log status told tells)))
 
 -- how `run` ended on the files of a plan and a log, of these names: after a session, or with nothing read and nothing

@@ -11,7 +11,9 @@ ghost use Rattle.tsb.specs.Ends.{Checks, Ran, RanBuiltIn, Reported, Did, Talked}
 use std::alloc::Global;
 use std::convert::AsStr;
 use std::io::{Read, Write};
-use tsb_program::{ExitStatus, Failure, Files, ReadError, Streams, line_of, log_of, plan_of};
+use tsb_program::{
+    ExitStatus, Failure, Files, ReadError, Streams, line_of, log_of, plan_of, plan_or_place,
+};
 use tsb_text::{Checked, Log, Plan, PlanError, session};
 use tsb_words::bench::{Asked, read_words};
 
@@ -22,7 +24,8 @@ pub const USAGE: &[u8] = b"usage: tsb check PLAN or tsb run PLAN LOG\n";
 /// with: 0 where all was done, 1 for a refused plan or log, 2 for bad words, 3 where a read, a write or memory failed.
 ///
 /// What `check` finds in a plan goes to the output, and so do the answers of a session. The fault that ends `run` goes to
-/// the errors, and so do bad words and failures. A second line names a file that was not read.
+/// the errors, and so do bad words and failures. A second line names a file that was not read, or what is said of a text
+/// that is refused.
 pub fn run_words<S: AsStr, F: Files, R: Read, W: Write, E: Write>(
     alloc: Global,
     words: &[S],
@@ -86,9 +89,9 @@ fn run<F: Files, R: Read, W: Write, E: Write>(
     requires flushed { streams.old.output.flushed ≡ true }
     ensures { Ran result plan.now log.now (F.bytes files.now) streams.old streams.new }
 {
-    let checked = match plan_of(alloc, files, plan) {
+    let checked = match plan_or_place(alloc, files, plan) {
         Ok(checked) => checked,
-        Err(fault) => return streams.refuse(alloc, plan, fault),
+        Err(fault) => return streams.refuse_plan(alloc, plan, fault),
     };
     let rows = match log_of(alloc, files, log) {
         Ok(rows) => rows,

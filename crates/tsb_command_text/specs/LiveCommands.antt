@@ -7,7 +7,7 @@ use Rattle.tsb_command_text.specs.Lamps.{from_one_to}
 use Rattle.tsb_log_text.specs.declared.row_input.RowInput.{RowInput}
 use Rattle.tsb_log_text.specs.declared.row_input.RowInput.TheVariants.{Vehicle, Pedestrian, Preempt}
 use Rattle.tsb_command_text.specs.declared.live_command.LiveCommand.{LiveCommand}
-use Rattle.tsb_command_text.specs.declared.live_command.LiveCommand.TheVariants.{Session, Status, Changes, Plan, Edits, Events, Echo, Save, When}
+use Rattle.tsb_command_text.specs.declared.live_command.LiveCommand.TheVariants.{Session, Status, Changes, Plan, Edits, Events, Echo, Save, Help, When}
 
 -- of the commands that are asked live alone that of one word
 unfoldable pub own_of_one : List ℕ → Option LiveCommand
@@ -15,7 +15,8 @@ own_of_one w =
     if bytes_eq w (codes "status") then Some Status else
     if bytes_eq w (codes "plan") then Some Plan else
     if bytes_eq w (codes "edits") then Some Edits else
-    if bytes_eq w (codes "save") then Some Save else None
+    if bytes_eq w (codes "save") then Some Save else
+    if bytes_eq w (codes "help") then Some Help else None
 
 -- of two
 unfoldable pub own_of_two : List ℕ → List ℕ → Option LiveCommand

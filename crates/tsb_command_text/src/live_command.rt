@@ -26,6 +26,8 @@ pub enum LiveCommand {
     Echo(bool),
     /// `save`: prints the log and the commands by which `tsb run` comes to the present state.
     Save,
+    /// `help`: prints the commands, each with what it does.
+    Help,
 }
 
 /// What a line asks of a live session.

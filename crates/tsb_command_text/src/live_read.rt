@@ -74,6 +74,9 @@ fn own_of_one(name: &[u8]) -> Option<LiveCommand>
     if name == b"save".as_slice() {
         return Some(LiveCommand::Save);
     }
+    if name == b"help".as_slice() {
+        return Some(LiveCommand::Help);
+    }
     None
 }
 

@@ -14,13 +14,13 @@ use Rattle.tsb_program.specs.Read.{HasNoPlan, HasPlan, IsFront, LogRead}
 use Rattle.tsb_program.specs.Told.{FailsFile, TellsNoLog, TellsNoPlan, TellsWhy}
 use Rattle.tsb_program.specs.declared.files.FileError.TheVariants as causes
 use Rattle.tsb_program.specs.declared.read.PlanFault.{PlanFault}
-use Rattle.tsb_program.specs.tsb_plan_notes.declared.place.JsonPlace.{JsonPlace}
+use Rattle.tsb_program.specs.declared.clue.PlanClue.{PlanClue}
 use Rattle.tsb_text.specs.tsb_plan.Plan.{Plan}
 use Rattle.tsb_text.specs.tsb_plan_text.declared.error.PlanError.{PlanError}
 use Rattle.tsb_program.specs.declared.read.ReadError.{ReadError}
 use Rattle.tsb_program.specs.declared.read.ReadError.TheVariants as faults
 use Rattle.tsb_event_text.specs.declared.times.Moment.{Moment}
-use Rattle.tsb_log_text.specs.declared.error.LogError.{LogError}
+use Rattle.tsb_program.specs.declared.read.RefusedLog.{RefusedLog}
 use Rattle.tsb_log_text.specs.declared.log.LogRow.{LogRow}
 use Rattle.tsb_field_display.specs.declared.error.ReplayError.{ReplayError}
 use Rattle.tsb_field_display.specs.declared.error.ReplayError.TheVariants as replays
@@ -59,7 +59,7 @@ use Rattle.tsb_field.specs.ReviewEnds.{Answered}
 use Rattle.tsb_field.specs.Ends.{Drawn, Draws, IsDiagram, LogNamed, NamesLog, NoRun, NotDrawn, RanSo, Recorded, RecordedOn, Stops, Told, ToldOn, Writes, WritesEnd, WritesMade, failure_by, name_of}
 
 -- there is no log
-pub stops : (fault : ReadError LogError) (known : List ℕ → Option (List ℕ)) (path : Option (List ℕ)) (name : List ℕ) (status : ℕ) (told tells : Seen) → name ≡ name_of path → LogNamed (Err fault) known path
+pub stops : (fault : ReadError RefusedLog) (known : List ℕ → Option (List ℕ)) (path : Option (List ℕ)) (name : List ℕ) (status : ℕ) (told tells : Seen) → name ≡ name_of path → LogNamed (Err fault) known path
     → TellsNoLog name fault status told tells → Stops known path status told tells
 stops (faults.Failed why) known None name status told tells is named line = absurd (true≢false (sym named))
 stops (faults.Failed why) known (Some path) name status told tells is named line =
@@ -67,17 +67,17 @@ stops (faults.Failed why) known (Some path) name status told tells is named line
 stops (faults.Refused fault) known path name status told tells is none line = inl (fault, none, line)
 
 -- there is no plan, or no log beside one
-no-plan-by : (why : ReadError PlanError) (place : Option JsonPlace) (status : ℕ) (plan rows : List ℕ) (files : List ℕ → Option (List ℕ)) (told tells : Seen) → HasNoPlan why place (files plan)
-    → TellsWhy plan why place status told tells → NoRun plan rows files status told tells
-no-plan-by (faults.Failed why) place status plan rows files told tells has line = inr (inr (inl (why, line)))
-no-plan-by (faults.Refused fault) place status plan rows files told tells has line = inl (fault, place, has, line)
+no-plan-by : (why : ReadError PlanError) (clue : Option PlanClue) (status : ℕ) (plan rows : List ℕ) (files : List ℕ → Option (List ℕ)) (told tells : Seen) → HasNoPlan why clue (files plan)
+    → TellsWhy plan why clue status told tells → NoRun plan rows files status told tells
+no-plan-by (faults.Failed why) clue status plan rows files told tells has line = inr (inr (inl (why, line)))
+no-plan-by (faults.Refused fault) clue status plan rows files told tells has line = inl (fault, clue, has, line)
 
-pub no-plan : (fault : PlanFault) (status : ℕ) (plan rows : List ℕ) (files : List ℕ → Option (List ℕ)) (told tells : Seen) → HasNoPlan fault.why fault.place (files plan)
+pub no-plan : (fault : PlanFault) (status : ℕ) (plan rows : List ℕ) (files : List ℕ → Option (List ℕ)) (told tells : Seen) → HasNoPlan fault.why fault.clue (files plan)
     → TellsNoPlan plan fault status told tells → NoRun plan rows files status told tells
-no-plan fault status plan rows files told tells has line = no-plan-by fault.why fault.place status plan rows files told tells has line
+no-plan fault status plan rows files told tells has line = no-plan-by fault.why fault.clue status plan rows files told tells has line
 
 -- there is no log in the file that is named
-pub stops-there : (fault : ReadError LogError) (status : ℕ) (rows : List ℕ) (files : List ℕ → Option (List ℕ)) (told tells : Seen) → LogRead (Err fault) (files rows)
+pub stops-there : (fault : ReadError RefusedLog) (status : ℕ) (rows : List ℕ) (files : List ℕ → Option (List ℕ)) (told tells : Seen) → LogRead (Err fault) (files rows)
     → TellsNoLog rows fault status told tells → Stops files (Some rows) status told tells
 stops-there (faults.Failed why) status rows files told tells read line = inr (why, line)
 stops-there (faults.Refused fault) status rows files told tells read line = inl (fault, read, line)
@@ -230,14 +230,14 @@ logged-beside plan path status wish files before after has logged = elim logged 
 ]
 
 -- there is no plan
-no-plan-here : (why : ReadError PlanError) (place : Option JsonPlace) (status : ℕ) (path : List ℕ) (files : List ℕ → Option (List ℕ)) (told tells : Seen) → HasNoPlan why place (files path)
-    → TellsWhy path why place status told tells → NoPlan path files status told tells
-no-plan-here (faults.Failed why) place status path files told tells has line = inr (why, line)
-no-plan-here (faults.Refused fault) place status path files told tells has line = inl (fault, place, has, line)
+no-plan-here : (why : ReadError PlanError) (clue : Option PlanClue) (status : ℕ) (path : List ℕ) (files : List ℕ → Option (List ℕ)) (told tells : Seen) → HasNoPlan why clue (files path)
+    → TellsWhy path why clue status told tells → NoPlan path files status told tells
+no-plan-here (faults.Failed why) clue status path files told tells has line = inr (why, line)
+no-plan-here (faults.Refused fault) clue status path files told tells has line = inl (fault, clue, has, line)
 
-pub no-plan-at : (fault : PlanFault) (status : ℕ) (path : List ℕ) (files : List ℕ → Option (List ℕ)) (told tells : Seen) → HasNoPlan fault.why fault.place (files path)
+pub no-plan-at : (fault : PlanFault) (status : ℕ) (path : List ℕ) (files : List ℕ → Option (List ℕ)) (told tells : Seen) → HasNoPlan fault.why fault.clue (files path)
     → TellsNoPlan path fault status told tells → NoPlan path files status told tells
-no-plan-at fault status path files told tells has line = no-plan-here fault.why fault.place status path files told tells has line
+no-plan-at fault status path files told tells has line = no-plan-here fault.why fault.clue status path files told tells has line
 
 -- ## Reviews
 

@@ -8,13 +8,13 @@ use Rattle.tsb_program.specs.Read.{HasLog, HasPlan, RefusesLog, RefusesPlanAt}
 use Rattle.tsb_program.specs.Failures.{Fails}
 use Rattle.tsb_program.specs.Lines.{Wrote}
 use Rattle.tsb_program.specs.Told.{FailsToReadFile, RefusesAt, RefusesLogText, TellsInputEnd}
-use Rattle.tsb_program.specs.tsb_plan_notes.declared.place.JsonPlace.{JsonPlace}
+use Rattle.tsb_program.specs.declared.clue.PlanClue.{PlanClue}
 use Rattle.tsb_program.specs.declared.failure.Failure.{Failure}
 use Rattle.tsb_program.specs.declared.failure.Failure.TheVariants.{Memory, Input, Write}
 use Rattle.tsb_program.specs.tsb_lines.Seen.{Seen}
 use Rattle.tsb_program.specs.declared.read.ReadError.{ReadError}
 use Rattle.tsb_program.specs.declared.read.ReadError.TheVariants as faults
-use Rattle.tsb_log_text.specs.declared.error.LogError.{LogError}
+use Rattle.tsb_program.specs.declared.read.RefusedLog.{RefusedLog}
 use Rattle.tsb_log_text.specs.declared.log.LogRow.{LogRow}
 use Rattle.tsb_event_text.specs.declared.times.Moment.{Moment}
 use Rattle.tsb_field_display.specs.Remaining.{changes_of, last_tick, remaining}
@@ -41,7 +41,8 @@ use Rattle.tsb_text.specs.declared.error.SessionError.{SessionError}
 use Rattle.tsb_text.specs.tsb_plan.Plan.{Plan}
 use Rattle.tsb_text.specs.tsb_plan_text.declared.error.PlanError.{PlanError}
 use Rattle.tsb_words.specs.FieldProgram.{Spells}
-use Rattle.tsb_words.specs.Near.{field_near, has_bad_from}
+use Rattle.tsb_words.specs.Near.{field_near}
+use Rattle.tsb_words.specs.Wrong.{Wrong, field_wrong}
 use Rattle.tsb_words.specs.FieldWords.{Wish, diagram, events, log, recording, reviewing, seen}
 use Rattle.tsb_words.specs.declared.field_files.Asked.{Asked}
 use Rattle.tsb_words.specs.declared.field_files.DiagramAsked.{DiagramAsked}
@@ -62,7 +63,7 @@ NamesLog files None rows = rows ≡ []
 NamesLog files (Some path) rows = HasLog (files path) rows
 
 -- the file at this path, where words name one, has no log, for this fault
-abbrev pub NamesNoLog : (List ℕ → Option (List ℕ)) → Option (List ℕ) → LogError → Type 0
+abbrev pub NamesNoLog : (List ℕ → Option (List ℕ)) → Option (List ℕ) → RefusedLog → Type 0
 NamesNoLog files None fault = ⊥
 NamesNoLog files (Some path) fault = RefusesLog (files path) fault
 
@@ -74,10 +75,10 @@ FailsNamed (Some path) status told tells = FailsToReadFile path status told tell
 -- there is no log: with 1 because the one named is refused, or because its file or memory failed
 abbrev pub Stops : (List ℕ → Option (List ℕ)) → Option (List ℕ) → ℕ → Seen → Seen → Type 0
 Stops files path status told tells =
-    ((fault : LogError) × NamesNoLog files path fault × RefusesLogText fault status told tells) ⊎ FailsNamed path status told tells
+    ((fault : RefusedLog) × NamesNoLog files path fault × RefusesLogText fault status told tells) ⊎ FailsNamed path status told tells
 
 -- what came of reading the log that words name
-abbrev pub LogNamed : Result (List LogRow) (ReadError LogError) → (List ℕ → Option (List ℕ)) → Option (List ℕ) → Type 0
+abbrev pub LogNamed : Result (List LogRow) (ReadError RefusedLog) → (List ℕ → Option (List ℕ)) → Option (List ℕ) → Type 0
 LogNamed (Ok rows) files path = NamesLog files path rows
 LogNamed (Err (faults.Refused fault)) files path = NamesNoLog files path fault
 LogNamed (Err (faults.Failed why)) files path = IsSome path
@@ -132,12 +133,12 @@ ToldOn status from device rows before after = Drawn (IsEvents from device) statu
 
 -- ## `record`
 
--- there is no run on the files of these names: with 1 because the plan is refused, which is told with the place at which its
--- text stops being JSON, or because there is a plan and the log is refused; or because a file or memory failed
+-- there is no run on the files of these names: with 1 because the plan is refused, which is told with what is said of its
+-- text, or because there is a plan and the log is refused; or because a file or memory failed
 abbrev pub NoRun : (plan rows : List ℕ) → (List ℕ → Option (List ℕ)) → ℕ → Seen → Seen → Type 0
 NoRun plan rows files status told tells =
-    ((fault : PlanError) × (place : Option JsonPlace) × RefusesPlanAt (files plan) fault place × RefusesAt fault place status told tells)
-    ⊎ (((found : Plan) × HasPlan (files plan) found × (fault : LogError) × RefusesLog (files rows) fault × RefusesLogText fault status told tells)
+    ((fault : PlanError) × (clue : Option PlanClue) × RefusesPlanAt (files plan) fault clue × RefusesAt fault clue status told tells)
+    ⊎ (((found : Plan) × HasPlan (files plan) found × (fault : RefusedLog) × RefusesLog (files rows) fault × RefusesLogText fault status told tells)
     ⊎ (FailsToReadFile plan status told tells ⊎ ((found : Plan) × HasPlan (files plan) found × FailsToReadFile rows status told tells)))
 
 -- the events of the inputs that remain are written; or nothing is: memory failed, or with 2 a tick has no time
@@ -238,13 +239,13 @@ DidWish (diagram path title seconds from told_by) status files before after =
     Pictured status (form_of title seconds from) told_by files path before after
 DidWish (reviewing plan) status files before after = ReadsNothing (Reviewed status plan (files plan)) before after
 
--- what was done for what the words ask, where this right word is near a bad one, or `--from` names no moment
-abbrev pub Did : Option (List ℕ) → Bool → Result Asked WordsError → ℕ → (List ℕ → Option (List ℕ)) → (before after : Devices) → Type 0
-Did near bad_from (Ok asked) status files before after = DidWish (seen asked) status files before after
-Did near bad_from (Err fault) status files before after = OnlyTells (TellsWords near (usage_for bad_from) fault status) before after
+-- what was done for what the words ask, where this right word is near a bad one, or this is wrong with them
+abbrev pub Did : Option (List ℕ) → Option Wrong → Result Asked WordsError → ℕ → (List ℕ → Option (List ℕ)) → (before after : Devices) → Type 0
+Did near wrong (Ok asked) status files before after = DidWish (seen asked) status files before after
+Did near wrong (Err fault) status files before after = OnlyTells (TellsWords near (usage_for wrong) fault status) before after
 
 -- the page that words ask for, if any, is written, with nothing read; else what the words ask was done
 abbrev pub Answered : Option (List ℕ) → List (List ℕ) → ℕ → (List ℕ → Option (List ℕ)) → (before after : Devices) → Type 0
 Answered (Some page) words status files before after = ReadsNothing (Wrote status 0 page) before after
 Answered None words status files before after =
-    (answer : Result Asked WordsError) × Spells words answer × Did (field_near words) (has_bad_from words) answer status files before after
+    (answer : Result Asked WordsError) × Spells words answer × Did (field_near words) (field_wrong words) answer status files before after

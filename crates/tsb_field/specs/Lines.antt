@@ -1,16 +1,17 @@
 -- The lines that the program writes of faults, each with its end.
-use Rattle.std.specs.Prelude.{◌≡◌, ℕ, Bool, true, false, List, codes}
+use Rattle.std.specs.Prelude.{◌≡◌, ℕ, List, Option, Some, None, codes}
 use Rattle.tsb_program.specs.tsb_lines.Seen.{Seen, Tells}
+use Rattle.tsb_words.specs.Wrong.{Wrong, wrong_line}
 
 -- how the program is used
 abbrev pub usage : List ℕ
 usage =
     codes "usage: tsb_field log --from TIME [--device ID] [--time-form FORM] [--zone OFFSET] [--count] [--allow-empty]\n          [--sort] [--sort-within SECONDS] [--as-outputs PLAN]\n          [--vehicle CHANNEL=DETECTOR].. [--pedestrian CHANNEL=DETECTOR].. [--preempt CHANNEL=INPUT]..\n    or tsb_field record --from TIME --device ID [--go-on] [--recalls] [--outputs] PLAN LOG\n    or tsb_field events --from TIME --device ID [--log LOG]\n    or tsb_field diagram [--log LOG] [--title TEXT] [--seconds-per-line N] [--from TIME [--events FILE]]\n    or tsb_field review PLAN\n"
 
--- what is said of bad words that are near no right word: that `--from` names no moment, or else how the program is used
-abbrev pub usage_for : Bool → List ℕ
-usage_for true = codes "--from: a time is YYYY-MM-DD HH:MM:SS, such as \"2026-11-22 07:00:00\"\n"
-usage_for false = usage
+-- what is said of bad words that are near no right word: what is wrong with them, or else how the program is used
+abbrev pub usage_for : Option Wrong → List ℕ
+usage_for (Some wrong) = wrong_line wrong
+usage_for None = usage
 
 -- a tick that has no time is reported, as a fault of the words: with 2
 abbrev pub TellsLate : ℕ → Seen → Seen → Type 0

@@ -11,7 +11,7 @@ use Rattle.tsb_program.specs.declared.failure.Failure.{Failure}
 use Rattle.tsb_program.specs.declared.failure.Failure.TheVariants.{Memory, Input, Write}
 use Rattle.tsb_program.specs.Read.{HasPlan, RefusesPlanAt}
 use Rattle.tsb_program.specs.Told.{FailsToReadFile, RefusesAt}
-use Rattle.tsb_program.specs.tsb_plan_notes.declared.place.JsonPlace.{JsonPlace}
+use Rattle.tsb_program.specs.declared.clue.PlanClue.{PlanClue}
 use Rattle.tsb_text.specs.tsb_plan.Plan.{Plan}
 use Rattle.tsb_text.specs.tsb_plan_text.declared.error.PlanError.{PlanError}
 use Rattle.tsb_field_log.specs.Mapping.{wires_of}
@@ -114,7 +114,7 @@ LoggedTelling text status wish before after =
 -- why there is no plan is told: it is refused with 1, or its file or memory failed
 abbrev pub NoPlan : List ℕ → (List ℕ → Option (List ℕ)) → ℕ → Seen → Seen → Type 0
 NoPlan path files status told tells =
-    ((fault : PlanError) × (place : Option JsonPlace) × RefusesPlanAt (files path) fault place × RefusesAt fault place status told tells)
+    ((fault : PlanError) × (clue : Option PlanClue) × RefusesPlanAt (files path) fault clue × RefusesAt fault clue status told tells)
     ⊎ FailsToReadFile path status told tells
 
 -- a log was made beside this plan, and the detectors told whose delay and extension act twice; or there is no memory, with

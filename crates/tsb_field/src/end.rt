@@ -1,15 +1,22 @@
 //! What commands have in common at their end.
-ghost use Rattle.std.specs.Prelude.{◌≡◌};
+ghost use Rattle.std.specs.Prelude.{◌≡◌, map};
 ghost use Rattle.tsb_program.specs.Devices.{OnlyTells, ReadsNothing};
+ghost use Rattle.tsb_program.specs.Runs.{TellsWords};
+ghost use Rattle.tsb_words.specs.Near.{field_near};
+ghost use Rattle.tsb_words.specs.Wrong.{field_wrong};
 ghost use Rattle.tsb_field.specs.Lines.{TellsLate, usage_for};
 ghost use Rattle.tsb_field.specs.Ends.{WritesMade, failure_by};
 
+use std::convert::AsStr;
 use std::io::{Read, Write};
 use tsb_field_display::{EventsError, ReplayError};
 use tsb_program::{ExitStatus, Failure, Streams};
+use tsb_words::WordsError;
+use tsb_words::near::field_near;
+use tsb_words::wrong::{field_wrong, wrong_line};
 
 /// How the program is used.
-const USAGE: &[u8] =
+pub(crate) const USAGE: &[u8] =
     b"usage: tsb_field log --from TIME [--device ID] [--time-form FORM] [--zone OFFSET] [--count] [--allow-empty]
           [--sort] [--sort-within SECONDS] [--as-outputs PLAN]
           [--vehicle CHANNEL=DETECTOR].. [--pedestrian CHANNEL=DETECTOR].. [--preempt CHANNEL=INPUT]..
@@ -19,14 +26,24 @@ const USAGE: &[u8] =
     or tsb_field review PLAN
 ";
 
-/// The line of a `--from` that names no moment.
-const BAD_FROM: &[u8] = b"--from: a time is YYYY-MM-DD HH:MM:SS, such as \"2026-11-22 07:00:00\"\n";
-
-/// What is said of bad words that are near no right word: that `--from` names no moment, or else how the program is used.
-pub(crate) fn usage_for(has_bad_from: bool) -> &'static [u8]
-    ensures { result.now ≡ usage_for has_bad_from }
+/// Reports why words ask for nothing: for bad words the right word that was perhaps meant, or what is wrong with them, or
+/// else how the program is used.
+pub(crate) fn tell_words<S: AsStr, R: Read, W: Write, E: Write>(
+    words: &[S],
+    fault: WordsError,
+    streams: &mut Streams<R, W, E>,
+) -> u8
+    ensures { OnlyTells (TellsWords (field_near (map S.text words.now)) (usage_for (field_wrong (map S.text words.now))) fault result)
+        streams.old streams.new }
 {
-    if has_bad_from { BAD_FROM } else { USAGE }
+    let near = field_near(words);
+    match field_wrong(words) {
+        Some(wrong) => {
+            let line = wrong_line(wrong);
+            streams.tell_words_fault(near, line.as_bytes(), fault)
+        }
+        None => streams.tell_words_fault(near, USAGE, fault),
+    }
 }
 
 /// Says that a tick has no time, as a fault of the words.

@@ -16,7 +16,7 @@ mod review_run;
 mod run;
 mod twice;
 
-use crate::end::usage_for;
+use crate::end::USAGE;
 use crate::run::run_words;
 use std::convert::AsStr;
 use std::io::{BufWriter, Write};
@@ -37,7 +37,7 @@ fn main(rt: HostRuntime) -> ExitCode {
             Ok(output) => run_buffered(&rt, words.as_slice(), output),
             Err(_) => streams.fail(Failure::Memory),
         },
-        Err(fault) => streams.tell_words_fault(None, usage_for(false), fault),
+        Err(fault) => streams.tell_words_fault(None, USAGE, fault),
     };
     ExitCode::from(status)
 }

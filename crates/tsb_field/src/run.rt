@@ -3,12 +3,13 @@ ghost use Rattle.std.specs.Prelude.{◌≡◌, Result, false, map, true};
 ghost use Rattle.tsb_words.specs.declared.field_files.Asked.{Asked};
 ghost use Rattle.tsb_words.specs.declared.error.WordsError.{WordsError};
 ghost use Rattle.tsb_words.specs.FieldProgram.{Spells};
-ghost use Rattle.tsb_words.specs.Near.{field_near, has_bad_from};
+ghost use Rattle.tsb_words.specs.Near.{field_near};
 ghost use Rattle.tsb_words.specs.Pages.{field_page};
+ghost use Rattle.tsb_words.specs.Wrong.{field_wrong};
 ghost use Rattle.tsb_field.specs.Ends.{Answered, Did};
 
 use crate::diagram_run::write_diagram;
-use crate::end::usage_for;
+use crate::end::tell_words;
 use crate::events_run::write_events;
 use crate::outputs_run::run_log;
 use crate::record_run::write_record;
@@ -18,7 +19,6 @@ use std::convert::AsStr;
 use std::io::{Read, Write};
 use tsb_program::{ExitStatus, Files, Streams};
 use tsb_words::field_files::{Asked, read_words};
-use tsb_words::near::{field_near, has_bad_from};
 use tsb_words::pages::field_page;
 
 /// Does what the words ask for, the first of which is the program's name, and gives the status that the program ends
@@ -56,7 +56,7 @@ fn run_asked<S: AsStr, F: Files, R: Read, W: Write, E: Write>(
     requires writes { streams.old.errors.failed ≡ false }
     requires flushed { streams.old.errors.flushed ≡ true }
     ensures { (answer : Result Asked WordsError) × Spells (map S.text words.now) answer
-        × Did (field_near (map S.text words.now)) (has_bad_from (map S.text words.now)) answer result (F.bytes files.now) streams.old streams.new }
+        × Did (field_near (map S.text words.now)) (field_wrong (map S.text words.now)) answer result (F.bytes files.now) streams.old streams.new }
 {
     match read_words(alloc, words) {
         Ok(Asked::Log(asked)) => run_log(alloc, &asked, files, streams),
@@ -66,10 +66,6 @@ fn run_asked<S: AsStr, F: Files, R: Read, W: Write, E: Write>(
         }
         Ok(Asked::Diagram(asked)) => write_diagram(alloc, &asked, files, streams),
         Ok(Asked::Review { plan }) => review_plan(alloc, plan, files, streams),
-        Err(fault) => {
-            let near = field_near(words);
-            let usage = usage_for(has_bad_from(words));
-            streams.tell_words_fault(near, usage, fault)
-        }
+        Err(fault) => tell_words(words, fault, streams),
     }
 }

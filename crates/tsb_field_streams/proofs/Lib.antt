@@ -10,6 +10,8 @@ pub mod StreamLemmas
 pub mod GoingLemmas
 -- which device is blamed
 pub mod BlameLemmas
+-- the names of devices
+pub mod DeviceLemmas
 -- room in the line of a fault
 pub mod RoomLemmas
 -- rows that are sorted within a window

@@ -1,5 +1,5 @@
 -- Which devices rows are of, and the line that names them, with its end.
-use Rattle.std.specs.Prelude.{ℕ, ◌+◌, ◌==◌, ◌&&◌, min, nat_le, nat_lt, Bool, true, List, [], ◌++◌, set, take, if◌then◌else◌, Option, Some, None, codes, decimal, slice_get}
+use Rattle.std.specs.Prelude.{ℕ, zero, suc, ◌+◌, ◌==◌, ◌&&◌, min, nat_le, nat_lt, Bool, true, List, [], ◌++◌, set, take, if◌then◌else◌, Option, Some, None, codes, decimal, slice_get}
 use Rattle.std.specs.List.{list_any}
 use Rattle.std.specs.Str.{bytes_eq}
 use Rattle.tsb_event_text.specs.Faults.{device_of}
@@ -38,9 +38,13 @@ with_some_device (Some asked) devices columns text = devices
 abbrev pub are_several : Devices → Bool
 are_several devices = nat_lt 1 devices.count
 
+-- there are more than are named
+abbrev pub more_devices : List ℕ
+more_devices = decimal (MOST_NAMED + 1) ++ codes " or more"
+
 -- how many there are
 abbrev pub how_many_devices : Devices → List ℕ
-how_many_devices devices = if devices.more then codes "9 or more" else decimal devices.count
+how_many_devices devices = if devices.more then more_devices else decimal devices.count
 
 -- the name of a device, in double quotes
 abbrev pub named_device : Option ShownField → List ℕ
@@ -51,16 +55,16 @@ named_device (Some name) = codes " \"" ++ (shown_text name ++ codes "\"")
 abbrev pub device_text : Devices → ℕ → List ℕ
 device_text devices place = if nat_le devices.count place then [] else named_device (slice_get devices.names place)
 
--- the names of four devices from this place on
-abbrev pub four_devices : Devices → ℕ → List ℕ
-four_devices devices place =
-    device_text devices place ++ (device_text devices (place + 1) ++ (device_text devices (place + 2) ++ device_text devices (place + 3)))
+-- the names of the devices in so many places, from this one on
+unfoldable pub devices_from : Devices → ℕ → ℕ → List ℕ
+devices_from devices place zero = []
+devices_from devices place (suc count) = device_text devices place ++ devices_from devices (suc place) count
 
 -- the line of devices
 abbrev pub devices_line : Devices → List ℕ
 devices_line devices =
-    codes "devices: " ++ (how_many_devices devices ++ (codes " in these rows:" ++ (four_devices devices 0 ++ (four_devices devices 4
-    ++ codes " (name one by --device)\n"))))
+    codes "devices: " ++ (how_many_devices devices ++ (codes " in these rows:" ++ (devices_from devices 0 MOST_NAMED
+    ++ codes " (name one by --device)\n")))
 
 -- it is written where it is asked for how much was read, and there are two or more
 abbrev pub devices_text : Bool → Devices → List ℕ

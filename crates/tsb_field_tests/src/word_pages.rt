@@ -1,6 +1,7 @@
 //! Tests of the pages that words ask for, and of right words that are near wrong ones.
 use tsb_words::near::{field_near, hint, live_near};
 use tsb_words::pages::{field_page, live_page};
+use tsb_words::wrong::{field_wrong, wrong_line};
 
 /// Whether a page begins so.
 fn begins(page: Option<&[u8]>, begin: &[u8]) -> bool {
@@ -88,4 +89,49 @@ fn slips_are_told(rt: HostRuntime) {
     let line = b"did you mean --zone? --help lists the words\n";
     assert!(rt; slips_are_found() && others_are_not_near());
     assert!(rt; hint("--zone").as_bytes() == line.as_slice());
+}
+
+/// Whether this line is printed of these words.
+fn is_wrong(words: &[&str], line: &[u8]) -> bool {
+    match field_wrong(words) {
+        Some(wrong) => wrong_line(wrong).as_bytes() == line,
+        None => false,
+    }
+}
+
+/// Whether the first wrong word from the left is named, with what may be in its place.
+fn words_are_named() -> bool {
+    is_wrong(
+        &["tsb_field", "frob"],
+        b"there is no command \"frob\": log, record, events, diagram or review\n",
+    ) && is_wrong(
+        &["tsb_field", "review", "--zone=Z", "--zone"],
+        b"--zone: the command has no such option; --help after it lists all\n",
+    ) && is_wrong(
+        &["tsb_field", "log", "--zone", "EST", "--count=1"],
+        b"--zone \"EST\": a zone is an offset such as -07:00, or Z\n",
+    ) && is_wrong(
+        &["tsb_field", "log", "--time-form=year-frist"],
+        b"--time-form \"year-frist\": did you mean year-first?\n",
+    ) && is_wrong(
+        &["tsb_field", "events", "--device", "a\nb", "--device", "7"],
+        b"--device comes twice\n",
+    )
+}
+
+/// Whether what is missing is named where no word is wrong.
+fn lacks_are_named() -> bool {
+    is_wrong(
+        &["tsb_field", "log", "--vehicle", "7=16", "--", "--from"],
+        b"--from has to be given: a time is YYYY-MM-DD HH:MM:SS, such as \"2026-11-22 07:00:00\"\n",
+    ) && is_wrong(
+        &["tsb_field", "review", "a.json", "b.json"],
+        b"review names one file, PLAN\n",
+    ) && field_wrong(&["tsb_field"]).is_none()
+        && field_wrong(&["tsb_field", "log", "--count", "--help"]).is_none()
+}
+
+#[test]
+fn wrong_words_are_named(rt: HostRuntime) {
+    assert!(rt; words_are_named() && lacks_are_named());
 }

@@ -18,7 +18,7 @@ use Rattle.tsb_text.specs.declared.stop.Stop.{Stop}
 use Rattle.tsb_program.specs.tsb_lines.Seen.{Seen, Tells}
 use Rattle.tsb_program.specs.Read.{HasPlan, RefusesPlanAt}
 use Rattle.tsb_program.specs.Told.{FailsToReadFile, RefusesAt, TellsInputEnd}
-use Rattle.tsb_program.specs.tsb_plan_notes.declared.place.JsonPlace.{JsonPlace}
+use Rattle.tsb_program.specs.declared.clue.PlanClue.{PlanClue}
 use Rattle.tsb_program.specs.Devices.{Devices, OnlyTells, ReadsNothing}
 use Rattle.tsb_program.specs.Lines.{Wrote}
 use Rattle.tsb_program.specs.Runs.{TellsWords, after_fault}
@@ -38,11 +38,11 @@ Talked status on_fault plan before after =
     × LiveEnded result on_fault plan before.input.bytes after.input.bytes before.output.bytes after.output.bytes
     × Blames result after.input.failed after.output.failed after.output.flushed × EndsSo result status before.errors after.errors
 
--- there is no run: with 1 because the plan is refused, which its own line says, and with the place at which its text
--- stops being JSON; or because the file of this name, or memory, failed
+-- there is no run: with 1 because the plan is refused, which its own line says, and a second one what is said of its
+-- text; or because the file of this name, or memory, failed
 abbrev pub Stops : List ℕ → ℕ → Option (List ℕ) → Seen → Seen → Type 0
 Stops name status file told tells =
-    ((fault : PlanError) × (place : Option JsonPlace) × RefusesPlanAt file fault place × RefusesAt fault place status told tells)
+    ((fault : PlanError) × (clue : Option PlanClue) × RefusesPlanAt file fault clue × RefusesAt fault clue status told tells)
     ⊎ FailsToReadFile name status told tells
 
 -- how the program ended on the file of a plan, of this name: after a live run, or with nothing read and nothing answered

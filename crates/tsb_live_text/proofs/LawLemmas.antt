@@ -96,6 +96,7 @@ by-asks s t line (live.Events on) text fault a = goes-to s t _ a.2 (quiet s _ re
 by-asks s t line (live.Echo on) text fault a = goes-to s t _ a.2 (quiet s _ refl refl)
 by-asks s t line (live.When which) text fault a = goes-to s t s a.2 (quiet s s refl refl)
 by-asks s t line live.Save text fault a = goes-to s t s a.2 (quiet s s refl refl)
+by-asks s t line live.Help text fault a = goes-to s t s a.2 (quiet s s refl refl)
 
 by-reads : (s t : Live) (line : List ℕ) (r : LiveReading) (text : List ℕ) (fault : Option LineFault) → Reads s line r text fault t → Goes s t
 by-reads s t line Skip text fault a = goes-to s t s a.2 (quiet s s refl refl)

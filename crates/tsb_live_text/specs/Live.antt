@@ -23,6 +23,7 @@ use Rattle.tsb_command_text.specs.declared.live_command.LiveReading.TheVariants.
 use Rattle.tsb_command_text.specs.LiveReadings.{live_reading}
 use Rattle.tsb_status_text.specs.EditsLine.{edits_text}
 use Rattle.tsb_status_text.specs.PlanLine.{plan_text}
+use Rattle.tsb_live_text.specs.declared.help.TheConstants.{HELP}
 use Rattle.tsb_live_text.specs.saved.Saved.{saved_text}
 use Rattle.tsb_status_text.specs.StatusText.{status_text}
 use Rattle.tsb_text.specs.Answers.{Setup, display_line, refused_line, when_line}
@@ -120,6 +121,7 @@ AsksLive s line asks.Edits text fault t = Tells s line (edits_text (present s).d
 AsksLive s line (asks.Events on) text fault t = Tells s line (codes "ok") None text fault (with_events on s) t
 AsksLive s line (asks.Echo on) text fault t = Tells s line (codes "ok") None text fault (with_echo on s) t
 AsksLive s line (asks.When which) text fault t = Tells s line (when_line (last_change (value_of which) s.plan s.inputs)) None text fault s t
+AsksLive s line asks.Help text fault t = Tells s line HELP.now None text fault s t
 AsksLive s line asks.Save text fault t = Tells s line (saved_text (kept_of s.plan s.inputs) (present s).now) None text fault s t
 
 -- what is answered to what a line asks, and what is fault with it, if something is

@@ -4,6 +4,7 @@
 #![tactic(auto)]
 
 mod changes;
+mod help;
 pub mod laws;
 mod run;
 pub mod saved;

@@ -12,6 +12,7 @@ ghost use Rattle.tsb_live_text.specs.LiveEnded.{LiveEnded, ended_with};
 ghost use Rattle.tsb_live_text.specs.Standing.{Does, StandsLive, TellsMade, TellsOnce};
 
 use crate::changes::changes;
+use crate::help::HELP;
 use crate::say_saved;
 use arrayvec::ArrayVec;
 use std::alloc::{AllocError, Global};
@@ -182,6 +183,7 @@ impl LiveRun<'_> {
                 tell(&echo, b"ok", None, pending, writer)
             }
             LiveCommand::Save => self.tell_saved(&echo, pending, writer),
+            LiveCommand::Help => tell(&echo, HELP, None, pending, writer),
         }
     }
 

@@ -4,6 +4,8 @@
 -- and values are those of the newest version.
 use Rattle.std.specs.Prelude.{ℕ, List, [], ◌∷◌, ◌++◌, if◌then◌else◌, Bool, true, false, Option, Some, None, codes, bytes_eq, decimal, nat_le}
 use Rattle.std.specs.Str.{is_utf8}
+use Rattle.std.specs.List.{list_any}
+use Rattle.json.specs.Find.{as_number}
 use Rattle.json.specs.Json.{Json, object, Members, no_members, member, document}
 use Rattle.json.specs.Print.{print}
 use Rattle.json.specs.Tree.{json_tokens}
@@ -12,7 +14,7 @@ use Rattle.tsb_plan.specs.declared.version.TheConstants.Version.{NEWEST}
 use Rattle.tsb_plan.specs.Names.{name_of, object_named}
 use Rattle.tsb_plan.specs.Objects.{greatest, indices}
 use Rattle.tsb_plan_notes.specs.Near.{near_object}
-use Rattle.tsb_plan_notes.specs.Parts.{is_index, meant, whole_of}
+use Rattle.tsb_plan_notes.specs.Parts.{is_exponent, is_index, is_negative, is_point, meant, whole_of}
 use Rattle.tsb_plan_notes.specs.Units.{unit_of, unit_text}
 use Rattle.tsb_plan_notes.specs.declared.units.Unit.{Unit}
 
@@ -42,9 +44,29 @@ abbrev pub meant_text : Option ℕ → List ℕ
 meant_text None = []
 meant_text (Some n) = codes ", " ++ decimal n
 
--- that a value is no whole number
+-- why a number that is not negative is no whole number of 32 bits
+abbrev pub positive_words : List ℕ → List ℕ
+positive_words text =
+    if list_any is_exponent text then codes " has an exponent"
+    else if list_any is_point text then codes " is no whole number"
+    else codes " is too large"
+
+-- why a number is none
+abbrev pub number_words : List ℕ → List ℕ
+number_words text = if is_negative text then codes " is negative" else positive_words text
+
+-- why a value is none
+abbrev pub words_of : Option (List ℕ) → List ℕ
+words_of None = codes " is no whole number"
+words_of (Some text) = number_words text
+
+-- the same
+abbrev pub fault_words : Json → List ℕ
+fault_words d = words_of (as_number d)
+
+-- that a value is no whole number of 32 bits, and why
 unfoldable pub fault_text : Json → List ℕ
-fault_text d = codes ": " ++ shown d ++ codes " is no whole number"
+fault_text d = codes ": " ++ shown d ++ fault_words d
 
 -- the end of a line with a unit
 unfoldable pub unit_end : Unit → Json → List ℕ

@@ -1,5 +1,5 @@
 -- A number of JSON, and what it says where it was meant in seconds and has tenths.
-use Rattle.std.specs.Prelude.{ℕ, ◌+◌, ◌*◌, ◌-◌, ◌==◌, ◌&&◌, nat_le, if◌then◌else◌, Bool, false, List, length, take, drop, slice_index, Option, Some, None, option_and_then}
+use Rattle.std.specs.Prelude.{ℕ, ◌+◌, ◌*◌, ◌-◌, ◌==◌, ◌&&◌, ◌||◌, nat_le, if◌then◌else◌, Bool, false, List, [], ◌∷◌, length, take, drop, slice_index, Option, Some, None, option_and_then}
 use Rattle.json.specs.Find.{as_number}
 use Rattle.json.specs.Json.{Json}
 use Rattle.tsb_lines.specs.Words.{number_of}
@@ -11,6 +11,19 @@ use Rattle.tsb_plan_notes.specs.declared.units.Unit.TheVariants.{Tenths}
 -- a value that is a whole number of 32 bits: digits alone
 abbrev pub whole_of : Json → Option ℕ
 whole_of d = option_and_then number_of (as_number d)
+
+-- a number begins with a minus
+abbrev pub is_negative : List ℕ → Bool
+is_negative [] = false
+is_negative (byte ∷ bytes) = byte == 45
+
+-- a byte of it is the letter before an exponent
+abbrev pub is_exponent : ℕ → Bool
+is_exponent byte = byte == 101 || byte == 69
+
+-- and a point
+abbrev pub is_point : ℕ → Bool
+is_point byte = byte == 46
 
 -- whole seconds and tenths of a second
 abbrev pub joined : Option ℕ → Option ℕ → Option ℕ

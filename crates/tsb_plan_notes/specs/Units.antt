@@ -1,9 +1,9 @@
 -- THE UNITS OF VALUES, as docs/use/MANUAL.md has them for each object.
 use Rattle.std.specs.Prelude.{ℕ, List, [], codes}
 use Rattle.tsb_plan.specs.declared.object.Object.{Object}
-use Rattle.tsb_plan.specs.declared.object.Object.TheVariants.{PatternCycleTime, PatternOffsetTime, PatternPermissiveTime, PhaseAddedInitial, PhaseDynamicMaxLimit, PhaseDynamicMaxStep, PhaseMaximum1, PhaseMaximum2, PhaseMaximumInitial, PhaseMinimumGap, PhaseMinimumGreen, PhasePassage, PhasePedestrianClear, PhaseRedClear, PhaseRedRevert, PhaseTimeBeforeReduction, PhaseTimeToReduce, PhaseWalk, PhaseYellowChange, PreemptDelay, PreemptEnterPedClear, PreemptMaximumPresence, PreemptMinimumDuration, PreemptMinimumGreen, PreemptMinimumWalk, PreemptTrackGreen, SplitTime, UnitRedRevert, VehicleDetectorDelay, VehicleDetectorExtend, VehicleDetectorFailTime, VehicleDetectorMaxPresence, VehicleDetectorNoActivity}
+use Rattle.tsb_plan.specs.declared.object.Object.TheVariants.{OverlapIncludedPhases, OverlapModifierPhases, PatternCycleTime, PatternOffsetTime, PatternPermissiveTime, PhaseAddedInitial, PhaseConcurrency, PhaseDynamicMaxLimit, PhaseDynamicMaxStep, PhaseMaximum1, PhaseMaximum2, PhaseMaximumInitial, PhaseMinimumGap, PhaseMinimumGreen, PhasePassage, PhasePedestrianClear, PhaseRedClear, PhaseRedRevert, PhaseTimeBeforeReduction, PhaseTimeToReduce, PhaseWalk, PhaseYellowChange, PreemptDelay, PreemptDwellPhase, PreemptEnterPedClear, PreemptExitPhase, PreemptMaximumPresence, PreemptMinimumDuration, PreemptMinimumGreen, PreemptMinimumWalk, PreemptTrackGreen, PreemptTrackPhase, SplitTime, UnitRedRevert, VehicleDetectorDelay, VehicleDetectorExtend, VehicleDetectorFailTime, VehicleDetectorMaxPresence, VehicleDetectorNoActivity}
 use Rattle.tsb_plan_notes.specs.declared.units.Unit.{Unit}
-use Rattle.tsb_plan_notes.specs.declared.units.Unit.TheVariants.{Minutes, Plain, Seconds, Tenths}
+use Rattle.tsb_plan_notes.specs.declared.units.Unit.TheVariants.{Minutes, Phases, Plain, Seconds, Tenths}
 
 -- the unit of an object's values
 abbrev pub unit_of : Object → Unit
@@ -40,6 +40,12 @@ unit_of UnitRedRevert = Tenths
 unit_of PhaseDynamicMaxLimit = Seconds
 unit_of PhaseDynamicMaxStep = Tenths
 unit_of PatternPermissiveTime = Seconds
+unit_of PhaseConcurrency = Phases
+unit_of OverlapIncludedPhases = Phases
+unit_of OverlapModifierPhases = Phases
+unit_of PreemptTrackPhase = Phases
+unit_of PreemptDwellPhase = Phases
+unit_of PreemptExitPhase = Phases
 unit_of o = Plain
 
 -- what a line says of a unit
@@ -47,4 +53,5 @@ abbrev pub unit_text : Unit → List ℕ
 unit_text Seconds = codes ": seconds"
 unit_text Tenths = codes ": tenths of a second"
 unit_text Minutes = codes ": minutes"
+unit_text Phases = codes ": list of phases, a sum of 2^(phase-1)"
 unit_text Plain = []

@@ -3,10 +3,10 @@ ghost use Rattle.std.specs.Prelude.{◌≡◌, ◌++◌, IfOk, OnOk, Some};
 ghost use Rattle.json.specs.Tree.{HasNumbers};
 ghost use Rattle.json.specs.Value.{value_view};
 ghost use Rattle.tsb_plan_notes.specs.Near.{near_object};
-ghost use Rattle.tsb_plan_notes.specs.Notes.{fault_text, greatest_end, index_note, meant_text, name_note, near_end, near_text, over_note, over_text, path_of, range_end, right_text, shown, twice_note, unit_end, unit_note};
+ghost use Rattle.tsb_plan_notes.specs.Notes.{fault_text, fault_words, greatest_end, index_note, meant_text, name_note, near_end, near_text, over_note, over_text, path_of, range_end, right_text, shown, twice_note, unit_end, unit_note};
 
 use crate::near::near_object;
-use crate::numbers::meant;
+use crate::numbers::{fault_words, meant};
 use crate::units::{Unit, unit_of, unit_text};
 use itoa::Buffer;
 use json::{Value, to_vec};
@@ -71,7 +71,7 @@ pub(crate) fn add_unit(
     add_unit_end(unit_of(object), value, notes)
 }
 
-/// Adds that a value is no whole number.
+/// Adds that a value is no whole number of 32 bits, and why.
 #[tactic(auto, unfolding(crate::specs::Notes::fault_text))]
 fn add_fault(alloc: Global, value: &Value<'_>, notes: &mut Vec<u8>) -> Result<(), AllocError>
     requires { HasNumbers (value_view value.now) }
@@ -79,7 +79,14 @@ fn add_fault(alloc: Global, value: &Value<'_>, notes: &mut Vec<u8>) -> Result<()
 {
     notes.extend_from_slice(b": ")?;
     add_value(alloc, value, notes)?;
-    notes.extend_from_slice(b" is no whole number")
+    add_fault_words(value, notes)
+}
+
+/// Adds why a value is no whole number of 32 bits.
+fn add_fault_words(value: &Value<'_>, notes: &mut Vec<u8>) -> Result<(), AllocError>
+    ensures { OnOk result (notes.new.items ≡ notes.old.items ++ fault_words (value_view value.now)) }
+{
+    notes.extend_from_slice(fault_words(value))
 }
 
 /// Adds an object's index.

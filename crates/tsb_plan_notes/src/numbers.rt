@@ -2,7 +2,9 @@
 ghost use Rattle.std.specs.Prelude.{◌≡◌, nat_le, option_and_then, option_map, slice_index};
 ghost use Rattle.json.specs.Find.{as_number};
 ghost use Rattle.json.specs.Value.{value_view};
-ghost use Rattle.tsb_plan_notes.specs.Parts.{is_index, is_within, joined, meant, tenths_of, whole_of};
+ghost use Rattle.std.specs.List.{list_any};
+ghost use Rattle.tsb_plan_notes.specs.Notes.{fault_words, number_words, positive_words};
+ghost use Rattle.tsb_plan_notes.specs.Parts.{is_exponent, is_index, is_negative, is_point, is_within, joined, meant, tenths_of, whole_of};
 
 use crate::units::Unit;
 use json::Value;
@@ -83,4 +85,76 @@ fn is_within(most: u32, found: Option<u32>) -> bool
         Some(found) => found <= most,
         None => false,
     }
+}
+
+/// What is said of a value that is no whole number of 0 to 4,294,967,295: why it is none.
+pub(crate) fn fault_words(value: &Value<'_>) -> &'static [u8]
+    ensures { result.now ≡ fault_words (value_view value.now) }
+{
+    match value.as_number() {
+        Some(text) => number_words(text.as_bytes()),
+        None => b" is no whole number",
+    }
+}
+
+/// What is said of such a number of JSON.
+fn number_words(text: &[u8]) -> &'static [u8]
+    ensures { result.now ≡ number_words text.now }
+{
+    if is_negative(text) {
+        b" is negative"
+    } else {
+        positive_words(text)
+    }
+}
+
+/// What is said of such a number that is not negative.
+fn positive_words(text: &[u8]) -> &'static [u8]
+    ensures { result.now ≡ positive_words text.now }
+{
+    if has_exponent(text) {
+        b" has an exponent"
+    } else if has_point(text) {
+        b" is no whole number"
+    } else {
+        b" is too large"
+    }
+}
+
+/// Whether a number has an exponent.
+fn has_exponent(text: &[u8]) -> bool
+    ensures { result ≡ list_any is_exponent text.now }
+{
+    text.iter().any(|byte| is_exponent(*byte))
+}
+
+/// Whether a number has a point.
+fn has_point(text: &[u8]) -> bool
+    ensures { result ≡ list_any is_point text.now }
+{
+    text.iter().any(|byte| is_point(*byte))
+}
+
+/// Whether a number begins with a minus.
+fn is_negative(text: &[u8]) -> bool
+    ensures { result ≡ is_negative text.now }
+{
+    let [first, ..] = text else {
+        return false;
+    };
+    *first == b'-'
+}
+
+/// Whether a byte of a number is the letter before an exponent.
+fn is_exponent(byte: u8) -> bool
+    ensures { result ≡ is_exponent byte }
+{
+    byte == b'e' || byte == b'E'
+}
+
+/// Whether a byte of a number is a point.
+fn is_point(byte: u8) -> bool
+    ensures { result ≡ is_point byte }
+{
+    byte == b'.'
 }

@@ -13,7 +13,9 @@ pub enum Unit {
     Tenths,
     /// Minutes.
     Minutes,
-    /// Phases, yes or no, and all else that is no time.
+    /// A list of phases: the sum of 2^(phase-1).
+    Phases,
+    /// Numbers of phases, yes or no, and all else that is no time and no list.
     Plain,
 }
 
@@ -54,6 +56,12 @@ pub fn unit_of(object: Object) -> Unit
         | Object::UnitRedRevert
         | Object::PhaseDynamicMaxStep => Unit::Tenths,
         Object::VehicleDetectorNoActivity | Object::VehicleDetectorMaxPresence => Unit::Minutes,
+        Object::PhaseConcurrency
+        | Object::OverlapIncludedPhases
+        | Object::OverlapModifierPhases
+        | Object::PreemptTrackPhase
+        | Object::PreemptDwellPhase
+        | Object::PreemptExitPhase => Unit::Phases,
         _ => Unit::Plain,
     }
 }
@@ -66,6 +74,7 @@ pub(crate) fn unit_text(unit: Unit) -> &'static [u8]
         Unit::Seconds => b": seconds",
         Unit::Tenths => b": tenths of a second",
         Unit::Minutes => b": minutes",
+        Unit::Phases => b": list of phases, a sum of 2^(phase-1)",
         Unit::Plain => b"",
     }
 }

@@ -16,16 +16,17 @@ use Rattle.tsb_program.specs.declared.files.FileError.{FileError}
 use Rattle.tsb_program.specs.declared.files.FileError.TheVariants as files
 use Rattle.tsb_program.specs.declared.read.PlanFault.{PlanFault}
 use Rattle.tsb_program.specs.declared.read.ReadError.{ReadError}
+use Rattle.tsb_program.specs.declared.read.RefusedLog.{RefusedLog}
 use Rattle.tsb_program.specs.Read.{BlamesFile, IsBlamed, IsFront, LogIn, LogRead, PlanFound, PlanIn, PlanPlaced, PlanRead, log_made, placed, plan_made}
 use Rattle.tsb_lines.specs.declared.watched.Watched.{Watched}
 
 log-read : (answer : Result (List LogRow) LogError) (known : Option (List ℕ)) (text : List ℕ) → IsFront known 67108865 text
-    → Gives answer (log_of text) → LogRead (log_made answer) known
+    → Gives answer (log_of text) → LogRead (log_made answer text) known
 log-read (Ok rows) known text front gives = (text, front, gives)
 log-read (Err logs.Memory) known text front gives = tt
-log-read (Err logs.TooLarge) known text front gives = (text, front, gives)
-log-read (Err (logs.Malformed n)) known text front gives = (text, front, gives)
-log-read (Err (logs.TickOrder n)) known text front gives = (text, front, gives)
+log-read (Err logs.TooLarge) known text front gives = (text, front, gives, refl)
+log-read (Err (logs.Malformed n)) known text front gives = (text, front, gives, refl)
+log-read (Err (logs.TickOrder n)) known text front gives = (text, front, gives, refl)
 
 plan-read : (answer : Result Checked PlanError) (known : Option (List ℕ)) (text : List ℕ) → IsFront known 1048577 text
     → plans.Gives checked_plan answer (reading text) → PlanRead (plan_made answer) known
@@ -42,7 +43,7 @@ plan-read (Err (told.NotAWholeNumber o index)) known text front gives = (text, f
 plan-read (Err (told.OutOfRange o index)) known text front gives = (text, front, gives, λ is. cc)
 plan-read (Err (told.Rule r)) known text front gives = (text, front, gives, λ is. cc)
 
-pub log-came : {V : Type 0} (text_of : V → List ℕ) (read : Result V FileError) (result : Result (List LogRow) (ReadError LogError)) (known : Option (List ℕ))
+pub log-came : {V : Type 0} (text_of : V → List ℕ) (read : Result V FileError) (result : Result (List LogRow) (ReadError RefusedLog)) (known : Option (List ℕ))
     → IfOk read (λ v. IsFront known 67108865 (text_of v)) → LogIn text_of read result → LogRead result known
 log-came text_of (Ok v) result known front came = rw came.2 (log-read came.0 known (text_of v) front came.1)
 log-came text_of (Err why) result known front came = rw came tt
@@ -52,7 +53,7 @@ pub plan-came : {V : Type 0} (text_of : V → List ℕ) (read : Result V FileErr
 plan-came text_of (Ok v) result known front came = rw came.2 (plan-read came.0 known (text_of v) front came.1)
 plan-came text_of (Err why) result known front came = rw came tt
 
--- the same with the place at which a text stops being JSON
+-- the same with what is said of a text
 plan-placed : (answer : Result Checked PlanError) (known : Option (List ℕ)) (text : List ℕ) → IsFront known 1048577 text
     → plans.Gives checked_plan answer (reading text) → PlanFound (placed (plan_made answer) text) known
 plan-placed (Ok plan) known text front gives = (text, front, gives)
@@ -80,12 +81,12 @@ failed-read may_open reader watched (Ok v) opened blame = tt
 failed-read may_open reader watched (Err fault) opened blame = λ is_none. inr (reader, opened, watched, blame is_none)
 
 -- where a text was read, no file is to blame
-log-blamed : {R : Type 0} (may_open : Result R Error → Type 0) (answer : Result (List LogRow) LogError) → IfErr (log_made answer) (BlamesFile may_open)
-log-blamed may_open (Ok rows) = tt
-log-blamed may_open (Err logs.Memory) = λ is_none. absurd (is_none refl)
-log-blamed may_open (Err logs.TooLarge) = tt
-log-blamed may_open (Err (logs.Malformed n)) = tt
-log-blamed may_open (Err (logs.TickOrder n)) = tt
+log-blamed : {R : Type 0} (may_open : Result R Error → Type 0) (answer : Result (List LogRow) LogError) (text : List ℕ) → IfErr (log_made answer text) (BlamesFile may_open)
+log-blamed may_open (Ok rows) text = tt
+log-blamed may_open (Err logs.Memory) text = λ is_none. absurd (is_none refl)
+log-blamed may_open (Err logs.TooLarge) text = tt
+log-blamed may_open (Err (logs.Malformed n)) text = tt
+log-blamed may_open (Err (logs.TickOrder n)) text = tt
 
 plan-blamed : {R : Type 0} (may_open : Result R Error → Type 0) (answer : Result Checked PlanError) → IfErr (plan_made answer) (BlamesFile may_open)
 plan-blamed may_open (Ok plan) = tt
@@ -106,9 +107,9 @@ place-blamed : {R : Type 0} (may_open : Result R Error → Type 0) (made : Resul
 place-blamed may_open (Ok plan) text blame = tt
 place-blamed may_open (Err why) text blame = blame
 
-pub log-blames : {V R : Type 0} (may_open : Result R Error → Type 0) (text_of : V → List ℕ) (read : Result V FileError) (result : Result (List LogRow) (ReadError LogError))
+pub log-blames : {V R : Type 0} (may_open : Result R Error → Type 0) (text_of : V → List ℕ) (read : Result V FileError) (result : Result (List LogRow) (ReadError RefusedLog))
     → IfErr read (IsBlamed may_open) → LogIn text_of read result → IfErr result (BlamesFile may_open)
-log-blames may_open text_of (Ok v) result blame came = rw came.2 (log-blamed may_open came.0)
+log-blames may_open text_of (Ok v) result blame came = rw came.2 (log-blamed may_open came.0 (text_of v))
 log-blames may_open text_of (Err why) result blame came = rw came blame
 
 pub plan-blames : {V R : Type 0} (may_open : Result R Error → Type 0) (text_of : V → List ℕ) (read : Result V FileError) (result : Result Checked (ReadError PlanError))

@@ -35,9 +35,9 @@ both-whole (Ok t) old mid new x y first second = (appends-more old.bytes mid.byt
 both-whole (Err e) old mid new x y first second = tt
 
 -- a plan that is refused is told as one that there is not
-pub refused-so : (fault : PlanFault) (name : List ℕ) (why : PlanError) (status : ℕ) (told tells : Seen) → fault.why ≡ Refused why → RefusesAt why fault.place status told tells
+pub refused-so : (fault : PlanFault) (name : List ℕ) (why : PlanError) (status : ℕ) (told tells : Seen) → fault.why ≡ Refused why → RefusesAt why fault.clue status told tells
     → TellsNoPlan name fault status told tells
-refused-so fault name why status told tells is so = subst (λ (w : ReadError PlanError). TellsWhy name w fault.place status told tells) (sym is) so
+refused-so fault name why status told tells is so = subst (λ (w : ReadError PlanError). TellsWhy name w fault.clue status told tells) (sym is) so
 
 -- the line of what ended a session is told, with 3
 pub end-told : (fault : SessionError) (status : ℕ) (told tells : Seen) → status ≡ 3 → Tells told tells (end_line fault) → TellsEnd fault status told tells

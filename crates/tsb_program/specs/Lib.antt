@@ -6,7 +6,9 @@ pub mod Failures
 pub mod Read
 -- the lines of what ended a run
 pub mod Lines
--- second lines: where a plan's text stops being JSON, and which file was not read
+-- what a second line says of a text that is refused
+pub mod Clues
+-- second lines: what is said of a plan's text, and which file was not read
 pub mod Told
 -- what is seen of the devices of a program
 pub mod Devices

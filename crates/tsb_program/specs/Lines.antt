@@ -2,12 +2,13 @@
 use Rattle.std.specs.Prelude.{◌≡◌, ◌⊎◌, ℕ, List, [], ◌∷◌, ◌++◌, codes, true}
 use Rattle.tsb_plan_text.specs.declared.error.PlanError.{PlanError}
 use Rattle.tsb_plan_text.specs.FaultLines.{plan_fault}
-use Rattle.tsb_log_text.specs.declared.error.LogError.{LogError}
 use Rattle.tsb_log_text.specs.FaultLines.{log_fault}
 use Rattle.tsb_text.specs.declared.error.SessionError.{SessionError}
 use Rattle.tsb_text.specs.declared.error.SessionError.TheVariants as ends
 use Rattle.tsb_text.specs.EndLines.{session_fault}
+use Rattle.tsb_program.specs.Clues.{log_clue_line}
 use Rattle.tsb_program.specs.Failures.{Fails}
+use Rattle.tsb_program.specs.declared.read.RefusedLog.{RefusedLog}
 use Rattle.tsb_program.specs.declared.failure.Failure.TheVariants.{Memory, Read, Write}
 use Rattle.tsb_lines.specs.Seen.{GoesOut, Seen, Tells}
 use Rattle.tsb_lines.specs.Writes.{AppendsFront}
@@ -27,9 +28,13 @@ TellsEnd ends.TooLarge status told tells = (status ≡ 3) × Tells told tells (c
 abbrev pub plan_line : PlanError → List ℕ
 plan_line fault = plan_fault fault ++ 10 ∷ []
 
--- the line of a log's fault
-abbrev pub log_line : LogError → List ℕ
-log_line fault = log_fault fault ++ 10 ∷ []
+-- the lines of an input log that is refused, without the end of the last: that of its fault, and what is said of its text
+abbrev pub refused_log : RefusedLog → List ℕ
+refused_log refused = log_fault refused.why ++ log_clue_line refused.clue
+
+-- the same with its end
+abbrev pub log_line : RefusedLog → List ℕ
+log_line refused = refused_log refused ++ 10 ∷ []
 
 -- a refusal is told by its own line, with 1, where there is memory for the line
 abbrev pub TellsRefusal : {A : Type 0} → (A → List ℕ) → A → ℕ → Seen → Seen → Type 0

@@ -4,8 +4,6 @@ use Rattle.std.specs.IoError.{error_kind}
 use Rattle.std.specs.declared.io.Error.{Error}
 use Rattle.std.specs.declared.io.ErrorKind.{ErrorKind}
 use Rattle.std.specs.declared.io.ErrorKind.TheVariants as device
-use Rattle.tsb_plan_notes.specs.Places.{json_place}
-use Rattle.tsb_plan_notes.specs.declared.place.JsonPlace.{JsonPlace}
 use Rattle.tsb_log_text.specs.declared.error.LogError.{LogError}
 use Rattle.tsb_log_text.specs.declared.error.LogError.TheVariants as logs
 use Rattle.tsb_log_text.specs.declared.log.LogRow.{LogRow}
@@ -18,12 +16,15 @@ use Rattle.tsb_plan_text.specs.PlanText.{reading}
 use Rattle.tsb_objects.specs.Checked.{checked_plan}
 use Rattle.tsb_objects.specs.declared.checked.Checked.{Checked}
 use Rattle.tsb_objects.specs.tsb_plan.Plan.{Plan}
+use Rattle.tsb_program.specs.Clues.{log_clue, plan_clue}
+use Rattle.tsb_program.specs.declared.clue.PlanClue.{PlanClue}
 use Rattle.tsb_program.specs.declared.files.FileCause.TheVariants.{NoSuchFile, NotPermitted, Folder, Other}
 use Rattle.tsb_program.specs.declared.files.FileError.{FileError}
 use Rattle.tsb_program.specs.declared.files.FileError.TheVariants as files
 use Rattle.tsb_program.specs.declared.read.PlanFault.{PlanFault}
 use Rattle.tsb_program.specs.declared.read.ReadError.{ReadError}
 use Rattle.tsb_program.specs.declared.read.ReadError.TheVariants as faults
+use Rattle.tsb_program.specs.declared.read.RefusedLog.{RefusedLog}
 use Rattle.tsb_lines.specs.declared.watched.Watched.{Watched}
 
 -- these are the first bytes of a file, where its bytes are known, and all of them where there are no more than so many
@@ -34,9 +35,10 @@ IsFront known most bytes = IfSome known (λ all. bytes ≡ take most all)
 abbrev pub HasLog : Option (List ℕ) → List LogRow → Type 0
 HasLog known rows = (text : List ℕ) × IsFront known 67108865 text × (log_of text ≡ Ok rows)
 
--- the file has a text that gives no log, for this fault
-abbrev pub RefusesLog : Option (List ℕ) → LogError → Type 0
-RefusesLog known fault = (text : List ℕ) × IsFront known 67108865 text × (log_of text ≡ Err fault)
+-- the file has a text that gives no log, for this fault; and a second line says this of it
+abbrev pub RefusesLog : Option (List ℕ) → RefusedLog → Type 0
+RefusesLog known refused =
+    (text : List ℕ) × IsFront known 67108865 text × (log_of text ≡ Err refused.why) × (refused.clue ≡ log_clue refused.why text)
 
 -- out of memory is told as such, and each other fault of a device as a file that was not read
 abbrev pub file_fault : ErrorKind → FileError
@@ -64,18 +66,18 @@ BlamesFile may_open (faults.Failed why) = IsBlamed may_open why
 BlamesFile may_open (faults.Refused fault) = Unit {0}
 
 -- what was made of a log's text: out of memory is no refusal
-abbrev pub log_made : Result (List LogRow) LogError → Result (List LogRow) (ReadError LogError)
-log_made (Ok rows) = Ok rows
-log_made (Err logs.Memory) = Err (faults.Failed files.Memory)
-log_made (Err fault) = Err (faults.Refused fault)
+abbrev pub log_made : Result (List LogRow) LogError → List ℕ → Result (List LogRow) (ReadError RefusedLog)
+log_made (Ok rows) text = Ok rows
+log_made (Err logs.Memory) text = Err (faults.Failed files.Memory)
+log_made (Err fault) text = Err (faults.Refused (record { why = fault; clue = log_clue fault text }))
 
 -- what came of what was read of a log's file: why it was not read, or what was made of its text
-abbrev pub LogIn : {V : Type 0} → (V → List ℕ) → Result V FileError → Result (List LogRow) (ReadError LogError) → Type 0
-LogIn text_of (Ok read) result = (answer : Result (List LogRow) LogError) × Gives answer (log_of (text_of read)) × (result ≡ log_made answer)
+abbrev pub LogIn : {V : Type 0} → (V → List ℕ) → Result V FileError → Result (List LogRow) (ReadError RefusedLog) → Type 0
+LogIn text_of (Ok read) result = (answer : Result (List LogRow) LogError) × Gives answer (log_of (text_of read)) × (result ≡ log_made answer (text_of read))
 LogIn text_of (Err why) result = result ≡ Err (faults.Failed why)
 
 -- what came of reading a log's file
-abbrev pub LogRead : Result (List LogRow) (ReadError LogError) → Option (List ℕ) → Type 0
+abbrev pub LogRead : Result (List LogRow) (ReadError RefusedLog) → Option (List ℕ) → Type 0
 LogRead (Ok rows) known = HasLog known rows
 LogRead (Err (faults.Refused fault)) known = RefusesLog known fault
 LogRead (Err (faults.Failed why)) known = Unit {0}
@@ -106,38 +108,33 @@ PlanRead (Ok found) known = HasPlan known (checked_plan found)
 PlanRead (Err (faults.Refused fault)) known = RefusesPlan known fault
 PlanRead (Err (faults.Failed why)) known = Unit {0}
 
--- where the text of a plan stops being JSON, where its fault is that it is none
-abbrev pub fault_place : PlanError → List ℕ → Option JsonPlace
-fault_place told.NotJson text = json_place text
-fault_place fault text = None
-
--- the same of why there is no plan
-abbrev pub place_of : ReadError PlanError → List ℕ → Option JsonPlace
-place_of (faults.Refused fault) text = fault_place fault text
-place_of (faults.Failed why) text = None
+-- what a second line says of a text, by why it gives no plan
+abbrev pub clue_of : ReadError PlanError → List ℕ → Option PlanClue
+clue_of (faults.Refused fault) text = plan_clue fault text
+clue_of (faults.Failed why) text = None
 
 -- the same beside why a text gives no plan
 abbrev pub placed : Result Checked (ReadError PlanError) → List ℕ → Result Checked PlanFault
 placed (Ok plan) text = Ok plan
-placed (Err why) text = Err (record { why = why; place = place_of why text })
+placed (Err why) text = Err (record { why = why; clue = clue_of why text })
 
--- what came of what was read of a plan's file, with the place in its text
+-- what came of what was read of a plan's file, with what a second line says of its text
 abbrev pub PlanPlaced : {V : Type 0} → (V → List ℕ) → Result V FileError → Result Checked PlanFault → Type 0
 PlanPlaced text_of (Ok read) result =
     (answer : Result Checked PlanError) × plans.Gives checked_plan answer (reading (text_of read)) × (result ≡ placed (plan_made answer) (text_of read))
-PlanPlaced text_of (Err why) result = result ≡ Err (record { why = faults.Failed why; place = None })
+PlanPlaced text_of (Err why) result = result ≡ Err (record { why = faults.Failed why; clue = None })
 
--- the file has a text that gives no plan, for this fault, which is not out of memory; and this is its place
-abbrev pub RefusesPlanAt : Option (List ℕ) → PlanError → Option JsonPlace → Type 0
-RefusesPlanAt known fault place =
-    (text : List ℕ) × IsFront known 1048577 text × Tells fault (reading text) × (fault ≡ told.Memory → ⊥) × (place ≡ fault_place fault text)
+-- the file has a text that gives no plan, for this fault, which is not out of memory; and a second line says this of it
+abbrev pub RefusesPlanAt : Option (List ℕ) → PlanError → Option PlanClue → Type 0
+RefusesPlanAt known fault clue =
+    (text : List ℕ) × IsFront known 1048577 text × Tells fault (reading text) × (fault ≡ told.Memory → ⊥) × (clue ≡ plan_clue fault text)
 
--- why the file gives no plan, and the place in its text
-abbrev pub HasNoPlan : ReadError PlanError → Option JsonPlace → Option (List ℕ) → Type 0
-HasNoPlan (faults.Refused fault) place known = RefusesPlanAt known fault place
-HasNoPlan (faults.Failed why) place known = Unit {0}
+-- why the file gives no plan, and what a second line says of its text
+abbrev pub HasNoPlan : ReadError PlanError → Option PlanClue → Option (List ℕ) → Type 0
+HasNoPlan (faults.Refused fault) clue known = RefusesPlanAt known fault clue
+HasNoPlan (faults.Failed why) clue known = Unit {0}
 
--- what came of reading a plan's file, with the place in its text
+-- what came of reading a plan's file, with what a second line says of its text
 abbrev pub PlanFound : Result Checked PlanFault → Option (List ℕ) → Type 0
 PlanFound (Ok found) known = HasPlan known (checked_plan found)
-PlanFound (Err fault) known = HasNoPlan fault.why fault.place known
+PlanFound (Err fault) known = HasNoPlan fault.why fault.clue known

@@ -1,15 +1,12 @@
--- Second lines: where a plan's text stops being JSON, and which file was not read.
-use Rattle.std.specs.Prelude.{◌≡◌, ◌⊎◌, ℕ, ◌==◌, ◌||◌, nat_lt, if◌then◌else◌, List, [], ◌∷◌, ◌++◌, map, take, Option, Some, None, codes}
-use Rattle.tsb_plan_notes.specs.Places.{place_text}
-use Rattle.tsb_plan_notes.specs.declared.place.JsonPlace.{JsonPlace}
-use Rattle.tsb_log_text.specs.declared.error.LogError.{LogError}
+-- Second lines: what is said of a plan's text, and which file was not read.
+use Rattle.std.specs.Prelude.{◌≡◌, ◌⊎◌, ℕ, List, ◌++◌, map, take, Option, codes}
 use Rattle.tsb_plan_text.specs.declared.error.PlanError.{PlanError}
 use Rattle.tsb_text.specs.declared.error.SessionError.{SessionError}
 use Rattle.tsb_text.specs.declared.error.SessionError.TheVariants as ends
 use Rattle.tsb_program.specs.Failures.{Fails}
-use Rattle.tsb_log_text.specs.FaultLines.{log_fault}
-use Rattle.tsb_program.specs.Lines.{TellsRefusal, plan_line}
-use Rattle.tsb_program.specs.Read.{fault_place}
+use Rattle.tsb_program.specs.Lines.{TellsRefusal, plan_line, refused_log}
+use Rattle.tsb_program.specs.Clues.{plan_clue, plan_clue_line}
+use Rattle.tsb_program.specs.declared.clue.PlanClue.{PlanClue}
 use Rattle.tsb_program.specs.declared.failure.Failure.TheVariants.{Memory, Input, Write}
 use Rattle.tsb_program.specs.declared.files.FileCause.{FileCause}
 use Rattle.tsb_program.specs.declared.files.FileCause.TheVariants.{NoSuchFile, NotPermitted, Folder, Other}
@@ -18,16 +15,14 @@ use Rattle.tsb_program.specs.declared.files.FileError.TheVariants as files
 use Rattle.tsb_program.specs.declared.read.PlanFault.{PlanFault}
 use Rattle.tsb_program.specs.declared.read.ReadError.{ReadError}
 use Rattle.tsb_program.specs.declared.read.ReadError.TheVariants as faults
+use Rattle.tsb_program.specs.declared.read.RefusedLog.{RefusedLog}
 use Rattle.tsb_program.specs.declared.told.TheConstants.{SHOWN}
 use Rattle.tsb_lines.specs.Seen.{Seen, Tells}
+use Rattle.tsb_words.specs.Shown.{safe}
 
 -- ## A file that was not read
 
--- a byte as it is told: a question mark for a double quote and for all that is no printed character of ASCII
-abbrev pub safe : ℕ → ℕ
-safe byte = if nat_lt byte 32 || nat_lt 126 byte || byte == 34 then 63 else byte
-
--- a name as it is told: its first bytes
+-- a name as it is told: its first bytes, with a question mark for all that a line can't show
 abbrev pub shown : List ℕ → List ℕ
 shown name = map safe (take SHOWN name)
 
@@ -53,28 +48,23 @@ FailsToReadFile name status told tells = (why : FileError) × FailsFile name why
 
 -- ## A plan or a log that there is not
 
--- the line of a place at which a plan's text stops being JSON
-abbrev pub place_line : Option JsonPlace → List ℕ
-place_line None = []
-place_line (Some place) = codes "plan " ++ (place_text place ++ 10 ∷ [])
-
--- the lines of a fault of a plan with this text: that of the fault, and that of the place at which the text stops being JSON
+-- the lines of a fault of a plan with this text: that of the fault, and that of what is said of the text
 abbrev pub plan_lines : PlanError → List ℕ → List ℕ
-plan_lines fault text = plan_line fault ++ place_line (fault_place fault text)
+plan_lines fault text = plan_line fault ++ plan_clue_line (plan_clue fault text)
 
--- a plan is refused with 1: its fault is told, and in a second line where its text stops being JSON
-abbrev pub RefusesAt : PlanError → Option JsonPlace → ℕ → Seen → Seen → Type 0
-RefusesAt fault place status told tells =
-    ((status ≡ 1) × Tells told tells (plan_line fault ++ place_line place)) ⊎ Fails Memory status told tells
+-- a plan is refused with 1: its fault is told, and in a second line what is said of its text
+abbrev pub RefusesAt : PlanError → Option PlanClue → ℕ → Seen → Seen → Type 0
+RefusesAt fault clue status told tells =
+    ((status ≡ 1) × Tells told tells (plan_line fault ++ plan_clue_line clue)) ⊎ Fails Memory status told tells
 
 -- why there is no plan is told, with the name of its file, where that was not read
-abbrev pub TellsWhy : List ℕ → ReadError PlanError → Option JsonPlace → ℕ → Seen → Seen → Type 0
-TellsWhy name (faults.Failed why) place status told tells = FailsFile name why status told tells
-TellsWhy name (faults.Refused fault) place status told tells = RefusesAt fault place status told tells
+abbrev pub TellsWhy : List ℕ → ReadError PlanError → Option PlanClue → ℕ → Seen → Seen → Type 0
+TellsWhy name (faults.Failed why) clue status told tells = FailsFile name why status told tells
+TellsWhy name (faults.Refused fault) clue status told tells = RefusesAt fault clue status told tells
 
--- the same of a fault with its place
+-- the same of a fault with what is said of the text
 abbrev pub TellsNoPlan : List ℕ → PlanFault → ℕ → Seen → Seen → Type 0
-TellsNoPlan name fault status told tells = TellsWhy name fault.why fault.place status told tells
+TellsNoPlan name fault status told tells = TellsWhy name fault.why fault.clue status told tells
 
 -- a line says why there is no plan or log: the file of this name was not read, or its text is refused by its own line
 abbrev pub Refuses : {A : Type 0} → (A → List ℕ) → List ℕ → ReadError A → ℕ → Seen → Seen → Type 0
@@ -82,12 +72,12 @@ Refuses line_of name (faults.Failed why) status told tells = FailsFile name why 
 Refuses line_of name (faults.Refused why) status told tells = TellsRefusal line_of why status told tells
 
 -- a log is refused with 1
-abbrev pub RefusesLogText : LogError → ℕ → Seen → Seen → Type 0
-RefusesLogText fault status told tells = TellsRefusal log_fault fault status told tells
+abbrev pub RefusesLogText : RefusedLog → ℕ → Seen → Seen → Type 0
+RefusesLogText fault status told tells = TellsRefusal refused_log fault status told tells
 
 -- the same of a log
-abbrev pub TellsNoLog : List ℕ → ReadError LogError → ℕ → Seen → Seen → Type 0
-TellsNoLog name fault status told tells = Refuses log_fault name fault status told tells
+abbrev pub TellsNoLog : List ℕ → ReadError RefusedLog → ℕ → Seen → Seen → Type 0
+TellsNoLog name fault status told tells = Refuses refused_log name fault status told tells
 
 -- ## A run on standard input
 

@@ -1,11 +1,11 @@
 //! Why a text is refused.
 ghost use Rattle.std.specs.Prelude.{◌≡◌, ◌++◌, ◌∷◌, ℕ, [], IfOk, List, string_bytes};
-ghost use Rattle.tsb_log_text.specs.FaultLines.{log_fault};
 ghost use Rattle.tsb_plan_text.specs.FaultLines.{plan_fault};
+ghost use Rattle.tsb_program.specs.Lines.{refused_log};
 
 use crate::lines::line_of;
+use crate::read::RefusedLog;
 use std::alloc::{AllocError, Global};
-use tsb_log_text::LogError;
 use tsb_plan_text::PlanError;
 
 /// Why a text is refused: a program reports it by a line of its own.
@@ -26,10 +26,10 @@ impl TextRefusal for PlanError {
     }
 }
 
-impl TextRefusal for LogError {
-    ghost told = { log_fault };
+impl TextRefusal for RefusedLog {
+    ghost told = { refused_log };
 
     fn ended_line(&self, alloc: Global) -> Result<String, AllocError> {
-        line_of(alloc, self.line())
+        line_of(alloc, *self)
     }
 }

@@ -15,7 +15,7 @@ use crate::read::{PlanFault, ReadError};
 use crate::refusal::TextRefusal;
 use crate::status::ExitStatus;
 use crate::streams::Streams;
-use crate::told::{file_line, place_line, write_both};
+use crate::told::{file_line, plan_clue_line, write_both};
 use std::alloc::Global;
 use std::io::{Read, Write};
 use tsb_text::SessionError;
@@ -93,17 +93,17 @@ impl<R: Read, W: Write, E: Write> Streams<R, W, E> {
         }
     }
 
-    /// Reports why there is no plan, and gives the status that the program ends with. A second line has where the text
-    /// stops being JSON, or which file was not read.
+    /// Reports why there is no plan, and gives the status that the program ends with. A second line has what is said of
+    /// the text, or which file was not read.
     pub fn refuse_plan(&mut self, alloc: Global, path: &str, fault: PlanFault) -> u8
         ensures { OnlyTells (TellsNoPlan path.now fault result) self.old self.new }
     {
-        let PlanFault { why, place } = fault;
+        let PlanFault { why, clue } = fault;
         match why {
             ReadError::Failed(why) => self.fail_file(path, why),
             ReadError::Refused(why) => match line_of(alloc, why.line()) {
                 Ok(line) => {
-                    let second = place_line(place);
+                    let second = plan_clue_line(clue);
                     self.tell_both(ExitStatus::Refused, line.as_bytes(), second.as_bytes())
                 }
                 Err(_) => self.fail(Failure::Memory),

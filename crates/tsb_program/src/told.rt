@@ -1,18 +1,20 @@
-//! Second lines: where a plan's text stops being JSON, and which file was not read.
+//! Second lines: what is said of a plan's text, and which file was not read.
 ghost use Rattle.std.specs.Prelude.{◌≡◌, ◌++◌, ◌≤◌, length, IfOk, OnErr, OnOk, true};
 ghost use Rattle.tsb_lines.specs.Writes.{AppendsFront};
-ghost use Rattle.tsb_program.specs.Told.{cause_text, file_line, place_line, plan_lines, safe, shown};
+ghost use Rattle.tsb_program.specs.Clues.{plan_clue_line};
+ghost use Rattle.tsb_program.specs.Told.{cause_text, file_line, plan_lines, shown};
 ghost use Rattle.tsb_lines.specs.Seen.{GoesOut, seen};
 
+use crate::clue::{PlanClue, plan_clue};
 use crate::files::FileCause;
 use crate::lines::{line_of, write_line};
-use crate::read::fault_place;
 use arrayvec::ArrayVec;
 use std::alloc::{AllocError, Global};
 use std::io::Write;
 use tsb_lines::{ShortLine, Watched, WriteError};
-use tsb_plan_notes::{JsonPlace, TOLD, place_text};
+use tsb_plan_notes::{TOLD, place_text};
 use tsb_plan_text::PlanError;
+use tsb_words::shown::safe;
 
 /// How many bytes of the name of a file are told at most.
 const SHOWN: usize = 200;
@@ -20,19 +22,19 @@ const SHOWN: usize = 200;
 /// The greatest length of the line of a file, in bytes.
 const FILE_LINE: usize = 240;
 
-/// The greatest length of the line of a place, in bytes.
+/// The greatest length of the line of a place, in bytes, or of another second line of a plan.
 const PLACE_LINE: usize = TOLD + 6;
 
-/// The line of a fault of a plan with this text, and where the text stops being JSON a second line with the place. The
+/// The line of a fault of a plan with this text, and a second line with what is said of the text, if something is. The
 /// error is that memory ran out.
 pub fn plan_lines(alloc: Global, fault: PlanError, text: &[u8]) -> Result<Vec<u8>, AllocError>
     ensures { IfOk result (λ lines. lines.items ≡ plan_lines fault text.now) }
 {
-    let place = fault_place(&fault, text);
+    let clue = plan_clue(&fault, text);
     let line = line_of(alloc, fault.line())?;
     let mut lines = Vec::new(alloc);
     lines.extend_from_slice(line.as_bytes())?;
-    lines.extend_from_slice(place_line(place).as_bytes())?;
+    lines.extend_from_slice(plan_clue_line(clue).as_bytes())?;
     Ok(lines)
 }
 
@@ -77,18 +79,24 @@ fn cause_text(cause: FileCause) -> &'static [u8]
     }
 }
 
-/// The line of a place at which a plan's text stops being JSON: nothing where there is none.
-pub(crate) fn place_line(place: Option<JsonPlace>) -> ShortLine<PLACE_LINE>
-    ensures { result ≡ place_line place }
+/// The line of what is said of a plan's text: nothing where there is nothing to say.
+pub(crate) fn plan_clue_line(clue: Option<PlanClue>) -> ShortLine<PLACE_LINE>
+    ensures { result ≡ plan_clue_line clue }
 {
     let mut text = ShortLine::new();
-    match place {
+    match clue {
         None => {}
-        Some(place) => {
+        Some(PlanClue::Place(place)) => {
             text.push(b"plan ");
             text.push(place_text(place).as_bytes());
             text.push(b"\n");
         }
+        Some(PlanClue::Marked) => {
+            text.push(b"plan line 1, column 1: a byte order mark: save the text without it\n")
+        }
+        Some(PlanClue::InputLog) => text.push(
+            b"plan line 1, column 1: it looks like an input log\n",
+        ),
     }
     text
 }
@@ -105,15 +113,4 @@ fn shown(name: &[u8]) -> ArrayVec<u8, SHOWN>
         text.push(safe(*byte));
     }
     text
-}
-
-/// A byte of a name as it is told.
-fn safe(byte: u8) -> u8
-    ensures { result ≡ safe byte }
-{
-    if byte < b' ' || byte > b'~' || byte == b'"' {
-        b'?'
-    } else {
-        byte
-    }
 }

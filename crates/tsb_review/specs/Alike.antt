@@ -12,17 +12,18 @@ use Rattle.tsb_review.specs.declared.place.Place.{Place}
 use Rattle.tsb_review.specs.declared.place.Place.TheVariants as at
 use Rattle.tsb_review.specs.Coordination.{yields_too_long}
 use Rattle.tsb_review.specs.Pedestrians.{overruns_split}
-use Rattle.tsb_review.specs.Splits.{green_of_split, left_short}
+use Rattle.tsb_review.specs.Splits.{green_of_split, left_short, longest_permissive}
 
 -- walk and clearance of p are longer than the green of its split in pattern m too, and that is as long as in pattern n
 abbrev pub overruns_alike : Plan → ℕ → ℕ → ℕ → Bool
 overruns_alike plan n p m = overruns_split plan m p && green_of_split plan m p == green_of_split plan n p
 
--- the permissive time of pattern m is too long for p too, is that of pattern n, and leaves the same first phase short
+-- the permissive time of pattern m is too long for p too, is that of pattern n, and leaves the same first phase short by
+-- as much
 abbrev pub is_permissive_alike : Plan → ℕ → ℕ → ℕ → Bool
 is_permissive_alike plan n p m =
     yields_too_long plan m p && (permissive_time plan m == permissive_time plan n &&
-    option_eq (λ q r. q == r) (left_short plan m p) (left_short plan n p))
+    (option_eq (λ q r. q == r) (left_short plan m p) (left_short plan n p) && longest_permissive plan m p == longest_permissive plan n p))
 
 -- the advice says the same of p in pattern m as in pattern n
 abbrev pub is_alike : Plan → Advice → ℕ → ℕ → ℕ → Bool

@@ -1,4 +1,4 @@
--- The numbers that the line of a finding shows, up to four, named `a` to `d`. Times are in tenths of a second.
+-- The numbers that the line of a finding shows, up to five, named `a` to `e`. Times are in tenths of a second.
 use Rattle.std.specs.Prelude.{ℕ, Option, Some, None}
 use Rattle.tsb_types.specs.Lists.{or_number}
 use Rattle.tsb_plan.specs.Parts.{call_phase, detector_delay, detector_extend, maximum_presence, cycle, permissive_time, minimum_duration, preempt_maximum_presence, correction_limit}
@@ -13,14 +13,14 @@ use Rattle.tsb_review.specs.declared.place.Place.{Place}
 use Rattle.tsb_review.specs.declared.place.Place.TheVariants as at
 use Rattle.tsb_review.specs.Service.{apart_from, rivalled, rival_of}
 use Rattle.tsb_review.specs.Pedestrians.{pedestrian_time, rest_end}
-use Rattle.tsb_review.specs.Splits.{green_of_split, passed_by, left_short}
+use Rattle.tsb_review.specs.Splits.{green_of_split, passed_by, left_short, longest_permissive}
 use Rattle.tsb_review.specs.Clearance.{reverting}
 use Rattle.tsb_review.specs.Coordination.{spare_time, overrun, first_same}
 use Rattle.tsb_review.specs.Detection.{cycle_of, tripping}
 use Rattle.tsb_review.specs.Entry.{entry_count}
 use Rattle.tsb_review.specs.Overlaps.{split_at, split_from, turn_of}
 
--- four numbers, and no fifth, which breaches of rules alone have
+-- four numbers, and no fifth
 abbrev pub four : ℕ → ℕ → ℕ → ℕ → Numbers
 four a b c d = record { a = a; b = b; c = c; d = d; e = 0 }
 
@@ -64,7 +64,7 @@ of_detector plan A48 d = four d 0 (number_of (call_phase plan d)) 0
 of_detector plan A49 d = four d (maximum_presence plan d) (cycle_of plan (tripping plan d)) (number_of (tripping plan d))
 of_detector plan x d = four d 0 0 0
 
--- of a phase in a pattern: the phase, times or another phase, and last the pattern
+-- of a phase in a pattern: the phase, times or another phase, and the pattern; of A43 then the longest permissive time
 abbrev pub of_split : Plan → Advice → ℕ → ℕ → Numbers
 of_split plan A4 n p = four p 0 (number_of (apart_from plan n p)) n
 of_split plan A12 n p = four p (pedestrian_time plan p) (green_of_split plan n p) n
@@ -72,7 +72,13 @@ of_split plan A14 n p = four p (pedestrian_clear plan p) (number_of (passed_by p
 of_split plan A27 n p = four p (spare_time plan n p) 0 n
 of_split plan A28 n p = four p 0 (number_of (passed_by plan n p (overrun plan n p))) n
 of_split plan A42 n p = four p (number_of (pattern_maximum plan (Some n) p)) (green_of_split plan n p) n
-of_split plan A43 n p = four p (permissive_time plan n) (number_of (left_short plan n p)) n
+of_split plan A43 n p = record {
+  a = p;
+  b = permissive_time plan n;
+  c = number_of (left_short plan n p);
+  d = n;
+  e = longest_permissive plan n p;
+}
 of_split plan x n p = four p 0 0 n
 
 -- of a ring on a side: both, and how many of its phases there have dual entry

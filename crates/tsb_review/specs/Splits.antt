@@ -49,3 +49,12 @@ is_left_short plan n p q =
 -- the first such phase
 abbrev pub left_short : Plan → ℕ → ℕ → Option ℕ
 left_short plan n p = first (is_left_short plan n p) (phases plan)
+
+-- the longest permissive time that leaves this phase its minimum green: 0 where there is none, or the pattern is not used
+abbrev pub longest_before : Plan → ℕ → ℕ → Option ℕ → ℕ
+longest_before plan n p None = 0
+longest_before plan n p (Some q) = if is_used plan n then instant_from plan n p q - minimum_green plan q else 0
+
+-- the longest that leaves it to the first phase that the present one can leave less
+abbrev pub longest_permissive : Plan → ℕ → ℕ → ℕ
+longest_permissive plan n p = longest_before plan n p (left_short plan n p)

@@ -10,7 +10,7 @@ use crate::coordination::yields_too_long;
 use crate::finding::Finding;
 use crate::pedestrians::overruns_split;
 use crate::place::Place;
-use crate::splits::{green_of_split, left_short};
+use crate::splits::{green_of_split, left_short, longest_permissive};
 use tsb_plan::Plan;
 use tsb_types::{Pattern, Phase};
 
@@ -24,13 +24,14 @@ fn overruns_alike(plan: &Plan, pattern: Pattern, phase: Phase, other: Pattern) -
 }
 
 /// Whether the permissive time of pattern `other` is too long for the phase too, is that of the pattern, and leaves the
-/// same first phase short.
+/// same first phase short by as much.
 fn is_permissive_alike(plan: &Plan, pattern: Pattern, phase: Phase, other: Pattern) -> bool
     ensures { result ≡ is_permissive_alike (plan_of plan.now) pattern phase other }
 {
     yields_too_long(plan, other, phase)
         && plan.permissive_time(other) == plan.permissive_time(pattern)
         && left_short(plan, other, phase) == left_short(plan, pattern, phase)
+        && longest_permissive(plan, other, phase) == longest_permissive(plan, pattern, phase)
 }
 
 /// Whether the advice says the same of the phase in pattern `other` as in the pattern.

@@ -15,7 +15,7 @@ use crate::overlaps::{split_at, split_from, turn_of};
 use crate::pedestrians::{passed_by_rest, pedestrian_time};
 use crate::place::Place;
 use crate::service::{apart_from, rival_of, rivalled};
-use crate::splits::{green_of_split, left_short};
+use crate::splits::{green_of_split, left_short, longest_permissive};
 use tsb_plan::Plan;
 use tsb_types::{Detector, Overlap, Pattern, Phase, Preempt, Ring, Side};
 
@@ -32,7 +32,7 @@ pub struct Numbers {
     pub c: u32,
     /// The number of the pattern, for a phase in a pattern.
     pub d: u32,
-    /// No advice has a fifth number; breaches of rules do.
+    /// A time in tenths of a second, of A43 alone; breaches of rules have other numbers here.
     pub e: u32,
 }
 
@@ -175,7 +175,7 @@ fn of_detector(plan: &Plan, advice: Advice, detector: Detector) -> Numbers
     }
 }
 
-/// Of a phase in a pattern: the phase, times or another phase, and last the pattern.
+/// Of a phase in a pattern: the phase, times or another phase, and the pattern; of A43 then the longest permissive time.
 fn of_split(plan: &Plan, advice: Advice, pattern: Pattern, phase: Phase) -> Numbers
     ensures { result ≡ of_split (plan_of plan.now) advice pattern phase }
 {
@@ -201,7 +201,13 @@ fn of_split(plan: &Plan, advice: Advice, pattern: Pattern, phase: Phase) -> Numb
         }
         Advice::A43 => {
             let short = left_short(plan, pattern, phase);
-            four(p, plan.permissive_time(pattern), phase_or_zero(short), n)
+            Numbers {
+                a: p,
+                b: plan.permissive_time(pattern),
+                c: phase_or_zero(short),
+                d: n,
+                e: longest_permissive(plan, pattern, phase),
+            }
         }
         _ => four(p, 0, 0, n),
     }

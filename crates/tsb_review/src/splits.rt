@@ -6,7 +6,7 @@ ghost use Rattle.tsb_plan.specs.Parts.{cycle, is_used};
 ghost use Rattle.tsb_plan.specs.Plan.{yellow_change, red_clear};
 ghost use Rattle.tsb_plan.specs.PlanOf.{plan_of};
 ghost use Rattle.tsb_objects.specs.Instants.{end_of, instant_from};
-ghost use Rattle.tsb_review.specs.Splits.{split_time_in, green_of_split, is_forced_after, is_behind, is_passed, passed_by, is_left_short, left_short};
+ghost use Rattle.tsb_review.specs.Splits.{split_time_in, green_of_split, is_forced_after, is_behind, is_passed, passed_by, is_left_short, left_short, longest_before, longest_permissive};
 
 use crate::calls::conflicts;
 use crate::sought::{SoughtPhase, first_phase};
@@ -123,4 +123,24 @@ pub(crate) fn left_short(plan: &Plan, pattern: Pattern, phase: Phase) -> Option<
     ensures { result ≡ left_short (plan_of plan.now) pattern phase }
 {
     first_phase(plan, SoughtPhase::LeftShort(pattern, phase))
+}
+
+/// The longest permissive time of the phase, in tenths of a second, that leaves its minimum green to the first phase that
+/// the present one can leave less.
+pub(crate) fn longest_permissive(plan: &Plan, pattern: Pattern, phase: Phase) -> u32
+    ensures { result ≡ longest_permissive (plan_of plan.now) pattern phase }
+{
+    longest_before(plan, pattern, phase, left_short(plan, pattern, phase))
+}
+
+/// The longest permissive time that leaves this one its minimum green: 0 where there is none, or the pattern is not used.
+fn longest_before(plan: &Plan, pattern: Pattern, phase: Phase, next: Option<Phase>) -> u32
+    ensures { result ≡ longest_before (plan_of plan.now) pattern phase next }
+{
+    match next {
+        Some(next) if plan.is_used(pattern) => {
+            instant_from(plan, pattern, phase, next).saturating_sub(plan.minimum_green(next))
+        }
+        _ => 0,
+    }
 }

@@ -1,5 +1,5 @@
 -- THE LINES OF ADVICES: the text of each, with letters where numbers stand. P, Q, R and S are the numbers a, b, c and d of
--- a finding; W, X, Y and Z are the same as times, in seconds.
+-- a finding; W, X, Y and Z are the same as times, in seconds, and U is the number e as a time.
 use Rattle.std.specs.Prelude.{ℕ, if◌then◌else◌, List, codes}
 use Rattle.tsb_plan.specs.Plan.{Plan}
 use Rattle.tsb_review.specs.declared.advice.Advice.{Advice}
@@ -50,7 +50,7 @@ template A39 = codes "A39 overlap P: it includes phases Q and R of two rings tha
 template A40 = codes "A40 overlap P: phase Q is an included and a modifier phase, so it is not green with it"
 template A41 = codes "A41 overlap P: no phase of it follows another in a ring, so it shows what its phases show"
 template A42 = codes "A42 phase P: its maximum of X s is under the Y s of green that its split leaves in pattern S"
-template A43 = codes "A43 phase P: its permissive time of X s can leave less than the minimum green of phase R before its force-off in pattern S"
+template A43 = codes "A43 phase P: its permissive time of X s is over the U s that leave phase R its minimum green before its force-off in pattern S"
 template A44 = codes "A44 pattern P: patternLeadLag has no effect, since the splits of its coordinated phases end at one time"
 template A45 = codes "A45 phase P: its pedestrian recycle has no effect, since no used pattern has it as a coordinated phase with a walk"
 template A46 = codes "A46 phase P: its walk begins again after each clearance in pattern S, since it has pedestrian recall and pedestrian recycle"

@@ -20,7 +20,7 @@ pub(crate) fn wording(plan: &Plan, finding: &Finding) -> &'static [u8]
 }
 
 /// The text of an advice. P, Q, R and S stand for the numbers `a`, `b`, `c` and `d` of a finding; W, X, Y and Z for the
-/// same as times, in seconds.
+/// same as times, in seconds, and U for the number `e` as a time.
 fn template(advice: Advice) -> &'static [u8]
     ensures { result.now ≡ template advice }
 {
@@ -123,7 +123,7 @@ fn template(advice: Advice) -> &'static [u8]
             b"A42 phase P: its maximum of X s is under the Y s of green that its split leaves in pattern S"
         }
         Advice::A43 => {
-            b"A43 phase P: its permissive time of X s can leave less than the minimum green of phase R before its force-off in pattern S"
+            b"A43 phase P: its permissive time of X s is over the U s that leave phase R its minimum green before its force-off in pattern S"
         }
         Advice::A44 => {
             b"A44 pattern P: patternLeadLag has no effect, since the splits of its coordinated phases end at one time"

@@ -4,8 +4,8 @@ use std::alloc::{AllocError, Global};
 use std::io::{self, ErrorKind, Read, Write};
 use tsb_log_text::LogError;
 use tsb_program::{
-    ExitStatus, FileCause, FileError, Files, ReadError, Watched, line_of, log_of, read_file, tell,
-    write_line,
+    ExitStatus, FileCause, FileError, Files, ReadError, RefusedLog, Watched, line_of, log_of,
+    read_file, tell, write_line,
 };
 use tsb_types::Row;
 
@@ -149,7 +149,10 @@ fn gives_its_log(alloc: Global) -> bool {
 fn is_refused(alloc: Global) -> bool {
     matches!(
         log_of(alloc, &whole(TWICE, 7), "log"),
-        Err(ReadError::Refused(LogError::TickOrder(2)))
+        Err(ReadError::Refused(RefusedLog {
+            why: LogError::TickOrder(2),
+            clue: None
+        }))
     )
 }
 
@@ -164,7 +167,7 @@ fn a_file_gives_a_log_or_its_fault(rt: HostRuntime) {
 
 /// Whether a file's fault is printed as this line, alone and as why the file gives no log.
 fn is_printed(alloc: Global, fault: FileError, line: &str) -> bool {
-    let why: ReadError<LogError> = ReadError::Failed(fault);
+    let why: ReadError<RefusedLog> = ReadError::Failed(fault);
     is_text(format!(in alloc; "{fault}"), line) && is_text(format!(in alloc; "{why}"), line)
 }
 
@@ -189,7 +192,8 @@ fn each_fault_of_a_file_is_printed_as_its_line(rt: HostRuntime) {
     for (fault, line) in &faults {
         assert!(rt; is_printed(rt.alloc(), *fault, line));
     }
-    let refused: ReadError<LogError> = ReadError::Refused(LogError::Malformed(3));
+    let why = LogError::Malformed(3);
+    let refused: ReadError<RefusedLog> = ReadError::Refused(RefusedLog { why, clue: None });
     assert!(rt; is_text(format!(in rt.alloc(); "{refused}"), "log line 3: malformed"));
 }
 

@@ -18,5 +18,7 @@ pub mod LiveLemmas
 pub mod OptionLemmas
 -- words and the wires that they spell
 pub mod WireLemmas
+-- room in the line of what is wrong with words
+pub mod RoomLemmas
 -- words that are computed
 mod Examples

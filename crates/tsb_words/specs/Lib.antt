@@ -20,3 +20,7 @@ pub mod LiveProgram
 pub mod Pages
 -- right words that were perhaps meant by wrong ones
 pub mod Near
+-- words as lines show them
+pub mod Shown
+-- what is wrong with words of `tsb_field`, and the line that says it
+pub mod Wrong

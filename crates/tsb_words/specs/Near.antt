@@ -1,8 +1,7 @@
 -- The right word that was perhaps meant by a wrong one.
-use Rattle.std.specs.Prelude.{ℕ, ◌==◌, ◌&&◌, ◌||◌, Bool, true, false, if◌then◌else◌, List, [], ◌∷◌, ◌++◌, map, not, take, Option, Some, None, is_some, codes, bytes_eq}
+use Rattle.std.specs.Prelude.{ℕ, ◌==◌, ◌&&◌, ◌||◌, Bool, true, false, if◌then◌else◌, List, [], ◌∷◌, ◌++◌, map, take, Option, Some, None, codes, bytes_eq}
 use Rattle.std.specs.Borrow.{Bor}
 use Rattle.clap.specs.Walk.{Text}
-use Rattle.tsb_event_text.specs.Times.{moment_of}
 use Rattle.tsb_words.specs.Wires.{parts_of}
 use Rattle.tsb_words.specs.declared.near.TheConstants as words
 
@@ -66,6 +65,11 @@ near_in rights (word ∷ words) =
 abbrev pub texts : List (Bor (List ℕ)) → List Text
 texts rights = map (λ (right : Bor (List ℕ)). right.now) rights
 
+-- the first of these words
+abbrev pub first_word : List Text → Option Text
+first_word [] = None
+first_word (word ∷ words) = Some word
+
 -- the options of the command of this name: none where there is no such command
 abbrev pub words_of : Text → List Text
 words_of command =
@@ -93,30 +97,3 @@ field_near (name ∷ rest) = field_after rest
 -- the line that asks whether this right word was meant, and shows its first bytes
 abbrev pub hint : Text → List ℕ
 hint right = codes "did you mean " ++ (take words.SHOWN right ++ codes "? --help lists the words\n")
-
--- ## A moment that is none
-
--- the first of these words
-abbrev pub first_word : List Text → Option Text
-first_word [] = None
-first_word (word ∷ words) = Some word
-
--- the value of `--from` behind `=`
-abbrev pub joined_from : Option (Text × Text) → Option Text
-joined_from None = None
-joined_from (Some parts) = if bytes_eq parts.0 (codes "--from") then Some parts.1 else None
-
--- the value of `--from`, where a word, with those behind it, is that
-abbrev pub from_in : Text → List Text → Option Text
-from_in word behind = if bytes_eq word (codes "--from") then first_word behind else joined_from (parts_of word)
-
--- a value that names no moment
-abbrev pub names_no_time : Option Text → Bool
-names_no_time None = false
-names_no_time (Some text) = not (is_some (moment_of text))
-
--- `--from` has such a value among these words, before `--`
-abbrev pub has_bad_from : List Text → Bool
-has_bad_from [] = false
-has_bad_from (word ∷ behind) =
-    if bytes_eq word (codes "--") then false else names_no_time (from_in word behind) || has_bad_from behind

@@ -17,13 +17,14 @@ use crate::matches::matches_of;
 use clap::ArgMatches;
 use commands::PROGRAM;
 pub use options::{MOST_SECONDS, MOST_WINDOW, USUAL_WINDOW};
+pub(crate) use options::{seconds, window};
 use options::{form_said, from_said, moment, seconds_said, window_said, zone_said};
 use std::alloc::Global;
 use std::convert::AsStr;
 use tsb_event_text::{Moment, TimeForm, Zone, can_be_written};
 use tsb_field_log::{InputKind, Wire};
 use wires::add_option;
-pub(crate) use wires::parts;
+pub(crate) use wires::{parts, wire};
 
 /// What the words of `log` ask for.
 #[derive(Drop)]

@@ -9,5 +9,7 @@ pub mod live;
 mod matches;
 pub mod near;
 pub mod pages;
+pub mod shown;
+pub mod wrong;
 
 pub use error::WordsError;

@@ -1,10 +1,9 @@
 //! The right word that was perhaps meant by a wrong one.
 ghost use Rattle.std.specs.Prelude.{◌≡◌, ◌≤◌, length, map, option_map, take};
-ghost use Rattle.tsb_words.specs.Near.{field_near, first_word, from_in, front_of, has_bad_from, hint, is_joined, is_slip, is_slip_apart, is_turned, live_near, names_no_time, near, near_in, words_of};
+ghost use Rattle.tsb_words.specs.Near.{field_near, first_word, front_of, hint, is_joined, is_slip, is_slip_apart, is_turned, live_near, near, near_in, words_of};
 
 use crate::field_files::parts;
 use std::convert::AsStr;
-use tsb_event_text::read_moment;
 use tsb_lines::ShortLine;
 
 /// How many bytes of a right word are shown at most; all have fewer.
@@ -92,50 +91,8 @@ pub fn field_near<S: AsStr>(words: &[S]) -> Option<&'static str>
     }
 }
 
-/// Whether `--from` has a value among these words that names no moment, as one without its seconds: before `--`, where the
-/// first of all words is the program's name.
-pub fn has_bad_from<S: AsStr>(words: &[S]) -> bool
-    ensures { result ≡ has_bad_from (map S.text words.now) }
-{
-    let mut rest = words;
-    while let [word, behind @ ..] = rest {
-        if word.as_str() == "--" {
-            return false;
-        }
-        if names_no_time(word.as_str(), behind) {
-            return true;
-        }
-        rest = behind;
-    }
-    false
-}
-
-/// Whether a word, with those behind it, is `--from` with a value that names no moment.
-fn names_no_time<S: AsStr>(word: &str, behind: &[S]) -> bool
-    ensures { result ≡ names_no_time (from_in word.now (map S.text behind.now)) }
-{
-    match from_in(word, behind) {
-        Some(text) => read_moment(text).is_none(),
-        None => false,
-    }
-}
-
-/// The value of `--from`, where a word, with those behind it, is that.
-fn from_in<'a, S: AsStr>(word: &'a str, behind: &'a [S]) -> Option<&'a [u8]>
-    ensures { option_map (λ text. text.now) result ≡ from_in word.now (map S.text behind.now) }
-{
-    if word == "--from" {
-        return first_word(behind);
-    }
-    let (front, value) = parts(word.as_bytes())?;
-    if front == b"--from".as_slice() {
-        return Some(value);
-    }
-    None
-}
-
 /// The first of these words.
-fn first_word<S: AsStr>(words: &[S]) -> Option<&[u8]>
+pub(crate) fn first_word<S: AsStr>(words: &[S]) -> Option<&[u8]>
     ensures { option_map (λ text. text.now) result ≡ first_word (map S.text words.now) }
 {
     let [next, ..] = words else {
@@ -164,7 +121,7 @@ fn shown(right: &[u8]) -> &[u8]
 }
 
 /// The options of the command of this name: none where there is no such command.
-fn words_of(command: &str) -> &'static [&'static str]
+pub(crate) fn words_of(command: &str) -> &'static [&'static str]
     ensures { map (λ right. right.now) result.now ≡ words_of command.now }
 {
     if command == "log" {
@@ -198,7 +155,7 @@ fn near_in<S: AsStr>(right: &[&'static str], words: &[S]) -> Option<&'static str
 }
 
 /// A word up to a first `=`, behind which an option has its value.
-fn front_of(word: &[u8]) -> &[u8]
+pub(crate) fn front_of(word: &[u8]) -> &[u8]
     ensures { result.now ≡ front_of word.now }
 {
     match parts(word) {
@@ -220,7 +177,7 @@ fn near(right: &[&'static str], word: &[u8]) -> Option<&'static str>
 }
 
 /// Whether a word differs from a right one by a slip.
-fn is_slip(right: &[u8], word: &[u8]) -> bool
+pub(crate) fn is_slip(right: &[u8], word: &[u8]) -> bool
     ensures { result ≡ is_slip right.now word.now }
 {
     let mut left = right;

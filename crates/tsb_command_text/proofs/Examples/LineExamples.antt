@@ -6,7 +6,7 @@ use Rattle.tsb_log_text.specs.tsb_types.Sets.{set_of_list}
 use Rattle.tsb_log_text.specs.Rows.{inputs_of}
 use Rattle.tsb_command_text.specs.LiveCommands.{own_of_one, own_of_three, own_of_two}
 use Rattle.tsb_command_text.specs.LiveReadings.{live_reading}
-use Rattle.tsb_command_text.specs.declared.live_command.LiveCommand.TheVariants.{Session, Status, Changes, Plan, Edits, Events, Echo, Save}
+use Rattle.tsb_command_text.specs.declared.live_command.LiveCommand.TheVariants.{Session, Status, Changes, Plan, Edits, Events, Echo, Save, Help}
 use Rattle.tsb_command_text.specs.declared.live_command.LiveReading.TheVariants.{Skip, Bad, Tick, Ask}
 
 -- ## Rows
@@ -46,6 +46,10 @@ plan = refl
 edits : live_reading (codes "edits") ≡ Ask Edits
 unfolding live_reading inputs_of own_of_one
 edits = refl
+
+help : live_reading (codes "help") ≡ Ask Help
+unfolding live_reading inputs_of own_of_one
+help = refl
 
 save : live_reading (codes "save") ≡ Ask Save
 unfolding live_reading inputs_of own_of_one

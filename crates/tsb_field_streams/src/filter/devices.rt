@@ -1,6 +1,7 @@
 //! Which devices rows are of, and the line that names them.
-ghost use Rattle.std.specs.Prelude.{◌≡◌, ◌≤◌, ◌++◌, OnOk};
-ghost use Rattle.tsb_field_streams.specs.Devices.{are_several, device_text, devices_line, devices_text, four_devices, how_many_devices, is_named, is_same_device, named_device, with_device, with_new_device};
+ghost use Rattle.std.specs.Prelude.{◌≡◌, ◌++◌, OnOk};
+ghost use Rattle.tsb_field_streams.specs.Devices.{are_several, device_text, devices_from, devices_line, devices_text, how_many_devices, is_named, is_same_device, more_devices, named_device, with_device, with_new_device};
+ghost use Rattle.tsb_field_streams.specs.declared.filter.devices.TheConstants.{MOST_NAMED};
 
 use crate::fault_lines::shown;
 use itoa::Buffer;
@@ -102,8 +103,7 @@ fn append_devices_line(text: &mut Vec<u8>, devices: &Devices) -> Result<(), Allo
     text.extend_from_slice(b"devices: ")?;
     append_count(text, devices)?;
     text.extend_from_slice(b" in these rows:")?;
-    append_four(text, devices, 0)?;
-    append_four(text, devices, 4)?;
+    append_names(text, devices)?;
     text.extend_from_slice(b" (name one by --device)\n")
 }
 
@@ -112,21 +112,29 @@ fn append_count(text: &mut Vec<u8>, devices: &Devices) -> Result<(), AllocError>
     ensures { OnOk result (text.new.items ≡ text.old.items ++ how_many_devices devices.now) }
 {
     if devices.more {
-        return text.extend_from_slice(b"9 or more");
+        return append_more(text);
     }
     let mut buffer = Buffer::new();
     text.extend_from_slice(buffer.format(devices.count).as_bytes())
 }
 
-/// Adds the names of four devices from this place on, as far as there are any.
-fn append_four(text: &mut Vec<u8>, devices: &Devices, place: usize) -> Result<(), AllocError>
-    requires few { place ≤ 4 }
-    ensures { OnOk result (text.new.items ≡ text.old.items ++ four_devices devices.now place) }
+/// Adds that there are more devices than are named.
+fn append_more(text: &mut Vec<u8>) -> Result<(), AllocError>
+    ensures { OnOk result (text.new.items ≡ text.old.items ++ more_devices) }
 {
-    append_device(text, devices, place)?;
-    append_device(text, devices, place + 1)?;
-    append_device(text, devices, place + 2)?;
-    append_device(text, devices, place + 3)
+    let mut buffer = Buffer::new();
+    text.extend_from_slice(buffer.format(MOST_NAMED + 1).as_bytes())?;
+    text.extend_from_slice(b" or more")
+}
+
+/// Adds the names of the devices that are named.
+fn append_names(text: &mut Vec<u8>, devices: &Devices) -> Result<(), AllocError>
+    ensures { OnOk result (text.new.items ≡ text.old.items ++ devices_from devices.now 0 MOST_NAMED) }
+{
+    for place in 0..MOST_NAMED {
+        append_device(text, devices, place)?;
+    }
+    Ok(())
 }
 
 /// Adds the name of the device in this place, where there is one.

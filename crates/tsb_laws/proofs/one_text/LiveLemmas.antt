@@ -164,6 +164,7 @@ asks-one s t u line (live.Events on) text other fault faults a b = inl (a.0 ∙ 
 asks-one s t u line (live.Echo on) text other fault faults a b = inl (a.0 ∙ sym b.0, a.1 ∙ sym b.1, a.2 ∙ sym b.2)
 asks-one s t u line (live.When which) text other fault faults a b = inl (a.0 ∙ sym b.0, a.1 ∙ sym b.1, a.2 ∙ sym b.2)
 asks-one s t u line live.Save text other fault faults a b = inl (a.0 ∙ sym b.0, a.1 ∙ sym b.1, a.2 ∙ sym b.2)
+asks-one s t u line live.Help text other fault faults a b = inl (a.0 ∙ sym b.0, a.1 ∙ sym b.1, a.2 ∙ sym b.2)
 
 reads-one : (s t u : Live) (line : List ℕ) (r : LiveReading) (text other : List ℕ) (fault faults : Option LineFault) → Reads s line r text fault t → Reads s line r other faults u → One text other fault faults t u
 reads-one s t u line Skip text other fault faults a b = inl (a.0 ∙ sym b.0, a.1 ∙ sym b.1, a.2 ∙ sym b.2)

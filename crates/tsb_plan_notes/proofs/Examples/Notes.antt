@@ -18,6 +18,19 @@ half-seconds : entries_notes PhaseMinimumGreen (entry (number (codes "7.5"))) �
 unfolding is_index print_from path_of fault_text unit_end
 half-seconds = refl
 
+-- a negative number, one with an exponent, and one past 32 bits
+negative : entries_notes PhaseRing (entry (number (codes "-20"))) ≡ codes "phaseRing.1: -20 is negative\n"
+unfolding is_index print_from path_of fault_text unit_end
+negative = refl
+
+with-exponent : entries_notes PhaseRing (entry (number (codes "1e2"))) ≡ codes "phaseRing.1: 1e2 has an exponent\n"
+unfolding is_index print_from path_of fault_text unit_end
+with-exponent = refl
+
+too-large : entries_notes PhaseRing (entry (number (codes "4294967296"))) ≡ codes "phaseRing.1: 4294967296 is too large\n"
+unfolding is_index print_from path_of fault_text unit_end
+too-large = refl
+
 -- tenths of a second, where a number has just one decimal
 tenths : tenths_of (codes "3.2") ≡ Some 32
 unfolding tenths_of

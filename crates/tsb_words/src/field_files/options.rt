@@ -86,7 +86,7 @@ fn usual_window(sorts: bool) -> Option<u32>
 }
 
 /// The seconds of a window that digits spell.
-fn window(digits: &[u8]) -> Option<u32>
+pub(crate) fn window(digits: &[u8]) -> Option<u32>
     ensures { result ≡ window_of digits.now }
 {
     let seconds = number(digits)?;
@@ -110,7 +110,7 @@ pub(crate) fn seconds_said(text: Option<&str>) -> Option<Option<u32>>
 }
 
 /// The seconds that digits spell.
-fn seconds(digits: &[u8]) -> Option<u32>
+pub(crate) fn seconds(digits: &[u8]) -> Option<u32>
     ensures { result ≡ seconds_of digits.now }
 {
     let seconds = number(digits)?;

@@ -37,7 +37,7 @@ fn add_wires(wires: &mut Vec<Wire>, kind: InputKind, words: &[&str]) -> Result<(
 }
 
 /// The wire that a word spells, `CHANNEL=INPUT`.
-fn wire(kind: InputKind, word: &[u8]) -> Option<Wire>
+pub(crate) fn wire(kind: InputKind, word: &[u8]) -> Option<Wire>
     ensures { result ≡ wire_of kind word.now }
 {
     let (channel, input) = parts(word)?;

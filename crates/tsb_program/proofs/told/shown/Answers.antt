@@ -1,6 +1,6 @@
 use Rattle.std.proofs.Common.{◌≡◌, ◌∙◌, ◌≤◌, ℕ, List, ap, arith, length, map, min, take, take_all}
 use Rattle.std.proofs.lemmas.List.{take_min}
-use Rattle.tsb_program.specs.Told.{safe}
+use Rattle.tsb_words.specs.Shown.{safe}
 use Rattle.tsb_program.proofs.told.shown.Goals as goal
 
 pub returns-clause-text : goal.returns-clause-text

@@ -1,5 +1,5 @@
 use Rattle.std.proofs.Common.{◌≡◌, length, map, take}
-use Rattle.tsb_program.specs.Told.{safe}
+use Rattle.tsb_words.specs.Shown.{safe}
 use Rattle.tsb_program.proofs.told.shown.Given as goal
 
 abbrev pub invariant-loop-byte : goal.invariant-loop-byte

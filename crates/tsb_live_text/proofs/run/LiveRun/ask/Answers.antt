@@ -16,6 +16,7 @@ use Rattle.tsb_status_text.specs.StatusText.{status_text}
 use Rattle.tsb_text.specs.Answers.{when_line}
 use Rattle.tsb_command_text.specs.declared.live_command.LiveCommand.TheVariants as asks
 use Rattle.tsb_live_text.specs.Live.{present, with_echo, with_events}
+use Rattle.tsb_live_text.specs.declared.help.TheConstants.{HELP}
 use Rattle.tsb_live_text.proofs.LiveLemmas.{does-as, does-plan, does-tell, echo-stands, events-stands, made-plan, present-kept, present-state, same-echo}
 use Rattle.tsb_live_text.proofs.run.LiveRun.ask.Goals as goal
 
@@ -68,3 +69,9 @@ returns-in-Save-clause-done g c s stands =
     does-as c.tell_saved.result s _ c.args.line.now c.args.command asks.Save _ _ _ _ c.in-Save.is
     (does-tell c.tell_saved.result None _ s s c.args.line.now c.deref-in-Save.result.now (saved_text c.args.self.now.course.kept.kept c.args.self.now.course.bench.tick) (saved_text (kept_of s.plan s.inputs) (present s).now) _ _ _ _ stands
     (same-echo c.args.self.now s c.args.line.now c.deref-in-Save.result.now stands (c.deref-in-Save.ensures.0 ∙ c.echo-echo.ensures)) (λ j. saved_text (present-kept c.args.self.now s stands j) (ap (λ (v : State). v.now) (present-state c.args.self.now s stands) j)) c.tell_saved.ensures.told)
+
+pub returns-in-Help-clause-done : goal.returns-in-Help-clause-done
+returns-in-Help-clause-done g c s stands =
+    does-as c.tell-in-Help.result s _ c.args.line.now c.args.command asks.Help _ _ _ _ c.in-Help.is
+    (does-tell c.tell-in-Help.result None _ s s c.args.line.now c.deref-in-Help.result.now HELP.now HELP.now _ _ _ _ stands
+    (same-echo c.args.self.now s c.args.line.now c.deref-in-Help.result.now stands (c.deref-in-Help.ensures.0 ∙ c.echo-echo.ensures)) (refl) c.tell-in-Help.ensures.told)

@@ -1,0 +1,30 @@
+//! What `help` answers.
+
+/// The lines of a live run, each with what it does, without the end of the last.
+pub const HELP: &[u8] =
+    b"ROW                       one tick with these inputs: 16 digits, 8 digits, 4 digits
+step N                    N ticks with the row last given
+changes N                 N ticks, of whose lines those that differ are printed
+back N                    N ticks back
+seek T                    back to tick T
+undo                      the newest input is taken back
+show                      the display line
+status                    the status, as JSON
+plan                      the plan in effect, as JSON
+edits                     the edits at the desk, as JSON
+when WATCH                the tick of its last change: interval P, ped P, call P, output D, alarm D, stage or trip
+when INPUT                the same of an input of the rows: input D, button D or preempt N
+begin S                   station S opens its transaction
+set S OBJECT INDEX VALUE  station S edits an object
+verify S                  the edits of station S are checked
+commit S                  they come into force
+abort S                   they are dropped
+pattern N                 pattern N is asked for; 0 is free operation
+preempt N on              preempt N is switched on; off switches it off
+fault HEAD ASPECT         a lamp is lit, as by P4 G; fault none ends that
+reset                     the monitor is reset
+events on                 inputs print their events; off ends that
+echo on                   answers stand after their command; off ends that
+save                      the input log and the commands that come to this state, as JSON
+help                      these lines
+quit                      the run ends";
