@@ -76,15 +76,9 @@ TESTS = {
     "sumo.nema": ["tests/test_nema.py", f"{PARTS[0]}::test_the_offset_of_a_program_of_type_nema", *(f"tests/test_sumo.py::{it}" for it in (
         "test_cycles_of_programs_of_type_nema", "test_phases_of_nema_in_no_ring",
         "test_a_program_of_type_nema_is_read_back"))],
-    "exchange.forms": ["tests/test_oids.py"],
     "exchange.remarks": [f"tests/test_oids.py::{it}" for it in (
         "test_remarks_that_follow_one_another", "test_what_a_walk_has_no_place_for", "test_a_walk_of_a_street")],
     "exchange.sides": ["tests/test_oids.py::test_sides_by_hand", "tests/test_oids.py::test_examples_out_and_in"],
-    "exchange.walk": ["tests/test_oids.py"],
-    "exchange.utdf": ["tests/test_utdf.py"],
-    "preempt": [f"tests/test_preempts.py::{it}" for it in (
-        "test_sums_of_a_plan_by_hand", "test_no_tries", "test_the_lines",
-        "test_moments_in_service_and_moments_without_a_green", "test_a_pattern_and_a_delay")],
     "sumo.trips": PARTS,
     "sumo.peers": PARTS,
     **{f"scenario.{it}": SCENARIOS for it in ("times", "words", "text", "expect", "play")},
