@@ -58,7 +58,10 @@ one-apart w = elim (named w (codes "status")) [
       | inl is ↦ subst (λ (v : List ℕ). AreApart None (own_of_one v) (command_of_one v)) (sym is) tt
       | inr no-edits ↦ elim (named w (codes "save")) [
         | inl is ↦ subst (λ (v : List ℕ). AreApart None (own_of_one v) (command_of_one v)) (sym is) tt
-        | inr no-save ↦ rw (no-status, no-plan, no-edits, no-save) tt
+        | inr no-save ↦ elim (named w (codes "help")) [
+          | inl is ↦ subst (λ (v : List ℕ). AreApart None (own_of_one v) (command_of_one v)) (sym is) tt
+          | inr no-help ↦ rw (no-status, no-plan, no-edits, no-save, no-help) tt
+        ]
       ]
     ]
   ]
