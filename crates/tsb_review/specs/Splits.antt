@@ -1,5 +1,5 @@
 -- Splits of a used pattern, and what a green that ends late does to those that wait. Times are in tenths of a second.
-use Rattle.std.specs.Prelude.{ℕ, ◌+◌, ◌-◌, nat_le, nat_lt, Bool, not, ◌&&◌, Option, Some, None, is_none}
+use Rattle.std.specs.Prelude.{ℕ, ◌+◌, ◌-◌, nat_le, nat_lt, Bool, not, ◌&&◌, if◌then◌else◌, Option, Some, None, is_none}
 use Rattle.tsb_types.specs.Lists.{first}
 use Rattle.tsb_plan.specs.Parts.{is_used, permissive_time, split_of, split_time, forces_late}
 use Rattle.tsb_plan.specs.Plan.{Plan, phases, minimum_green, yellow_change, red_clear}
