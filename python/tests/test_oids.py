@@ -310,14 +310,20 @@ phaseVariableInitial.4 = 1: given, as phaseAddedInitial is 15
     assert capsys.readouterr().err == f"{out}: there is such a file: name another\n"
 
 
+NO_FORM = (
+    "it has none of these forms: lines of snmpwalk -On, UTDF, "
+    "tables of python3 -m tsb sheet --csv"
+)
+
+
 @pytest.mark.parametrize(
     ("text", "said"),
     [
         (f"{ROOT}.1.2.1.4.2 = INTEGER: 1\nwalk\n", "walk line 2: it is no line of snmpwalk -On"),
-        (".1.99999999999 = 1", "it has none of these forms: lines of snmpwalk -On, UTDF"),
+        (".1.99999999999 = 1", NO_FORM),
         (".1.4294967296 = INTEGER: 1", "walk line 1: it has no OID"),
         (f"{'.1' * 129} = INTEGER: 1", "walk line 1: it has no OID"),
-        ("", "it has none of these forms: lines of snmpwalk -On, UTDF"),
+        ("", NO_FORM),
     ],
 )  # fmt: skip
 def test_files_that_are_no_walk(
