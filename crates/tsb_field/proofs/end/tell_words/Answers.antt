@@ -1,0 +1,6 @@
+use Rattle.std.proofs.Common.{sym}
+use Rattle.tsb_field.proofs.end.tell_words.Goals as goal
+
+-- without a wrong word the line is how the program is used
+pub returns-in-None : goal.returns-in-None
+returns-in-None g c = rw (sym c.field_near-near.ensures, sym c.field_wrong.ensures, c.in-None.is) c.tell_words_fault-in-None.ensures
