@@ -5,6 +5,7 @@ stored answers, or with how many lines they are and with their sum. How many ses
 `cases/counts.txt`. The short sessions, plan texts and logs are run by run_cases.py.
 """
 import pathlib
+import re
 import subprocess
 import sys
 import tempfile
@@ -15,13 +16,15 @@ from tools.programs import stored_cases
 FILES = ["aimed", "even", "late", "mangled", "options", "tripped", "worked"]
 # The seconds that a session has at most; one takes some thousandths.
 SECONDS = 60
+# A second line of a plan or a log that is refused.
+SECOND = re.compile(rb"(plan|log) line \d+[^\n]*: [^\n]*\n")
 # How many sessions that differ are named.
 NAMED = 10
 
 
 def written(program: pathlib.Path, folder: pathlib.Path, case: stored_cases.Case) -> bytes | None:
-    """What the program writes: the answers with status 0, or the first fault of plan or log with status 1. It is none
-    where it writes both, or ends otherwise."""
+    """What the program writes: the answers with status 0, or the first fault of plan or log with status 1, without a second
+    line that says more of the text. It is none where it writes both, or ends otherwise."""
     (folder / "plan").write_bytes(case.plan)
     (folder / "log").write_bytes(case.log)
     try:
@@ -31,7 +34,8 @@ def written(program: pathlib.Path, folder: pathlib.Path, case: stored_cases.Case
         return None
     if done.returncode not in (0, 1) or (done.stdout if done.returncode else done.stderr):
         return None
-    return done.stdout + done.stderr
+    first, end, second = done.stderr.partition(b"\n")
+    return None if second and not SECOND.fullmatch(second) else done.stdout + first + end
 
 
 def is_as_expected(case: stored_cases.Case, found: bytes | None) -> bool:
