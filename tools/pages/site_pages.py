@@ -14,7 +14,7 @@ MANUAL = "MANUAL"
 # The question of each part of the site, and its pages by their documents. A number is a chapter of the manual.
 PARTS: dict[str, list[str]] = {
     "Use it": ["MANUAL 1", "MANUAL 2", "MANUAL 3", "MANUAL 4", "MANUAL 5", "MANUAL 6", "MANUAL 7", "MANUAL 8",
-               "MANUAL 9", "TUTORIAL", "REVIEW", "FIELD", "LIVE", "PYTHON", "SCENARIOS", "PANEL", "SUMO",
+               "MANUAL 9", "TUTORIAL", "REVIEW", "FIELD", "LIVE", "PYTHON", "SCENARIOS", "EXCHANGE", "PANEL", "SUMO",
                "EXAMPLES", "GLOSSARY"],
     "Trust it": ["PROVED", "SAFETY", "EVIDENCE", "PEERS", "SPEED", "READING", "WRONG_BODIES", "LAWS"],
     "Work on it": ["CONTRIBUTING", "CONTRACTS", "DECISIONS", "DEFINITIONS", "CHANGELOG", "SECURITY"],
