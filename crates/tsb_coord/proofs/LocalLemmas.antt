@@ -21,7 +21,7 @@ use Rattle.tsb_coord.specs.Laws.{clear_of, IsCountedFrom, IsAtMostBehind}
 -- ## Residues
 
 -- numbers that differ by multiples of m have one residue
-same_residue : (m a b i j : ℕ) → a + i * m ≡ b + j * m → a % m ≡ b % m
+pub same_residue : (m a b i j : ℕ) → a + i * m ≡ b + j * m → a % m ≡ b % m
 same_residue m a b i j e =
     sym (add-mul-mod_self_right a i m) ∙ (ap (λ x. x % m) e ∙ add-mul-mod_self_right b j m)
 
@@ -37,7 +37,7 @@ difference_moves_on m a b k some =
         a + (m - s) + k + x ≡ a + (m - r) + y
     balanced m a b k x y r s one other low below = omega (arith, one, other, low, below)
 
-no_difference : (m a : ℕ) → 0 < m → residue_of_difference m a a ≡ 0
+pub no_difference : (m a : ℕ) → 0 < m → residue_of_difference m a a ≡ 0
 no_difference m a some =
     ap (λ x. x % m) (whole_turns m a (a / m) (a % m) (div-add-mod' a m) (mod-lt a some)) ∙ mul-mod_left (a / m + 1) m
   where

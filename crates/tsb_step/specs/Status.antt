@@ -19,6 +19,7 @@ use Rattle.tsb_objects.specs.tsb_plan.Parts.{cycle}
 use Rattle.tsb_objects.specs.tsb_plan.Plan.{Plan, is_enabled, yellow_change, red_clear}
 use Rattle.tsb_objects.specs.tsb_rules.Rules.{serves_pedestrians}
 use Rattle.tsb_coord.specs.Coordinated.{force_off}
+use Rattle.tsb_coord.specs.Correction.{shift_of}
 use Rattle.tsb_phase.specs.Green.{gap, is_gapped, acting_maximum}
 use Rattle.tsb_phase.specs.Pedestrian.{ended_by, walk_time, clearance_time}
 use Rattle.tsb_phase.specs.Phase.{held_of}
@@ -188,6 +189,8 @@ pub record Status : Type 0 where
   pub free : FreeStatus
   pub local : Option ℕ
   pub sync : Option ℕ
+  -- globalTime: the moment of the tick, in tenths of a second since 1999-12-24 00:00, where a clock is set
+  pub time : Option ℕ
   -- unitFlashStatus
   pub flash : FlashStatus
   -- the desk: its owner, and how far its transaction is (NTCIP 1201, dbCreateTransaction)
@@ -270,7 +273,8 @@ status s = record {
   pattern = or_number (runs s) FREE;
   free = free_status (runs s) s.pattern;
   local = local s;
-  sync = option_map (λ n. s.now % cycle s.plan n) (runs s);
+  sync = option_map (λ n. (s.now + shift_of s.plan n s.correction) % cycle s.plan n) (runs s);
+  time = option_map (λ m. m + s.now) s.start_moment;
   flash = if is_some s.trip then Mmu else NotFlash;
   owner = s.desk.owner;
   desk = s.desk.state;

@@ -125,7 +125,7 @@ would_be_600 : ahead_of_old adding 1 1000 400 ≡ 600
 unfolding adding quad
 would_be_600 = refl
 
-would_jump_to_0 : local_now adding (Some 1) (record { since = 1000; ahead = 600 }) 1000 ≡ Some 0
+would_jump_to_0 : local_now adding (Some 1) (record { since = 1000; ahead = 600; midnight = 0 }) 1000 ≡ Some 0
 unfolding adding quad
 would_jump_to_0 = refl
 
