@@ -4,7 +4,7 @@ use Rattle.std.proofs.Common.{◌≡◌, ◌≢◌, ℕ, ◌+◌, ◌-◌, ◌*�
 use Rattle.std.proofs.Math.Nat.{div-add-mod', mod-lt, mod-eq_of_lt, mod-add-mod}
 use Rattle.std.proofs.lemmas.Bool.{ne_eqb}
 use Rattle.std.proofs.lemmas.Nat.{mod-mul-add}
-use Rattle.tsb_moment.specs.declared.moment.TheConstants.{DAY, FIRST_MOMENT}
+use Rattle.tsb_clock.specs.declared.clock_time.TheConstants.{DAY, FIRST_MOMENT}
 use Rattle.tsb_objects.specs.tsb_types.declared.limits.TheConstants.{TICKS}
 use Rattle.tsb_objects.specs.tsb_plan.Plan.{Plan}
 use Rattle.tsb_objects.specs.tsb_plan.Parts.{is_used, cycle, offset}
@@ -41,15 +41,15 @@ counted m o x now t below in_time later =
     let turned : t + whole % m + m - o ≡ whole % m + (t + (m - o)) = omega (arith, below) in
     let parts : spare / m * m + spare % m ≡ spare = div-add-mod' spare m in
     let rest : spare % m < m = mod-lt spare some in
-    let level : whole + (t + (m - o)) + 0 * m ≡ x + (t - now) + m - o + (spare / m + 1) * m = balanced m o x now t (spare / m * m) (spare % m) parts rest below in_time later in
+    let level : whole + (t + (m - o)) + 0 * m ≡ x + (t - now) + m - o + (spare / m + 1) * m = balanced m o x now t (spare / m) (spare % m) parts rest below in_time later in
     ap (λ (s : ℕ). (t + s + m - o) % m) (shift_is m midnight there)
     ∙ ap (λ (s : ℕ). s % m) turned
     ∙ mod-add-mod whole m (t + (m - o))
     ∙ same_residue m (whole + (t + (m - o))) (x + (t - now) + m - o) 0 (spare / m + 1) level
   where
-    balanced : (m o x now t w r : ℕ) → w + r ≡ spare → r < m → o < m → now ≤ TICKS → now ≤ t →
-        spare + x - now + (m - r) + (t + (m - o)) ≡ x + (t - now) + m - o + (w + m)
-    balanced m o x now t w r parts rest below in_time later = omega (arith, parts, rest, below, in_time, later)
+    balanced : (m o x now t q r : ℕ) → q * m + r ≡ spare → r < m → o < m → now ≤ TICKS → now ≤ t →
+        spare + x - now + (m - r) + (t + (m - o)) + 0 * m ≡ x + (t - now) + m - o + (q + 1) * m
+    balanced m o x now t q r parts rest below in_time later = omega (arith, parts, rest, below, in_time, later)
 
 pub counts_from_midnight : (plan : Plan) → first_broken plan ≡ None → (n start now t : ℕ) → is_pattern plan n ≡ true → now ≤ TICKS → now ≤ t →
     counter plan n (t + shift (cycle plan n) (midnight_at (Some start) now)) ≡ counter plan n (since_midnight start now t)

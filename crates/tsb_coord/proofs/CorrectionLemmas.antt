@@ -115,6 +115,15 @@ counts_in_step plan selected c t u there later =
 
 -- ## A pattern that runs
 
+-- it is the one that is selected
+pub selected_runs : (plan : Plan) (selected : Option ℕ) (n : ℕ) → running plan selected ≡ Some n → selected ≡ Some n
+selected_runs plan None n runs = cc
+selected_runs plan (Some m) n runs = go (is_used plan m) runs
+  where
+    go : (b : Bool) → (if b then Some m else None) ≡ Some n → Some m ≡ Some n
+    go true e = e
+    go false e = cc
+
 local_then : (plan : Plan) (n : ℕ) (c : Correction) (t : ℕ) → is_used plan n ≡ true →
     local_now plan (Some n) c t ≡ Some (counter plan n (t + shift_of plan n c + ahead_in plan (Some n) c t))
 local_then plan n c t used = ap (λ o. local_in plan (t + shift_in plan o c + ahead_in plan o c t) o) (runs_now plan n used)

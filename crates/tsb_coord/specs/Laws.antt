@@ -2,7 +2,7 @@
 -- phases and modes of late force-off and of the permissive time; how the local counter comes into step; and that the
 -- cells of coordination are those of what they say. Each law here is the contract of a function in src/laws.rt, and
 -- proved there.
-use Rattle.std.specs.Prelude.{◌≡◌, ◌≢◌, ℕ, ◌+◌, ◌-◌, ◌*◌, ◌/◌, ◌%◌, ◌<◌, ◌≤◌, true, false, ◌||◌, List, Option, Some, IfSome}
+use Rattle.std.specs.Prelude.{◌≡◌, ◌≢◌, ℕ, ◌+◌, ◌-◌, ◌*◌, ◌/◌, ◌%◌, ◌<◌, ◌≤◌, true, false, ◌||◌, List, Option, Some, None, IfSome}
 use Rattle.tsb_objects.specs.tsb_plan.Plan.{Plan, yellow_change, red_clear}
 use Rattle.tsb_objects.specs.tsb_plan.declared.plan.patterns.CorrectionMode.{CorrectionMode}
 use Rattle.tsb_objects.specs.tsb_plan.declared.plan.patterns.CorrectionMode.TheVariants.{AtOnce, Dwell, ShortWay, AddOnly}
@@ -10,7 +10,7 @@ use Rattle.tsb_objects.specs.tsb_plan.Parts.{cycle, permissive_time, leads_and_l
 use Rattle.tsb_objects.specs.tsb_plan.Running.{running, is_coordinated_now}
 use Rattle.tsb_objects.specs.tsb_rules.Consistent.{IsPhase}
 use Rattle.tsb_objects.specs.tsb_types.declared.limits.TheConstants.{TICKS}
-use Rattle.tsb_moment.specs.declared.moment.TheConstants.{DAY, FIRST_MOMENT, LAST_DAY}
+use Rattle.tsb_clock.specs.declared.clock_time.TheConstants.{DAY, FIRST_MOMENT, LAST_DAY}
 use Rattle.tsb_coord.specs.Cells.{pattern_in, correction_in, start_in, pattern_cells, IsBy}
 use Rattle.tsb_coord.specs.Clock.{midnight_at, shift}
 use Rattle.tsb_coord.specs.Correction.{Correction, longest_wait, way, is_slower_way, clocked, local_now, forces, is_in_step, selected_correction}
@@ -197,10 +197,10 @@ abbrev pub IsStart : Option ℕ → Type 0
 IsStart start = IfSome start (λ m. (1 ≤ m) × (m < (LAST_DAY + 1) * DAY))
 
 -- the table of such a pattern, of how its counter comes into step, and of such a clock is read as these
-pub record AreRead (selected : Option ℕ) (c : Correction) (start : Option ℕ) : Type 0 where
-  pub pattern : pattern_in (pattern_cells selected c start) ≡ selected
-  pub correction : correction_in (pattern_cells selected c start) ≡ c
-  pub start : start_in (pattern_cells selected c start) ≡ start
+pub record AreRead (selected : Option ℕ) (c : Correction) (first : Option ℕ) : Type 0 where
+  pub pattern : pattern_in (pattern_cells selected c first) ≡ selected
+  pub correction : correction_in (pattern_cells selected c first) ≡ c
+  pub start : start_in (pattern_cells selected c first) ≡ first
 
 -- so of each
 abbrev pub StatesAreRead : Type 0

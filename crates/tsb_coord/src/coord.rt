@@ -9,12 +9,12 @@ ghost use Rattle.tsb_objects.specs.tsb_plan.Running.{running};
 ghost use Rattle.tsb_objects.specs.tsb_types.declared.refusal.Refusal.{Refusal};
 ghost use Rattle.tsb_objects.specs.tsb_types.Sets.{has};
 ghost use Rattle.tsb_coord.specs.declared.TheConstants.{CELLS};
-ghost use Rattle.tsb_moment.specs.declared.moment.TheConstants.{DAY, FIRST_MOMENT, LAST_DAY};
+ghost use Rattle.tsb_clock.specs.declared.clock_time.TheConstants.{DAY, FIRST_MOMENT, LAST_DAY};
 ghost use Rattle.tsb_coord.specs.Cells.{pattern_in, correction_in, start_in, IsBy};
 ghost use Rattle.tsb_coord.specs.Clock.{midnight_at};
 ghost use Rattle.tsb_coord.specs.Coordinated.{refusal};
 ghost use Rattle.tsb_coord.specs.Due.{KeepsOrders, IsExact};
-ghost use Rattle.tsb_coord.specs.Correction.{local_now, selected_correction};
+ghost use Rattle.tsb_coord.specs.Correction.{clocked, local_now, selected_correction};
 ghost use Rattle.tsb_coord.specs.Promises.{IsAtPowerUp, AreOrders, IsAnswered, IsSelected, IsClocked, TellsLocal, TellsPattern};
 
 use crate::CELLS;
@@ -26,7 +26,7 @@ use crate::counting::counter;
 use crate::waiting::ticks_to_next;
 use arrayvec::ArrayVec;
 use tsb_cells::{Bank, Diff, Reversible};
-use tsb_moment::{DAY, Moment};
+use tsb_clock::{DAY, ClockTime};
 use tsb_objects::limits::TICKS;
 use tsb_objects::{Checked, Pattern, PhaseSet, Refusal, Sequence};
 
@@ -140,7 +140,7 @@ impl Coord {
 
     /// Sets the clock: tick number `now` is at this moment. The local counter of the pattern that is selected comes into
     /// step with the midnight at or before it, as where the pattern is selected.
-    pub fn set_clock(&mut self, moment: Moment, now: u32, plan: &Checked)
+    pub fn set_clock(&mut self, moment: ClockTime, now: u32, plan: &Checked)
         requires opened { is_open self.old ≡ true }
         requires by { IsBy (cells_of self.old) }
         requires in_time { now ≤ TICKS }
@@ -301,6 +301,20 @@ impl Coord {
                 let clocked = now + shift(plan, n, correction.midnight);
                 Some(counter(plan, n, clocked + ahead))
             }
+        }
+    }
+
+    /// The tick in which a counter from tick number 0 is where that in step is at tick number `now`, at most the last that
+    /// there is: `now` itself where no clock is set, and in free operation.
+    pub fn clocked(&self, now: u32, plan: &Checked) -> u32
+        requires by { IsBy (cells_of self.now) }
+        requires in_time { now ≤ TICKS }
+        ensures value { result ≡ clocked (checked_plan plan.now) (pattern_in (cells_of self.now)) (correction_in (cells_of self.now)) now }
+        ensures small { result ≤ TICKS + 2550 }
+    {
+        match self.running(plan) {
+            None => now,
+            Some(n) => now + shift(plan, n, self.bank.get(3)),
         }
     }
 

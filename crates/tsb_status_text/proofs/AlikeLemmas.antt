@@ -91,4 +91,4 @@ text-same x y a = λ i. object (
     ∷ member (codes "desk") (desk-same x y a i)
     ∷ member (codes "rings") (rings-same x y a i)
     ∷ member (codes "waits") (waits-same x.wait y.wait a.wait i)
-    ∷ [])
+    ∷ time_member (a.time i))

@@ -154,6 +154,13 @@ wait_in wait p = option_map (wait_text p) (wait p)
 unfoldable pub waits_text : (ℕ → Option Wait) → List ℕ
 waits_text wait = array (values_from (wait_in wait) 1 16)
 
+-- ## The clock
+
+-- globalTime, where a clock is set
+abbrev pub time_member : Option ℕ → List (List ℕ)
+time_member None = []
+time_member (Some n) = member (codes "globalTime") (decimal n) ∷ []
+
 -- ## The line
 
 -- the line of a status: a member for each group of status objects, and one for what phases wait for
@@ -172,4 +179,4 @@ status_text s = object (
     ∷ member (codes "desk") (desk_text s)
     ∷ member (codes "rings") (rings_text s.ring)
     ∷ member (codes "waits") (waits_text s.wait)
-    ∷ [])
+    ∷ time_member s.time)

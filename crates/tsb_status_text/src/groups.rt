@@ -10,7 +10,7 @@ ghost use Rattle.tsb_lines.specs.ShortLines.{AddsShort};
 ghost use Rattle.tsb_status_text.specs.declared.line.TheConstants.{LONGEST};
 ghost use Rattle.tsb_status_text.specs.StatusText.{desk_text, detectors_text, overlaps_text, phases_text, preempts_text, rings_text, status_text, waits_text};
 
-use crate::line::{StatusLine, push_byte, push_named, push_numbers, push_optional};
+use crate::line::{StatusLine, push_byte, push_if_some, push_named, push_numbers, push_optional};
 use crate::names::{desk_name, flash_name, free_name, preempt_name};
 use crate::rings::push_ring;
 use crate::waits::push_waits;
@@ -59,6 +59,7 @@ pub fn status_line(status: &Status) -> StatusLine
     push_rings(&mut line, &status.rings);
     line.push(b",\"waits\":");
     push_waits(&mut line, &status.waits);
+    push_if_some(&mut line, b",\"globalTime\":", status.time);
     line.push(b"}");
     line
 }

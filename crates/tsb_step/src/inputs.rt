@@ -1,6 +1,6 @@
 //! What the controller takes.
 
-use tsb_moment::Moment;
+use tsb_clock::ClockTime;
 use tsb_objects::{ObjectId, Row, Station};
 use tsb_types::Lamp;
 
@@ -35,5 +35,5 @@ pub enum Input {
     Abort(Station),
     /// A clock is set: the next tick begins at this moment. Each tick has its moment from then on, and local counters count
     /// from midnights (profile). Refused for want of memory alone.
-    Clock(Moment),
+    Clock(ClockTime),
 }

@@ -1,6 +1,6 @@
-//! A moment, its day and its time of day.
+//! A time that a clock is set to, its day and its time of day.
 ghost use Rattle.std.specs.Prelude.{◌≡◌, ℕ, ◌+◌, ◌*◌, ◌/◌, ◌%◌, ◌<◌, ◌≤◌, ◌&&◌, nat_le, nat_lt, if◌then◌else◌, Some, None};
-ghost use Rattle.tsb_moment.specs.declared.moment.TheConstants.{DAY, FIRST_DAY, LAST_DAY, FIRST_MOMENT, END_OF_DAYS};
+ghost use Rattle.tsb_clock.specs.declared.clock_time.TheConstants.{DAY, FIRST_DAY, LAST_DAY, FIRST_MOMENT, END_OF_DAYS};
 
 use std::marker::Model;
 
@@ -20,14 +20,17 @@ pub const FIRST_MOMENT: u64 = 6_912_000;
 /// The end of the last day that a clock is set to.
 pub const END_OF_DAYS: u64 = 31_564_512_000;
 
+/// The seconds from 1970-01-01 to 1999-12-24, between which times of NTCIP 1201 and moments are counted.
+pub const CLOCK_EPOCH: u32 = 945_993_600;
+
 /// A moment from 2000-01-01 to 2099-12-31: a number of tenths of a second, counted from 1999-12-24 00:00. A contract sees
 /// it as that number.
 #[derive(Clone, Copy, Debug, PartialEq, Eq)]
-pub struct Moment {
+pub struct ClockTime {
     tenths: u64,
 }
 
-impl Model for Moment {
+impl Model for ClockTime {
     ghost Value = { ℕ };
 
     ghost view = { λ a. a.tenths };
@@ -37,14 +40,14 @@ impl Model for Moment {
     ghost inverse = { λ n. record { tenths = n } };
 }
 
-impl Moment {
+impl ClockTime {
     /// The moment so many tenths of a second after the midnight of a day, or `None` where the day is not one of 8 to
     /// 36,532, or the time not one of a day.
-    pub fn new(day: u32, tenths: u32) -> Option<Moment>
+    pub fn new(day: u32, tenths: u32) -> Option<ClockTime>
         ensures { result ≡ (if (nat_le FIRST_DAY day && nat_le day LAST_DAY) && nat_lt tenths DAY then Some (day * DAY + tenths) else None) }
     {
         if FIRST_DAY <= day && day <= LAST_DAY && tenths < DAY {
-            Some(Moment {
+            Some(ClockTime {
                 tenths: u64::from(day) * u64::from(DAY) + u64::from(tenths),
             })
         } else {

@@ -1,0 +1,4 @@
+-- dates and their numbers
+pub mod Calendar
+-- a date and a time of day as two words
+pub mod ClockText
