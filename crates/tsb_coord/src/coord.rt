@@ -151,10 +151,10 @@ impl Coord {
     {
         let start = moment.number().saturating_sub(u64::from(now));
         let midnight = midnight_at(&Some(start), now);
-        let correction = self.selected(&self.pattern(), now, midnight, plan);
-        self.bank.put(1, correction.since);
-        self.bank.put(2, correction.ahead);
-        self.bank.put(3, correction.midnight);
+        let anew = self.selected(&self.pattern(), now, midnight, plan);
+        self.bank.put(1, anew.since);
+        self.bank.put(2, anew.ahead);
+        self.bank.put(3, anew.midnight);
         self.bank.put(4, (start / u64::from(DAY)) as u32);
         self.bank.put(5, (start % u64::from(DAY)) as u32);
     }

@@ -81,7 +81,7 @@ others_not s p other = ap (λ (b : Bool). is_in_step s.plan s.pattern s.correcti
     never_both true = refl
     never_both false = refl
 
-    go : (o : Option ℕ) → is_coordinated_now s.plan o p ≡ false → recycles s.plan o (local_in s.plan (s.now + 1) o) p ≡ false
+    go : (o : Option ℕ) → is_coordinated_now s.plan o p ≡ false → recycles s.plan o (local_in s.plan (clocked_in s (s.now + 1)) o) p ≡ false
     go None h = refl
     go (Some n) h = rw h (never (recycles_walk s.plan p) _)
       where
