@@ -1,6 +1,6 @@
 -- Dates of the years 2000 to 2099, each fourth of which has a 29 February, and their numbers: days since 1999-12-24. In
 -- functions a year is counted from 2000 and a day of a year from 0, a month and a day of it from 1.
-use Rattle.std.specs.Prelude.{ℕ, zero, suc, ◌+◌, ◌-◌, ◌*◌, ◌/◌, ◌%◌, ◌==◌, nat_le, nat_lt, Bool, ◌&&◌, if◌then◌else◌, [], ◌∷◌, get_or}
+use Rattle.std.specs.Prelude.{ℕ, zero, suc, ◌+◌, ◌-◌, ◌*◌, ◌/◌, ◌%◌, ◌==◌, nat_le, nat_lt, Bool, false, ◌&&◌, if◌then◌else◌}
 use Rattle.tsb_clock_text.specs.declared.calendar.ClockDate.{ClockDate}
 use Rattle.tsb_clock.specs.declared.clock_time.TheConstants.{FIRST_DAY}
 
@@ -8,11 +8,26 @@ use Rattle.tsb_clock.specs.declared.clock_time.TheConstants.{FIRST_DAY}
 abbrev pub is_leap : ℕ → Bool
 is_leap y = y % 4 == 0
 
--- the days of a year before its month m, and with 13 all its days
+-- the days of a year without a 29 February before its month m, and with 13 all its days
+abbrev pub common_days_before : ℕ → ℕ
+common_days_before m =
+    if m == 1 then 0
+    else if m == 2 then 31
+    else if m == 3 then 59
+    else if m == 4 then 90
+    else if m == 5 then 120
+    else if m == 6 then 151
+    else if m == 7 then 181
+    else if m == 8 then 212
+    else if m == 9 then 243
+    else if m == 10 then 273
+    else if m == 11 then 304
+    else if m == 12 then 334
+    else 365
+
+-- of any year
 abbrev pub days_before : Bool → ℕ → ℕ
-days_before leap m =
-    get_or (0 ∷ 31 ∷ 59 ∷ 90 ∷ 120 ∷ 151 ∷ 181 ∷ 212 ∷ 243 ∷ 273 ∷ 304 ∷ 334 ∷ 365 ∷ []) (m - 1) 0
-    + (if leap && nat_lt 2 m then 1 else 0)
+days_before leap m = if leap && nat_lt 2 m then common_days_before m + 1 else common_days_before m
 
 -- the days from 2000 on before year y
 abbrev pub days_of_years : ℕ → ℕ
@@ -21,8 +36,8 @@ days_of_years y = 365 * y + (y + 3) / 4
 -- the calendar has this day
 abbrev pub is_day : ℕ → ℕ → ℕ → Bool
 is_day y m d =
-    (nat_lt y 100 && (nat_le 1 m && nat_le m 12))
-    && (nat_le 1 d && nat_le (days_before (is_leap y) m + d) (days_before (is_leap y) (m + 1)))
+    if (nat_lt y 100 && nat_le 1 m) && (nat_le m 12 && (nat_le 1 d && nat_le d 31))
+    then nat_le (days_before (is_leap y) m + d) (days_before (is_leap y) (m + 1)) else false
 
 -- its number
 abbrev pub day_number : ℕ → ℕ → ℕ → ℕ

@@ -1,6 +1,6 @@
 //! The calendar of the years 2000 to 2099.
 ghost use Rattle.std.specs.Prelude.{◌≡◌, ◌≤◌, ◌<◌, ◌-◌, true};
-ghost use Rattle.tsb_clock_text.specs.Calendar.{date_after, date_in, day_number, days_before, days_of_years, is_date, is_day, is_leap, month_of, year_of};
+ghost use Rattle.tsb_clock_text.specs.Calendar.{common_days_before, date_after, date_in, day_number, days_before, days_of_years, is_date, is_day, is_leap, month_of, year_of};
 
 use tsb_clock::clock_time::FIRST_DAY;
 
@@ -9,9 +9,6 @@ const FIRST_YEAR: u32 = 2000;
 
 /// The days of four years.
 const FOUR_YEARS: u32 = 1461;
-
-/// The days of a year without a 29 February before each of its months, and all.
-const DAYS_BEFORE: [u32; 13] = [0, 31, 59, 90, 120, 151, 181, 212, 243, 273, 304, 334, 365];
 
 /// A date of the Gregorian calendar.
 #[derive(Clone, Copy, Debug, PartialEq, Eq)]
@@ -26,13 +23,33 @@ pub struct ClockDate {
 
 /// The days of a year before its month, 1 to 12, and with 13 all its days.
 fn days_before(leap: bool, month: u32) -> u32
-    requires from { 1 ≤ month }
-    requires within { month ≤ 13 }
     ensures value { result ≡ days_before leap month }
     ensures small { result ≤ 366 }
 {
-    let days = DAYS_BEFORE[month as usize - 1];
+    let days = common_days_before(month);
     if leap && month > 2 { days + 1 } else { days }
+}
+
+/// The days of a year without a 29 February before its month, 1 to 12, and of any other number all its days.
+fn common_days_before(month: u32) -> u32
+    ensures value { result ≡ common_days_before month }
+    ensures small { result ≤ 365 }
+{
+    match month {
+        1 => 0,
+        2 => 31,
+        3 => 59,
+        4 => 90,
+        5 => 120,
+        6 => 151,
+        7 => 181,
+        8 => 212,
+        9 => 243,
+        10 => 273,
+        11 => 304,
+        12 => 334,
+        _ => 365,
+    }
 }
 
 /// Whether a year that is counted from 2000 has a 29 February.
@@ -62,11 +79,11 @@ pub(crate) fn is_date(date: &ClockDate) -> bool
 fn is_day(year: u32, month: u32, day: u32) -> bool
     ensures { result ≡ is_day year month day }
 {
-    if year >= 100 || month < 1 || month > 12 || day < 1 || day > 366 {
-        return false;
+    if (year < 100 && 1 <= month) && (month <= 12 && (1 <= day && day <= 31)) {
+        let leap = is_leap(year);
+        return days_before(leap, month) + day <= days_before(leap, month + 1);
     }
-    let leap = is_leap(year);
-    days_before(leap, month) + day <= days_before(leap, month + 1)
+    false
 }
 
 /// The number of the day of a date that there is: days since 1999-12-24, 8 to 36,532.

@@ -39,6 +39,7 @@ use Rattle.tsb_step.proofs.GoodLemmas.{rings_after_moves, good_next, good_step, 
 use Rattle.tsb_step.proofs.PlaceLemmas.{same_refusal}
 use Rattle.tsb_step.proofs.tsb_phase.MoveLemmas.{stays_at_power_up}
 use Rattle.tsb_laws.specs.Runs.{IsHeld, IsTyped, AreTyped}
+use Rattle.tsb_laws.proofs.safety.LastTickLemmas.{run_early}
 use Rattle.tsb_laws.proofs.way_back.PlanLemmas.{bounded-with}
 use Rattle.tsb_laws.proofs.way_back.DeskLemmas.{sound-set}
 use Rattle.tsb_laws.proofs.way_back.CorrectionLemmas.{cycles-within, ahead-selected, ahead-clocked, midnight-selected, midnight-below}

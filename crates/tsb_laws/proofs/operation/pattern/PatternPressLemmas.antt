@@ -33,6 +33,7 @@ use Rattle.tsb_step.proofs.ClearLemmas.{phases_then, one_later, plan_stays, patt
 use Rattle.tsb_step.proofs.GoodLemmas.{good_run}
 use Rattle.tsb_step.proofs.TellLemmas.{starts_no_green}
 use Rattle.tsb_laws.specs.Stretches.{IsUntripped}
+use Rattle.tsb_laws.proofs.operation.pattern.InStepLemmas.{clocked_in}
 use Rattle.tsb_laws.specs.ServedCalls.{longest_initial}
 use Rattle.tsb_laws.specs.CoordinatedGreens.{HasGoneOn, is_pressed_in_pattern}
 use Rattle.tsb_laws.specs.PatternEnds.{HasWaitedInPattern}
