@@ -2,6 +2,7 @@
 #![tactic(auto)]
 
 pub mod calendar;
+pub mod laws;
 mod read;
 mod write;
 
