@@ -15,8 +15,8 @@ ghost use Rattle.tsb_bench.specs.Cabinet.{rows_of, IsShut, IsDone};
 ghost use Rattle.tsb_bench.specs.declared.cabinet.TheConstants.{MOST_CELLS};
 
 use crate::cabinet::{Cabinet, Changes};
-use tsb_heads::Trip;
 use tsb_clock::ClockTime;
+use tsb_heads::Trip;
 use tsb_objects::Row;
 use tsb_types::Lamp;
 

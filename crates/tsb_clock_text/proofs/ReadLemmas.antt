@@ -4,6 +4,7 @@ use Rattle.std.proofs.Math.Nat.{div-add-mod', mod-lt}
 use Rattle.std.proofs.lemmas.Bool.{and_from, and_parts, le-leb}
 use Rattle.std.proofs.lemmas.Bool.Decides.{nat_tests}
 use Rattle.std.proofs.lemmas.Nat.{div_below, le-div}
+use Rattle.tsb_event_text.proofs.WrittenLemmas.{two-read, four-read}
 use Rattle.tsb_lines.proofs.DigitLemmas.{digit-next}
 use Rattle.tsb_lines.specs.Digits.{digit}
 use Rattle.tsb_lines.specs.Words.{at_most, number_of}
@@ -15,26 +16,10 @@ use Rattle.tsb_clock_text.proofs.CalendarLemmas.{IsDated, dated, numbered}
 
 -- ## Digits
 
-small : (n : ℕ) → n < 1000000000 → at_most 4294967295 (Some n) ≡ Some n
-small n lt = let few : leb n 4294967295 ≡ true = le-leb n 4294967295 (omega (arith, lt)) in rw few refl
-
 one-read : (t : ℕ) → t < 10 → number_of (digit t 1 ∷ []) ≡ Some t
-one-read t lt = ap (at_most 4294967295) (digit-next t 0 t 1 [] (omega (arith, lt))) ∙ small t (omega (arith, lt))
-
-two-read : (t : ℕ) → t < 100 → number_of (digit t 10 ∷ digit t 1 ∷ []) ≡ Some t
-two-read t lt =
-    ap (at_most 4294967295)
-    (digit-next t 0 (t / 10) 10 (digit t 1 ∷ []) (omega (arith, lt)) ∙ digit-next t (t / 10) t 1 [] (omega arith))
-    ∙ small t (omega (arith, lt))
-
-four-read : (t : ℕ) → t < 10000 → number_of (digit t 1000 ∷ digit t 100 ∷ digit t 10 ∷ digit t 1 ∷ []) ≡ Some t
-four-read t lt =
-    ap (at_most 4294967295)
-    (digit-next t 0 (t / 1000) 1000 (digit t 100 ∷ digit t 10 ∷ digit t 1 ∷ []) (omega (arith, lt))
-    ∙ digit-next t (t / 1000) (t / 100) 100 (digit t 10 ∷ digit t 1 ∷ []) (omega arith)
-    ∙ digit-next t (t / 100) (t / 10) 10 (digit t 1 ∷ []) (omega arith)
-    ∙ digit-next t (t / 10) t 1 [] (omega arith))
-    ∙ small t (omega (arith, lt))
+one-read t lt =
+    let few : leb t 4294967295 ≡ true = le-leb t 4294967295 (omega (arith, lt)) in
+    ap (at_most 4294967295) (digit-next t 0 t 1 [] (omega (arith, lt))) ∙ rw few refl
 
 -- ## The words
 

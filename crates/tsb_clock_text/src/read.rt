@@ -13,6 +13,7 @@ const DATE: usize = 10;
 
 /// How many bytes a time of day has without a tenth, and with one.
 const TIME: usize = 8;
+
 const TIME_AND_TENTH: usize = 10;
 
 /// The time that two words are: a date as `2026-11-22`, of the years 2000 to 2099, and a time of day as `07:00:00` or

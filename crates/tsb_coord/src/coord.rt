@@ -19,14 +19,14 @@ ghost use Rattle.tsb_coord.specs.Promises.{IsAtPowerUp, AreOrders, IsAnswered, I
 
 use crate::CELLS;
 use crate::asked::asked_in;
-use crate::coordination::Coordination;
 use crate::clock::{midnight_at, shift};
+use crate::coordination::Coordination;
 use crate::correction::{Correction, ahead_before, ahead_in, begun};
 use crate::counting::counter;
 use crate::waiting::ticks_to_next;
 use arrayvec::ArrayVec;
 use tsb_cells::{Bank, Diff, Reversible};
-use tsb_clock::{DAY, ClockTime};
+use tsb_clock::{ClockTime, DAY};
 use tsb_objects::limits::TICKS;
 use tsb_objects::{Checked, Pattern, PhaseSet, Refusal, Sequence};
 
@@ -160,7 +160,13 @@ impl Coord {
     }
 
     /// How the local counter comes into step where this pattern is selected, with this midnight.
-    fn selected(&self, selected: &Option<Pattern>, now: u32, midnight: u32, plan: &Checked) -> Correction
+    fn selected(
+        &self,
+        selected: &Option<Pattern>,
+        now: u32,
+        midnight: u32,
+        plan: &Checked,
+    ) -> Correction
         requires by { IsBy (cells_of self.now) }
         requires in_time { now ≤ TICKS }
         requires midnight { midnight < FIRST_MOMENT + DAY }

@@ -173,7 +173,13 @@ fn ahead_with(mode: CorrectionMode, ahead: u32) -> u32
 
 /// How the local counter of a pattern that is selected in tick `now` comes into step with this midnight, where that of the
 /// old pattern stood there, if one ran.
-pub(crate) fn begun(plan: &Checked, n: Pattern, now: u32, midnight: u32, local: &Option<u32>) -> Correction
+pub(crate) fn begun(
+    plan: &Checked,
+    n: Pattern,
+    now: u32,
+    midnight: u32,
+    local: &Option<u32>,
+) -> Correction
     requires used { IfSome local.now (λ l. is_used (checked_plan plan.now) n ≡ true) }
     requires in_time { now ≤ TICKS }
     requires midnight { midnight < FIRST_MOMENT + DAY }

@@ -27,11 +27,6 @@ member name value = 34 ∷ name ++ (34 ∷ 58 ∷ value)
 abbrev pub object : List (List ℕ) → List ℕ
 object members = 123 ∷ closed members 125
 
--- a number after a name, and nothing where there is none
-abbrev pub named_if_some : List ℕ → Option ℕ → List ℕ
-named_if_some name None = []
-named_if_some name (Some n) = name ++ decimal n
-
 -- a number, or null
 abbrev pub optional : Option ℕ → List ℕ
 optional None = codes "null"

@@ -1,7 +1,7 @@
 //! Parts that are added to a line: bytes, numbers and sets of numbers.
 ghost use Rattle.std.specs.Prelude.{◌+◌, ◌++◌, ◌≤◌, decimal, length};
 ghost use Rattle.tsb_types.specs.Sets.{has_number};
-ghost use Rattle.tsb_status_text.specs.Json.{comma, named_if_some, numbers, optional, string};
+ghost use Rattle.tsb_status_text.specs.Json.{comma, numbers, optional, string};
 ghost use Rattle.tsb_lines.specs.ShortLines.{AddsShort};
 ghost use Rattle.tsb_status_text.specs.declared.line.TheConstants.{LONGEST};
 
@@ -30,16 +30,6 @@ pub(crate) fn push_optional(line: &mut StatusLine, name: &[u8], number: Option<u
     match number {
         None => line.push(b"null"),
         Some(n) => line.push_number(n),
-    }
-}
-
-/// Adds a number to a line after a name, where there is one.
-pub(crate) fn push_if_some(line: &mut StatusLine, name: &[u8], number: Option<u32>)
-    ensures { AddsShort LONGEST (length name.now + 10) line.old (named_if_some name.now number) line.new }
-{
-    if let Some(n) = number {
-        line.push(name);
-        line.push_number(n);
     }
 }
 
