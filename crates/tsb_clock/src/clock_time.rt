@@ -41,8 +41,8 @@ impl Model for ClockTime {
 }
 
 impl ClockTime {
-    /// The moment so many tenths of a second after the midnight of a day, or `None` where the day is not one of 8 to
-    /// 36,532, or the time not one of a day.
+    /// The moment so many tenths of a second after the midnight of a day. `None` where the day is not one of 8 to 36,532,
+    /// or the time not one of a day.
     pub fn new(day: u32, tenths: u32) -> Option<ClockTime>
         ensures { result ≡ (if (nat_le FIRST_DAY day && nat_le day LAST_DAY) && nat_lt tenths DAY then Some (day * DAY + tenths) else None) }
     {

@@ -13,7 +13,7 @@ const FOUR_YEARS: u32 = 1461;
 /// A date of the Gregorian calendar.
 #[derive(Clone, Copy, Debug, PartialEq, Eq)]
 pub struct ClockDate {
-    /// The year, of which the calendar here has 2000 to 2099.
+    /// The year, 2000 to 2099.
     pub year: u32,
     /// The month, 1 to 12.
     pub month: u32,

@@ -9,7 +9,7 @@
 -- | `first_cell.CALLS` | the calls' |
 -- | `first_cell.PHASES` | the phases' |
 -- | `first_cell.RINGS` | the rings' |
--- | `first_cell.COORD` | coordination's: the pattern that is selected, how its counter comes into step, and the clock |
+-- | `first_cell.COORD` | coordination's, with the clock |
 -- | `first_cell.PREEMPTS` | the preempts' |
 -- | `first_cell.MONITOR` | the monitor's and the injected lamp's |
 --

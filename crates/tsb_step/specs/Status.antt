@@ -4,7 +4,7 @@
 -- these.
 --
 -- Times are in tenths of a second. What is left of a time is 0 once it is reached.
-use Rattle.std.specs.Prelude.{ℕ, ◌+◌, ◌-◌, ◌%◌, ◌==◌, nat_lt, Bool, true, false, not, ◌&&◌, ◌||◌, if◌then◌else◌, Option, Some, None, is_some, option_map}
+use Rattle.std.specs.Prelude.{ℕ, ◌+◌, ◌-◌, ◌/◌, ◌%◌, ◌==◌, nat_lt, Bool, true, false, not, ◌&&◌, ◌||◌, if◌then◌else◌, Option, Some, None, is_some, option_map}
 use Rattle.tsb_cells.specs.Timer.{is_on}
 use Rattle.tsb_types.specs.declared.event.TheConstants.{FREE}
 use Rattle.tsb_types.specs.declared.interval.Interval.{Interval}

@@ -71,7 +71,7 @@ some-cycle plan n used = above (plan.value PatternCycleTime n) used
     above : (x : ℕ) → not (x == 0) ≡ true → 0 < 10 * x
     above x used = grind (arith, nat_tests, used)
 
--- also of a pattern that a commit has left without a cycle: it does not run, and so is in step
+-- also of a pattern that a commit has left without a cycle: it does not run, and is in step
 pub ahead-clocked : (plan : Plan) (selected : Option ℕ) (c : Correction) (now midnight : ℕ) → ((n : ℕ) → cycle plan n ≤ 2550) →
     (selected_correction plan selected now midnight (local_now plan selected c now)).ahead ≤ 2550
 ahead-clocked plan None c now midnight few = omega arith
