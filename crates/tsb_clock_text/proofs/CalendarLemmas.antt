@@ -1,11 +1,11 @@
 -- The date of a day is one that there is, and its number is that of the day.
-use Rattle.std.proofs.Common.{zero, suc, ◌≡◌, ◌≢◌, ℕ, ◌+◌, ◌-◌, ◌*◌, ◌/◌, ◌%◌, ◌<◌, ◌≤◌, ◌==◌, nat_le, nat_lt, Bool, true, false, ◌&&◌, if◌then◌else◌, refl, sym, ap, subst, ◌∙◌, arith, inl, inr}
+use Rattle.std.proofs.Common.{zero, suc, ◌≡◌, ◌≢◌, ℕ, ◌+◌, ◌-◌, ◌*◌, ◌/◌, ◌%◌, ◌<◌, ◌≤◌, ◌==◌, ◌⊎◌, nat_le, nat_lt, Bool, true, false, ◌&&◌, if◌then◌else◌, refl, sym, ap, subst, ◌∙◌, arith, inl, inr}
 use Rattle.std.proofs.Math.Nat.{div-add-mod', mod-lt}
 use Rattle.std.proofs.lemmas.Bool.{and_parts, and_from, cases_eq, leb-true, le-leb}
 use Rattle.std.proofs.lemmas.Bool.Decides.{nat_tests}
 use Rattle.std.proofs.lemmas.Nat.{div-mul-add, mod-mul-add}
 use Rattle.tsb_clock.specs.declared.clock_time.TheConstants.{FIRST_DAY, LAST_DAY}
-use Rattle.tsb_clock_text.specs.Calendar.{is_leap, common_days_before, days_before, days_of_years, is_day, day_number, is_date, month_of, year_of, date_in, date_after}
+use Rattle.tsb_clock_text.specs.Calendar.{is_leap, common_days_before, days_before, days_of_years, is_day, day_number, is_date, month_up_to, month_of, year_of, date_in, date_after}
 use Rattle.tsb_clock_text.specs.declared.calendar.ClockDate.{ClockDate}
 
 -- ## Years
@@ -65,9 +65,11 @@ all_fit leap zero = true
 all_fit leap (suc n) = fits leap n && all_fit leap n
 
 they_fit : all_fit true 366 && all_fit false 365 ≡ true
+unfolding all_fit
 they_fit = refl
 
 fits_of : (leap : Bool) (n x : ℕ) → all_fit leap n ≡ true → x < n → fits leap x ≡ true
+unfolding all_fit
 fits_of leap zero x all less = absurd (omega (arith, less))
 fits_of leap (suc n) x all less =
     let both = and_parts (fits leap n) (all_fit leap n) all in
@@ -104,6 +106,31 @@ fitted leap x less =
   where
     lt_of : (a b : ℕ) → nat_lt a b ≡ true → a + 1 ≤ b
     lt_of a b h = grind (arith, nat_tests, h)
+
+-- ## Months, one after the other
+
+-- with the next month, which has begun by day x or has not
+pub month_on : (leap : Bool) (x next m b new : ℕ) → 2 ≤ next → m ≡ month_up_to leap x (next - 2) → b ≡ days_before leap next →
+    ((b ≤ x) × (new ≡ next)) ⊎ ((x < b) × (new ≡ m)) → new ≡ month_up_to leap x (next + 1 - 2)
+month_on leap x next m b new from at days which =
+    let k : ℕ = next - 2 in
+    let after : next + 1 - 2 ≡ suc k = omega (arith, from) in
+    let this : k + 2 ≡ next = omega (arith, from) in
+    let begins : days_before leap (k + 2) ≡ b = ap (days_before leap) this ∙ sym days in
+    elim which [
+      | inl it ↦
+          let begun : b ≤ x = it.0 in
+          it.1 ∙ sym this
+          ∙ sym (ap (λ (t : Bool). if t then k + 2 else month_up_to leap x k) (ap (λ (d : ℕ). nat_le d x) begins ∙ le-leb b x begun))
+          ∙ sym (ap (month_up_to leap x) after)
+      | inr it ↦
+          it.1 ∙ at
+          ∙ sym (ap (λ (t : Bool). if t then k + 2 else month_up_to leap x k) (ap (λ (d : ℕ). nat_le d x) begins ∙ not_le b x it.0))
+          ∙ sym (ap (month_up_to leap x) after)
+    ]
+  where
+    not_le : (a b : ℕ) → b < a → nat_le a b ≡ false
+    not_le a b h = grind (arith, nat_tests, h)
 
 -- ## Numbers of dates
 

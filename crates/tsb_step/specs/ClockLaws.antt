@@ -27,7 +27,7 @@ pub record CountsTicks (s : State) : Type 0 where
   pub start : s.start_moment ≡ None
   pub counts : (plan : Plan) (selected : Option ℕ) (t : ℕ) → clocked plan selected s.correction t ≡ t
 
--- so it is after each run without a clock
+-- this holds after each run without a clock
 abbrev pub NoClockNoChange : Type 0
 NoClockNoChange = (plan : Plan) (is : List Input) → HasNoClock is → CountsTicks (replay plan is)
 

@@ -74,10 +74,8 @@ fn powered_up(alloc: Global) -> Option<Bench> {
 
 #[test]
 fn a_clock_is_taken_back(rt: HostRuntime) {
-    let (Some(mut bench), Some(time)) = (
-        powered_up(rt.alloc()),
-        ClockTime::new(DAY, SEVEN_AND_TEN),
-    ) else {
+    let (Some(mut bench), Some(time)) = (powered_up(rt.alloc()), ClockTime::new(DAY, SEVEN_AND_TEN))
+    else {
         panic!(rt; "no bench");
     };
     assert!(rt; is_taken_back(&mut bench, time));
