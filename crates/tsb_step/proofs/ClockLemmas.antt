@@ -1,12 +1,13 @@
 -- What a clock changes, and a run without one.
-use Rattle.std.proofs.Common.{◌≡◌, ℕ, Bool, true, false, if◌then◌else◌, List, [], ◌∷◌, Option, Some, None, is_some, refl, ap, ◌∙◌}
+use Rattle.std.proofs.Common.{◌≡◌, ℕ, ◌+◌, Bool, true, false, if◌then◌else◌, List, [], ◌∷◌, Option, Some, None, is_some, refl, ap, ◌∙◌}
 use Rattle.tsb_types.specs.declared.lamp.Lamp.{Lamp}
 use Rattle.tsb_types.specs.declared.row.Row.{Row}
 use Rattle.tsb_objects.specs.tsb_plan.Parts.{cycle}
 use Rattle.tsb_objects.specs.tsb_plan.Plan.{Plan}
 use Rattle.tsb_coord.specs.Clock.{midnight_at, shift}
 use Rattle.tsb_coord.specs.Coordinated.{selects}
-use Rattle.tsb_coord.specs.Correction.{Correction, ahead_from, selected_correction}
+use Rattle.tsb_coord.specs.declared.correction.Correction.{Correction}
+use Rattle.tsb_coord.specs.Correction.{ahead_from, selected_correction}
 use Rattle.tsb_coord.proofs.ClockLemmas.{counts_from_tick_0}
 use Rattle.tsb_coord.proofs.CorrectionLemmas.{begun_from}
 use Rattle.tsb_step.specs.declared.inputs.Input.{Input}
