@@ -1,5 +1,5 @@
 -- The saved commands are read as they were meant.
-use Rattle.std.proofs.Common.{◌≡◌, ◌∙◌, ℕ, suc, ◌+◌, ◌-◌, ◌%◌, ◌^◌, ◌<◌, ◌≤◌, ◌==◌, Bool, true, false, not, eqb, leb, List, [], ◌∷◌, ◌++◌, if◌then◌else◌, codes, decimal, length, length-append, get_or, map, append_assoc, append-nil, Option, Some, None, option_map, refl, sym, ap, arith, rules, inl, inr}
+use Rattle.std.proofs.Common.{◌≡◌, ◌∙◌, ℕ, suc, ◌+◌, ◌-◌, ◌%◌, ◌/◌, ◌^◌, ◌<◌, ◌≤◌, ◌==◌, Bool, true, false, not, eqb, leb, List, [], ◌∷◌, ◌++◌, if◌then◌else◌, codes, decimal, length, length-append, get_or, map, append_assoc, append-nil, Option, Some, None, option_map, refl, sym, ap, arith, rules, inl, inr}
 use Rattle.std.specs.List.{list_all}
 use Rattle.std.proofs.lemmas.List.{map-append}
 use Rattle.std.proofs.lemmas.Bool.{and_parts, le-leb, le-ltb, ne_eqb, not-true, true≢false}
