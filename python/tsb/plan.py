@@ -207,8 +207,8 @@ class Plan:
             values[number, ring, at] = phase
 
     def wide(self) -> "Plan":
-        """The same plan in version 2."""
-        plan = Plan()
+        """The same plan in version 2, or in the first that has all of its objects."""
+        plan = Plan(max((2, *(OBJECTS[name].since for name, _ in self.items()))))
         for name, values in self.items():
             taken = plan[name]
             for index, value in values.items():
