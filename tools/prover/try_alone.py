@@ -1,8 +1,8 @@
-"""Runs `rt try` with these flags, in a crate's folder, and nothing beside it: try_alone CRATE [FLAG ..].
+"""Runs `rt try` with these flags, in a crate's folder, and nothing beside it: try_alone CRATE [--quick] [FLAG ..].
 
 The kit has a check go beside each try, which takes as long as to read the crate with all below it, and only says which
 names are reserved. `rt ci` refuses these in any case. The kit also compiles for a try as fast as it can, and the code is
-slow: here the compiler makes faster code (`unproved.CLANG`), with all checks.
+slow. With `--quick` the compiler makes faster code (`unproved.CLANG`), with all checks: for tests that run long.
 """
 import os
 import pathlib
@@ -19,8 +19,9 @@ def main(crate: str, flags: list[str]) -> int:
     os.chdir(TOP / "crates" / crate)
     rtlib.RATTLE = "true"
     with tempfile.TemporaryDirectory(prefix="tsb-try-") as room:
-        rtlib.KIT = str(unproved.quick_kit(pathlib.Path(rtlib.KIT), pathlib.Path(room, "kit")))
-        return kit.kit().main(["try", *flags]) or 0
+        if flags[:1] == ["--quick"]:
+            rtlib.KIT = str(unproved.quick_kit(pathlib.Path(rtlib.KIT), pathlib.Path(room, "kit")))
+        return kit.kit().main(["try", *(it for it in flags if it != "--quick")]) or 0
 
 
 if __name__ == "__main__":
