@@ -279,7 +279,7 @@ def test_a_walk_of_a_street(
     out = tmp_path / "plan.json"
     assert main(["plan", str(tmp_path / "walk.txt"), "--out", str(out)]) == 0
     told = capsys.readouterr().out.splitlines()
-    assert told[0] == f"{out}: of 13 of 24 values of a walk"
+    assert told[0] == f"{out}: 13 of 24 values of a walk"
     assert told[1:-1] == """\
 line 1: .1.3.6.1.2.1.1.1.0 = STRING: "a controller": it is no object of a plan
 line 2: maxPhases = INTEGER: 16: it is a size, and no part of a plan

@@ -124,7 +124,7 @@ def test_a_file_by_hand(tmp_path: Path, capsys: pytest.CaptureFixture[str]) -> N
     path = str(DATA / "main_street.csv")
     assert main(["plan", path, "--node", "12", "--out", str(out)]) == 0
     told = capsys.readouterr().out.splitlines()
-    assert told[0] == f"{out}: of node 12 of a UTDF file"
+    assert told[0] == f"{out}: node 12 of a UTDF file"
     assert told[1:-1] == """\
 lines 2 to 5: [network]: a plan has no place for it
 lines 8 to 11: [nodes]: a plan has no place for it

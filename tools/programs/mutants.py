@@ -8,7 +8,7 @@ a sort or a filter left out; a minimum made a maximum. It is tried by the tests 
 module (`TESTS`), in a fork of a process that has what all of them import. A mutant that
 runs too long counts as noticed. Those of `EQUAL` are the same program, each with its
 reason, and are not tried. It prints those that survive, and of each module a row of the
-table in python/README.md: its mutants, how many were noticed, are equal, and are left.
+table in docs/trust/EVIDENCE.md: its mutants, how many were noticed, are equal, and are left.
 The last line is `N passed, M failed`: one passes where it is noticed, and with `--least`
 as many may fail as that leaves. Without modules it is all of them, and `quick` those
 whose tests are.

@@ -92,7 +92,7 @@ def written(made: Made, out: Path) -> Iterable[str]:
             file.write(made.plan.text)
     except FileExistsError:
         raise Error(f"{out}: there is such a file: name another") from None
-    yield f"{shown(out)}: of {made.of}"
+    yield f"{shown(out)}: {made.of}"
     yield from lines_of(made.remarks)
     yield f"tsb check: {_judged(made.plan)}"
 
