@@ -42,6 +42,14 @@ def test_version_3_is_version_2_with_another_number(examples: Path) -> None:
         assert bench.plan == plan == newest.wide()
 
 
+def test_a_plan_with_what_version_3_alone_has() -> None:
+    """It stays one of version 3, with the reference of its offsets."""
+    plan = Plan.of_text('{"version":3,"coordReference":{"1":3},"phaseWalk":{"2":7}}')
+    wide = plan.wide()
+    assert wide.version == 3 and wide["coordReference"][1] == 3
+    assert wide["phaseWalk"][2] == 7
+
+
 def test_written_and_read(examples: Path, tmp_path: Path) -> None:
     """A file of a plan."""
     plan = Plan.read(examples / "tee.json")

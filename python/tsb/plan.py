@@ -217,8 +217,8 @@ class Plan:
             values[number, ring, at] = phase
 
     def wide(self, version: int = 2) -> "Plan":
-        """The same plan in version 2, or 3."""
-        plan = Plan(version)
+        """The same plan in this version, 2 or 3, or in the first later one that has all of its objects."""
+        plan = Plan(max((version, *(OBJECTS[name].since for name, _ in self.items()))))
         for name, values in self.items():
             taken = plan[name]
             for index, value in values.items():

@@ -7,10 +7,11 @@ use Rattle.std.proofs.lemmas.Bool.{cases_lt, cases_eq, ne_eqb, eq-eqb, eqb-true}
 use Rattle.tsb_objects.specs.tsb_plan.declared.plan.patterns.CorrectionMode.{CorrectionMode}
 use Rattle.tsb_objects.specs.tsb_plan.declared.plan.patterns.CorrectionMode.TheVariants.{AtOnce, Dwell, ShortWay, AddOnly}
 use Rattle.tsb_objects.specs.tsb_plan.Plan.{Plan}
-use Rattle.tsb_objects.specs.tsb_plan.Parts.{is_used, cycle, offset, correction_mode, correction_limit}
+use Rattle.tsb_objects.specs.tsb_plan.Parts.{is_used, cycle, correction_mode, correction_limit}
 use Rattle.tsb_objects.specs.tsb_plan.Running.{running}
 use Rattle.tsb_objects.specs.tsb_rules.Rules.{first_broken}
-use Rattle.tsb_coord.specs.Coordinated.{counter, local, local_in, residue_of_difference, is_at_force_off, asks_force_off, asks_recycle, is_pattern, forces_off, recycles}
+use Rattle.tsb_objects.proofs.InstantLemmas.{offset-below}
+use Rattle.tsb_coord.specs.Coordinated.{counter, offset_in_effect, local, local_in, residue_of_difference, is_at_force_off, asks_force_off, asks_recycle, is_pattern, forces_off, recycles}
 use Rattle.tsb_coord.specs.Correction.{Correction, in_step, ahead_by, within_cycle, ahead_in, counted_tick, local_now, steps_twice_in, steps_twice, forces, comes_to_force_off, is_in_step, lets_walk_again, ahead_with, ahead_from, begun, selected_correction}
 use Rattle.tsb_coord.specs.Laws.{IsAtMostBehind, most_steps, CountsInStep, IsLongEnough}
 use Rattle.tsb_coord.proofs.LocalLemmas.{counter_moves_on, difference_moves_on, in_range, its_parts, runs_now}
@@ -143,17 +144,17 @@ step_then plan n c t limited =
     ]
 
 -- where the counter then is, by so many steps
-by_none : (plan : Plan) (n t a b : ℕ) → offset plan n < cycle plan n → a ≡ b + 1 → counter plan n (t + 1 + b) ≡ (counter plan n (t + a) + 0) % cycle plan n
+by_none : (plan : Plan) (n t a b : ℕ) → offset_in_effect plan n < cycle plan n → a ≡ b + 1 → counter plan n (t + 1 + b) ≡ (counter plan n (t + a) + 0) % cycle plan n
 by_none plan n t a b below less =
     let at : t + 1 + b ≡ t + a + 0 = omega arith in
     ap (counter plan n) at ∙ counter_moves_on plan n (t + a) 0 below
 
-by_one : (plan : Plan) (n t a b : ℕ) → offset plan n < cycle plan n → b ≡ a → counter plan n (t + 1 + b) ≡ (counter plan n (t + a) + 1) % cycle plan n
+by_one : (plan : Plan) (n t a b : ℕ) → offset_in_effect plan n < cycle plan n → b ≡ a → counter plan n (t + 1 + b) ≡ (counter plan n (t + a) + 1) % cycle plan n
 by_one plan n t a b below same =
     let at : t + 1 + b ≡ t + a + 1 = omega arith in
     ap (counter plan n) at ∙ counter_moves_on plan n (t + a) 1 below
 
-by_two : (plan : Plan) (n t a b : ℕ) → offset plan n < cycle plan n → b ≡ (a + 1) % cycle plan n → counter plan n (t + 1 + b) ≡ (counter plan n (t + a) + 2) % cycle plan n
+by_two : (plan : Plan) (n t a b : ℕ) → offset_in_effect plan n < cycle plan n → b ≡ (a + 1) % cycle plan n → counter plan n (t + 1 + b) ≡ (counter plan n (t + a) + 2) % cycle plan n
 by_two plan n t a b below more =
     let m : ℕ = cycle plan n in
     let at : t + 1 + (a + 1) ≡ t + a + 2 = omega arith in
@@ -178,7 +179,7 @@ one_at_least AddOnly = omega arith
 pub takes_few_steps : (plan : Plan) → first_broken plan ≡ None → (n : ℕ) (c : Correction) (t l : ℕ) → is_pattern plan n ≡ true → correction_limit plan ≤ 50 →
     local_now plan (Some n) c t ≡ Some l → IsAtMostBehind plan n l (most_steps (correction_mode plan)) (local_now plan (Some n) c (t + 1))
 takes_few_steps plan none n c t l is limited here =
-    let below : offset plan n < cycle plan n = (its_parts plan none n is).below in
+    let below : offset_in_effect plan n < cycle plan n = offset-below plan n (its_parts plan none n is).below in
     let used : is_used plan n ≡ true = (in_range plan n is).2 in
     let a : ℕ = ahead_in plan (Some n) c t in
     let b : ℕ = ahead_in plan (Some n) c (t + 1) in
@@ -254,7 +255,7 @@ pub goes_on : (plan : Plan) → first_broken plan ≡ None → (n now l : ℕ) �
 goes_on plan none n now l is other =
     let m : ℕ = cycle plan n in
     let k : ℕ = counter plan n now in
-    let below : offset plan n < m = (its_parts plan none n is).below in
+    let below : offset_in_effect plan n < m = offset-below plan n (its_parts plan none n is).below in
     let some : 0 < m = omega (arith, below) in
     let used : is_used plan n ≡ true = (in_range plan n is).2 in
     let a : ℕ = residue_of_difference m (l % m) k in

@@ -6,6 +6,7 @@ pub mod PermissiveExamples
 pub mod LeadLagExamples
 pub mod RecycleExamples
 pub mod CorrectionExamples
+pub mod OffsetExamples
 pub mod Mistakes
 pub mod LawMistakes
 pub mod LateMistakes

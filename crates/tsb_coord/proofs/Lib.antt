@@ -4,4 +4,5 @@ pub mod AheadLemmas
 pub mod CorrectionLemmas
 pub mod SpanLemmas
 pub mod WaitLemmas
+pub mod OffsetLemmas
 pub mod Examples

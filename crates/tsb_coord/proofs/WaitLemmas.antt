@@ -7,16 +7,16 @@ use Rattle.std.proofs.lemmas.Bool.Decides.{nat_tests}
 use Rattle.tsb_objects.specs.tsb_types.Lists.{first, run_from, or_else}
 use Rattle.tsb_objects.specs.tsb_plan.Plan.{Plan, is_enabled, ring_of}
 use Rattle.tsb_objects.specs.tsb_plan.declared.object.Object.TheVariants.{PatternCycleTime}
-use Rattle.tsb_objects.specs.tsb_plan.Parts.{is_used, cycle, offset, leads_and_lags, forces_late}
+use Rattle.tsb_objects.specs.tsb_plan.Parts.{is_used, cycle, leads_and_lags, forces_late}
 use Rattle.tsb_objects.specs.tsb_plan.Running.{running, coordinates_in, is_coordinated_now}
 use Rattle.tsb_objects.specs.tsb_rules.Rules.{first_broken}
 use Rattle.tsb_objects.specs.tsb_rules.Consistent.{IsWhole, AreCoordinated}
 use Rattle.tsb_objects.specs.Instants.{is_coordinated_in, coordinated_in_ring}
 use Rattle.tsb_objects.proofs.tsb_rules.ConsistentLemmas.{whole, coordinated}
-use Rattle.tsb_objects.proofs.InstantLemmas.{instants-below, late-end-below}
+use Rattle.tsb_objects.proofs.InstantLemmas.{instants-below, offset-below, late-end-below}
 use Rattle.tsb_coord.specs.declared.coordination.Coordination.{Coordination}
 use Rattle.tsb_coord.specs.Cells.{pattern_in, correction_in}
-use Rattle.tsb_coord.specs.Coordinated.{counter, local_in, instant_from, first_coordinated, reference, force_off, agree, yields_to, instant_of, late_end, is_late, is_forced_late, yields_for, is_behind, is_permitted, permissive_end, forces_off, walk_and_clearance, may_recycle, is_left, recycles, recycle_end_from, recycle_end, asks_force_off, asks_recycle}
+use Rattle.tsb_coord.specs.Coordinated.{counter, offset_in_effect, local_in, instant_from, first_coordinated, reference, force_off, agree, yields_to, instant_of, late_end, is_late, is_forced_late, yields_for, is_behind, is_permitted, permissive_end, forces_off, walk_and_clearance, may_recycle, is_left, recycles, recycle_end_from, recycle_end, asks_force_off, asks_recycle}
 use Rattle.tsb_coord.specs.Correction.{Correction, counted_tick, steps_twice, forces, is_in_step, lets_walk_again}
 use Rattle.tsb_coord.specs.Due.{ForcesOff, EndsPermission, EndsRecycle, IsMet, IsEnded, IsExact}
 use Rattle.tsb_coord.specs.Promises.{AreOrders}
@@ -103,7 +103,7 @@ module _ (plan : Plan) (few : plan.phase_count ≤ 16) (none : first_broken plan
 
   asked : (p k : ℕ) → asks_force_off plan (now + k) selected p ≡ forces_off plan (Some n) (Some ((counter plan n now + k) % cycle plan n)) p
   asked p k =
-      let below : offset plan n < cycle plan n = (whole plan none n from_one within used).below in
+      let below : offset_in_effect plan n < cycle plan n = offset-below plan n (whole plan none n from_one within used).below in
       ap (λ o. forces_off plan o (local_in plan (now + k) o) p) runs
       ∙ ap (λ x. forces_off plan (Some n) (Some x) p) (counter_moves_on plan n now k below)
 
@@ -136,7 +136,7 @@ module _ (plan : Plan) (few : plan.phase_count ≤ 16) (none : first_broken plan
   -- nor is a phase let walk again, or no more
   asked_recycle : (p k : ℕ) → asks_recycle plan (now + k) selected p ≡ recycles plan (Some n) (Some ((counter plan n now + k) % cycle plan n)) p
   asked_recycle p k =
-      let below : offset plan n < cycle plan n = (whole plan none n from_one within used).below in
+      let below : offset_in_effect plan n < cycle plan n = offset-below plan n (whole plan none n from_one within used).below in
       ap (λ o. recycles plan o (local_in plan (now + k) o) p) runs
       ∙ ap (λ x. recycles plan (Some n) (Some x) p) (counter_moves_on plan n now k below)
 
@@ -271,7 +271,7 @@ has_instant plan none n from_one within used =
     let some : (d : ℕ) × (first_coordinated plan n ≡ Some d) =
     found (is_coordinated_now plan (Some n)) 1 plan.phase_count them.one them.is_phase.from_one (let to : them.one ≤ plan.phase_count = them.is_phase.within in omega arith) named in
     let counted : (d : ℕ) × (reference plan n ≡ Some d) = reference_found plan n some.0 some.1 in
-    let offset_below : offset plan n < cycle plan n = parts.below in
+    let offset_below : offset_in_effect plan n < cycle plan n = offset-below plan n parts.below in
     record {
       phase = them.one;
       from_one = them.is_phase.from_one;
@@ -302,7 +302,7 @@ pub forced_then : (plan : Plan) → first_broken plan ≡ None → (n now ticks 
     IsMet (cycle plan n) (counter plan n now) (force_off plan (Some n) p) ticks →
     ForcesOff plan selected c (now + ticks) ⊎ ((now + ticks ≡ now + 1) × ForcesOff plan selected c now)
 forced_then plan none n now ticks p from_one within used selected c runs in_step met =
-    let below : offset plan n < cycle plan n = (whole plan none n from_one within used).below in
+    let below : offset_in_effect plan n < cycle plan n = offset-below plan n (whole plan none n from_one within used).below in
     let still : is_in_step plan selected c (now + ticks - 1) ≡ true = stays_in_step plan selected c (now - 1) (now + ticks - 1) in_step (omega arith) in
     elim met [
       | inl it ↦ inl (
@@ -327,7 +327,7 @@ ended_then : (plan : Plan) → first_broken plan ≡ None → (n now ticks p : �
     (selected : Option ℕ) → running plan selected ≡ Some n → IsEnded (cycle plan n) (counter plan n now) (permissive_end plan (Some n) p) ticks →
     EndsPermission plan selected (now + ticks)
 ended_then plan none n now ticks p from_one within used selected runs ended =
-    let below : offset plan n < cycle plan n = (whole plan none n from_one within used).below in (
+    let below : offset_in_effect plan n < cycle plan n = offset-below plan n (whole plan none n from_one within used).below in (
       p,
       ap (λ o. agree (local_in plan (now + ticks) o) (permissive_end plan o p)) runs
           ∙ ap (λ x. agree (Some x) (permissive_end plan (Some n) p)) (counter_moves_on plan n now ticks below) ∙ ended,
@@ -338,7 +338,7 @@ recycle_ended_then : (plan : Plan) → first_broken plan ≡ None → (n now tic
     (selected : Option ℕ) → running plan selected ≡ Some n → IsEnded (cycle plan n) (counter plan n now) (recycle_end plan (Some n) p) ticks →
     EndsRecycle plan selected (now + ticks)
 recycle_ended_then plan none n now ticks p from_one within used selected runs ended =
-    let below : offset plan n < cycle plan n = (whole plan none n from_one within used).below in (
+    let below : offset_in_effect plan n < cycle plan n = offset-below plan n (whole plan none n from_one within used).below in (
       p,
       ap (λ o. agree (local_in plan (now + ticks) o) (recycle_end plan o p)) runs
           ∙ ap (λ x. agree (Some x) (recycle_end plan (Some n) p)) (counter_moves_on plan n now ticks below) ∙ ended,

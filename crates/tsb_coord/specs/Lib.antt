@@ -14,3 +14,5 @@ pub mod Layer
 pub mod Due
 -- that forced phases clear where their splits end, that counters come into step, and what holds of the cells
 pub mod Laws
+-- what offsets are counted to comes at them, and only when local 0 comes counts
+pub mod OffsetLaws

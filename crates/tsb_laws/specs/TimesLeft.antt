@@ -11,7 +11,8 @@ use Rattle.tsb_step.specs.tsb_types.declared.row.Row.{Row}
 use Rattle.tsb_step.specs.tsb_types.Intervals.{is_yellow, is_walk, is_clearance}
 use Rattle.tsb_step.specs.tsb_types.Sets.{is_phase}
 use Rattle.tsb_step.specs.tsb_plan.Plan.{Plan, yellow_change, red_clear, red_revert}
-use Rattle.tsb_step.specs.tsb_plan.Parts.{cycle, offset}
+use Rattle.tsb_step.specs.tsb_plan.Parts.{cycle}
+use Rattle.tsb_step.specs.tsb_objects.Instants.{offset_in_effect}
 use Rattle.tsb_step.specs.tsb_coord.Coordinated.{force_off, agree}
 use Rattle.tsb_step.specs.tsb_ring.Rings.{Ring, own_ring}
 use Rattle.tsb_step.specs.tsb_phase.Phase.{held_of}
@@ -212,7 +213,7 @@ pub record StaysInStep (p : ℕ) (shown s : State) : Type 0 where
   pub still : IsInStep s
   pub same_pattern : runs s ≡ runs shown
   pub same_cycle : (m : ℕ) → runs shown ≡ Some m → cycle s.plan m ≡ cycle shown.plan m
-  pub same_offset : (m : ℕ) → runs shown ≡ Some m → offset s.plan m ≡ offset shown.plan m
+  pub same_offset : (m : ℕ) → runs shown ≡ Some m → offset_in_effect s.plan m ≡ offset_in_effect shown.plan m
   pub same_instant : force_off s.plan (runs s) p ≡ force_off shown.plan (runs shown) p
 
 -- j ticks on, of n that were shown, a test holds once all n have passed, and not before

@@ -122,7 +122,7 @@ fn all_padded_are_answered(alloc: Global, wanted: &[(&str, &str)]) -> bool {
 }
 
 /// Texts, each with what reading answers for it.
-const TEXTS: [(&str, &str); 15] = [
+const TEXTS: [(&str, &str); 17] = [
     (r#""#, "plan: not JSON"),
     (r#"{"version":1"#, "plan: not JSON"),
     (r#"[]"#, "plan: not a table"),
@@ -148,6 +148,14 @@ const TEXTS: [(&str, &str); 15] = [
     (
         r#"{"version":3,"preemptChoosesAnew":{"4":2}}"#,
         "plan: preemptChoosesAnew.4: out of range",
+    ),
+    (
+        r#"{"version":2,"coordReference":{}}"#,
+        "plan: coordReference: no such object",
+    ),
+    (
+        r#"{"version":3,"coordReference":{"1":6}}"#,
+        "plan: coordReference.1: out of range",
     ),
     (SHORT_YELLOW, "plan: rule K8"),
 ];

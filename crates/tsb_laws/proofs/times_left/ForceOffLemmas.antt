@@ -4,7 +4,8 @@ use Rattle.std.proofs.Math.Nat.{mod-eq_of_lt, mod-lt, add-mul-mod_self_right}
 use Rattle.std.proofs.lemmas.Bool.{cases_lt, eqb-true}
 use Rattle.std.proofs.lemmas.Bool.Decides.{nat_tests}
 use Rattle.tsb_step.specs.tsb_types.Intervals.{is_green}
-use Rattle.tsb_step.specs.tsb_plan.Parts.{is_used, cycle, offset}
+use Rattle.tsb_step.specs.tsb_plan.Parts.{is_used, cycle}
+use Rattle.tsb_step.specs.tsb_objects.Instants.{offset_in_effect}
 use Rattle.tsb_step.specs.tsb_plan.Plan.{Plan}
 use Rattle.tsb_step.specs.tsb_plan.Running.{running}
 use Rattle.tsb_step.specs.tsb_rules.Consistent.{IsWhole}
@@ -185,7 +186,7 @@ force_offs_come plan base later r p n j ok taken shown stays clock = record {
     some = let low = parts.below in omega (arith, low)
 
     below_x : x < c
-    below_x = mod-lt ((replay plan base).now + cycle (replay plan base).plan it.number - offset (replay plan base).plan it.number) some
+    below_x = mod-lt ((replay plan base).now + cycle (replay plan base).plan it.number - offset_in_effect (replay plan base).plan it.number) some
 
     below_i : it.instant < c
     below_i =

@@ -1,10 +1,10 @@
 -- What runs, and what coordination asks of phases 1 to 8, is the same on the wide plan.
-use Rattle.std.proofs.Common.{◌≡◌, ℕ, ◌+◌, ◌-◌, ◌==◌, nat_le, Bool, true, false, ◌&&◌, ◌++◌, Option, Some, None, refl, sym, ◌∙◌, ap, ap₂, inl, inr, sum_by}
+use Rattle.std.proofs.Common.{◌≡◌, ℕ, ◌+◌, ◌-◌, ◌%◌, ◌==◌, nat_le, Bool, true, false, ◌&&◌, ◌++◌, Option, Some, None, refl, sym, ◌∙◌, ap, ap₂, inl, inr, sum_by}
 use Rattle.std.proofs.Math.Path.{fun_ext}
 use Rattle.std.proofs.lemmas.Bool.{cases_Bool}
 use Rattle.tsb_step.specs.tsb_types.Lists.{or_else, run_from, up_to}
 use Rattle.tsb_step.specs.tsb_plan.Plan.{Plan, is_enabled, ring_of, side_of, sequence}
-use Rattle.tsb_step.specs.tsb_plan.Parts.{split_of}
+use Rattle.tsb_step.specs.tsb_plan.Parts.{cycle, split_of}
 use Rattle.tsb_step.specs.tsb_plan.Running.{running, split_in_effect, sequence_in_effect, mode_in, mode_in_effect, coordinates_in, is_coordinated_now, is_omitted_now, is_on_minimum_recall, is_on_maximum_recall, is_on_pedestrian_recall}
 use Rattle.tsb_step.specs.tsb_rules.PatternRules.{is_on, has_phases, split_on, split_sum, side_sum, split_before, ring_sequence, split_end}
 use Rattle.tsb_step.specs.tsb_coord.Coordinated.{local_in, local, end_in, instant_from, reference, instant_by, force_off, is_at_force_off, asks_force_off, asks_recycle, asks_hold, asks_omit, sequence_now, serving_order}
@@ -16,7 +16,7 @@ use Rattle.tsb_step.proofs.tsb_coord.LocalLemmas.{options_off}
 use Rattle.tsb_laws.specs.Widened.{IsNarrow, widened}
 use Rattle.tsb_laws.proofs.operation.pattern.OptionLemmas.{never_recycles, begins_at_once}
 use Rattle.tsb_laws.proofs.versions.ListLemmas.{is_narrow, is_beyond, sum-up_to}
-use Rattle.tsb_laws.proofs.versions.PlanLemmas.{first-same, any-same, sum-same, beyond-narrow, not-enabled, enabled-narrow, split_time-same, split_mode-same, is_coordinated-same, not-coordinated, not-late, at-once, no-permissive_time, no-second_walk, zeros, sequence-same}
+use Rattle.tsb_laws.proofs.versions.PlanLemmas.{first-same, any-same, sum-same, beyond-narrow, not-enabled, enabled-narrow, split_time-same, split_mode-same, is_coordinated-same, not-coordinated, not-late, plain-offset, wide-offset, at-once, no-permissive_time, no-second_walk, zeros, sequence-same}
 
 -- ## What runs
 
@@ -154,12 +154,14 @@ unfolding force_off
 force_off-same plan None p narrow = refl
 force_off-same plan (Some n) p narrow = rw (reference-same plan n narrow, instant_by-same plan n (reference plan n) p narrow) refl
 
-local_in-same : (plan : Plan) (t : ℕ) (runs : Option ℕ) → local_in (widened plan) t runs ≡ local_in plan t runs
-local_in-same plan t None = refl
-local_in-same plan t (Some n) = refl
+-- in both offsets are counted to local 0
+local_in-same : (plan : Plan) (t : ℕ) (runs : Option ℕ) → IsNarrow plan → local_in (widened plan) t runs ≡ local_in plan t runs
+local_in-same plan t None narrow = refl
+local_in-same plan t (Some n) narrow =
+    ap (λ (o : ℕ). Some ((t + cycle plan n - o) % cycle plan n)) (wide-offset plan n narrow ∙ sym (plain-offset plan n narrow))
 
-local-same : (plan : Plan) (t : ℕ) (selected : Option ℕ) → local (widened plan) t selected ≡ local plan t selected
-local-same plan t selected = rw (running-same plan selected) (local_in-same plan t (running plan selected))
+local-same : (plan : Plan) (t : ℕ) (selected : Option ℕ) → IsNarrow plan → local (widened plan) t selected ≡ local plan t selected
+local-same plan t selected narrow = rw (running-same plan selected) (local_in-same plan t (running plan selected) narrow)
 
 -- ## The local counter as it goes, which is in step in both
 
@@ -173,7 +175,7 @@ pub local_now-same : (plan : Plan) (selected : Option ℕ) (c : Correction) (t :
     local_now (widened plan) selected c t ≡ local_now plan selected c t
 local_now-same plan selected c t narrow =
     local_in_step (widened plan) selected c t (wide-in_step plan selected c t narrow)
-    ∙ local-same plan t selected ∙ sym (local_in_step plan selected c t (counter-in_step plan selected c t narrow))
+    ∙ local-same plan t selected narrow ∙ sym (local_in_step plan selected c t (counter-in_step plan selected c t narrow))
 
 -- whatever is selected, it begins in step
 pub selected_correction-same : (plan : Plan) (selected : Option ℕ) (now : ℕ) (l k : Option ℕ) → IsNarrow plan →
@@ -186,7 +188,7 @@ selected_correction-same plan selected now l k narrow =
 is_at_force_off-same : (plan : Plan) (t : ℕ) (selected : Option ℕ) (p : ℕ) → IsNarrow plan →
     is_at_force_off (widened plan) t selected p ≡ is_at_force_off plan t selected p
 is_at_force_off-same plan t selected p narrow =
-    rw (running-same plan selected, local_in-same plan t (running plan selected), force_off-same plan (running plan selected) p narrow) refl
+    rw (running-same plan selected, local_in-same plan t (running plan selected) narrow, force_off-same plan (running plan selected) p narrow) refl
 
 -- in neither is force-off late, nor is there a permissive time
 asks_force_off-same : (plan : Plan) (t : ℕ) (selected : Option ℕ) (p : ℕ) → IsNarrow plan →

@@ -65,7 +65,7 @@ unfolding opened busy
 how_many = refl
 
 first_cells : DESK ∷ DETECTORS ∷ CALLS ∷ PHASES ∷ RINGS ∷ COORD ∷ PREEMPTS ∷ MONITOR ∷ ALL_CELLS ∷ [] ≡
-    1290 ∷ 1422 ∷ 1476 ∷ 1494 ∷ 1610 ∷ 1614 ∷ 1617 ∷ 1627 ∷ 1634 ∷ []
+    1291 ∷ 1423 ∷ 1477 ∷ 1495 ∷ 1611 ∷ 1615 ∷ 1618 ∷ 1628 ∷ 1635 ∷ []
 first_cells = refl
 
 -- the plan: phaseEnabled of phase 8, and sequenceData at its index 20, which is phase 8
@@ -74,17 +74,17 @@ unfolding opened busy
 plan_cells_stand = refl
 
 -- the desk's owner, the last timer of the detectors, the last count, the cell of two lists, right of way and clearing
-ends_stand : slice_index (cells_of busy) 1290 ∷ slice_index (cells_of busy) 1493 ∷ slice_index (cells_of busy) 1494 ∷ [] ≡ 3 ∷ 5 ∷ 2147516416 ∷ []
+ends_stand : slice_index (cells_of busy) 1291 ∷ slice_index (cells_of busy) 1494 ∷ slice_index (cells_of busy) 1495 ∷ [] ≡ 3 ∷ 5 ∷ 2147516416 ∷ []
 unfolding opened busy
 ends_stand = refl
 
 -- the rings' side, the pattern, the preempt in service
-more_stand : slice_index (cells_of busy) 1612 ∷ slice_index (cells_of busy) 1614 ∷ slice_index (cells_of busy) 1623 ∷ [] ≡ 1 ∷ 2 ∷ 4 ∷ []
+more_stand : slice_index (cells_of busy) 1613 ∷ slice_index (cells_of busy) 1615 ∷ slice_index (cells_of busy) 1624 ∷ [] ≡ 1 ∷ 2 ∷ 4 ∷ []
 unfolding opened busy
 more_stand = refl
 
 -- since when the local counter comes into step, and how far it was ahead then
-its_counter_stands : slice_index (cells_of busy) 1615 ∷ slice_index (cells_of busy) 1616 ∷ [] ≡ 30 ∷ 7 ∷ []
+its_counter_stands : slice_index (cells_of busy) 1616 ∷ slice_index (cells_of busy) 1617 ∷ [] ≡ 30 ∷ 7 ∷ []
 unfolding opened busy
 its_counter_stands = refl
 
