@@ -407,9 +407,18 @@ pub(crate) fn permissive_end_at(
     }
 }
 
+/// Whether a phase with that instant and that end is forced off at that local counter: from the instant to the end, in this
+/// cycle or from the last one on. A phase without an instant ends at 0, which leaves it out.
+#[inline(always)]
+fn is_forced(at: u16, end: u16, cycle: u32, local: u32) -> bool
+    ensures { result ≡ is_from_to cycle local at end }
+{
+    let from_last = u64::from(local) + u64::from(cycle);
+    (u32::from(at) <= local && local < u32::from(end)) || from_last < u64::from(end)
+}
+
 /// The phases that are forced off in a pattern with that cycle at that local counter, from the words of their instants
-/// and ends: from the instant to the end, in this cycle or from the last one on. A phase without an instant ends at 0,
-/// which leaves it out.
+/// and ends.
 #[inline(always)]
 pub(crate) fn forced_in(
     instants: &[u16; 256],
@@ -423,13 +432,11 @@ pub(crate) fn forced_in(
         (slice_index ends.now (16 * (n - 1) + (p - 1))) }
 {
     let first = words_before(n);
-    let from_last = u64::from(local) + u64::from(cycle);
     let mut set = PhaseSet::empty();
     for number in 1..17u8 {
         let at = instants[first + (usize::from(number) - 1)];
         let end = ends[first + (usize::from(number) - 1)];
-        let on = (u32::from(at) <= local && local < u32::from(end)) || from_last < u64::from(end);
-        set = joined(set, Phase::of(number), on);
+        set = joined(set, Phase::of(number), is_forced(at, end, cycle, local));
     }
     set
 }
