@@ -86,6 +86,7 @@ fn kind_of(input: &Input) -> Kind
         Input::Verify(_) => Kind::Verify,
         Input::Commit(_) => Kind::Commit,
         Input::Abort(_) => Kind::Abort,
+        Input::Clock(_) => Kind::Clock,
     }
 }
 

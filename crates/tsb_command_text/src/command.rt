@@ -1,5 +1,6 @@
 //! The commands of a session.
 
+use tsb_clock::ClockTime;
 use tsb_plan::ObjectId;
 use tsb_types::{Lamp, Station, Watch};
 
@@ -37,6 +38,8 @@ pub enum Command {
     Fault(Option<Lamp>),
     /// `reset`: resets the monitor.
     Reset,
+    /// `clock YYYY-MM-DD HH:MM:SS[.d]`: the next tick begins then.
+    Clock(ClockTime),
     /// `quit`: ends the session.
     Quit,
 }

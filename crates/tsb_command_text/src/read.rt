@@ -8,6 +8,7 @@ use crate::command::{Command, Reading};
 use crate::lamps::{detector, lamp, phase, station};
 use crate::names::is;
 use crate::objects::object;
+use tsb_clock_text::read_clock;
 use tsb_lines::{is_skipped, next_word, number};
 use tsb_plan::ObjectId;
 use tsb_types::Watch;
@@ -131,6 +132,9 @@ fn of_three(name: &[u8], first: &[u8], second: &[u8]) -> Option<Command>
     }
     if is(name, b"fault") {
         return Some(Command::Fault(Some(lamp(first, second)?)));
+    }
+    if is(name, b"clock") {
+        return Some(Command::Clock(read_clock(first, second)?));
     }
     None
 }

@@ -37,7 +37,7 @@ difference_moves_on m a b k some =
         a + (m - s) + k + x ≡ a + (m - r) + y
     balanced m a b k x y r s one other low below = omega (arith, one, other, low, below)
 
-no_difference : (m a : ℕ) → 0 < m → residue_of_difference m a a ≡ 0
+pub no_difference : (m a : ℕ) → 0 < m → residue_of_difference m a a ≡ 0
 no_difference m a some =
     ap (λ x. x % m) (whole_turns m a (a / m) (a % m) (div-add-mod' a m) (mod-lt a some)) ∙ mul-mod_left (a / m + 1) m
   where

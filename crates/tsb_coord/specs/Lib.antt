@@ -1,5 +1,7 @@
 -- the pattern that runs, its local counter, and hold, force-off, pedestrian recycle and omit by it
 pub mod Coordinated
+-- the clock, and the midnight that a local counter counts from
+pub mod Clock
 -- how the local counter comes into step once a pattern is selected
 pub mod Correction
 -- how it goes, for event logs

@@ -3,7 +3,7 @@
 ghost use Rattle.tsb_objects.specs.tsb_plan.Plan.{Plan};
 ghost use Rattle.tsb_objects.specs.tsb_rules.Consistent.{OfConsistentPlans};
 ghost use Rattle.tsb_coord.specs.OffsetLaws.{MomentsComeAtOffsets, OffsetsCountAlike, PlainOffsetsAct};
-ghost use Rattle.tsb_coord.specs.Laws.{EndWithTheirSplits, CoordinatedEndAtZero, CoordinatedEndInTime, CoordinatedEndNearZero, AtInstantsInMode0, CoordinatedAtInstants, OthersAreNotPermitted, NoneIsPermittedWithout, ForcedAtInstants, EndsWhereItYields, GoesOn, TakesFewSteps, ComesIntoStep, StaysInStep, ForcesInStep, RowsAreTold, StatesAreRead, StatesAreBy};
+ghost use Rattle.tsb_coord.specs.Laws.{EndWithTheirSplits, CoordinatedEndAtZero, CoordinatedEndInTime, CoordinatedEndNearZero, AtInstantsInMode0, CoordinatedAtInstants, OthersAreNotPermitted, NoneIsPermittedWithout, ForcedAtInstants, EndsWhereItYields, GoesOn, TakesFewSteps, ComesIntoStep, StaysInStep, ForcesInStep, RowsAreTold, StatesAreRead, StatesAreBy, CountsFromTick0, CountsFromMidnight, CountsAlike};
 
 /// A phase that is forced off at its instant has time to clear by the end of its split. Its yellow change and red
 /// clearance, counted from its force-off instant, end where its split ends on the local counter; those of the
@@ -64,6 +64,22 @@ pub fn counters_come_into_step()
     ensures arrives { OfConsistentPlans ComesIntoStep }
     ensures stays { (plan : Plan) → StaysInStep plan }
     ensures forces { (plan : Plan) → ForcesInStep plan }
+{}
+
+/// With a clock the local counter in step counts from a midnight. It is the tenths since the midnight at or before the tick
+/// in which its pattern is selected, or the clock set, less the offset, within the cycle. A pattern that runs across
+/// midnight goes on without a jump. Without a clock it counts from tick number 0, and so it does where that is a midnight,
+/// for what is selected on that day.
+///
+/// Needs: a plan that breaks no rule; a tick that there is.
+/// Not said: that the counter is in step then, which `counters_come_into_step` says.
+/// Mistakes: a counter from the midnight before tick number 0, `from_the_first` (`would_jump_back`); one that begins anew at
+/// each midnight, `from_each` (`would_begin_anew`).
+/// Witness: `from_seven`, `goes_on_at_midnight`, `selected_after_midnight` of ClockExamples.
+pub fn counters_count_from_midnight()
+    ensures without { (plan : Plan) → CountsFromTick0 plan }
+    ensures counts { OfConsistentPlans CountsFromMidnight }
+    ensures alike { OfConsistentPlans CountsAlike }
 {}
 
 /// What the offset of a pattern is counted to comes at the tick of the offset, and each cycle later: there the local

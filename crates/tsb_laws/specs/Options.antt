@@ -14,7 +14,7 @@ use Rattle.tsb_step.specs.tsb_heads.Heads.{Shown}
 use Rattle.tsb_step.specs.tsb_heads.Overlaps.{is_followed_in_ring, is_followed}
 use Rattle.tsb_step.specs.tsb_coord.declared.correction.Correction.{Correction}
 use Rattle.tsb_step.specs.tsb_coord.Coordinated.{counter, local, instant_by, force_off, agree, asks_force_off, asks_recycle, is_pattern}
-use Rattle.tsb_step.specs.tsb_coord.Correction.{in_step, local_now, forces, is_in_step, selected_correction}
+use Rattle.tsb_step.specs.tsb_coord.Correction.{in_step, local_now, forces, is_in_step, selected_correction, in_step_from, clocked}
 use Rattle.tsb_step.specs.tsb_phase.Phase.{Given, GreenHeld}
 use Rattle.tsb_step.specs.tsb_phase.DynamicMaximum.{maximum_in_use}
 use Rattle.tsb_step.specs.tsb_phase.Green.{conflict_timer, acting_maximum, has_maxed_out, forced_latch}
@@ -30,6 +30,11 @@ pub record HasNoOptions (plan : Plan) : Type 0 where
   pub overlap_across_rings : (o : ℕ) → plan.value OverlapAcrossRings o ≡ 0
   pub preempt_chooses_anew : (n : ℕ) → plan.value PreemptChoosesAnew n ≡ 0
   pub coord_reference : plan.value CoordReference 1 ≡ 0
+
+-- in step from the start, with this midnight where a pattern is selected
+abbrev pub in_step_with : Option ℕ → ℕ → Correction
+in_step_with None midnight = in_step
+in_step_with (Some n) midnight = in_step_from midnight
 
 -- each definition that reads an option is the one without it
 pub record OptionsOff (plan : Plan) : Type 0 where
@@ -61,10 +66,13 @@ pub record OptionsOff (plan : Plan) : Type 0 where
   -- the local counter is in step at once, whatever is selected
   pub stepped : (selected : Option ℕ) (c : Correction) (t : ℕ) → is_in_step plan selected c t ≡ true
   -- so it begins in step behind each selection, wherever that of the old pattern stood
-  pub begun : (selected : Option ℕ) (now : ℕ) (l : Option ℕ) → selected_correction plan selected now l ≡ in_step
+  pub begun : (selected : Option ℕ) (now midnight : ℕ) (l : Option ℕ) →
+      selected_correction plan selected now midnight l ≡ in_step_with selected midnight
   -- it is that of the cycle and the offset, and what is forced off in a tick is what this asks for
-  pub counting : (selected : Option ℕ) (c : Correction) (t : ℕ) → local_now plan selected c t ≡ local plan t selected
-  pub forcing : (selected : Option ℕ) (c : Correction) (t p : ℕ) → forces plan selected c t p ≡ asks_force_off plan t selected p
+  pub counting : (selected : Option ℕ) (c : Correction) (t : ℕ) →
+      local_now plan selected c t ≡ local plan (clocked plan selected c t) selected
+  pub forcing : (selected : Option ℕ) (c : Correction) (t p : ℕ) →
+      forces plan selected c t p ≡ asks_force_off plan (clocked plan selected c t) selected p
   -- K23 asks for nothing
   pub permissive : permissive_times_end plan ≡ true
   -- an overlap lasts through a clearance by the commitment of the phase's own ring alone

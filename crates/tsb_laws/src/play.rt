@@ -69,6 +69,9 @@ fn input_is_typed(input: &Input)
     match input {
         Input::Fault(lamp) => lamp_is_typed(lamp),
         Input::Begin(station) => station.known(),
+        Input::Clock(time) => {
+            let _number = time.number();
+        }
         _ => {}
     }
 }

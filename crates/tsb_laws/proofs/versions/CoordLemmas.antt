@@ -10,7 +10,7 @@ use Rattle.tsb_step.specs.tsb_rules.PatternRules.{is_on, has_phases, split_on, s
 use Rattle.tsb_step.specs.tsb_coord.Coordinated.{local_in, local, end_in, instant_from, reference, instant_by, force_off, is_at_force_off, asks_force_off, asks_recycle, asks_hold, asks_omit, sequence_now, serving_order}
 use Rattle.tsb_step.specs.tsb_objects.Instants.{is_coordinated_in, coordinated_in_ring, first_coordinated}
 use Rattle.tsb_step.specs.tsb_coord.declared.correction.Correction.{Correction}
-use Rattle.tsb_step.specs.tsb_coord.Correction.{is_in_step, local_now, forces, lets_walk_again, selected_correction}
+use Rattle.tsb_step.specs.tsb_coord.Correction.{shift_in, clocked, is_in_step, local_now, forces, lets_walk_again, selected_correction}
 use Rattle.tsb_step.proofs.tsb_coord.CorrectionLemmas.{forces_in_step, local_in_step, in_step_at_once}
 use Rattle.tsb_step.proofs.tsb_coord.LocalLemmas.{options_off}
 use Rattle.tsb_laws.specs.Widened.{IsNarrow, widened}
@@ -165,6 +165,14 @@ local-same plan t selected narrow = rw (running-same plan selected) (local_in-sa
 
 -- ## The local counter as it goes, which is in step in both
 
+shift_in-same : (plan : Plan) (runs : Option ℕ) (c : Correction) → shift_in (widened plan) runs c ≡ shift_in plan runs c
+shift_in-same plan None c = refl
+shift_in-same plan (Some n) c = refl
+
+clocked-same : (plan : Plan) (selected : Option ℕ) (c : Correction) (t : ℕ) → clocked (widened plan) selected c t ≡ clocked plan selected c t
+clocked-same plan selected c t =
+    ap (λ (o : Option ℕ). t + shift_in (widened plan) o c) (running-same plan selected) ∙ ap (λ (k : ℕ). t + k) (shift_in-same plan (running plan selected) c)
+
 counter-in_step : (plan : Plan) (selected : Option ℕ) (c : Correction) (t : ℕ) → IsNarrow plan → is_in_step plan selected c t ≡ true
 counter-in_step plan selected c t narrow = in_step_at_once plan selected c t (at-once plan narrow)
 
@@ -175,13 +183,14 @@ pub local_now-same : (plan : Plan) (selected : Option ℕ) (c : Correction) (t :
     local_now (widened plan) selected c t ≡ local_now plan selected c t
 local_now-same plan selected c t narrow =
     local_in_step (widened plan) selected c t (wide-in_step plan selected c t narrow)
-    ∙ local-same plan t selected narrow ∙ sym (local_in_step plan selected c t (counter-in_step plan selected c t narrow))
+    ∙ ap (λ (k : ℕ). local (widened plan) k selected) (clocked-same plan selected c t)
+    ∙ local-same plan (clocked plan selected c t) selected narrow ∙ sym (local_in_step plan selected c t (counter-in_step plan selected c t narrow))
 
 -- whatever is selected, it begins in step
-pub selected_correction-same : (plan : Plan) (selected : Option ℕ) (now : ℕ) (l k : Option ℕ) → IsNarrow plan →
-    selected_correction (widened plan) selected now l ≡ selected_correction plan selected now k
-selected_correction-same plan selected now l k narrow =
-    begins_at_once (widened plan) selected now l (at-once plan narrow) ∙ sym (begins_at_once plan selected now k (at-once plan narrow))
+pub selected_correction-same : (plan : Plan) (selected : Option ℕ) (now midnight : ℕ) (l k : Option ℕ) → IsNarrow plan →
+    selected_correction (widened plan) selected now midnight l ≡ selected_correction plan selected now midnight k
+selected_correction-same plan selected now midnight l k narrow =
+    begins_at_once (widened plan) selected now midnight l (at-once plan narrow) ∙ sym (begins_at_once plan selected now midnight k (at-once plan narrow))
 
 -- ## The orders
 
@@ -208,14 +217,16 @@ pub forces-same : (plan : Plan) (selected : Option ℕ) (c : Correction) (t p : 
     forces (widened plan) selected c t p ≡ forces plan selected c t p
 forces-same plan selected c t p narrow =
     forces_in_step (widened plan) selected c t p (wide-in_step plan selected c (t - 1) narrow)
-    ∙ asks_force_off-same plan t selected p narrow ∙ sym (forces_in_step plan selected c t p (counter-in_step plan selected c (t - 1) narrow))
+    ∙ ap (λ (k : ℕ). asks_force_off (widened plan) k selected p) (clocked-same plan selected c t)
+    ∙ asks_force_off-same plan (clocked plan selected c t) selected p narrow ∙ sym (forces_in_step plan selected c t p (counter-in_step plan selected c (t - 1) narrow))
 
 pub lets_walk_again-same : (plan : Plan) (selected : Option ℕ) (c : Correction) (t p : ℕ) → IsNarrow plan →
     lets_walk_again (widened plan) selected c t p ≡ lets_walk_again plan selected c t p
 lets_walk_again-same plan selected c t p narrow =
     ap₂ (λ (a b : Bool). a && b)
     (wide-in_step plan selected c (t - 1) narrow ∙ sym (counter-in_step plan selected c (t - 1) narrow))
-    (asks_recycle-same plan t selected p narrow)
+    (ap (λ (k : ℕ). asks_recycle (widened plan) k selected p) (clocked-same plan selected c t)
+    ∙ asks_recycle-same plan (clocked plan selected c t) selected p narrow)
 
 pub asks_hold-same : (plan : Plan) (selected : Option ℕ) (p : ℕ) → IsNarrow plan → is_narrow p ≡ true →
     asks_hold (widened plan) selected p ≡ asks_hold plan selected p

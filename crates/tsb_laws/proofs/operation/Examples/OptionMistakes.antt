@@ -110,7 +110,7 @@ would_walk_again = refl
 
 -- 100 ticks ahead in tick 0
 abbrev far : Correction
-far = record { since = 0; ahead = 100 }
+far = record { since = 0; ahead = 100; midnight = 0 }
 
 -- with a limit of 20 percent
 abbrev steps_always : Plan → ℕ → Correction → ℕ → ℕ
@@ -128,14 +128,14 @@ would_lag = refl
 -- ## A selection that goes on from the old local counter whatever the mode is
 
 abbrev goes_on_always : Plan → ℕ → ℕ → ℕ → Correction
-goes_on_always plan n now l = begun now (residue_of_difference (cycle plan n) (l % cycle plan n) (counter plan n now))
+goes_on_always plan n now l = begun now 0 (residue_of_difference (cycle plan n) (l % cycle plan n) (counter plan n now))
 
 -- pattern 1 is selected in tick 12, in which that of the old pattern is 112
-begins_in_step : selected_correction quad (Some 1) 12 (Some 112) ≡ in_step
+begins_in_step : selected_correction quad (Some 1) 12 0 (Some 112) ≡ in_step
 unfolding opened
 begins_in_step = refl
 
-would_begin_ahead : goes_on_always quad 1 12 112 ≡ record { since = 12; ahead = 100 }
+would_begin_ahead : goes_on_always quad 1 12 112 ≡ record { since = 12; ahead = 100; midnight = 0 }
 unfolding opened
 would_begin_ahead = refl
 

@@ -45,6 +45,7 @@ view_stays : (s : State) (i : Input) (c : ℕ) → is_tick i ≡ false → is_ca
 unfolding step
 view_stays s (inputs.Tick row) c t h dark = absurd (true≢false t)
 view_stays s (inputs.Pattern n) c t h dark = absurd (false≢true h)
+view_stays s (inputs.Clock m) c t h dark = absurd (false≢true h)
 view_stays s (inputs.Commit station) c t h dark = absurd (false≢true h)
 view_stays s (inputs.Fault lamp) c t h dark = lit_view false s lamp
 view_stays s inputs.Reset c t h dark = reset_view false s dark

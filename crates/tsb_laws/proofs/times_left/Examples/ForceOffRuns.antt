@@ -100,6 +100,7 @@ a_force_off = record {
     same_pattern = runs_1_still ∙ sym runs_1;
     same_cycle = λ m h. ap (λ (x : Plan). cycle x m) (plan_then near all_off started 19);
     same_offset = λ m h. ap (λ (x : Plan). offset_in_effect x m) (plan_then near all_off started 19);
+    same_midnight = refl;
     same_instant = ap₂ (λ (x : Plan) (o : Option ℕ). force_off x o 2) (plan_then near all_off started 19) (runs_1_still ∙ sym runs_1);
   };
   clock = now_then near all_off started 19;

@@ -1,0 +1,3 @@
+pub mod CalendarLemmas
+pub mod ReadLemmas
+pub mod Examples
