@@ -15,10 +15,9 @@ ghost use Rattle.tsb_bench.specs.Cabinet.{rows_of, IsShut, IsDone};
 ghost use Rattle.tsb_bench.specs.declared.cabinet.TheConstants.{MOST_CELLS};
 
 use crate::cabinet::{Cabinet, Changes};
-use tsb_clock::ClockTime;
 use tsb_heads::Trip;
 use tsb_objects::Row;
-use tsb_types::Lamp;
+use tsb_types::{ClockTime, Lamp};
 
 impl Cabinet {
     /// The tick after tick number `tick`, with the inputs of `row` on. A tick of a controller that has tripped changes

@@ -3,7 +3,7 @@
 use Rattle.std.specs.Prelude.{ℕ, ◌+◌, ◌-◌, ◌*◌, ◌/◌, ◌%◌, ◌==◌, nat_lt, Bool, ◌&&◌, ◌||◌, if◌then◌else◌, List, [], ◌∷◌, length, take, drop, slice_index, Option, Some, None}
 use Rattle.tsb_lines.specs.Digits.{digit}
 use Rattle.tsb_lines.specs.Words.{number_of}
-use Rattle.tsb_clock.specs.declared.clock_time.TheConstants.{DAY, FIRST_DAY}
+use Rattle.tsb_types.specs.declared.clock_time.TheConstants.{DAY, FIRST_DAY}
 use Rattle.tsb_clock_text.specs.Calendar.{day_number, date_after, is_date}
 use Rattle.tsb_clock_text.specs.declared.calendar.ClockDate.{ClockDate}
 

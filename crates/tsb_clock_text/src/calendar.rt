@@ -2,7 +2,7 @@
 ghost use Rattle.std.specs.Prelude.{◌≡◌, ◌≤◌, ◌<◌, ◌-◌, true};
 ghost use Rattle.tsb_clock_text.specs.Calendar.{common_days_before, date_after, date_in, day_number, days_before, days_of_years, is_date, is_day, is_leap, month_of, year_of};
 
-use tsb_clock::clock_time::FIRST_DAY;
+use tsb_types::clock_time::FIRST_DAY;
 
 /// The first year of the calendar.
 const FIRST_YEAR: u32 = 2000;

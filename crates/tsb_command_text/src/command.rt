@@ -1,8 +1,7 @@
 //! The commands of a session.
 
-use tsb_clock::ClockTime;
 use tsb_plan::ObjectId;
-use tsb_types::{Lamp, Station, Watch};
+use tsb_types::{ClockTime, Lamp, Station, Watch};
 
 /// What a session does on command. A number that nothing has, such as that of a pattern or an index, is refused when
 /// the command is done, and not when it is read.

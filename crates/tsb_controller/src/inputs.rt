@@ -12,13 +12,13 @@ ghost use Rattle.tsb_controller.specs.Promises.{IsAtPowerUp, IsSelected, IsClock
 
 use crate::controller::Controller;
 use tsb_calls::Calls;
-use tsb_clock::ClockTime;
 use tsb_coord::Coord;
 use tsb_detect::Detectors;
 use tsb_objects::Checked;
 use tsb_phase::Phases;
 use tsb_preempt::Preempts;
 use tsb_ring::Rings;
+use tsb_types::ClockTime;
 
 impl Controller {
     ghost use Rattle.tsb_controller.specs.Layer.{rows_of, kept_of, IsOpen, IsClosed};

@@ -1,7 +1,7 @@
 //! The status of the controller, by the names of NTCIP 1202's status objects.
 ghost use Rattle.std.specs.Prelude.{◌≡◌, ◌<◌, ◌≤◌, ◌||◌, ◌+◌, ◌*◌, ◌%◌, [], ◌∷◌, ℕ, true, option_map, if◌then◌else◌, IfSome};
 ghost use Rattle.tsb_objects.specs.Checked.{checked_plan};
-ghost use Rattle.tsb_clock.specs.declared.clock_time.TheConstants.{DAY, LAST_DAY};
+ghost use Rattle.tsb_step.specs.tsb_types.declared.clock_time.TheConstants.{DAY, LAST_DAY};
 ghost use Rattle.tsb_coord.specs.Cells as coord;
 ghost use Rattle.tsb_ring.specs.Cells as rings;
 ghost use Rattle.tsb_step.specs.tsb_plan.Parts.{cycle, is_used};
@@ -17,12 +17,12 @@ ghost use Rattle.tsb_controller.specs.StatusPromises.{TellsPattern, TellsPreempt
 use crate::controller::Controller;
 use crate::found::{RingTold, RingsTold};
 use crate::seen::numbers;
-use tsb_clock::clock_time::CLOCK_EPOCH;
 use tsb_events::Seen;
 use tsb_objects::{Checked, Interval, NumberSet, Pattern, Preempt, Stage, Station};
 use tsb_status::{PhaseFound, RingStatus, Status, ring};
 use tsb_step::{FlashStatus, FreeStatus, PreemptState};
 use tsb_transact::DeskState;
+use tsb_types::clock_time::CLOCK_EPOCH;
 use tsb_types::event::FREE;
 
 /// What a status has that the controller does not keep.

@@ -9,7 +9,7 @@
 -- | 4 | the day of tick number 0, counted from 1999-12-24; 0 without a clock |
 -- | 5 | the tenths of a second since the midnight of that day |
 use Rattle.std.specs.Prelude.{◌≡◌, ℕ, ◌+◌, ◌*◌, ◌/◌, ◌%◌, ◌<◌, ◌≤◌, List, [], ◌∷◌, length, Option, slice_index}
-use Rattle.tsb_clock.specs.declared.clock_time.TheConstants.{DAY, FIRST_MOMENT, LAST_DAY}
+use Rattle.tsb_objects.specs.tsb_types.declared.clock_time.TheConstants.{DAY, FIRST_MOMENT, LAST_DAY}
 use Rattle.tsb_objects.specs.tsb_types.Lists.{or_number}
 use Rattle.tsb_objects.specs.tsb_types.declared.limits.TheConstants.{TICKS}
 use Rattle.tsb_objects.specs.tsb_plan.Parts.{unless_zero}

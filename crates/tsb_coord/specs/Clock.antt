@@ -2,7 +2,7 @@
 -- counts. That a counter goes on from midnight to midnight without a jump is the profile's own. Moments and times are in
 -- tenths of a second, which are ticks; a moment is counted from 1999-12-24 00:00.
 use Rattle.std.specs.Prelude.{ℕ, ◌+◌, ◌-◌, ◌%◌, ◌==◌, if◌then◌else◌, Option, Some, None}
-use Rattle.tsb_clock.specs.declared.clock_time.TheConstants.{DAY, FIRST_MOMENT}
+use Rattle.tsb_objects.specs.tsb_types.declared.clock_time.TheConstants.{DAY, FIRST_MOMENT}
 use Rattle.tsb_objects.specs.Instants.{residue_of_difference}
 
 -- the moment of tick number 0, where that of tick number `now` is m; each tick before is a tenth earlier

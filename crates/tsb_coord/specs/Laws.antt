@@ -10,7 +10,7 @@ use Rattle.tsb_objects.specs.tsb_plan.Parts.{cycle, permissive_time, leads_and_l
 use Rattle.tsb_objects.specs.tsb_plan.Running.{running, is_coordinated_now}
 use Rattle.tsb_objects.specs.tsb_rules.Consistent.{IsPhase}
 use Rattle.tsb_objects.specs.tsb_types.declared.limits.TheConstants.{TICKS}
-use Rattle.tsb_clock.specs.declared.clock_time.TheConstants.{DAY, FIRST_MOMENT, LAST_DAY}
+use Rattle.tsb_objects.specs.tsb_types.declared.clock_time.TheConstants.{DAY, FIRST_MOMENT, LAST_DAY}
 use Rattle.tsb_coord.specs.Cells.{pattern_in, correction_in, start_in, pattern_cells, IsBy}
 use Rattle.tsb_coord.specs.Clock.{midnight_at, shift}
 use Rattle.tsb_coord.specs.Correction.{Correction, longest_wait, way, is_slower_way, clocked, local_now, forces, is_in_step, selected_correction}

@@ -1,15 +1,15 @@
 //! The clock, and the midnight that a local counter counts from.
 ghost use Rattle.std.specs.Prelude.{◌≡◌, ◌≤◌, ◌<◌, ◌+◌, ◌*◌, IfSome, true};
-ghost use Rattle.tsb_clock.specs.declared.clock_time.TheConstants.{DAY, FIRST_MOMENT, LAST_DAY};
+ghost use Rattle.tsb_objects.specs.tsb_types.declared.clock_time.TheConstants.{DAY, FIRST_MOMENT, LAST_DAY};
 ghost use Rattle.tsb_objects.specs.tsb_types.declared.limits.TheConstants.{TICKS};
 ghost use Rattle.tsb_objects.specs.tsb_plan.Parts.{cycle, is_used};
 ghost use Rattle.tsb_objects.specs.Checked.{checked_plan};
 ghost use Rattle.tsb_coord.specs.Clock.{midnight_at, shift};
 
 use crate::counting::cycle_of;
-use tsb_clock::DAY;
-use tsb_clock::clock_time::FIRST_MOMENT;
 use tsb_objects::{Checked, Pattern};
+use tsb_types::DAY;
+use tsb_types::clock_time::FIRST_MOMENT;
 
 /// How long after the midnight at or before tick number `now` tick number 0 comes, in ticks, and eight days, by the moment
 /// of tick number 0; 0 where no clock is set.

@@ -9,7 +9,7 @@ ghost use Rattle.tsb_objects.specs.tsb_plan.Running.{running};
 ghost use Rattle.tsb_objects.specs.tsb_types.declared.refusal.Refusal.{Refusal};
 ghost use Rattle.tsb_objects.specs.tsb_types.Sets.{has};
 ghost use Rattle.tsb_coord.specs.declared.TheConstants.{CELLS};
-ghost use Rattle.tsb_clock.specs.declared.clock_time.TheConstants.{DAY, FIRST_MOMENT, LAST_DAY};
+ghost use Rattle.tsb_objects.specs.tsb_types.declared.clock_time.TheConstants.{DAY, FIRST_MOMENT, LAST_DAY};
 ghost use Rattle.tsb_coord.specs.Cells.{pattern_in, correction_in, start_in, IsBy};
 ghost use Rattle.tsb_coord.specs.Clock.{midnight_at};
 ghost use Rattle.tsb_coord.specs.Coordinated.{refusal};
@@ -26,9 +26,9 @@ use crate::counting::counter;
 use crate::waiting::ticks_to_next;
 use arrayvec::ArrayVec;
 use tsb_cells::{Bank, Diff, Reversible};
-use tsb_clock::{ClockTime, DAY};
 use tsb_objects::limits::TICKS;
 use tsb_objects::{Checked, Pattern, PhaseSet, Refusal, Sequence};
+use tsb_types::{ClockTime, DAY};
 
 /// The sequence in free operation.
 const FREE_SEQUENCE: u8 = 1;

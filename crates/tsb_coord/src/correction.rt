@@ -1,7 +1,7 @@
 //! How the local counter comes into step once a pattern is selected while another one ran (`coordCorrectionMode`,
 //! profile). Times are in ticks.
 ghost use Rattle.std.specs.Prelude.{◌≡◌, ◌<◌, ◌≤◌, ◌+◌, ◌-◌, true, Some, IfSome};
-ghost use Rattle.tsb_clock.specs.declared.clock_time.TheConstants.{DAY, FIRST_MOMENT};
+ghost use Rattle.tsb_objects.specs.tsb_types.declared.clock_time.TheConstants.{DAY, FIRST_MOMENT};
 ghost use Rattle.tsb_objects.specs.tsb_types.declared.limits.TheConstants.{TICKS};
 ghost use Rattle.tsb_objects.specs.tsb_plan.declared.plan.patterns.CorrectionMode.TheVariants.{Dwell};
 ghost use Rattle.tsb_objects.specs.tsb_plan.Parts.{cycle, is_used};

@@ -1,6 +1,6 @@
 //! How the local counter goes, for event logs: the state of the cycle, local zero and yield points.
 ghost use Rattle.std.specs.Prelude.{◌≡◌, ℕ, ◌+◌, ◌<◌, ◌≤◌, true};
-ghost use Rattle.tsb_clock.specs.declared.clock_time.TheConstants.{DAY, FIRST_MOMENT};
+ghost use Rattle.tsb_objects.specs.tsb_types.declared.clock_time.TheConstants.{DAY, FIRST_MOMENT};
 ghost use Rattle.tsb_objects.specs.tsb_types.declared.limits.TheConstants.{TICKS};
 ghost use Rattle.tsb_objects.specs.tsb_types.Sets.{has};
 ghost use Rattle.tsb_objects.specs.tsb_plan.Parts.{correction_mode, is_used};

@@ -1,7 +1,7 @@
 -- The runs that the laws of this crate are about: those of a plan such as the program holds, by inputs whose numbers
 -- are of the program's types.
 use Rattle.std.specs.Prelude.{◌≡◌, ℕ, ◌<◌, ◌≤◌, List, [], ◌∷◌}
-use Rattle.tsb_step.specs.tsb_clock.declared.clock_time.TheConstants.{FIRST_MOMENT, END_OF_DAYS}
+use Rattle.tsb_step.specs.tsb_types.declared.clock_time.TheConstants.{FIRST_MOMENT, END_OF_DAYS}
 use Rattle.tsb_step.specs.tsb_plan.declared.object.Object.{Object}
 use Rattle.tsb_step.specs.tsb_plan.Objects.{greatest}
 use Rattle.tsb_step.specs.tsb_plan.Plan.{Plan}

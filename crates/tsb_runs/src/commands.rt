@@ -2,8 +2,8 @@
 
 use std::alloc::{AllocError, Global};
 use tsb_bench::{Cmd, Input};
-use tsb_clock::ClockTime;
 use tsb_objects::{Lamp, Object, ObjectId, Phase, Row, SignalColor, Station, Watch};
+use tsb_types::ClockTime;
 
 /// Inputs of every kind but ticks and clocks, none of them refused on the built-in plan of eight phases.
 fn inputs() -> [Input; 13] {

@@ -19,7 +19,7 @@ use Rattle.tsb_objects.specs.tsb_plan.Parts.{cycle}
 use Rattle.tsb_objects.specs.tsb_plan.Plan.{Plan, is_enabled, yellow_change, red_clear}
 use Rattle.tsb_objects.specs.tsb_rules.Rules.{serves_pedestrians}
 use Rattle.tsb_coord.specs.Coordinated.{force_off}
-use Rattle.tsb_clock.specs.declared.clock_time.TheConstants.{CLOCK_EPOCH}
+use Rattle.tsb_types.specs.declared.clock_time.TheConstants.{CLOCK_EPOCH}
 use Rattle.tsb_coord.specs.Correction.{clocked}
 use Rattle.tsb_phase.specs.Green.{gap, is_gapped, acting_maximum}
 use Rattle.tsb_phase.specs.Pedestrian.{ended_by, walk_time, clearance_time}

@@ -1,8 +1,7 @@
 //! What the controller takes.
 
-use tsb_clock::ClockTime;
 use tsb_objects::{ObjectId, Row, Station};
-use tsb_types::Lamp;
+use tsb_types::{ClockTime, Lamp};
 
 /// An input of the controller: a tick from the field; a pattern, a switch, a fault, a reset or a clock from the operator; the
 /// database transactions of NTCIP 1201 from the stations.

@@ -5,8 +5,8 @@ use tsb_bench::{
     Answer, Bench, Checked, Cmd, Input, Kind, Lamp, Nothing, ObjectId, Plan, Refusal, Row, Station,
     Trip, Watch, answer, play,
 };
-use tsb_clock::ClockTime;
 use tsb_objects::{Aspect, Object, Phase, Rule, SignalColor};
+use tsb_types::ClockTime;
 
 fn tick() -> Input {
     Input::Tick(Row::all_off())

@@ -4,9 +4,9 @@
 use std::alloc::Global;
 use tsb_bench::{Bench, Input, Kind, Row};
 use tsb_cells::Reversible;
-use tsb_clock::ClockTime;
 use tsb_coord::{Coord, laws};
 use tsb_objects::{Checked, Plan};
+use tsb_types::ClockTime;
 
 /// 2026-11-22, counted from 1999-12-24.
 const DAY: u32 = 9830;

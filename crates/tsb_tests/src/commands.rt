@@ -1,9 +1,10 @@
 //! Command lines, each with the command that it is.
 
-use tsb_clock::ClockTime;
 use tsb_command_text::{Command, Reading, read_command, reading_of};
 use tsb_plan::{Object, ObjectId};
-use tsb_types::{Detector, Lamp, Overlap, PedestrianColor, Phase, SignalColor, Station, Watch};
+use tsb_types::{
+    ClockTime, Detector, Lamp, Overlap, PedestrianColor, Phase, SignalColor, Station, Watch,
+};
 
 /// Whether the line is this command, or none.
 fn is(line: &[u8], wanted: Option<Command>) -> bool {

@@ -12,7 +12,7 @@ use Rattle.tsb_step.specs.tsb_plan.Objects.{greatest}
 use Rattle.tsb_step.specs.tsb_plan.Parts.{is_used, cycle, correction_mode}
 use Rattle.tsb_step.specs.tsb_plan.Plan.{Plan}
 use Rattle.tsb_step.specs.tsb_coord.Coordinated.{residue_of_difference, counter, is_pattern, refusal, selects}
-use Rattle.tsb_step.specs.tsb_clock.declared.clock_time.TheConstants.{DAY, FIRST_MOMENT}
+use Rattle.tsb_step.specs.tsb_types.declared.clock_time.TheConstants.{DAY, FIRST_MOMENT}
 use Rattle.tsb_step.specs.tsb_coord.Clock.{midnight_at, shift, spare}
 use Rattle.tsb_step.specs.tsb_coord.declared.correction.Correction.{Correction}
 use Rattle.tsb_step.specs.tsb_coord.Correction.{in_step, in_step_from, ahead_with, ahead_from, begun, counted_tick, local_now, selected_correction}

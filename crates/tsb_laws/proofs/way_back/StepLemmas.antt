@@ -43,7 +43,7 @@ use Rattle.tsb_laws.proofs.safety.LastTickLemmas.{run_early}
 use Rattle.tsb_laws.proofs.way_back.PlanLemmas.{bounded-with}
 use Rattle.tsb_laws.proofs.way_back.DeskLemmas.{sound-set}
 use Rattle.tsb_laws.proofs.way_back.CorrectionLemmas.{cycles-within, ahead-selected, ahead-clocked, midnight-selected, midnight-below}
-use Rattle.tsb_step.specs.tsb_clock.declared.clock_time.TheConstants.{DAY, FIRST_MOMENT}
+use Rattle.tsb_step.specs.tsb_types.declared.clock_time.TheConstants.{DAY, FIRST_MOMENT}
 use Rattle.tsb_step.specs.tsb_types.declared.limits.TheConstants.{TICKS}
 use Rattle.tsb_step.specs.tsb_coord.Clock.{midnight_at, start_of}
 use Rattle.tsb_step.specs.tsb_coord.Coordinated.{selects}

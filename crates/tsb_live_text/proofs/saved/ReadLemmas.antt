@@ -24,7 +24,7 @@ use Rattle.tsb_log_text.specs.Rows.{field, has_space, inputs_of, inputs_with, li
 use Rattle.tsb_text.specs.declared.kept.Other.{Other}
 use Rattle.tsb_text.specs.kept.Kept.{kept_of}
 use Rattle.tsb_text.proofs.BackLemmas.{no-less}
-use Rattle.tsb_clock.specs.declared.clock_time.TheConstants.{FIRST_MOMENT, END_OF_DAYS}
+use Rattle.tsb_types.specs.declared.clock_time.TheConstants.{FIRST_MOMENT, END_OF_DAYS}
 use Rattle.tsb_clock_text.specs.ClockText.{clock_of}
 use Rattle.tsb_clock_text.proofs.ReadLemmas.{clock-ranged}
 use Rattle.tsb_live_text.specs.saved.Laws.{AreSpelled, IsFault, IsLamp, IsSpelled, IsUpTo, KeptAreSpelled, ReadsAreSpelled, RowsReadAreFit, command_of}

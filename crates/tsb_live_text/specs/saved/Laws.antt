@@ -6,7 +6,7 @@ use Rattle.tsb_lines.specs.Lines.{HasNoFeed, lines_of}
 use Rattle.tsb_text.specs.tsb_types.declared.lamp.Lamp.{Lamp}
 use Rattle.tsb_text.specs.tsb_types.declared.lamp.Lamp.TheVariants as lamps
 use Rattle.tsb_text.specs.tsb_types.declared.limits.TheConstants.{TICKS}
-use Rattle.tsb_clock.specs.declared.clock_time.TheConstants.{FIRST_MOMENT, END_OF_DAYS}
+use Rattle.tsb_types.specs.declared.clock_time.TheConstants.{FIRST_MOMENT, END_OF_DAYS}
 use Rattle.tsb_text.specs.tsb_step.tsb_plan.Plan.{Plan}
 use Rattle.tsb_step.specs.declared.inputs.Input.{Input}
 use Rattle.tsb_step.specs.declared.inputs.Input.TheVariants.{Tick, Pattern, Switch, Fault, Reset, Begin, Set, Verify, Commit, Abort, Clock}

@@ -6,11 +6,10 @@ ghost use Rattle.tsb_text.specs.tsb_step.declared.inputs.Input.TheVariants as in
 
 use arrayvec::ArrayVec;
 use itoa::Buffer;
-use tsb_clock::ClockTime;
 use tsb_clock_text::{date_text, time_text};
 use tsb_objects::ObjectId;
 use tsb_step::Input;
-use tsb_types::{Lamp, PedestrianColor, SignalColor, Station};
+use tsb_types::{ClockTime, Lamp, PedestrianColor, SignalColor, Station};
 
 /// The most bytes of the line of a command.
 const LINE: usize = 80;

@@ -1,6 +1,6 @@
 //! A time that a clock is set to, its day and its time of day.
 ghost use Rattle.std.specs.Prelude.{◌≡◌, ℕ, ◌+◌, ◌*◌, ◌/◌, ◌%◌, ◌<◌, ◌≤◌, ◌&&◌, nat_le, nat_lt, if◌then◌else◌, Some, None};
-ghost use Rattle.tsb_clock.specs.declared.clock_time.TheConstants.{DAY, FIRST_DAY, LAST_DAY, FIRST_MOMENT, END_OF_DAYS};
+ghost use Rattle.tsb_types.specs.declared.clock_time.TheConstants.{DAY, FIRST_DAY, LAST_DAY, FIRST_MOMENT, END_OF_DAYS};
 
 use std::marker::Model;
 
