@@ -74,6 +74,7 @@ class Bench:
         # Of each input that is no tick: its tick, and how many events came before it.
         self._marks: list[tuple[int, int]] = []
         self._talk, self._now = _started(plan), 0
+        self._notes = _notes(plan)
         self._hold = Hold(self._talk.kill)
         self._tells = events
         if events:
@@ -327,8 +328,8 @@ class Bench:
     @property
     @whole
     def plan(self) -> Plan:
-        """The plan in effect."""
-        return Plan.of_text(self._ask("plan"))
+        """The plan in effect, with the notes of the plan that it began with."""
+        return Plan.of_text(self._ask("plan")).noted(self._notes)
 
     @property
     @whole
@@ -387,6 +388,13 @@ class Transaction:
             # (the way back may have taken the begin back, and the program may be gone)
             with suppress(Refused, ProgramDied):
                 self._say("abort")
+
+
+def _notes(plan: Plan | str | PathLike[str]) -> dict[str, str]:
+    """The notes of a plan, which the program does not keep."""
+    if isinstance(plan, Plan):
+        return plan.notes
+    return Plan.read(plan).notes if Path(plan).is_file() else {}
 
 
 def _started(plan: Plan | str | PathLike[str]) -> Talk:
