@@ -112,9 +112,9 @@ abbrev pub Tells : Live → List ℕ → List ℕ → Option LineFault → List 
 Tells s line answer why text fault left t = (text ≡ echo_of s.echoes line ++ with_feed answer) × (fault ≡ why) × (t ≡ left)
 
 -- the ticks that lead to a tick, or what is wrong with what asks for it
-abbrev pub Goes : Live → List ℕ → Result ℕ LineFault → List ℕ → Option LineFault → Live → Type 0
-Goes s line (Ok tick) text fault t = Obeys s line (command_to (present s).now tick) text fault t
-Goes s line (Err why) text fault t = Tells s line (fault_words why) (Some why) text fault s t
+abbrev pub GoesTo : Live → List ℕ → Result ℕ LineFault → List ℕ → Option LineFault → Live → Type 0
+GoesTo s line (Ok tick) text fault t = Obeys s line (command_to (present s).now tick) text fault t
+GoesTo s line (Err why) text fault t = Tells s line (fault_words why) (Some why) text fault s t
 
 -- the tick
 abbrev pub TellsTick : Live → List ℕ → Result ℕ LineFault → List ℕ → Option LineFault → Live → Type 0
@@ -126,7 +126,7 @@ abbrev pub AsksLive : Live → List ℕ → LiveCommand → List ℕ → Option 
 AsksLive s line (asks.Session c) text fault t = Obeys s line c text fault t
 AsksLive s line asks.Status text fault t = Tells s line (status_text (status (present s))) None text fault s t
 AsksLive s line (asks.Changes n) text fault t = TellsChanges s line n text fault t
-AsksLive s line (asks.GoTo aim) text fault t = Goes s line (tick_of (present s).start_moment (present s).now aim) text fault t
+AsksLive s line (asks.GoTo aim) text fault t = GoesTo s line (tick_of (present s).start_moment (present s).now aim) text fault t
 AsksLive s line (asks.TickAt aim) text fault t = TellsTick s line (tick_of (present s).start_moment (present s).now aim) text fault t
 -- where there is no memory for the line of the plan, that is told
 AsksLive s line asks.Plan text fault t = Tells s line (plan_text (present s).plan) None text fault s t

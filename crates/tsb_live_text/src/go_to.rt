@@ -29,6 +29,7 @@ pub(crate) fn tick_of(start: Option<u64>, now: u32, aim: Aim) -> Result<u32, Lin
 
 /// The moment that is named, where the clock has the moment `present`.
 fn moment_of(present: u64, aim: Aim) -> u64
+    requires { present ≤ (LAST_DAY + 1) * DAY + TICKS }
     ensures { result ≡ moment_of present aim }
 {
     match aim {
