@@ -1,3 +1,4 @@
+pub mod clock
 -- objects are found among those with names as long
 pub mod ObjectLemmas
 pub mod RowLemmas

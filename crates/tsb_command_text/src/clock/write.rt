@@ -1,9 +1,9 @@
 //! Writes a date and a time of day.
 ghost use Rattle.std.specs.Prelude.{◌≡◌, ◌%◌};
 ghost use Rattle.tsb_types.specs.declared.clock_time.TheConstants.{DAY};
-ghost use Rattle.tsb_clock_text.specs.ClockText.{date_of, date_text, time_text};
+ghost use Rattle.tsb_command_text.specs.clock.ClockText.{date_of, date_text, time_text};
 
-use crate::calendar::date_after;
+use crate::clock::calendar::date_after;
 use tsb_lines::digit;
 use tsb_types::ClockTime;
 use tsb_types::clock_time::FIRST_DAY;

@@ -1,6 +1,6 @@
 use Rattle.std.proofs.Common.{◌≡◌, ◌-◌, ◌≤◌}
-use Rattle.tsb_clock_text.specs.Calendar.{month_up_to}
-use Rattle.tsb_clock_text.proofs.calendar.month_of.Given as goal
+use Rattle.tsb_command_text.specs.clock.Calendar.{month_up_to}
+use Rattle.tsb_command_text.proofs.clock.calendar.month_of.Given as goal
 
 -- the month is the last of those so far that has begun
 abbrev pub invariant-loop-next : goal.invariant-loop-next

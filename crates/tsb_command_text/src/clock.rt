@@ -1,5 +1,4 @@
 //! The text of a time that a clock is set to: a date of the years 2000 to 2099, and a time of day.
-#![tactic(auto)]
 
 pub mod calendar;
 pub mod laws;
