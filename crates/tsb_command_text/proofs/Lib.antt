@@ -1,4 +1,3 @@
-pub mod clock
 -- objects are found among those with names as long
 pub mod ObjectLemmas
 pub mod RowLemmas
