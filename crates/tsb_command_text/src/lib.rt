@@ -4,6 +4,7 @@
 //! case matters. All of it is "profile": this project's own choice.
 #![tactic(auto)]
 
+pub mod clock;
 pub mod command;
 mod lamps;
 pub mod laws;
