@@ -4,7 +4,7 @@ use Rattle.std.specs.Prelude.{bytes_eq}
 use Rattle.std.specs.Option.{option_map}
 use Rattle.std.proofs.lemmas.Slice.Eq.{bytes_eq-Decides}
 use Rattle.tsb_lines.specs.Words.{words_of, onto_word, number_of}
-use Rattle.tsb_clock_text.specs.ClockText.{clock_of, time_in_word}
+use Rattle.tsb_command_text.specs.clock.ClockText.{clock_of, time_in_word}
 use Rattle.tsb_command_text.specs.Commands.{command_in, command_of_one, command_of_two, command_of_three, command_of_five, on_or_off, watch_of_two}
 use Rattle.tsb_command_text.specs.declared.command.Command.{Command}
 use Rattle.tsb_command_text.specs.declared.command.Command.TheVariants as session

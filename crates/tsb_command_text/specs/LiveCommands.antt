@@ -4,7 +4,7 @@ use Rattle.std.specs.Option.{option_map, option_or}
 use Rattle.tsb_lines.specs.Words.{number_of}
 use Rattle.tsb_command_text.specs.Commands.{command_in, on_or_off}
 use Rattle.tsb_command_text.specs.Lamps.{from_one_to}
-use Rattle.tsb_clock_text.specs.ClockText.{clock_of, time_in_word}
+use Rattle.tsb_command_text.specs.clock.ClockText.{clock_of, time_in_word}
 use Rattle.tsb_log_text.specs.declared.row_input.RowInput.{RowInput}
 use Rattle.tsb_log_text.specs.declared.row_input.RowInput.TheVariants.{Vehicle, Pedestrian, Preempt}
 use Rattle.tsb_command_text.specs.declared.live_command.Aim.TheVariants.{Time, Moment}

@@ -4,9 +4,9 @@ ghost use Rattle.tsb_lines.specs.Words.{words_of};
 ghost use Rattle.tsb_command_text.specs.LiveCommands.{live_command_in, input_of_two, number_to, own_in, own_of_one, own_of_three, own_of_two};
 ghost use Rattle.tsb_command_text.specs.LiveReadings.{live_reading};
 
+use crate::clock::{read_clock, read_time};
 use crate::live_command::{Aim, LiveCommand, LiveReading};
 use crate::{LINE, read_command, turned_on};
-use tsb_clock_text::{read_clock, read_time};
 use tsb_lines::{is_skipped, next_word, number};
 use tsb_log_text::{RowInput, inputs_of};
 use tsb_types::Number;
