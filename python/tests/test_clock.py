@@ -77,7 +77,7 @@ def test_the_clock_of_a_bench(quad: Path) -> None:
 
 @pytest.mark.parametrize("second", ["2000-01-01 00:00:00", "2099-12-31 23:59:59.9"])
 def test_the_first_and_the_last_day(quad: Path, second: str) -> None:
-    """A run may go on behind the last day; its clock then has whole seconds."""
+    """A run may go on into the year 2100; its clock then has whole seconds."""
     with Bench(quad) as bench:
         bench.set_clock(second)
         bench.step(20)
@@ -107,7 +107,7 @@ def test_going_to_a_time(quad: Path, has_log: bool) -> None:
 
 
 def test_without_a_clock(quad: Path) -> None:
-    """Times are refused, as is one behind the last tick; the bench is as it was."""
+    """Times are refused, as is one for which no tick is left; the bench is as it was."""
     calls: list[Callable[[Bench], object]] = [
         lambda bench: bench.at("7:42"),
         lambda bench: bench.seek("7:42"),
