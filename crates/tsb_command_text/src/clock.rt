@@ -6,5 +6,5 @@ mod read;
 mod write;
 
 pub use calendar::ClockDate;
-pub use read::read_clock;
+pub use read::{read_clock, read_time};
 pub use write::{date_text, time_text};

@@ -42,8 +42,9 @@ fn read_date(word: &[u8]) -> Option<ClockDate>
     if is_date(&date) { Some(date) } else { None }
 }
 
-/// The time of day that a word is, in tenths of a second since midnight.
-fn read_time(word: &[u8]) -> Option<u32>
+/// The time of day that a word is, `07:00:00` or `07:00:00.1`, in tenths of a second since midnight. `None` for any other
+/// word.
+pub fn read_time(word: &[u8]) -> Option<u32>
     ensures value { result ≡ time_in_word word.now }
     ensures below { IfSome result (λ time. time < DAY) }
 {
