@@ -171,8 +171,8 @@ class Numbers:
         return run.ticks + 1 if told.empty else int(told.min())
 
     def told_at(self, ticks: Any, code: int = PATTERN) -> Any:
-        """What events of a code, as that of a pattern, told last at each of these
-        ticks. Where none did it is 0, and of a run that was observed it is not known:
+        """The parameter of the last event of a code, as that of a pattern, at each of
+        these ticks. Where none did it is 0, and of a run that was observed it is not known:
         -1."""
         of = self.run.events[self.run.events["code"] == code]
         told = of.sort_values("tick", kind="stable")

@@ -80,8 +80,8 @@ would_break_k23 : first_broken_of_times optional ≡ Some K23
 unfolding opened optional plain.first_broken plain.broken_by_parts
 would_break_k23 = refl
 
--- ## A local counter that comes into step the short way, 12 ticks after a selection that was 100 ticks ahead, with its
--- offset counted to the begin of green, 250 ticks before the end of the coordinated split
+-- ## A local counter that comes into step the short way, 12 ticks after a selection that was 100 ticks ahead. Its offset
+-- is counted to the begin of green, 250 ticks before the end of the coordinated split
 
 abbrev selected : Correction
 selected = record { since = 0; ahead = 100; midnight = 0 }
