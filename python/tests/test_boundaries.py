@@ -16,7 +16,7 @@ from tsb.cycles import _told
 from tsb.report.differences import Difference, differences, of_counts, of_means
 from tsb.report.numbers import Numbers, period_of
 from tsb.report.page import _facts
-from tsb.report.runs import Run, moment, of_plan, of_rows, with_inputs_of
+from tsb.report.runs import Run, Session, moment, of_plan, of_rows, with_inputs_of
 from tsb.report.sections import _lengths
 from tsb.report.sources import _rows
 from tsb.spread import percentile
@@ -505,13 +505,19 @@ def test_a_run_of_a_plan(examples: Path) -> None:
 
     def of(commands: str, ticks: int | None, path: str = "quad.json") -> Run:
         log = Log.of([(10, "0001000000000000 00000000 0000")])
-        return of_plan("x", examples / path, log, START, commands, ticks, ["more"], True)
+        return of_plan("x", examples / path, Session(log, START, commands, ticks), "", ["more"])
 
     run = of("step 500\n", None)
     assert run.ticks == run.events["tick"].max() > 90 and run.plan is not None
     assert (run.name, run.plan.version, run.is_observed) == ("x", 2, False)
     assert run.facts == ["plan quad.json, on the bench from power-up", "more"]
     assert of("step 500\n", 777).ticks == 777
+    # its clock is that of its start, unless it has none: 7:00:10 is 10 s into a cycle of 80 s
+    log, commands = Log(), "step 900\n"
+    for has_clock, zero in ((True, 700), (False, 800)):
+        session = Session(log, "2026-11-22 07:00:10", commands, 900, True, has_clock)
+        told = of_plan("x", examples / "quad.json", session, "pattern 1\n", []).events
+        assert told.query("code == 150 and parameter == 5")["tick"].to_list() == [zero]
     none = of("", None, "first_plan.json")
     assert none.ticks == 0 and none.events.empty
     with pytest.raises(Error, match=r"quad.json: command 2: pattern 9: refused E9 \w+$"):
@@ -691,9 +697,23 @@ def test_what_ran_before_the_events_is_not_known() -> None:
         assert Numbers(run).known_from == 0
         assert Numbers(replace(run, is_observed=True)).known_from == known
     told = "pattern 1 (cycle 30 s, offset 0 s)"
-    for observed, first in ((False, "free operation"), (True, "not known")):
+    unknown = "not known before the export's first pattern (code 131)"
+    for observed, first in ((False, "free operation"), (True, unknown)):
         of = Numbers(replace(bench.run, is_observed=observed))
-        assert dict(_facts(of))["operation"] == f"{first}, {told}"
+        offset = "no offset (code 133)" if observed else "offset 0 s"
+        assert dict(_facts(of))["operation"] == f"{first}, {told.replace('offset 0 s', offset)}"
+    # of a street a length and an offset are known only by their events
+    street = [((5, 131, 3), (9, 1, 2)), ((5, 131, 254), (9, 1, 2)), ((5, 1, 2), (9, 7, 2))]
+    said = [
+        "pattern 3: the export has no cycle (code 132)", "free operation",
+        "not known: the export has no pattern (code 131)",
+    ]  # fmt: skip
+    for told_of, operation in zip(street, said, strict=True):
+        of = Numbers(replace(bench.run, events=table(*told_of), is_observed=True))
+        assert dict(_facts(of))["operation"] == operation
+    three = (*street[0], (5, 132, 30), (5, 133, 7))
+    of = Numbers(replace(bench.run, events=table(*three), is_observed=True))
+    assert dict(_facts(of))["operation"] == "pattern 3 (cycle 30 s, offset 7 s)"
     crossings = [(100, 31, 1), (200, 31, 1), (300, 31, 1), (300, 131, 254), (420, 31, 1)]
     street = Numbers(replace(bench.run, events=table(*crossings), is_observed=True))
     lengths = _lengths(street).reset_index()[["pattern", "count", "longest"]]

@@ -398,6 +398,32 @@ def test_a_street_beside_the_bench(examples: Path, days: Path, tmp_path: Path) -
     assert "Nothing differs." in (tmp_path / "page.html").read_text()
 
 
+def test_the_clock_of_a_report(
+    examples: Path, days: Path, tmp_path: Path, capsys: pytest.CaptureFixture[str]
+) -> None:
+    """It is that of `--from`, where there is one, and none with `--no-clock`."""
+    words = ["--plan-a", examples / "quad.json", "--pattern-a", 1, "--seconds", 180]
+    words += ["--log", examples / "empty.log"]
+    what = "plan quad.json, on the bench from power-up; inputs of empty.log"
+    for more, said in (
+        (["--from", START], f"{what}; its clock set to --from"),
+        (["--from", START, "--no-clock"], what), ([], what),
+        (["--from", "1999-12-31 23:00:00", "--no-clock"], what),
+    ):  # fmt: skip
+        page = made([*words, *more], tmp_path / "page.html")
+        assert page.tables[": "][1][1] == said
+    late = [*map(str, words), "--from", "2100-01-01 00:00:00", "--out", "x.html"]
+    assert main(late) == 1
+    assert capsys.readouterr().err.endswith(
+        "quad.json: --from: a clock has the years 2000 to 2099 (give --no-clock for"
+        " others)\n"
+    )
+    kept = ["--events-a", str(days / "quad.csv"), "--no-clock", "--out", "x.html"]
+    with pytest.raises(SystemExit):
+        main(kept)
+    assert "leave --no-clock out" in capsys.readouterr().err
+
+
 def test_channels_of_a_street(
     examples: Path, days: Path, tmp_path: Path, capsys: pytest.CaptureFixture[str]
 ) -> None:

@@ -107,6 +107,15 @@ def test_a_day_of_inputs(day: Day, plan: Path, log: Path) -> None:
     assert by_hand.sum().sum() > 3 and by_hand.index.name == "phase"
     pd.testing.assert_frame_equal(tables["terminations"], by_hand.reset_index())
     assert dict(day.tables([])) == {}
+    # its clock is that of its first tick, unless it has none: 10 s into a cycle of 80 s
+    for begin, no_clock, zero in (
+        ("07:00:10", False, 700), ("2026-11-22 07:00:10", False, 700),
+        ("07:00:10", True, 800), ("00:00:00", False, 800),
+    ):  # fmt: skip
+        own = replace(day, begin=begin, no_clock=no_clock, pattern=1, seconds=90)
+        (it,) = dict(own.tables([told])).values()
+        assert it.query("code == 150 and parameter == 5")["tick"].to_list() == [zero]
+    assert key_of(day, []) != key_of(replace(day, no_clock=True), [])
     # in a pattern the first tick has its event
     (pattern,) = dict(replace(day, pattern=1).tables([told])).values()
     assert [1, 131, 1] in pattern.to_numpy().tolist()

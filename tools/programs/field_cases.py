@@ -18,7 +18,7 @@ USAGE = (
     b"usage: tsb_field log --from TIME [--device ID] [--time-form FORM] [--zone OFFSET] [--count] [--allow-empty]\n"
     b"          [--sort] [--sort-within SECONDS] [--as-outputs PLAN]\n"
     b"          [--vehicle CHANNEL=DETECTOR].. [--pedestrian CHANNEL=DETECTOR].. [--preempt CHANNEL=INPUT]..\n"
-    b"    or tsb_field record --from TIME --device ID [--go-on] [--recalls] [--outputs] PLAN LOG\n"
+    b"    or tsb_field record --from TIME --device ID [--go-on] [--recalls] [--outputs] [--no-clock] PLAN LOG\n"
     b"    or tsb_field events --from TIME --device ID [--log LOG]\n"
     b"    or tsb_field diagram [--log LOG] [--title TEXT] [--seconds-per-line N] [--from TIME [--events FILE]]\n"
     b"    or tsb_field review PLAN\n"
@@ -831,7 +831,7 @@ def word_runs():
         ([*EVENTS, "--lgo=car.log"], b"--log"), (["record", *FROM, "--go-no"], b"--go-on"),
         (["diagram", "--seconds-perline", "9"], b"--seconds-per-line"), (["review", "--hel"], b"--help"),
         ([*LOG, "--as-output=quad.json"], b"--as-outputs"), ([*RECORD, "empty.log", "--recall"], b"--recalls"),
-        ([*RECORD, "empty.log", "--output"], b"--outputs"),
+        ([*RECORD, "empty.log", "--output"], b"--outputs"), ([*RECORD, "empty.log", "--no-clok"], b"--no-clock"),
     ]:
         yield Run(words, 2, b"", HINT % right, CAR)
     yield Run(["--version"], 0, VERSION % b"tsb_field", b"", CAR)
@@ -887,7 +887,7 @@ def record_runs():
     yield Run([*RECORD, "one_row.log", "--"], 0, HEADER, b"", b"show\n")
     yield Run(["record", "--device=1001", "quad.json", *FROM, "empty.log"], 0, record(*FIRST), b"", b"step 1\n")
     yield Run(["record", *FROM, "--device=a,b", "quad.json", "empty.log"], 0, HEADER, b"", b"")
-    late = ["record", "--from", "9999-12-31 00:00:00", "--device", "7", "quad.json", "empty.log"]
+    late = ["record", "--no-clock", "--from", "9999-12-31 00:00:00", "--device", "7", "quad.json", "empty.log"]
     yield Run(late, 2, b"", b"events: past the year 9999\n", b"step 1\n")
     yield Run(late, 4, b"", b"command 1: x: bad command\n", b"x\n")
     yield Run([*late, "--go-on"], 2, b"", b"command 1: x: bad command\nevents: past the year 9999\n", b"x\n")
@@ -1018,6 +1018,58 @@ def cycle_runs():
         yield Run(["record", *FROM, "--device", "1001", plan, "empty.log"], 0, record(*FLASHED, *events), b"", FLASHES + commands)
 
 
+def record_from(at, *events):
+    """A record of controller 1001 whose tick 1 begins then."""
+    begin = field_rules.moment(at.encode())
+    return HEADER + b"".join(b"1001,%s,%d,%d\n" % (field_rules.time_text(begin + max(tick - 1, 0) * field_rules.TENTH), code, parameter)
+                             for tick, code, parameter in events)
+
+
+# Moments of `--from`, and where the local counter of `FLASHES` is at tick 0 by the clock. 7:00 is 315 cycles of 80 s
+# after midnight, and the next midnight 1,080. A clock has tenths of a second; what is less is left out.
+CLOCKS = [
+    ("2026-11-22 07:00:00", 0), ("2026-11-22 07:00:10", 100), ("2026-11-22 07:00:10.39", 103),
+    ("2026-11-22T07:00:10.399999999", 103), ("2024-02-29 00:01:19.9", 799), ("2000-01-01 00:00:00", 0),
+    ("2000-01-01 00:00:00.1", 1), ("2099-12-31 23:59:59.9", 799), ("2099-12-31 23:59:59.999999999", 799),
+]
+NO_CLOCKS = ["1999-12-31 23:59:59.999999999", "2100-01-01 00:00:00", "0001-01-01 00:00:00", "9999-12-31 23:59:59"]
+NO_CLOCK = b"--from: a clock has the years 2000 to 2099 (give --no-clock for others)\n"
+
+
+def flashed(ahead):
+    """The events of `FLASHES` and 799 ticks more, from this place of the local counter at tick 0."""
+    yields = (750 - ahead) % 800
+    zero = (800 - ahead) % 800 or 800
+    passed = [(yields, 151, 2), (yields, 151, 6), (zero, 150, 5)]
+    # (a tick comes before the fault after it)
+    return [it for _, it in sorted(enumerate([*FLASHED[:11], *passed, *FLASHED[11:-3]]), key=lambda it: it[1][0])]
+
+
+def clock_runs():
+    """Records with the clock of `--from` and a pattern: what it changes, and what takes it back."""
+    session = FLASHES + b"step 799\n"
+    for at, ahead in CLOCKS:
+        words = ["record", "--from", at, "--device", "1001", "coming_into_step.json", "empty.log"]
+        by_clock, by_ticks = (record_from(at, *flashed(it)) for it in (ahead, 0))
+        yield Run(words, 0, by_clock, b"", session)
+        yield Run([*words, "--no-clock"], 0, by_ticks, b"", session)
+        yield Run(words, 0, by_ticks, b"", b"undo\n" + session)
+        yield Run(words, 0, by_clock, b"", session + b"seek 9\nback 9\nundo\n" + session)
+        yield Run(words, 0, by_ticks, b"", session + b"seek 0\nundo\nundo\n" + session)
+        yield Run(words, 0, by_ticks, b"", b"clock 2026-11-22 07:00:00\n" + session)
+        yield Run(words, 0, by_clock, b"", b"clock 2026-11-22 07:00:00\nundo\n" + session)
+        yield Run(words, 4, b"", b"command 2: clock 07:00: bad command\n", b"\nclock 07:00\nstep 1\n")
+        yield Run([*words, "--go-on"], 0, by_clock, b"command 1: x: bad command\n", b"x\n" + session)
+    for at in NO_CLOCKS:
+        words = ["record", "--from", at, "--device", "1001"]
+        yield Run([*words, "none.json", "none.log"], 2, b"", NO_CLOCK, b"x\n")
+        words += ["--no-clock", "coming_into_step.json", "empty.log"]
+        if at > "9999":
+            yield Run(words, 2, b"", b"events: past the year 9999\n", session)
+        else:
+            yield Run(words, 0, record_from(at, *flashed(0)), b"", session)
+
+
 def plan_faults():
     """Plans that are refused or can't be read, each with the status and the lines that it ends with."""
     yield from ((path, 3, not_read(path)) for path in ["none.json", "folder", TORN])
@@ -1040,6 +1092,7 @@ def record_faults():
         ["record", *FROM, "--device", 'a"b', "quad.json", "empty.log"],
         ["record", "--device", "7", "quad.json", "empty.log"], [*RECORD, *FROM, "empty.log"],
         [*RECORD, "empty.log", "--go-on=1"], [*RECORD, "--go-on", "empty.log", "--go-on"], [*RECORD, "empty.log", "--strict"],
+        [*RECORD, "empty.log", "--no-clock=1"], [*RECORD, "--no-clock", "empty.log", "--no-clock"], [*LOG, "--no-clock"],
     ]:
         yield bad(words, b"step 1\n")
     words = [*RECORD, "empty.log"]

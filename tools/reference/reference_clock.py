@@ -179,7 +179,7 @@ class Clock(Options):
         return made
 
     def clear(self, state: State, count: int) -> None:
-        """Makes a state that of power-up, but for its clock."""
+        """Makes a state that of power-up; its clock stays."""
         super().clear(state, count)
         state.base = 0
         state.origin = getattr(state, "origin", None)

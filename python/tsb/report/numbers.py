@@ -1,6 +1,7 @@
 """The numbers of a run: tables of what its events say, each as docs/use/PYTHON.md
 defines it under "What the report's numbers mean"."""
 
+from collections.abc import Iterator
 from dataclasses import dataclass
 from functools import cached_property
 from typing import Any
@@ -11,7 +12,7 @@ import pandas as pd
 from tsb import measures
 from tsb.plan import Plan
 from tsb.report.runs import Run
-from tsb.told import CAUSES, OTHER, PATTERN, WALK
+from tsb.told import CAUSES, FREE, OFFSET, OTHER, PATTERN, WALK
 
 ENDS = [*CAUSES.values(), OTHER]
 SHOWN = ["green", "yellow", "red"]
@@ -21,6 +22,9 @@ MOST_PERIODS = 24
 FOLDS = 20  # parts of a cycle
 PHASES = range(1, 17)
 FIRST_SPLIT, LAST_SPLIT = 134, 149  # codes of the splits of phases 1 to 16
+# What is said where nobody can know whether a pattern ran.
+NO_PATTERN = "not known: the export has no pattern (code 131)"
+NONE_YET = "not known before the export's first pattern (code 131)"
 
 
 def period_of(ticks: int) -> int:
@@ -165,6 +169,32 @@ class Numbers:
         if not run.is_observed:
             return 0
         return run.ticks + 1 if told.empty else int(told.min())
+
+    def told_at(self, ticks: Any, code: int = PATTERN) -> Any:
+        """The parameter of the last event of a code, as that of a pattern, at each of
+        these ticks. Where none did it is 0, and of a run that was observed it is not known:
+        -1."""
+        of = self.run.events[self.run.events["code"] == code]
+        told = of.sort_values("tick", kind="stable")
+        place = np.searchsorted(told["tick"].to_numpy(np.int64), ticks, "right")
+        return np.append(-self.run.is_observed, told["parameter"])[place]
+
+    def operation(self) -> Iterator[str]:
+        """What ran in each stretch of patterns: of a run that was observed as far as
+        its export has it."""
+        has_some = self.known_from <= self.run.ticks
+        for it in self.patterns.itertuples(index=False):
+            number = int(self.told_at(it.begin))
+            has_offset = self.told_at(it.begin, OFFSET) >= 0
+            offset = f"offset {it.offset_s} s" if has_offset else "no offset (code 133)"
+            if number < 0:
+                yield NONE_YET if has_some else NO_PATTERN
+            elif it.pattern is not pd.NA and it.cycle_s is not pd.NA:
+                yield f"pattern {it.pattern} (cycle {it.cycle_s} s, {offset})"
+            elif 0 < number < FREE:
+                yield f"pattern {number}: the export has no cycle (code 132)"
+            else:
+                yield "free operation"
 
     @cached_property
     def patterns(self) -> pd.DataFrame:

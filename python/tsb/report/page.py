@@ -37,19 +37,13 @@ def _facts(numbers: Numbers) -> list[tuple[str, str]]:
     """What a run is."""
     run = numbers.run
     begin, end = run.time(1), run.time(run.ticks + 1)
-    stretches = [
-        "not known" if it.begin < numbers.known_from
-        else "free operation" if it.pattern is pd.NA
-        else f"pattern {it.pattern} (cycle {it.cycle_s} s, offset {it.offset_s} s)"
-        for it in numbers.patterns.itertuples(index=False)
-    ]  # fmt: skip
     return [
         ("run", numbers.label),
         ("what", "; ".join(run.facts)),
         ("from", f"{begin:%Y-%m-%d %H:%M:%S.%f}"[:-5]),
         ("to", f"{end:%Y-%m-%d %H:%M:%S.%f}"[:-5]),
         ("events", f"{len(run.events):,}"),
-        ("operation", ", ".join(dict.fromkeys(stretches)) or NONE),
+        ("operation", ", ".join(dict.fromkeys(numbers.operation())) or NONE),
     ]
 
 

@@ -128,7 +128,9 @@ def _events(
     path = _file(out, tls, ".log")
     log.write(path)
     commands = f"pattern {pattern}\n" if pattern else ""
-    words = ["record", f"--from={begin}", f"--device={tls}", word(plan), word(path)]
+    # (the benches of a loop have no clock)
+    words = ["record", "--no-clock", f"--from={begin}", f"--device={tls}"]
+    words += [word(plan), word(path)]
     done = run("tsb_field", words, f"{commands}step {ticks}\n".encode())
     _file(out, tls, ".events.csv").write_bytes(done.stdout)
 

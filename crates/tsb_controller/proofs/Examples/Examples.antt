@@ -51,7 +51,7 @@ on_side n = record {
   calls = memories_cells calls.at_power_up;
   phases = phases_cells 49 (λ p. phase.at_power_up);
   rings = rings_cells (record rings.power_up { side = n });
-  pattern = pattern_cells None in_step;
+  pattern = pattern_cells None in_step None;
   preempts = preempts_cells 49 preempts.at_power_up;
 }
 
