@@ -238,17 +238,11 @@ not-space t unit e = omega (arith, e)
 
 date-word : (d : ClockDate) → IsWord (date_text d)
 date-word d =
-    word-onto (digit d.year 1000) _ (not-space d.year 1000) (word-onto (digit d.year 100) _ (not-space d.year 100)
-    (word-onto (digit d.year 10) _ (not-space d.year 10) (word-onto (digit d.year 1) _ (not-space d.year 1)
-    (word-onto 45 _ (λ e. omega (arith, e)) (word-onto (digit d.month 10) _ (not-space d.month 10) (word-onto (digit d.month 1) _ (not-space d.month 1)
-    (word-onto 45 _ (λ e. omega (arith, e)) (word-onto (digit d.day 10) (digit d.day 1 ∷ []) (not-space d.day 10) (not-space d.day 1)))))))))
+    (not-space d.year 1000, (not-space d.year 100, (not-space d.year 10, (not-space d.year 1, ((λ e. omega (arith, e)), (not-space d.month 10, (not-space d.month 1, ((λ e. omega (arith, e)), (not-space d.day 10, not-space d.day 1)))))))))
 
 time-word : (t : ℕ) → IsWord (time_text t)
 time-word t =
-    word-onto (digit (t / 36000) 10) _ (not-space (t / 36000) 10) (word-onto (digit (t / 36000) 1) _ (not-space (t / 36000) 1)
-    (word-onto 58 _ (λ e. omega (arith, e)) (word-onto (digit (t / 600 % 60) 10) _ (not-space (t / 600 % 60) 10) (word-onto (digit (t / 600 % 60) 1) _ (not-space (t / 600 % 60) 1)
-    (word-onto 58 _ (λ e. omega (arith, e)) (word-onto (digit (t / 10 % 60) 10) _ (not-space (t / 10 % 60) 10) (word-onto (digit (t / 10 % 60) 1) _ (not-space (t / 10 % 60) 1)
-    (word-onto 46 (digit (t % 10) 1 ∷ []) (λ e. omega (arith, e)) (not-space (t % 10) 1)))))))))
+    (not-space (t / 36000) 10, (not-space (t / 36000) 1, ((λ e. omega (arith, e)), (not-space (t / 600 % 60) 10, (not-space (t / 600 % 60) 1, ((λ e. omega (arith, e)), (not-space (t / 10 % 60) 10, (not-space (t / 10 % 60) 1, ((λ e. omega (arith, e)), not-space (t % 10) 1)))))))))
 
 clock-line : (time : ℕ) → FIRST_MOMENT ≤ time → time < END_OF_DAYS → reading (input_line (Clock time)) ≡ Do (commands.Clock time)
 unfolding command_of_three
