@@ -1037,7 +1037,7 @@ NO_CLOCK = b"--from: a clock has the years 2000 to 2099 (give --no-clock for oth
 
 
 def flashed(ahead):
-    """The events of `FLASHES` and 799 ticks more, where the local counter is so far at tick 0."""
+    """The events of `FLASHES` and 799 ticks more, by a local counter that begins there."""
     yields = (750 - ahead) % 800
     zero = (800 - ahead) % 800 or 800
     passed = [(yields, 151, 2), (yields, 151, 6), (zero, 150, 5)]
