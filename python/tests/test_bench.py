@@ -166,8 +166,10 @@ def test_the_way_back(quad: Path) -> None:
          " number; a second has 10 ticks"),
         (lambda bench: bench.back(-3), "back -3: give a number of ticks, 0 or more; a"
          " second has 10 ticks"),
-        (lambda bench: bench.seek("7:42"), "seek '7:42': give a tick, counted from"
+        (lambda bench: bench.seek(7.5), "seek 7.5: give a tick, counted from"
          " power-up, as a whole number; a second has 10 ticks"),
+        (lambda bench: bench.step("7:42"), "step '7:42': give a number of ticks, as a"
+         " whole number; a second has 10 ticks"),
         (lambda bench: bench.tick(vehicles=4), "4: give the numbers of inputs in a list,"
          " as [4], or a digit for each"),
         (lambda bench: bench.tick(preempts=["a"]), "['a']: give the numbers of inputs in"

@@ -702,7 +702,7 @@ def test_what_ran_before_the_events_is_not_known() -> None:
         of = Numbers(replace(bench.run, is_observed=observed))
         offset = "no offset (code 133)" if observed else "offset 0 s"
         assert dict(_facts(of))["operation"] == f"{first}, {told.replace('offset 0 s', offset)}"
-    # of a street a length and an offset are known only once events have them
+    # of a street a length and an offset are known only by their events
     street = [((5, 131, 3), (9, 1, 2)), ((5, 131, 254), (9, 1, 2)), ((5, 1, 2), (9, 7, 2))]
     said = [
         "pattern 3: the export has no cycle (code 132)", "free operation",

@@ -8,9 +8,12 @@ import json
 import re
 from collections.abc import Mapping
 from dataclasses import dataclass, fields
+from datetime import datetime, timedelta
 from typing import Any, Self
 
 Numbers = frozenset[int]
+# What globalTime counts seconds from.
+EPOCH = datetime(1970, 1, 1)
 
 
 class _Told:
@@ -160,6 +163,8 @@ class Status:
     desk: Desk
     rings: tuple[RingStatus, ...]
     waits: Mapping[int, Wait]
+    #: The second that the clock shows when the next tick begins; None without a clock.
+    global_time: datetime | None = None
 
     @classmethod
     def of_line(cls, line: str) -> "Status":
@@ -182,4 +187,9 @@ class Status:
             desk=Desk(**told["desk"]),
             rings=tuple(RingStatus.of(it) for it in told["rings"]),
             waits={it["phase"]: Wait(**it) for it in waits},
+            global_time=_moment(told.get("globalTime")),
         )
+
+
+def _moment(seconds: int | None) -> datetime | None:
+    return None if seconds is None else EPOCH + timedelta(seconds=seconds)

@@ -1025,7 +1025,7 @@ def record_from(at, *events):
                              for tick, code, parameter in events)
 
 
-# Moments of `--from`, and how far the local counter of `FLASHES` is at tick 0 by the clock. 7:00 is 315 cycles of 80 s
+# Moments of `--from`, and where the local counter of `FLASHES` is at tick 0 by the clock. 7:00 is 315 cycles of 80 s
 # after midnight, and the next midnight 1,080. A clock has tenths of a second; what is less is left out.
 CLOCKS = [
     ("2026-11-22 07:00:00", 0), ("2026-11-22 07:00:10", 100), ("2026-11-22 07:00:10.39", 103),
@@ -1037,16 +1037,16 @@ NO_CLOCK = b"--from: a clock has the years 2000 to 2099 (give --no-clock for oth
 
 
 def flashed(ahead):
-    """The events of `FLASHES` and 799 ticks more, by a local counter that begins there."""
+    """The events of `FLASHES` and 799 ticks more, from this place of the local counter at tick 0."""
     yields = (750 - ahead) % 800
     zero = (800 - ahead) % 800 or 800
     passed = [(yields, 151, 2), (yields, 151, 6), (zero, 150, 5)]
-    # (a tick comes before the fault behind it)
+    # (a tick comes before the fault after it)
     return [it for _, it in sorted(enumerate([*FLASHED[:11], *passed, *FLASHED[11:-3]]), key=lambda it: it[1][0])]
 
 
 def clock_runs():
-    """Records whose clock is that of `--from`, with a pattern: what it changes, and what takes it back."""
+    """Records with the clock of `--from` and a pattern: what it changes, and what takes it back."""
     session = FLASHES + b"step 799\n"
     for at, ahead in CLOCKS:
         words = ["record", "--from", at, "--device", "1001", "coming_into_step.json", "empty.log"]

@@ -19,13 +19,13 @@ ghost use Rattle.tsb_laws.specs.WithoutOptions.{OptionsAloneRead, OptionsAreAllT
 /// Mistake: as of runs.
 /// Witness: `an_off_run` of OffRuns.
 ///
-/// `lists`: The options are the objects that version 1 of plan texts does not have. There are eleven, and two objects
+/// `lists`: The options are the objects that version 1 of plan texts does not have. There are twelve, and two objects
 /// that one of these alone reads: the step of the dynamic maximum and the correction limit.
 ///
 /// Mistake: a list without the modifier phases of overlaps, `without_modifiers` (`is_later`, `would_be_left_out`).
 /// Witness: none is needed, as the law asks for nothing.
 ///
-/// `reads`: The controller without options reads none. Two plans that differ in those thirteen objects alone, whatever
+/// `reads`: The controller without options reads none. Two plans that differ in those fourteen objects alone, whatever
 /// these are, give the same run of it, over inputs of every kind.
 ///
 /// Needs: no edit of the three that are of overlaps. One that changes them is of the structure, and the rings forget what
@@ -37,8 +37,8 @@ ghost use Rattle.tsb_laws.specs.WithoutOptions.{OptionsAloneRead, OptionsAreAllT
 /// `hides`: Nor does it show them. Its display, its field and its local counter are the same in both.
 ///
 /// Needs: as of reads.
-/// Mistake: a local counter that comes into step by the correction mode, `by_correction` (`is_at_12`,
-/// `would_be_at_110`).
+/// Mistake: a local counter that comes into step by the correction mode, from an offset that counts to the begin of
+/// green, `by_correction` (`is_at_12`, `would_be_at_660`).
 /// Witness: `a_read` of ReadRuns.
 ///
 /// `alone`: What an option alone reads does not matter while the options are 0. Two plans whose options are 0, and that

@@ -185,7 +185,7 @@ fn carried_out<R: Read, E: Write>(
 /// The record of a run: reads commands as a session of `tsb run` does, carries them out, and gives the events of the
 /// inputs that remain, the oldest first. The bench begins at power-up with the plan, and its ticks take the rows of the
 /// log. A line `quit` ends the commands, and nothing more is read. A record with a clock is the record without one whose
-/// first line sets that clock; only its lines have the numbers before theirs.
+/// first line sets that clock; only the numbers of its lines differ.
 ///
 /// Each line that is no command, or that is refused, is told on `errors` by a line, `command 12: pattern 99: refused E9
 /// NoSuchPattern` or `command 12: patern 1: bad command`: the number is that of its line, from 1, and lines that are

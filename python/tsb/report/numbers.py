@@ -171,8 +171,9 @@ class Numbers:
         return run.ticks + 1 if told.empty else int(told.min())
 
     def told_at(self, ticks: Any, code: int = PATTERN) -> Any:
-        """The last parameter of a code, as that of patterns, at each of these ticks.
-        Before the first it is 0, and of a run that was observed it is not known: -1."""
+        """The parameter of the last event of a code, as that of a pattern, at each of
+        these ticks. Where none did it is 0, and of a run that was observed it is not known:
+        -1."""
         of = self.run.events[self.run.events["code"] == code]
         told = of.sort_values("tick", kind="stable")
         place = np.searchsorted(told["tick"].to_numpy(np.int64), ticks, "right")

@@ -1,5 +1,5 @@
 -- Two plans that differ in the correction limit alone give the same run while the mode is 0.
-use Rattle.std.proofs.Common.{◌≡◌, ℕ, Bool, true, false, if◌then◌else◌, List, [], ◌∷◌, map, Option, is_some, refl, sym, ap, subst, ◌∙◌}
+use Rattle.std.proofs.Common.{◌≡◌, ℕ, Bool, true, false, if◌then◌else◌, List, [], ◌∷◌, map, Option, Some, is_some, refl, sym, ap, subst, ◌∙◌}
 use Rattle.tsb_step.specs.tsb_types.declared.lamp.Lamp.{Lamp}
 use Rattle.tsb_step.specs.tsb_plan.declared.object.Object.{Object}
 use Rattle.tsb_step.specs.tsb_plan.declared.object.Object.TheVariants.{CoordCorrectionLimit, CoordCorrectionMode}
@@ -9,6 +9,7 @@ use Rattle.tsb_step.specs.tsb_plan.Parts.{correction_mode}
 use Rattle.tsb_step.specs.tsb_plan.Plan.{Plan}
 use Rattle.tsb_step.specs.tsb_rules.Rules.{first_broken}
 use Rattle.tsb_step.specs.tsb_coord.declared.correction.Correction.{Correction}
+use Rattle.tsb_step.specs.tsb_coord.Clock.{midnight_at, start_of}
 use Rattle.tsb_step.specs.tsb_coord.Coordinated.{selects}
 use Rattle.tsb_step.specs.tsb_ring.Rings as rings
 use Rattle.tsb_step.specs.tsb_transact.Calls as desk
@@ -18,7 +19,7 @@ use Rattle.tsb_step.specs.declared.inputs.Input.{Input}
 use Rattle.tsb_step.specs.declared.inputs.Input.TheVariants as inputs
 use Rattle.tsb_step.specs.State.{State, restarted}
 use Rattle.tsb_step.specs.Signs.{display, field, local, watched}
-use Rattle.tsb_step.specs.Step.{step, verdict, with_lamp, with_pattern, reset, committed, found}
+use Rattle.tsb_step.specs.Step.{step, verdict, with_lamp, with_pattern, with_clock, reset, committed, found}
 use Rattle.tsb_step.specs.Runs.{replay}
 use Rattle.tsb_step.proofs.tsb_coord.CorrectionLemmas.{in_step_at_once, local_in_step}
 use Rattle.tsb_laws.specs.Differing.{DifferIn, IsSameBut}
@@ -93,8 +94,14 @@ step-same s v (inputs.Tick row) off =
 step-same s v (inputs.Pattern n) off =
     of_swap (with_pattern n s) (with_pattern n (swapped s v)) v
     (ap (λ (c : Correction). record (with_pattern n (swapped s v)) { correction = c })
-    (begins_at_once (with_limit s.plan v) (selects n) s.now (local (swapped s v)) (corrects_at_once (with_limit s.plan v) off)
-    ∙ sym (begins_at_once s.plan (selects n) s.now (local s) (corrects_at_once s.plan off))))
+    (begins_at_once (with_limit s.plan v) (selects n) s.now (midnight_at s.start_moment s.now) (local (swapped s v)) (corrects_at_once (with_limit s.plan v) off)
+    ∙ sym (begins_at_once s.plan (selects n) s.now (midnight_at s.start_moment s.now) (local s) (corrects_at_once s.plan off))))
+step-same s v (inputs.Clock m) off =
+    let midnight : ℕ = midnight_at (Some (start_of m s.now)) s.now in
+    of_swap (with_clock m s) (with_clock m (swapped s v)) v
+    (ap (λ (c : Correction). record (with_clock m (swapped s v)) { correction = c })
+    (begins_at_once (with_limit s.plan v) s.pattern s.now midnight (local (swapped s v)) (corrects_at_once (with_limit s.plan v) off)
+    ∙ sym (begins_at_once s.plan s.pattern s.now midnight (local s) (corrects_at_once s.plan off))))
 step-same s v (inputs.Fault lamp) off = of_swap (with_lamp lamp s) (with_lamp lamp (swapped s v)) v (lamp-same s v lamp)
 step-same s v inputs.Reset off = of_swap (reset s) (reset (swapped s v)) v (reset-same s v)
 step-same s v (inputs.Verify station) off =

@@ -12,6 +12,7 @@ use Rattle.tsb_step.specs.tsb_rules.PatternRules.{split_sum, side_sum, split_end
 use Rattle.tsb_step.specs.tsb_calls.Memories as calls
 use Rattle.tsb_step.specs.tsb_calls.Settled as settled
 use Rattle.tsb_step.specs.tsb_coord.Coordinated.{asks_force_off, asks_recycle, force_off}
+use Rattle.tsb_step.specs.tsb_coord.Correction.{clocked}
 use Rattle.tsb_step.specs.tsb_detect.Detector.{Detector}
 use Rattle.tsb_step.specs.tsb_heads.Displays.{flashing, laid_over}
 use Rattle.tsb_step.specs.tsb_heads.Heads.{Heads, Shown}
@@ -122,7 +123,7 @@ module _ (s : State) (row : Row) (v : Object → ℕ → ℕ) (mode : correction
   forced-same : (p : ℕ) → forced (swapped s v) p ≡ forced s p
   forced-same p =
       forces_in_step (with_limit s.plan v) s.pattern s.correction (s.now + 1) p (in_step_at_once (with_limit s.plan v) s.pattern s.correction (s.now + 1 - 1) other)
-      ∙ asks-same s.plan v (s.now + 1) s.pattern p
+      ∙ asks-same s.plan v (clocked s.plan s.pattern s.correction (s.now + 1)) s.pattern p
       ∙ sym (forces_in_step s.plan s.pattern s.correction (s.now + 1) p (in_step_at_once s.plan s.pattern s.correction (s.now + 1 - 1) mode))
 
   recycle-same : (p : ℕ) → recycle (swapped s v) p ≡ recycle s p
@@ -130,7 +131,7 @@ module _ (s : State) (row : Row) (v : Object → ℕ → ℕ) (mode : correction
       ap₂ (λ (a b : Bool). a && b)
       (in_step_at_once (with_limit s.plan v) s.pattern s.correction (s.now + 1 - 1) other
       ∙ sym (in_step_at_once s.plan s.pattern s.correction (s.now + 1 - 1) mode))
-      (asks_recycle-same s.plan v (s.now + 1) s.pattern p)
+      (asks_recycle-same s.plan v (clocked s.plan s.pattern s.correction (s.now + 1)) s.pattern p)
 
   phases_given-same : phases_given (swapped s v) row ≡ phases_given s row
   unfolding phases_given

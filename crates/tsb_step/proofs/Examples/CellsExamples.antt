@@ -90,7 +90,7 @@ unfolding opened busy
 its_counter_stands = refl
 
 -- tick number 0 was at 7:00 of 2000-01-01, which is day 8
-its_clock_stands : slice_index (cells_of busy) 1618 ∷ slice_index (cells_of busy) 1619 ∷ [] ≡ 8 ∷ 252000 ∷ []
+its_clock_stands : slice_index (cells_of busy) 1619 ∷ slice_index (cells_of busy) 1620 ∷ [] ≡ 8 ∷ 252000 ∷ []
 unfolding opened busy
 its_clock_stands = refl
 

@@ -1,3 +1,0 @@
-pub mod CalendarLemmas
-pub mod ReadLemmas
-pub mod Examples
