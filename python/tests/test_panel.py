@@ -208,7 +208,11 @@ class Page:
         self.settle()
 
     def go(self, tick: int) -> None:
-        self.fill("go", tick)
+        self.go_by(tick, tick)
+
+    def go_by(self, typed: object, tick: int) -> None:
+        """Goes by what is typed, which leads to this tick."""
+        self.fill("go", typed)
         self.click("go-there")
         self.wait(lambda: self.tick == tick, f"tick {tick}")
         self.settle()
@@ -299,10 +303,7 @@ def test_a_clock_is_set_and_gone_by(page: Page) -> None:
     assert page.text("clock") == "2026-11-22 7:00:00.0"
     assert page.find("begin-time").get_attribute("value") == "2026-11-22 07:00:00.0"
     for typed, tick in [("7:00:09", 91), ("2026-11-22 7:00:04.5", 46), ("7:01", 601)]:
-        page.fill("go", typed)
-        page.click("go-there")
-        page.wait(lambda at=tick: page.tick == at, f"tick {tick}")
-        page.settle()
+        page.go_by(typed, tick)
     assert page.text("clock") == "2026-11-22 7:01:00.0"
     assert page.find("scrubber").get_attribute("aria-valuetext") == "tick 601, 7:01:00.0"
     page.fill("go", "7:61")

@@ -237,11 +237,11 @@ class Bench:
     def seek(self, tick: int | Moment) -> Display:
         """Goes back to a tick, or to that of a time of the clock; `NoSuchTick` where it
         lies ahead."""
-        if isinstance(tick, datetime | time | str):
+        if isinstance(tick, datetime | time) or (isinstance(tick, str) and ":" in tick):
             tick = self.tick_at(tick)
         return self._gone_back("seek", tick)
 
-    def _gone_back(self, word: str, count: int) -> Display:
+    def _gone_back(self, word: str, count: object) -> Display:
         command = f"{word} {_counted(word, count)}"
         answer = self._ask(command)
         if answer == "nothing":
@@ -299,7 +299,7 @@ class Bench:
         try:
             answer = self._ask(f"tick {asked}")
         except BadCommand:
-            raise NoSuchTick(f"{asked}: no clock is set: set_clock sets it") from None
+            raise NoSuchTick(f"{asked}: no clock is set") from None
         return int(answer.removeprefix("tick "))
 
     @whole
@@ -467,10 +467,10 @@ def _answering(path: str) -> Talk:
     return talk
 
 
-def _counted(what: str, count: int) -> int:
+def _counted(what: str, count: object) -> int:
     """A number of ticks, or of one."""
     is_whole = isinstance(count, Integral) and not isinstance(count, bool)
-    if is_whole and count >= 0:
+    if isinstance(count, Integral) and is_whole and int(count) >= 0:
         return int(count)
     give = "a tick, counted from power-up" if what == "seek" else "a number of ticks"
     number = "as a whole number" if not is_whole else "0 or more"

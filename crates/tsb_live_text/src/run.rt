@@ -162,7 +162,6 @@ impl LiveRun<'_> {
             LiveCommand::Session(command) => self.obey(command, line, pending, writer),
             LiveCommand::Changes(ticks) => self.changes(ticks, line, pending, writer),
             LiveCommand::GoTo(aim) => self.go_to(aim, line, pending, writer),
-            LiveCommand::TickAt(aim) => tell_tick(self.tick_of(aim), &echo, pending, writer),
             LiveCommand::Plan => {
                 let plan = plan_line(self.alloc, self.course.bench().plan());
                 tell_plan(plan, &echo, pending, writer)
@@ -179,6 +178,7 @@ impl LiveRun<'_> {
                 let change = when_line(self.course.kept().last_change(which));
                 tell(&echo, change.as_bytes(), None, pending, writer)
             }
+            LiveCommand::TickAt(aim) => tell_tick(self.tick_of(aim), &echo, pending, writer),
             LiveCommand::Events(on) => {
                 self.course.tell(on);
                 tell(&echo, b"ok", None, pending, writer)
