@@ -435,7 +435,7 @@ def test_the_words_of_a_sweep(capsys: pytest.CaptureFixture[str]) -> None:
     assert vars(_words().parse_args(["a.json", "--out", "o"])) == {
         "plans": ["a.json"], "days": [], "out": Path("o"), "measure": None,
         "begin": "00:00:00", "seconds": 86400, "device": None, "pattern": 0,
-        "sumo": None, "routes": "", "mapping": "", "additional": "", "seeds": [],
+        "no_clock": False, "sumo": None, "routes": "", "mapping": "", "additional": "", "seeds": [],
         "scheduler": None, "workers": None,
     }  # fmt: skip
     for words in (["a.json"], ["--out", "o"], ["a.json", "--out", "o", "--workers", "0"]):
