@@ -1,6 +1,6 @@
--- What offsets are counted to shows nothing but by when local 0 comes: two plans that differ in offsets, and in
--- coordReference, alone give the same run where local 0 of each pattern comes at one time. The laws here are the contract
--- of a function in src/options.rt, and proved there.
+-- What offsets are counted to shows nothing but by when local 0 comes: two plans that differ in offsets and in
+-- coordReference alone give the same run where local 0 of each pattern comes at one time. The laws here are the
+-- contract of a function in src/options.rt, and proved there.
 use Rattle.std.specs.Prelude.{◌≡◌, ℕ, ◌*◌, Bool, true, false, List, [], ◌∷◌}
 use Rattle.tsb_step.specs.tsb_plan.declared.object.Object.{Object}
 use Rattle.tsb_step.specs.tsb_plan.declared.object.Object.TheVariants.{PatternOffsetTime, CoordReference}
@@ -28,7 +28,7 @@ abbrev pub CountAlike : Plan → Plan → Type 0
 CountAlike x y = (n : ℕ) → offset_in_effect y n ≡ offset_in_effect x n
 
 -- What an input reads of offsets where it comes is the same: when local 0 comes where a tick is counted, a pattern
--- selected or the clock set, and at a check of edits what the check finds. By K17 an offset is below its cycle
+-- selected or the clock set, and at a check of edits what the check finds. By K17 an offset is below its cycle.
 abbrev pub ReadsAlike : State → State → Input → Type 0
 ReadsAlike s t (Tick row) = CountAlike s.plan t.plan
 ReadsAlike s t (Pattern n) = CountAlike s.plan t.plan
@@ -41,8 +41,8 @@ abbrev pub ReadAlike : Plan → Plan → List Input → Type 0
 ReadAlike x y [] = Unit {0}
 ReadAlike x y (i ∷ is) = ReadAlike x y is × ReadsAlike (replay x is) (replay y is) i
 
--- Two plans that differ in these objects alone give the same run where it is so: states that differ in them alone, over
--- inputs of every kind.
+-- Two plans that differ in these objects alone give the same run where each input does: states that differ in them
+-- alone, over inputs of every kind.
 abbrev pub OffsetsChangeNoRun : Type 0
 OffsetsChangeNoRun = (x y : Plan) (is : List Input) → DifferIn is_of_offsets x y → ReadAlike x y is →
     IsSameBut is_of_offsets (replay x is) (replay y is)
@@ -61,7 +61,7 @@ CommitNothing [] = Unit {0}
 CommitNothing (i ∷ is) = CommitNothing is × (is_commit i ≡ false)
 
 -- what both show
-pub record ShowTheSame (s t : State) : Type 0 where
+pub record ShowAlike (s t : State) : Type 0 where
   pub heads : display t ≡ display s
   pub lamps : field t ≡ field s
   pub counter : local t ≡ local s
@@ -71,4 +71,4 @@ pub record ShowTheSame (s t : State) : Type 0 where
 abbrev pub ConvertedOffsetsShowTheSame : Type 0
 ConvertedOffsetsShowTheSame = (plan : Plan) (offsets : ℕ → ℕ) (is : List Input) →
     ((n : ℕ) → 10 * offsets n ≡ offset_in_effect plan n) → CommitNothing is →
-    ShowTheSame (replay plan is) (replay (with_offsets plan offsets 0) is)
+    ShowAlike (replay plan is) (replay (with_offsets plan offsets 0) is)

@@ -36,7 +36,7 @@ use Rattle.tsb_step.proofs.tsb_coord.OffsetLemmas.{ask_alike, plain_offset}
 use Rattle.tsb_step.proofs.DeskRunLemmas.{act_by_plans}
 use Rattle.tsb_laws.specs.Differing.{DifferIn, IsSameBut}
 use Rattle.tsb_laws.specs.CorrectionLimits.{ShowAndRefuseTheSame}
-use Rattle.tsb_laws.specs.ConvertedOffsets.{is_of_offsets, CountAlike, ReadsAlike, ReadAlike, CommitNothing, ShowTheSame}
+use Rattle.tsb_laws.specs.ConvertedOffsets.{is_of_offsets, CountAlike, ReadsAlike, ReadAlike, CommitNothing, ShowAlike}
 use Rattle.tsb_laws.proofs.options.DifferLemmas.{as_others, from_others, values_differ, changes_same}
 use Rattle.tsb_laws.proofs.options.OffsetTickLemmas.{with_other_offsets, swapped, display-same, field-same, watched-same, ticked-same}
 
@@ -267,7 +267,7 @@ stays x y is same none =
     subst (λ (q : Plan). CountAlike q (replay y (told is)).plan) (sym (plan_stays x (told is) (told_commits is none)))
     (subst (λ (q : Plan). CountAlike x q) (sym (plan_stays y (told is) (told_commits is none))) same)
 
--- the inputs but for those of the desk read the offsets alike where both plans count alike
+-- all inputs that are not of the desk read offsets alike where both plans count alike
 reads_told : (x y : Plan) (is : List Input) → CountAlike x y → CommitNothing is → ReadAlike x y (told is)
 reads_told x y [] same none = tt
 reads_told x y (inputs.Begin station ∷ is) same none = reads_told x y is same none.0
@@ -302,7 +302,7 @@ unfolding field
 field_aside s = refl
 
 pub without_commit : (x y : Plan) (is : List Input) → DifferIn is_of_offsets x y → CountAlike x y → CommitNothing is →
-    ShowTheSame (replay x is) (replay y is)
+    ShowAlike (replay x is) (replay y is)
 without_commit x y is d same none =
     let shown : ShowAndRefuseTheSame (replay x (told is)) (replay y (told is)) =
     shows_same x y (told is) d (reads_told x y is same none) (stays x y is same none) in
@@ -315,6 +315,6 @@ without_commit x y is d same none =
     }
 
 pub converted_same : (plan : Plan) (offsets : ℕ → ℕ) (is : List Input) → ((n : ℕ) → 10 * offsets n ≡ offset_in_effect plan n) → CommitNothing is →
-    ShowTheSame (replay plan is) (replay (with_offsets plan offsets 0) is)
+    ShowAlike (replay plan is) (replay (with_offsets plan offsets 0) is)
 converted_same plan offsets is same none =
     without_commit plan (with_offsets plan offsets 0) is (differ_in_offsets plan offsets 0) (λ n. plain_offset plan offsets n ∙ same n) none

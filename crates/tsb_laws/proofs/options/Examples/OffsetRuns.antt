@@ -1,5 +1,5 @@
--- Two plans that differ in what offsets are counted to, and a run of both: the offset of each pattern is 59 s to the begin
--- of green, and 4 s to local 0. Phase 2 is forced off in the same tick. And mistakes that the law refuses.
+-- Two plans that differ in what offsets are counted to, and a run of both: the offset of each pattern is 59 s to the
+-- begin of green, and 4 s to local 0. Phase 2 is forced off in the same tick. And mistakes that the law refuses.
 use Rattle.std.proofs.Common.{◌≡◌, ℕ, ◌*◌, true, false, List, [], ◌∷◌, Some, refl}
 use Rattle.tsb_step.specs.tsb_types.Sets.{all_off}
 use Rattle.tsb_step.specs.tsb_types.declared.interval.Interval.TheVariants.{Green}
@@ -97,7 +97,7 @@ would_be_elsewhere : local (replay (as_it_is to_green) selected) ≡ Some 212
 unfolding opened to_green
 would_be_elsewhere = refl
 
--- ## A check that reads no offset: with a cycle of 50 s an offset of 59 s breaks K17
+-- ## A check that does not find the same: with a cycle of 50 s an offset of 59 s breaks K17, and one of 4 s does not
 
 abbrev with_short_cycle : Plan → Plan
 with_short_cycle plan = with_value plan PatternCycleTime 1 50
