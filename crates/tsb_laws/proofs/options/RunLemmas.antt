@@ -26,7 +26,7 @@ use Rattle.tsb_step.proofs.tsb_coord.CorrectionLemmas.{in_step_at_once, local_in
 use Rattle.tsb_laws.specs.Differing.{DifferIn, IsSameBut}
 use Rattle.tsb_laws.specs.CorrectionLimits.{is_limit, CorrectsAtOnce, ShowAndRefuseTheSame}
 use Rattle.tsb_laws.proofs.operation.pattern.OptionLemmas.{begins_at_once}
-use Rattle.tsb_laws.proofs.options.DifferLemmas.{with_limit, as_others, from_others, limit_alone, corrects_at_once, values_differ, changes_same}
+use Rattle.tsb_laws.proofs.options.DifferLemmas.{with_limit, as_others, from_others, limit_alone, corrects_at_once, values_differ, limit_is, changes_same}
 use Rattle.tsb_laws.proofs.options.LimitLemmas.{first_broken-same}
 use Rattle.tsb_laws.proofs.options.TickLemmas as ticks
 use Rattle.tsb_laws.proofs.options.TickLemmas.{swapped, display-same, field-same, watched-same, ticked-same}
@@ -77,7 +77,7 @@ module _ (s : State) (v : Object → ℕ → ℕ) where
   sees-same : (test : Object → Bool) → test CoordCorrectionLimit ≡ false →
       changes_some test (with_limit s.plan v) s.desk.edits ≡ changes_some test s.plan s.desk.edits
   sees-same test out =
-      ap (λ (q : Plan). changes_some test q s.desk.edits) (sym (limit_alone s.plan v)) ∙ changes_same s.plan v test out s.desk.edits
+      ap (λ (q : Plan). changes_some test q s.desk.edits) (sym (limit_alone s.plan v)) ∙ changes_same is_limit s.plan v test (λ o k. ap test (limit_is o k) ∙ out) s.desk.edits
 
   commits-same : IsSameBut is_limit (committed s) (committed (swapped s v))
   commits-same = record {
