@@ -22,7 +22,7 @@ ROOT = ".1.3.6.1.4.1.1206.4.2.1"
 PROFILE = {
     "phaseSide", "phaseVariableInitial", "phasePedestrianRecycle", "unitMax2",
     "overlapAcrossRings", "coordCorrectionLimit", "patternPermissiveTime",
-    "patternLeadLag", "preemptChoosesAnew",
+    "patternLeadLag", "preemptChoosesAnew", "coordReference",
 }  # fmt: skip
 #: Objects of which any value leaves the structure of a plan as it is.
 FREE = sorted(

@@ -76,6 +76,14 @@ TESTS = {
     "sumo.nema": ["tests/test_nema.py", f"{PARTS[0]}::test_the_offset_of_a_program_of_type_nema", *(f"tests/test_sumo.py::{it}" for it in (
         "test_cycles_of_programs_of_type_nema", "test_phases_of_nema_in_no_ring",
         "test_a_program_of_type_nema_is_read_back"))],
+    "exchange.walk": [f"tests/test_oids.py::{it}" for it in (
+        "test_lines_by_hand", "test_a_walk_of_a_street", "test_files_that_are_no_walk", "test_other_ways_to_print_an_oid",
+        "test_a_walk_that_is_too_long", "test_a_line_is_read_as_it_is_printed")],
+    "exchange.forms": [f"tests/test_oids.py::{it}" for it in (
+        "test_lines_by_hand", "test_options_by_hand", "test_what_a_walk_has_no_place_for", "test_a_walk_of_a_street",
+        "test_what_forms_read_back", "test_numbers_that_stand_for_nothing", "test_examples_out_and_in")],
+    "exchange.utdf": ["tests/test_utdf.py"],
+    "preempt": ["tests/test_preempts.py"],
     "exchange.remarks": [f"tests/test_oids.py::{it}" for it in (
         "test_remarks_that_follow_one_another", "test_what_a_walk_has_no_place_for", "test_a_walk_of_a_street")],
     "exchange.sides": ["tests/test_oids.py::test_sides_by_hand", "tests/test_oids.py::test_examples_out_and_in"],

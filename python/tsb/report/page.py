@@ -40,6 +40,7 @@ def _facts(numbers: Numbers) -> list[tuple[str, str]]:
     stretches = [
         "not known" if it.begin < numbers.known_from
         else "free operation" if it.pattern is pd.NA
+        else f"pattern {it.pattern} (cycle not known)" if it.cycle_s is pd.NA
         else f"pattern {it.pattern} (cycle {it.cycle_s} s, offset {it.offset_s} s)"
         for it in numbers.patterns.itertuples(index=False)
     ]  # fmt: skip
