@@ -77,7 +77,8 @@ TESTS = {
         "test_cycles_of_programs_of_type_nema", "test_phases_of_nema_in_no_ring",
         "test_a_program_of_type_nema_is_read_back"))],
     "exchange.walk": [f"tests/test_oids.py::{it}" for it in (
-        "test_lines_by_hand", "test_a_walk_of_a_street", "test_files_that_are_no_walk", "test_other_ways_to_print_an_oid",
+        "test_lines_by_hand", "test_octets_as_they_are_printed", "test_oids_at_their_bounds",
+        "test_a_walk_of_a_street", "test_files_that_are_no_walk", "test_other_ways_to_print_an_oid",
         "test_a_walk_that_is_too_long", "test_a_line_is_read_as_it_is_printed")],
     "exchange.forms": [f"tests/test_oids.py::{it}" for it in (
         "test_lines_by_hand", "test_options_by_hand", "test_what_a_walk_has_no_place_for", "test_a_walk_of_a_street",
@@ -132,6 +133,10 @@ EQUAL = {
     "forms _clocked: 1000 -> 1001": "a table has no moment before 1677",
     "forms _clocked: 0 -> 1 (3)": ANYWAY,
     "forms _since_1970: 0 -> 1 (4)": ANYWAY,
+    "exchange.walk lines_of: 0 -> 1": ANYWAY,
+    "exchange.walk lines_of: 0 -> 1 (2)": ANYWAY,
+    "preempt : 100 -> 101": PIECES,
+    "preempt tries: last - bench.now -> last + bench.now": "a bench begins at tick 0, and each moment is sought",
     "exchange.sides _groups: sorted(rings) -> list(rings)": LATER,
     "exchange.sides _joined: any(((a, b) in before and (b, a) in before for a in it for b in gro.. -> all(((a, b) in "
     "before and (b, a) in before for a in it for b in gro..": "pairs are of all phases of two groups",
