@@ -124,7 +124,7 @@ def test_a_counter_that_comes_into_step_before_a_zero() -> None:
     ticks = pd.Series([49, 50, 99, 100, 150, 309, 310])
     found = measures.in_cycle(events, ticks, 0)
     assert found.to_list() == [4.9, 5.0, 9.9, 9.0, 14.0, 29.9, 0.0]
-    # (without a zero of pattern 1 nothing says where its counter stands)
+    # (without a zero of pattern 1 its place is not known)
     found = measures.in_cycle(events, ticks)
     assert rows(found.to_frame())[:3] == [(None,)] * 3
     assert found.to_list()[3:] == [9.0, 14.0, 29.9, 0.0]
@@ -162,8 +162,8 @@ def test_cycles_of_a_pattern_without_local_zero() -> None:
 
 
 def test_a_cycle_that_no_event_has() -> None:
-    """A selection has event 132 only where the cycle becomes another. So a pattern may
-    run of which nothing says the cycle, and it is not free operation."""
+    """A selection has event 132 only where the cycle becomes another. So no event
+    may say the cycle of a pattern that runs, and it is not free operation."""
     events = table((101, 131, 3), (101, 133, 10), *ZEROS)
     assert rows(measures.patterns(events)) == [(101, 1301, 3, None, 10)]
     assert rows(measures.cycles(events)) == [(451, 1251, 3, 80.0)]

@@ -350,7 +350,7 @@ def test_octets_as_they_are_printed() -> None:
 
 
 def test_oids_at_their_bounds() -> None:
-    """128 numbers, and 2^32 - 1 behind the first; and blank lines before them."""
+    """128 numbers, and 2^32 - 1 after the first; and blank lines before them."""
     for oid in ((1, *[3] * 127), (1, (1 << 32) - 1)):
         text = f"\n \n{walk.printed(oid, 5)}"
         (line,) = walk.lines_of(text)

@@ -107,6 +107,25 @@ def test_a_pattern_and_a_delay(
     assert told[5] == said
 
 
+def test_seconds_within_which_a_green_has_to_come(
+    examples: Path, capsys: pytest.CaptureFixture[str]
+) -> None:
+    """In the pattern more moments are late than in free operation."""
+    files = [str(examples / it) for it in ("main_and_oak.json", "main_and_oak.log")]
+    late = []
+    for pattern in (0, 1):
+        with Bench(files[0], files[1], events=False) as bench:
+            bench.set_pattern(pattern)
+            found = tries(bench, 1, frozenset({4, 7}), 400, 100)
+        late.append(sum(it is None for it in found.waits.values()))
+    words = ["--pattern", "1", "--ticks", "400", "--within", "10"]
+    assert main(["preempt", files[0], "1", files[1], *words]) == 1
+    told = capsys.readouterr().out
+    assert late[0] < late[1]
+    assert f"\n400 moments tried, {400 - late[1]} with the green\n" in told
+    assert f"\nnot within 10 s: {late[1]} moments, as tick 1\n" in told
+
+
 def test_sums_of_a_plan_by_hand() -> None:
     """The greatest of each row; of equal ones the lower phase. Phases without a walk
     have no row, and those of the stage don't have to end."""
@@ -167,6 +186,9 @@ def test_words_are_not_cut(examples: Path, capsys: pytest.CaptureFixture[str]) -
             main(["preempt", files[0], "1", files[1], *words])
         assert ended.value.code == 2
         assert "--ticks and --within are 1 or more" in capsys.readouterr().err
+    with pytest.raises(SystemExit):
+        main(["preempt", files[0], "5", files[1]])
+    assert "invalid choice: 5" in capsys.readouterr().err
     assert main(["preempt", files[0], "1", files[1], "--ticks", "1"]) == 0
     assert "\n1 moments tried, 1 with the green\n" in capsys.readouterr().out
 

@@ -135,7 +135,12 @@ EQUAL = {
     "forms _since_1970: 0 -> 1 (4)": ANYWAY,
     "exchange.walk lines_of: 0 -> 1": ANYWAY,
     "exchange.walk lines_of: 0 -> 1 (2)": ANYWAY,
+    "exchange.utdf _time: units > 0 -> units >= 0": "0 is a whole number",
+    "exchange.utdf _tell_other: sorted(lines) -> list(lines)": LATER,
+    "exchange.utdf _tell_row: sorted({it.line for it in record.values()}) -> list({it.line for it in record.values()})":
+        "a row has one line",
     "preempt : 100 -> 101": PIECES,
+    "preempt main: False -> True": "a bench that keeps events answers the same",
     "preempt tries: last - bench.now -> last + bench.now": "a bench begins at tick 0, and each moment is sought",
     "exchange.sides _groups: sorted(rings) -> list(rings)": LATER,
     "exchange.sides _joined: any(((a, b) in before and (b, a) in before for a in it for b in gro.. -> all(((a, b) in "
