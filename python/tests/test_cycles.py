@@ -180,6 +180,14 @@ def test_a_pickup_is_not_in_step() -> None:
     ]  # fmt: skip
 
 
+def test_states_of_one_tick() -> None:
+    """The last of them holds from there on. One that comes with local zero says nothing
+    of the cycle before it."""
+    events = table(*STREET, (201, 150, 2), (201, 150, 1), (451, 150, 2), *ZEROS)
+    found = measures.in_cycle(events, pd.Series([200, 201, 450, 451]))
+    assert rows(found.to_frame()) == [(None,), (55.0,), (79.9,), (0.0,)]
+
+
 def test_cycles_of_free_operation() -> None:
     """From one crossing to side 1 to the next; the ends are not whole."""
     events = table((1, 1, 2), (90, 31, 2), (200, 31, 1), (350, 31, 2), (480, 31, 1))

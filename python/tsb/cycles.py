@@ -122,7 +122,7 @@ class _Told(NamedTuple):
         """Whether it is in step from each tick up to a later one."""
         out = self.ticks[np.isin(self.states, NOT_IN_STEP)]
         since = np.append(-1, out[out < until])[-1]
-        return self.is_in_step(ticks) & (ticks > since)
+        return self.is_in_step(ticks) & (ticks >= since)
 
 
 def _told(events: pd.DataFrame) -> _Told:
@@ -155,7 +155,8 @@ class _Counter(NamedTuple):
         if len(self.told.zeros):
             own = self._own()
             return np.append(self.begin, own) if place == 0 else own
-        first = self.begin + int(-place % (self.length or 1))
+        assert self.length is not None  # (its place is known)
+        first = self.begin + int(-place % self.length)
         return np.arange(first, self.end + 1, self.length)
 
     def is_known(self) -> bool:

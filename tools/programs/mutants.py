@@ -112,6 +112,7 @@ EQUAL = {
     "measures counted: all_of > 0 -> all_of >= 0": "0 of 0 is not known either way",
     "cycles _stretches: False -> True": NAMED,
     "cycles is_in_step: 0 -> 1": "in step is the state before the first, by either number",
+    "cycles stays_in_step: 1 -> 2": "no tick is below 0",
     "cycles greens_a_cycle: False -> True": "without cycles no place is 0 or more",
     "measures _ask: for code, number in moment if code in ASKS -> for code, number in moment":
         "other codes turn nothing on or off",
