@@ -202,7 +202,7 @@ def test_no_tries() -> None:
 @pytest.mark.parametrize(
     ("plan", "number", "log", "said"),
     [
-        ("railroad.json", "2", "railroad.log", "preempt 2 has no track phases and no dwell phases"),
+        ("railroad.json", "4", "railroad.log", "preempt 4 has no track phases and no dwell phases"),
         ("railroad.json", "1", "empty.log", "empty.log: it has no rows: give --ticks"),
         ("two_short_yellow.json", "1", "empty.log", "two_short_yellow.json: plan: rule K8: "),
         ("railroad.json", "1", "cut_short.log", "cut_short.log: log line 1: malformed"),

@@ -220,12 +220,16 @@ def test_midnight_before_a_run() -> None:
     """At 7:00:50 a pattern of 20 s, whose offset is 3 s, is 7 s behind its local zero by
     a street's events. Those of a bench have local zeros, and without one say nothing."""
     late = replace(observed(*PATTERN).run, start=START + np.timedelta64(50, "s"))
-    told = (1, 131, 1), (1, 132, 20), (1, 133, 3), (10, 82, 2)
+    told = (1, 131, 1), (1, 132, 20), (1, 133, 3), (1, 150, 1), (10, 82, 2)
     run = replace(late, events=numbers(*told).run.events)
     assert Numbers(run).arriving["in_cycle_s"].to_list() == [8.0]
     assert Numbers(replace(run, is_observed=False)).arriving["in_cycle_s"].isna().all()
     zero = numbers(*told, (5, 150, 5)).run.events
     assert Numbers(replace(run, events=zero)).arriving["in_cycle_s"].to_list() == [0.5]
+    # (and of another pattern in events that have local zeros nothing is supposed)
+    later = numbers(*told, (5, 150, 5), (100, 131, 2), (100, 132, 30), (110, 82, 2)).run
+    places = Numbers(replace(run, events=later.events)).arriving["in_cycle_s"]
+    assert places[0] == 0.5 and places[1] is pd.NA
 
 
 def test_no_cycle_of_a_pattern() -> None:

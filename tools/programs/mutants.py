@@ -93,7 +93,7 @@ TESTS = {
     **{f"scenario.{it}": SCENARIOS for it in ("times", "words", "text", "expect", "play")},
 }
 # The modules whose tests start no processes of a sweep, and few programs: `quick` for all of them.
-QUICK = [it for it in TESTS if it not in ("tasks", "sweep") and not it.startswith("scenario.")]
+QUICK = [it for it in TESTS if it not in ("tasks", "sweep", "preempt") and not it.startswith("scenario.")]
 # Mutants that are the same program: why.
 SORTED = "two columns are sorted stably whatever the kind is"
 NAMED = "columns are taken by name"

@@ -470,9 +470,8 @@ class Sections:
         coordinated = [
             it for it in self._phases if plan["splitCoordPhase"][self._table, it]
         ]
-        # (0 is no phase, and one alone comes second)
-        pair = coordinated[:2] if len(coordinated) > 1 else [0, 0, *coordinated][-2:]
-        first, second = pair
+        # (each ring has one at most; 0 is no phase, and one alone comes second)
+        first, second = [0, 0, *coordinated][-2:]
         yield "Reference Phase", [str(100 * first + second)]
         offset = plan["patternOffsetTime"][pattern]
         yield "Offset", [f"{offset}.0"]
