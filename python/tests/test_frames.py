@@ -232,7 +232,7 @@ def test_log_of_an_export(examples: Path) -> None:
     ):
         assert frames.log_of_export(export, START, "8", allow_empty=True) == Log()
     # (which word of the program would allow that is not passed on)
-    with pytest.raises(Error, match="^events: no row counts$"):
+    with pytest.raises(Error, match=r"\nevents: no row counts$"):
         frames.log_of_export(export, START, "8")
 
 
