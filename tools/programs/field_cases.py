@@ -80,6 +80,10 @@ MONTH_FIRST, DAY_FIRST, OF_SECONDS, OF_MILLISECONDS = (
     TIMES % form for form in [b"month-first", b"day-first", b"seconds", b"milliseconds"])
 
 # What is printed of a line that ends before the field of a column, and of one of more than 1,000 bytes.
+NO_DEVICE = b"header: no column is the device: name it SignalID, DeviceId, LocationIdentifier or LocationId"
+NO_TIME = b"header: no column is the time: name it Timestamp, DateTime or Time"
+NO_CODE = b"header: no column is the code: name it EventCode, EventId, EventType or Code"
+NO_PARAMETER = b"header: no column is the parameter: name it EventParam, Parameter, Param or EventValue"
 ENDS, LONG = b"%b: the line ends before it", b"over 1000 bytes (is it a text with lines?)"
 GIB = 1 << 30
 
@@ -253,8 +257,8 @@ def separator_runs():
         yield refused(text, line)
         yield refused(text.split(b"\n", 1)[1], line.replace(b"3", b"2"))
     yield refused(HEADER.replace(b",", b";") + b"7;2026-11-22 07:00:01;82\n", b"events line 2: parameter: the line ends before it\n")
-    yield refused(b"Timestamp;EventCode\n" + CAR, b"events line 1: header: no column is the parameter\n")
-    yield refused(b"Timestamp\tEventParam\n" + CAR, b"events line 1: header: no column is the code\n")
+    yield refused(b"Timestamp;EventCode\n" + CAR, b"events line 1: " + NO_PARAMETER + b"\n")
+    yield refused(b"Timestamp\tEventParam\n" + CAR, b"events line 1: " + NO_CODE + b"\n")
 
 
 # What the exports of tools/programs/exports have to give: the ticks of the log's rows, of which the first has detector
@@ -582,7 +586,7 @@ def line_faults():
         b'"7,2026-11-22 07:00:03,82,2', clock + b',"82"0,2', clock + b',82,2,"', b'"7 ""x""",2026-11-22 07:00:03,82,2',
         b'"""7""",2026-11-22 07:00:03,82,2', clock + b',82,2,"a ""b"" c"', clock + b',82,2,""""',
     ])
-    yield b"SignalID,Timestamp,EventCode", b"header: no column is the parameter"
+    yield b"SignalID,Timestamp,EventCode", NO_PARAMETER
     yield from ((line, LONG) for line in [b"x" * 1001, b"#" + b"x" * 1000, b"\x00" * 1001])
 
 
@@ -591,11 +595,11 @@ def fault_runs():
     for line, why in line_faults():
         yield refused(CAR + b"\n" + line + b"\n", b"events line 4: " + why + b"\n", CAR_KNOWN)
         yield refused(CAR + line, b"events line 3: " + why + b"\n", CAR_KNOWN, "--device", "7")
-    yield refused(b"Timestamp,EventCode,EventParam\n" + CAR, b"events line 1: header: no column is the device\n", b"",
+    yield refused(b"Timestamp,EventCode,EventParam\n" + CAR, b"events line 1: " + NO_DEVICE + b"\n", b"",
                   "--device", "7")
-    yield refused(b"SignalID,Timestamp,EventCode\n" + CAR, b"events line 1: header: no column is the parameter\n")
-    yield refused(b"SignalID,Code,EventId\n" + CAR, b"events line 1: header: no column is the time\n")
-    yield refused(b"SignalID,Timestamp,Kind,Parameter\n" + CAR, b"events line 1: header: no column is the code\n")
+    yield refused(b"SignalID,Timestamp,EventCode\n" + CAR, b"events line 1: " + NO_PARAMETER + b"\n")
+    yield refused(b"SignalID,Code,EventId\n" + CAR, b"events line 1: " + NO_TIME + b"\n")
+    yield refused(b"SignalID,Timestamp,Kind,Parameter\n" + CAR, b"events line 1: " + NO_CODE + b"\n")
     yield refused(HEADER[:-1] + b',"a ""b"""\n' + CAR, b"events line 1: a quote is out of place\n")
     yield refused(HEADER.replace(b",", b"|") + CAR.replace(b",", b"|"), field_rules.NOTHING)
     yield refused(b"a text\nthat is no log\n", field_rules.NOTHING)
@@ -636,7 +640,7 @@ def return_runs():
     yield refused(CAR[:-1] + b"\r", b"events line 2: " + number)
     yield refused(CAR + b"\r", b"events line 3: " + ENDS % b"time" + b"\n", CAR_KNOWN)
     yield refused(CAR + b"  \r", b"events line 3: " + ENDS % b"time" + b"\n", CAR_KNOWN)
-    header = b"events line 1: header: no column is the parameter\n"
+    header = b"events line 1: " + NO_PARAMETER + b"\n"
     yield refused(HEADER[:-1] + b"\r", header)
     yield refused(HEADER.replace(b"\n", b"\r\r\n") + CAR, header)
     yield refused(CAR.replace(b"\n", b"\r\r\n"), b"events line 1: " + number)

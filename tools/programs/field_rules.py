@@ -32,6 +32,11 @@ NAMES = [
 USUAL = [0, 1, 2, 3]
 MARKS = {b",": b"commas", b";": b"semicolons", b"\t": b"tabs"}
 COLUMNS = [b"device", b"time", b"code", b"parameter"]
+# The names of one word that docs/use/FIELD.md has for them, as a fault lists them.
+LISTED = [
+    b"SignalID, DeviceId, LocationIdentifier or LocationId", b"Timestamp, DateTime or Time", b"EventCode, EventId, EventType or Code",
+    b"EventParam, Parameter, Param or EventValue",
+]
 
 # What is printed of a line that begins so, of which the whole text is no text with lines of events.
 WHOLE_FAULTS = [
@@ -283,6 +288,11 @@ def shown(field):
     return b'"' + re.sub(rb'[^ !#-~]', b"?", field[:40]) + b'"'
 
 
+def lacks(place):
+    """What is printed of a header that does not name this column."""
+    return b"header: no column is the %b: name it %b" % (COLUMNS[place], LISTED[place])
+
+
 def why(line, places, mark, form):
     """What is printed of a line that is no row, behind `events line N: ` or, of a text without lines, behind `events: `."""
     for begun, told in WHOLE_FAULTS:
@@ -290,7 +300,7 @@ def why(line, places, mark, form):
             return b": " + told
     found, named = fields(line, mark), names(line)
     if named[1] or named[2]:
-        return b"header: no column is the " + COLUMNS[1 + named[1:].index(False)]
+        return lacks(1 + named[1:].index(False))
     if in_places(line, places, mark) is None:
         other = next((it for it in MARKS if in_places(line, places, it) is not None), None)
         if other:
@@ -427,7 +437,7 @@ def taken(lines, begin, device, wires, form=None, zone=None, window=None, is_all
             if columns(line):
                 places, mark = columns(line)
                 if device is not None and places[0] is None:
-                    fault(b" line %d: header: no column is the device" % count)
+                    fault(b" line %d: %b" % (count, lacks(0)))
                 continue
             if is_preface(line):
                 read.is_found = False
