@@ -79,6 +79,9 @@ TIMES = b"times: %b, by the first row\n"
 MONTH_FIRST, DAY_FIRST, OF_SECONDS, OF_MILLISECONDS = (
     TIMES % form for form in [b"month-first", b"day-first", b"seconds", b"milliseconds"])
 
+# What is printed where a row that counts has a zone, and none is asked for.
+ZONES = b"times: their zones are passed over (give that of --from, as --zone=-07:00)\n"
+
 # What is printed of a line that ends before the field of a column, and of one of more than 1,000 bytes.
 NO_DEVICE = b"header: no column is the device: name it SignalID, DeviceId, LocationIdentifier or LocationId"
 NO_TIME = b"header: no column is the time: name it Timestamp, DateTime or Time"
@@ -187,10 +190,7 @@ def wide_runs():
         (MONTH_FIRST, "11-22-2026 07:00:01.0", "11-22-2026 07:00:03"),
         (MONTH_FIRST, " 11/22/2026 07:00:01 ", "11/22/2026 07:00:03  "),
         (DAY_FIRST, "22/11/2026 07:00:01", "22/11/2026 07:00:03"),
-        (DAY_FIRST, "22-11-2026 7:00:01 AM", "22-11-2026 07:00:03 UTC"),
-        (b"", "2026/11/22 07:00:01", "2026-11-22 07:00:03"), (b"", "2026-11-22T07:00:01Z", "2026-11-22T07:00:03.0Z"),
-        (b"", "2026-11-22 07:00:01+01:00", "2026-11-22 07:00:03-0700"),
-        (b"", "2026-11-22 07:00:01.0000000 +00:00", "2026-11-22 07:00:03.0000000 -07"),
+        (DAY_FIRST, "22-11-2026 7:00:01 AM", "22-11-2026 07:00:03"), (b"", "2026/11/22 07:00:01", "2026-11-22 07:00:03"),
         (OF_SECONDS, "1795330801", "1795330803.000"), (OF_MILLISECONDS, "1795330801000", "1795330803000"),
     ]:
         text = f"{HEADER.decode()}7,{first},82,2\n7,{second},81,2\n".encode()
@@ -243,10 +243,7 @@ def separator_runs():
         # Lines that a database draws, and in which it counts its rows; headers that come again.
         drawn = HEADER + b"---,---,---,---\n" + CAR_FIRST + HEADER + CAR_SECOND + b"\n(2 rows affected)\n"
         yield logged(drawn.replace(b",", mark), CAR_LOG, errors=LEFT % (0, 0, 3))
-    for first, second in [
-        (b'"2026-11-22 07:00:01,0"', b'"2026-11-22 07:00:03,000"'), (b"2026-11-22T07:00:01 UTC", b"2026-11-22T07:00:03.0 +05:30"),
-    ]:
-        yield logged(HEADER + b"7,%b,82,2\n7,%b,81,2\n" % (first, second), CAR_LOG)
+    yield logged(HEADER + b'7,"2026-11-22 07:00:01,0",82,2\n7,"2026-11-22 07:00:03,000",81,2\n', CAR_LOG)
     for said in [b"(1 row)", b"(12 rows)", b"(1 row affected)", b"(0 rows affected)"]:
         yield logged(usual + said + b"\n", CAR_LOG, errors=LEFT % (0, 0, 1))
     # One separator a file: by the first row where no header says it.
@@ -266,7 +263,7 @@ def separator_runs():
 # its log.
 BOTH, ONE = (33, 41), (33,)
 EXPORT_FORMS = {"a01_udot4": MONTH_FIRST, "a02_ampm": MONTH_FIRST, "a05_epoch": OF_SECONDS, "a06_epochms": OF_MILLISECONDS,
-                "a25_econ": MONTH_FIRST}
+                "a08_v5z": ZONES, "a09_offset": ZONES, "a25_econ": MONTH_FIRST}
 EXPORTS = {
     "a01_udot4": BOTH, "a02_ampm": BOTH, "a05_epoch": BOTH, "a06_epochms": ONE, "a07_v5": BOTH, "a08_v5z": ONE, "a09_offset": ONE,
     "a10_odot": BOTH, "a11_ssms": BOTH, "a12_ctrl3": BOTH, "a13_snake": ONE, "a14_space": ONE, "a15_commaspace": ONE,
@@ -385,6 +382,27 @@ def wire_runs():
     yield logged(CAR + told(f"{BEHIND} 82 17"), CAR_LOG, errors=LEFT % (0, 1, 0))
     # Behind the first line a byte order mark is a part of the device.
     yield logged(CAR + MARK + told("07:00:04 82 1"), CAR_LOG, "--device", "7", errors=LEFT % (1, 0, 0))
+
+
+def zone_runs():
+    """Zones of times, which are passed over where none is asked for: this is printed where a row that counts has one."""
+    for form, first, second in [
+        (DAY_FIRST, b"22-11-2026 7:00:01 AM", b"22-11-2026 07:00:03 UTC"), (b"", b"2026-11-22T07:00:01Z", b"2026-11-22T07:00:03.0Z"),
+        (b"", b"2026-11-22T07:00:01 UTC", b"2026-11-22T07:00:03.0 +05:30"), (b"", b"2026-11-22 07:00:01Z", b"2026-11-22 07:00:03"),
+        (b"", b"2026-11-22 07:00:01+01:00", b"2026-11-22 07:00:03-0700"), (b"", b"2026-11-22 07:00:01", b"2026/11/22 07:00:03-00"),
+        (b"", b"2026-11-22 07:00:01.0000000 +00:00", b"2026-11-22 07:00:03.0000000 -07"),
+        (b"", b"2026-11-22 07:00:01+23:59", b"2026-11-22 07:00:03-23:59"),
+    ]:
+        text = HEADER + b"7,%b,82,2\n7,%b,81,2\n" % (first, second)
+        yield logged(text, CAR_LOG, errors=form + ZONES)
+        yield logged(text, CAR_LOG, "--sort", errors=form + ZONES)
+    # A row counts whatever its code and channel are, and one of another device does not.
+    yield logged(CAR + b"7,2026-11-22 07:00:03Z,1,1\n", CAR_LOG, errors=ZONES)
+    yield logged(CAR + b"7,2026-11-22 07:00:03Z,82,99\n", CAR_LOG, errors=ZONES + LEFT % (0, 1, 0))
+    yield logged(CAR + b"8,2026-11-22 07:00:03Z,82,1\n", CAR_LOG, "--device", "7", errors=LEFT % (1, 0, 0))
+    yield logged(b"7,2026-11-22 06:59:59Z,82,1\n7,2026-11-22 07:00:00Z,81,1\n", b"", EMPTY, errors=ZONES)
+    # A zone that is asked for is not passed over.
+    yield logged(CAR.replace(b":01,", b":01Z,"), CAR_LOG, "--zone=Z")
 
 
 def manner_runs():

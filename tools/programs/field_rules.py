@@ -59,6 +59,7 @@ TOO_MANY = b" line %d: over 1000000 rows to sort: give a smaller --sort-within, 
 DEVICES = b"devices: %b in these rows:%b (name one by --device)\n"
 NAMED = 8
 GAPS = b"gaps: %d of a minute or more without a row that counts, the longest from %b to %b\n"
+ZONES = b"times: their zones are passed over (give that of --from, as --zone=-07:00)\n"
 NO_ROW = b"events: no row counts (give --allow-empty where that is right)\n"
 NO_EVENT = b"events: no event of an input from --from on (give --allow-empty where that is right)\n"
 
@@ -237,6 +238,14 @@ def numbered(form, text, zone):
     return moved(seconds * SECOND + int((part or b"").ljust(9, b"0")), own, zone)
 
 
+def says_zone(form, text):
+    """Whether a time in this form has a zone behind its clock."""
+    if form in ("seconds", "milliseconds"):
+        return False
+    *_, half, said = FORM_TIME.fullmatch(text).groups()
+    return bool(said) or (half or b"").lower() == b"utc"
+
+
 def form_of(text):
     """The one form in which a text is a time, or None; and whether its month and its day can't be told apart."""
     is_in = {form: moment_in(form, text) is not None for form in FORM_TIMES}
@@ -400,11 +409,12 @@ def order_fault(count, at, last, place, window=None):
 class Read:
     """What was read: the events of inputs, the moments of the rows that count, how many rows are of other devices, how
     many events are of channels without an input, how many lines are passed over, whether there is a header or a row, and
-    the form of times where the first row says it, and the devices of rows, as they come."""
+    the form of times where the first row says it, the devices of rows, as they come, and whether a row that counts has a
+    zone where none is asked for."""
 
     def __init__(self):
         self.events, self.moments, self.others, self.lost, self.passed = [], [], 0, 0, 0
-        self.is_found, self.form, self.devices = False, None, []
+        self.is_found, self.form, self.devices, self.is_zoned = False, None, [], False
 
 
 def taken(lines, begin, device, wires, form=None, zone=None, window=None, is_all=True):
@@ -461,6 +471,8 @@ def taken(lines, begin, device, wires, form=None, zone=None, window=None, is_all
         if not counts:
             read.others += 1
             continue
+        if row is None and zone is None and says_zone(form, in_places(line, places, mark)[1].strip(b" ")):
+            read.is_zoned = True
         if window is None:
             if read.moments and at < read.moments[-1]:
                 fault(order_fault(count, at, read.moments[-1], places[1]))
@@ -509,6 +521,7 @@ def log(text, begin, device=None, mapped=(), form=None, zone=None, is_counted=Fa
     if read.passed and not read.is_found:
         raise Fault(NOTHING, b"")
     told = b"" if read.form in (None, "year-first") else f"times: {read.form}, by the first row\n".encode()
+    told += ZONES if read.is_zoned else b""
     if read.others or read.lost or read.passed:
         told += f"left out: {read.others} rows of other devices, {read.lost} events of channels without an input, " \
                 f"{read.passed} lines that are no rows\n".encode()

@@ -27,6 +27,10 @@ form_line None (Some YearFirst) = []
 form_line None (Some form) = is_told form
 form_line asked found = []
 
+-- zones of times have a line where a row that counts says its own, and none is asked for: they are passed over
+abbrev pub zones_line : Bool → List ℕ
+zones_line zoned = if zoned then codes "times: their zones are passed over (give that of --from, as --zone=-07:00)\n" else []
+
 -- ## What was left out
 
 -- nothing was left out
@@ -119,4 +123,5 @@ IsReport manner summary text =
     (counted : List ℕ) × (gaps : List ℕ) × IsCounted manner.counts summary counted × AreGaps manner.counts summary.gaps gaps
     × (text
     ≡ form_line manner.times summary.times
-    ++ (left_out_text summary.left_out ++ (counted ++ (gaps ++ (devices_text manner.counts summary.devices ++ verdict_line manner summary)))))
+    ++ (zones_line summary.zoned
+    ++ (left_out_text summary.left_out ++ (counted ++ (gaps ++ (devices_text manner.counts summary.devices ++ verdict_line manner summary))))))

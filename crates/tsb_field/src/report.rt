@@ -1,13 +1,17 @@
 //! What `log` tells of what it read.
 ghost use Rattle.std.specs.Prelude.{◌≡◌, ◌==◌, ◌++◌, IfOk, OnOk, string_bytes};
 ghost use Rattle.tsb_program.specs.Statuses.{number};
-ghost use Rattle.tsb_field.specs.LogLines.{AreGaps, IsCount, IsCounted, IsGapsLine, IsReport, IsSpan, IsTime, form_line, gaps_begin, gaps_line, is_lost, is_told, left_out_line, left_out_text, span_begin, span_end, span_line, status_of, verdict_line};
+ghost use Rattle.tsb_field.specs.LogLines.{AreGaps, IsCount, IsCounted, IsGapsLine, IsReport, IsSpan, IsTime, form_line, gaps_begin, gaps_line, is_lost, is_told, left_out_line, left_out_text, span_begin, span_end, span_line, status_of, verdict_line, zones_line};
 
 use std::alloc::{AllocError, Global};
 use tsb_event_text::{Moment, TimeForm, time_form_word, time_text};
 use tsb_field_streams::{Gaps, LeftOut, Summary, append_devices};
 use tsb_program::ExitStatus;
 use tsb_words::field_files::Manner;
+
+/// What is printed where rows say their zones, and none is asked for.
+const ZONES: &[u8] =
+    b"times: their zones are passed over (give that of --from, as --zone=-07:00)\n";
 
 /// What is told where no row counted.
 const NO_ROW: &[u8] = b"events: no row counts (give --allow-empty where that is right)\n";
@@ -42,6 +46,7 @@ pub(crate) fn report(alloc: Global, manner: Manner, summary: Summary) -> Result<
     let gaps = gaps_text(alloc, manner.counts, summary.gaps)?;
     let mut text = Vec::new(alloc);
     append_form(&mut text, manner.times, summary.times)?;
+    text.extend_from_slice(zones_line(summary.zoned))?;
     append_left_out(alloc, &mut text, summary.left_out)?;
     text.extend_from_slice(&counted)?;
     text.extend_from_slice(&gaps)?;
@@ -72,6 +77,13 @@ fn append_form_line(text: &mut Vec<u8>, form: TimeForm) -> Result<(), AllocError
     text.extend_from_slice(b"times: ")?;
     text.extend_from_slice(time_form_word(form).as_bytes())?;
     text.extend_from_slice(b", by the first row\n")
+}
+
+/// The line of zones that are passed over, if any are.
+fn zones_line(zoned: bool) -> &'static [u8]
+    ensures { result.now ≡ zones_line zoned }
+{
+    if zoned { ZONES } else { b"" }
 }
 
 /// Adds what was left out, where something was.

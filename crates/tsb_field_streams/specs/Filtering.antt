@@ -1,6 +1,6 @@
 -- What lines of events come to, one after another: the events of inputs that they tell, what they leave out, or the first
 -- fault.
-use Rattle.std.specs.Prelude.{ℕ, zero, suc, ◌+◌, ◌-◌, ◌*◌, ◌==◌, ◌&&◌, min, max, nat_le, filter, nat_lt, not, position, replicate, set, Bool, true, false, List, [], ◌∷◌, ◌++◌, length, if◌then◌else◌, Option, Some, None, Result, Ok, Err}
+use Rattle.std.specs.Prelude.{ℕ, zero, suc, ◌+◌, ◌-◌, ◌*◌, ◌==◌, ◌&&◌, ◌||◌, min, max, nat_le, filter, nat_lt, not, position, replicate, set, Bool, true, false, List, [], ◌∷◌, ◌++◌, length, if◌then◌else◌, Option, Some, None, Result, Ok, Err}
 use Rattle.tsb_log_text.specs.tsb_types.declared.limits.TheConstants.{TICKS}
 use Rattle.tsb_lines.specs.Lines.{is_skipped}
 use Rattle.tsb_event_text.specs.declared.columns.Columns.{Columns}
@@ -11,7 +11,7 @@ use Rattle.tsb_event_text.specs.declared.faults.RowFault.{RowFault}
 use Rattle.tsb_event_text.specs.declared.faults.RowFault.TheVariants.{Lacks}
 use Rattle.tsb_event_text.specs.declared.columns.Column.TheVariants.{Device}
 use Rattle.tsb_event_text.specs.declared.time_forms.TimeForm.{TimeForm}
-use Rattle.tsb_event_text.specs.declared.time_forms.TimeForm.TheVariants.{YearFirst}
+use Rattle.tsb_event_text.specs.declared.time_forms.TimeForm.TheVariants.{YearFirst, Seconds, Milliseconds}
 use Rattle.tsb_event_text.specs.declared.wide.WideRow.{WideRow}
 use Rattle.tsb_event_text.specs.declared.zones.Zone.{Zone}
 use Rattle.tsb_event_text.specs.Faults.{fault_of, is_preface}
@@ -35,6 +35,7 @@ use Rattle.tsb_field_streams.specs.declared.filter.Summary.{Summary}
 use Rattle.tsb_field_streams.specs.declared.filter.TheConstants.{LINE, MOST_ROWS}
 use Rattle.tsb_field_streams.specs.declared.filter.gaps.TheConstants.{GAP}
 use Rattle.tsb_field_streams.specs.declared.filter.late.TheConstants.{MOST_HELD}
+use Rattle.tsb_field_streams.specs.declared.filter.zones.TheConstants.{ELSEWHERE}
 use Rattle.tsb_field_streams.specs.Devices.{with_some_device}
 use Rattle.tsb_field_streams.specs.declared.filter.devices.TheConstants.{NO_DEVICES}
 
@@ -49,7 +50,7 @@ pub record Given : Type 0 where
   pub window : Option ℕ
   pub wires : List Wire
 
--- what is known after some lines: where the columns stand, the form of times, how many rows counted, the moments of the
+-- what is known after some lines: where the columns stand, the form of times, whether a row that counts said its zone where none is asked for, how many rows counted, the moments of the
 -- first and the last of them, the gaps between them, the devices of rows where none is asked for, for each wire whether it is the first of its channel and had an event,
 -- how many rows were of other devices, how many events had no wire and how many lines were passed over, and the events of inputs. Where rows are
 -- sorted, all this is told of those that were taken: others are held, in the order of time, and the latest row was of this
@@ -57,6 +58,7 @@ pub record Given : Type 0 where
 pub record Stand : Type 0 where
   pub columns : Option Columns
   pub times : Option TimeForm
+  pub zoned : Bool
   pub counted : ℕ
   pub first : ℕ
   pub last : ℕ
@@ -75,6 +77,7 @@ abbrev pub start : Given → Stand
 start g = record {
   columns = None;
   times = g.times;
+  zoned = false;
   counted = 0;
   first = 0;
   last = 0;
@@ -245,6 +248,31 @@ parameter_of row = parameter_or (row.ours && is_there (signal_of row.code)) row.
 abbrev pub with_noted : Given → Stand → Columns → List ℕ → Stand
 with_noted g s columns text = record s { devices = with_some_device g.device s.devices columns text }
 
+-- no zone is asked for
+abbrev pub is_unasked : Option Zone → Bool
+is_unasked None = true
+is_unasked (Some zone) = false
+
+-- times of this form have a clock, which a zone may follow
+abbrev pub is_of_clock : TimeForm → Bool
+is_of_clock Seconds = false
+is_of_clock Milliseconds = false
+is_of_clock form = true
+
+-- a row says its zone: by the clock of a zone that no row can say it has another moment
+abbrev pub says_zone : WideRow → Option WideRow → Bool
+says_zone row None = false
+says_zone row (Some other) = is_of_clock row.form && not (other.moment.nanos == row.moment.nanos)
+
+-- the row on this line counts and says its zone, where none is asked for
+abbrev pub is_zoned : Given → Stand → Columns → List ℕ → WideRow → Bool
+is_zoned g s columns text row = row.ours && (is_unasked g.zone && says_zone row (wide_of columns s.times (Some ELSEWHERE) g.device text))
+
+-- whether a row says its zone is known, where this line spells one
+abbrev pub with_zone : Given → Stand → Columns → List ℕ → Option WideRow → Stand
+with_zone g s columns text None = s
+with_zone g s columns text (Some row) = record s { zoned = s.zoned || is_zoned g s columns text row }
+
 -- a row as exports have it, with this parameter
 abbrev pub with_parameter : Given → ℕ → Stand → RowFault → WideRow → Option ℕ → Result Stand FilterError
 with_parameter g number s why row None = Err (Malformed number why)
@@ -260,7 +288,7 @@ with_wide g number s why (Some row) = with_parameter g number s why row (paramet
 abbrev pub with_other_line : Given → ℕ → Stand → Columns → List ℕ → Result Stand FilterError
 with_other_line g number s columns text =
     if is_passed text then with_passed s
-    else with_wide g number (with_noted g s columns text) (fault_of columns s.times text) (wide_of columns s.times g.zone g.device text)
+    else with_wide g number (with_zone g (with_noted g s columns text) columns text (wide_of columns s.times g.zone g.device text)) (fault_of columns s.times text) (wide_of columns s.times g.zone g.device text)
 
 -- a plain row, where a line spells one
 abbrev pub with_some_row : Given → ℕ → Stand → Columns → List ℕ → Option EventRow → Result Stand FilterError
@@ -327,12 +355,13 @@ how_many flags = length (filter (λ flag. flag) flags)
 abbrev pub is_heard : ℕ → List InputEvent → Bool
 is_heard from events = nat_lt 0 (last_tick from events)
 
--- what was read by some lines: what was left out, the form of times, the rows that counted with the moments of the first and
+-- what was read by some lines: what was left out, the form of times, whether they said zones where none is asked for, the rows that counted with the moments of the first and
 -- the last of them and the gaps between them, the devices of rows, how many channels that lead to an input had an event, and whether an input had one from tick 1 on
 abbrev pub summary_at : Given → Stand → Summary
 summary_at g s = record {
   left_out = record { of_other_devices = s.others; without_input = s.unwired; passed = s.passed; found = is_there s.columns };
   times = s.times;
+  zoned = s.zoned;
   rows = s.counted;
   first = s.first;
   last = s.last;

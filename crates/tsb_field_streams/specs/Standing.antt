@@ -44,6 +44,7 @@ pub record StandsAt (g : Given) (s : Stand) (f : Filter) : Type 0 where
   pub wires : g.wires ≡ f.wires.now
   pub columns : f.columns ≡ s.columns
   pub times : f.times ≡ s.times
+  pub zoned : f.zoned ≡ s.zoned
   pub counted : f.counted ≡ s.counted
   pub first : f.first ≡ s.first
   pub last : f.last ≡ s.last

@@ -15,6 +15,7 @@ mod devices;
 mod events;
 mod gaps;
 mod late;
+mod zones;
 
 use crate::Held;
 use crate::error::{Disorder, FilterError};
@@ -70,6 +71,8 @@ pub struct Summary {
     pub left_out: LeftOut,
     /// The form of times: that which was asked for, or that of the first row. `None` where there was neither.
     pub times: Option<TimeForm>,
+    /// Whether a row that counted said its zone, where none was asked for.
+    pub zoned: bool,
     /// How many rows counted, whatever their codes.
     pub rows: u32,
     /// The moment of the first row that counted, in nanoseconds as a `Moment` counts them; 0 where none did.
@@ -98,6 +101,8 @@ pub struct Filter<'a> {
     columns: Option<Columns>,
     /// The form of times: that which is asked for, or else known from the first row.
     times: Option<TimeForm>,
+    /// Whether a row that counts said its zone, where none is asked for.
+    zoned: bool,
     /// How many rows counted.
     counted: u32,
     /// The moment of the first row that counted, in nanoseconds, and 0 before any.
@@ -149,6 +154,7 @@ impl<'a> Filter<'a> {
             wires,
             columns: None,
             times: reading.times,
+            zoned: false,
             counted: 0,
             first: 0,
             last: 0,
@@ -309,6 +315,7 @@ impl<'a> Filter<'a> {
         match wide_row(text, columns, times, self.reading.zone, self.device) {
             Some(row) => {
                 self.note_device(columns, text);
+                self.note_zone(columns, text, row);
                 self.take_wide(number, columns, text, row)
             }
             None => Err(FilterError::Malformed(number, row_fault(text, columns, times))),
@@ -442,6 +449,7 @@ impl<'a> Filter<'a> {
         Summary {
             left_out: self.left_out,
             times: self.times,
+            zoned: self.zoned,
             rows: self.counted,
             first: self.first,
             last: self.last,

@@ -263,6 +263,7 @@ fn of_rows(times: Option<TimeForm>, rows: u32, first: u128, last: u128) -> Summa
             found: true,
         },
         times,
+        zoned: false,
         rows,
         first: begin().nanos + first * 1_000_000_000,
         last: begin().nanos + last * 1_000_000_000,
@@ -332,6 +333,22 @@ fn rows_and_channels_count(alloc: Global) -> bool {
     reads(alloc, &rows, wanted)
 }
 
+/// Whether a zone is known of a row that counts, by its time's form, and of no other row.
+fn zones_are_known(alloc: Global) -> bool {
+    let first = b"7,2026-11-22 07:00:01,1,2".as_slice();
+    let year = Some(TimeForm::YearFirst);
+    let mut said = of_rows(year, 2, 1, 1);
+    said.zoned = true;
+    let seconds = of_rows(Some(TimeForm::Seconds), 1, 1, 1);
+    reads(alloc, &[first, b"7,2026-11-22 07:00:01-23:59,1,2"], said)
+        && reads(
+            alloc,
+            &[first, b"7,2026/11/22 07:00:01,1,2"],
+            of_rows(year, 2, 1, 1),
+        )
+        && reads(alloc, &[b"7,1795330801,1,2"], seconds)
+}
+
 /// Whether a minute between rows is a gap, and of two as long the first is the longest.
 fn gaps_have_a_minute(alloc: Global) -> bool {
     let rows = [
@@ -368,6 +385,7 @@ fn tick_1_begins_what_is_heard(alloc: Global) -> bool {
 fn what_was_read_is_counted(rt: HostRuntime) {
     assert!(rt; rows_and_channels_count(rt.alloc()) && gaps_have_a_minute(rt.alloc()));
     assert!(rt; tick_1_begins_what_is_heard(rt.alloc()) && devices_are_named(rt.alloc()));
+    assert!(rt; zones_are_known(rt.alloc()));
     let mut nothing = of_rows(None, 0, 0, 0);
     nothing.first = 0;
     nothing.last = 0;
