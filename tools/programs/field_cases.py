@@ -70,8 +70,9 @@ WRONG = [
     (["review"], b"review names one file, PLAN"),
 ]
 
-# What is printed of what was left out.
+# What is printed of what was left out, where no event is of a channel without an input, and where there are such events.
 LEFT = b"left out: %d rows of other devices, %d events of channels without an input, %d lines that are no rows\n"
+LEFT_OF = LEFT.replace(b"an input", b"an input (%b)")
 
 # What is printed where no row counts, where no input has an event from tick 1 on, and of the form of times.
 NO_ROW, NO_EVENT, EMPTY = field_rules.NO_ROW, field_rules.NO_EVENT, "--allow-empty"
@@ -350,7 +351,8 @@ def wire_runs():
     on = [f"07:00:00 {code} {n}" for code, n in [(82, 16), (90, 8), (102, 4)]]
     yield logged(told(*on), row(1, [16], [8], [4]))
     beyond = [f"07:00:00 {code} {n}" for code, n in [(82, 17), (81, 0), (90, 9), (89, 10), (102, 5), (104, 4294967295)]]
-    yield logged(told(*on, *beyond), row(1, [16], [8], [4]), errors=LEFT % (0, 6, 0))
+    these = b"vehicle 17, vehicle 0, pedestrian 9, pedestrian 10, preempt 5, preempt 4294967295"
+    yield logged(told(*on, *beyond), row(1, [16], [8], [4]), errors=LEFT_OF % (0, 6, these, 0))
     yield from (logged(told(*(f"07:00:00 {it}" for it in events)), log, *words) for words, events, log in [
         (["--vehicle", "17=3"], ["82 17"], row(1, [3])),
         (["--vehicle", "0=1", "--vehicle", "4294967295=2"], ["82 0", "82 4294967295"], row(1, [1, 2])),
@@ -362,10 +364,18 @@ def wire_runs():
          row(1, [], [7, 8], [4])),
         (["--preempt", "5=1", "--vehicle", "5=2"], ["90 5", "82 5", "102 5"], row(1, [2], [5], [1])),
     ])
-    yield logged(told("07:00:00 82 18"), b"", "--vehicle=17=3", EMPTY, errors=LEFT % (0, 1, 0))
-    yield refused(told("07:00:00 82 18"), LEFT % (0, 1, 0) + NO_EVENT, b"", "--vehicle=17=3")
+    yield logged(told("07:00:00 82 18"), b"", "--vehicle=17=3", EMPTY, errors=LEFT_OF % (0, 1, b"vehicle 18", 0))
+    yield refused(told("07:00:00 82 18"), LEFT_OF % (0, 1, b"vehicle 18", 0) + NO_EVENT, b"", "--vehicle=17=3")
     both = told("07:00:00 82 20", "07:00:00.1 82 21", "07:00:00.2 81 20", "07:00:00.3 81 21")
     yield logged(both, row(1, [5]) + row(4), "--vehicle", "20=5", "--vehicle", "21=5")
+    # Channels without an input are named as they come, the first eight of them; with --sort in the order of time.
+    ten = [f"07:00:03 {89 + k % 2} {20 + k // 2}" for k in range(20)]
+    named = b", ".join(b"pedestrian %d" % (20 + k) for k in range(8))
+    yield logged(CAR + told(*ten[:16]), CAR_LOG, errors=LEFT_OF % (0, 16, named, 0))
+    yield logged(CAR + told(*ten[:17], *ten[:3]), CAR_LOG, errors=LEFT_OF % (0, 20, named + b", ..", 0))
+    yield logged(CAR + told(*ten), CAR_LOG, errors=LEFT_OF % (0, 20, named + b", ..", 0))
+    late = CAR + told("07:00:05 104 17", "07:00:04 82 17", "07:00:05 81 17")
+    yield logged(late, CAR_LOG, "--sort", errors=LEFT_OF % (0, 3, b"vehicle 17, preempt 17", 0))
     other = b"8,2026-11-22 06:00:00,82,1\n9,2026-11-30 00:00:00,82,1\n"
     yield logged(CAR[:len(CAR) // 2] + other + CAR[len(CAR) // 2:], CAR_LOG, "--device", "7", errors=LEFT % (2, 0, 0))
     yield logged(CAR + other, b"", "--device=10", EMPTY, errors=LEFT % (4, 0, 0))
@@ -379,7 +389,7 @@ def wire_runs():
     yield logged(CAR.replace(b"7,2026", b'"Main, 5th",2026'), CAR_LOG, "--device", "Main, 5th")
     yield logged(CAR.replace(b"7,2026", b",2026"), CAR_LOG)
     yield logged(CAR + b"8,2026-11-22 07:00:03,82,99\n", CAR_LOG, "--device", "7", errors=LEFT % (1, 0, 0))
-    yield logged(CAR + told(f"{BEHIND} 82 17"), CAR_LOG, errors=LEFT % (0, 1, 0))
+    yield logged(CAR + told(f"{BEHIND} 82 17"), CAR_LOG, errors=LEFT_OF % (0, 1, b"vehicle 17", 0))
     # Behind the first line a byte order mark is a part of the device.
     yield logged(CAR + MARK + told("07:00:04 82 1"), CAR_LOG, "--device", "7", errors=LEFT % (1, 0, 0))
 
@@ -398,7 +408,7 @@ def zone_runs():
         yield logged(text, CAR_LOG, "--sort", errors=form + ZONES)
     # A row counts whatever its code and channel are, and one of another device does not.
     yield logged(CAR + b"7,2026-11-22 07:00:03Z,1,1\n", CAR_LOG, errors=ZONES)
-    yield logged(CAR + b"7,2026-11-22 07:00:03Z,82,99\n", CAR_LOG, errors=ZONES + LEFT % (0, 1, 0))
+    yield logged(CAR + b"7,2026-11-22 07:00:03Z,82,99\n", CAR_LOG, errors=ZONES + LEFT_OF % (0, 1, b"vehicle 99", 0))
     yield logged(CAR + b"8,2026-11-22 07:00:03Z,82,1\n", CAR_LOG, "--device", "7", errors=LEFT % (1, 0, 0))
     yield logged(b"7,2026-11-22 06:59:59Z,82,1\n7,2026-11-22 07:00:00Z,81,1\n", b"", EMPTY, errors=ZONES)
     # A zone that is asked for is not passed over.
@@ -430,7 +440,7 @@ def manner_runs():
     yield logged(CAR, CAR_LOG, "--count", errors=read % (2, b"07:00:01.0", b"07:00:03.0", 1))
     more = told("06:59:59.25 90 2", "07:00:01 82 2", "07:00:01 1 9", "07:00:03 81 2", "07:00:03.000000001 82 99")
     yield logged(more, row(1, [], [2]) + row(11, [2], [2]) + row(31, [], [2]), "--count",
-                 errors=LEFT % (0, 1, 0) + read % (5, b"06:59:59.25", b"07:00:03.000000001", 2))
+                 errors=LEFT_OF % (0, 1, b"vehicle 99", 0) + read % (5, b"06:59:59.25", b"07:00:03.000000001", 2))
     yield logged(b"8,2026-11-22 07:00:00,82,1\n" + CAR, CAR_LOG, "--count", "--device=7",
                  errors=LEFT % (1, 0, 0) + read % (2, b"07:00:01.0", b"07:00:03.0", 1))
     yield refused(HEADER, b"read: 0 rows\n" + NO_ROW, b"", "--count")
@@ -550,7 +560,7 @@ def outputs_runs():
     # It comes last, and only where the log ends well.
     read = b"read: 2 rows from 2026-11-22 07:00:01.0 to 2026-11-22 07:00:03.0, events of 1 channels\n"
     yield logged(CAR, CAR_LOG, "--count", *twice, errors=read + every)
-    yield logged(CAR + told("07:00:04 82 17"), CAR_LOG, *twice, errors=LEFT % (0, 1, 0) + every)
+    yield logged(CAR + told("07:00:04 82 17"), CAR_LOG, *twice, errors=LEFT_OF % (0, 1, b"vehicle 17", 0) + every)
     yield logged(HEADER, b"", *twice, EMPTY, errors=every)
     yield refused(HEADER, NO_ROW, b"", *twice)
     yield refused(CAR + b"x\n", b"events line 3: " + ENDS % b"time" + b"\n", CAR_KNOWN, *twice)

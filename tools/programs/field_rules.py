@@ -407,13 +407,13 @@ def order_fault(count, at, last, place, window=None):
 
 
 class Read:
-    """What was read: the events of inputs, the moments of the rows that count, how many rows are of other devices, how
-    many events are of channels without an input, how many lines are passed over, whether there is a header or a row, and
+    """What was read: the events of inputs, the moments of the rows that count, how many rows are of other devices, the
+    channels of events that have no input, how many lines are passed over, whether there is a header or a row, and
     the form of times where the first row says it, the devices of rows, as they come, and whether a row that counts has a
     zone where none is asked for."""
 
     def __init__(self):
-        self.events, self.moments, self.others, self.lost, self.passed = [], [], 0, 0, 0
+        self.events, self.moments, self.others, self.lost, self.passed = [], [], 0, [], 0
         self.is_found, self.form, self.devices, self.is_zoned = False, None, [], False
 
 
@@ -434,7 +434,7 @@ def taken(lines, begin, device, wires, form=None, zone=None, window=None, is_all
                 fault(b": past tick %d" % TICKS)
             events.append((at, kind, channel, on))
         elif kind:
-            read.lost += 1
+            read.lost.append((kind, channel))
 
     for count, line in enumerate(lines, 1):
         if len(line) > 1000:
@@ -499,6 +499,12 @@ def of_devices(devices):
     return DEVICES % (b"%d" % len(devices) if len(devices) <= NAMED else b"9 or more", names)
 
 
+def of_channels(lost):
+    """The first channels of those without an input, in parentheses, where there are any."""
+    found = [f"{kind} {channel}" for kind, channel in dict.fromkeys(lost)]
+    return f" ({', '.join(found[:NAMED] + ['..'] * (len(found) > NAMED))})" if found else ""
+
+
 def counted(read, device):
     """The lines of how much was read, of the gaps in it, and of several devices where none is asked for."""
     if not read.moments:
@@ -523,8 +529,8 @@ def log(text, begin, device=None, mapped=(), form=None, zone=None, is_counted=Fa
     told = b"" if read.form in (None, "year-first") else f"times: {read.form}, by the first row\n".encode()
     told += ZONES if read.is_zoned else b""
     if read.others or read.lost or read.passed:
-        told += f"left out: {read.others} rows of other devices, {read.lost} events of channels without an input, " \
-                f"{read.passed} lines that are no rows\n".encode()
+        told += f"left out: {read.others} rows of other devices, {len(read.lost)} events of channels without an input" \
+                f"{of_channels(read.lost)}, {read.passed} lines that are no rows\n".encode()
     told += counted(read, device) if is_counted else b""
     is_heard = may_be_empty or any(at >= begin for at, *_ in read.events)
     told += b"" if is_heard else NO_EVENT if read.moments else NO_ROW

@@ -29,6 +29,8 @@ use Rattle.tsb_field_streams.specs.Order.{first_before, first_of, placed, rest_b
 use Rattle.tsb_field_streams.specs.declared.error.Disorder.{Disorder}
 use Rattle.tsb_field_streams.specs.declared.error.FilterError.{FilterError}
 use Rattle.tsb_field_streams.specs.declared.error.FilterError.TheVariants.{LongLine, Malformed, TimeOrder, TooManyRows, PastEnd, LogTooLarge}
+use Rattle.tsb_field_streams.specs.declared.filter.channels.Channel.{Channel}
+use Rattle.tsb_field_streams.specs.declared.filter.channels.Channels.{Channels}
 use Rattle.tsb_field_streams.specs.declared.filter.devices.Devices.{Devices}
 use Rattle.tsb_field_streams.specs.declared.filter.gaps.Gaps.{Gaps}
 use Rattle.tsb_field_streams.specs.declared.filter.Summary.{Summary}
@@ -36,6 +38,8 @@ use Rattle.tsb_field_streams.specs.declared.filter.TheConstants.{LINE, MOST_ROWS
 use Rattle.tsb_field_streams.specs.declared.filter.gaps.TheConstants.{GAP}
 use Rattle.tsb_field_streams.specs.declared.filter.late.TheConstants.{MOST_HELD}
 use Rattle.tsb_field_streams.specs.declared.filter.zones.TheConstants.{ELSEWHERE}
+use Rattle.tsb_field_streams.specs.Channels.{with_channel}
+use Rattle.tsb_field_streams.specs.declared.filter.channels.TheConstants.{NO_CHANNELS}
 use Rattle.tsb_field_streams.specs.Devices.{with_some_device}
 use Rattle.tsb_field_streams.specs.declared.filter.devices.TheConstants.{NO_DEVICES}
 
@@ -52,7 +56,7 @@ pub record Given : Type 0 where
 
 -- what is known after some lines: where the columns stand, the form of times, whether a row that counts said its zone where none is asked for, how many rows counted, the moments of the
 -- first and the last of them, the gaps between them, the devices of rows where none is asked for, for each wire whether it is the first of its channel and had an event,
--- how many rows were of other devices, how many events had no wire and how many lines were passed over, and the events of inputs. Where rows are
+-- how many rows were of other devices, how many events had no wire, the first channels of these, and how many lines were passed over, and the events of inputs. Where rows are
 -- sorted, all this is told of those that were taken: others are held, in the order of time, and the latest row was of this
 -- moment
 pub record Stand : Type 0 where
@@ -67,6 +71,7 @@ pub record Stand : Type 0 where
   pub used : List Bool
   pub others : ℕ
   pub unwired : ℕ
+  pub strays : Channels
   pub passed : ℕ
   pub events : List InputEvent
   pub held : List EventRow
@@ -86,6 +91,7 @@ start g = record {
   used = replicate (length g.wires) false;
   others = 0;
   unwired = 0;
+  strays = NO_CHANNELS;
   passed = 0;
   events = [];
   held = [];
@@ -113,9 +119,13 @@ wire_place wires kind channel = position (leads_from kind channel) wires
 abbrev pub with_used : Stand → ℕ → Stand
 with_used s place = record s { used = if nat_lt place (length s.used) then set s.used place true else s.used }
 
+-- an event of a channel from which no wire leads is counted
+abbrev pub with_unwired : Stand → Channel → Stand
+with_unwired s channel = record s { unwired = one_more s.unwired; strays = with_channel s.strays channel }
+
 -- an event of an input, where a wire leads from its channel; else it is counted
 abbrev pub with_wire : Given → Stand → EventRow → Signal → Option ℕ → Result Stand FilterError
-with_wire g s row signal None = Ok (record s { unwired = one_more s.unwired })
+with_wire g s row signal None = Ok (with_unwired s (record { kind = signal.kind; number = row.parameter }))
 with_wire g s row signal (Some place) =
     with_event g (with_used s place) (record { nanos = row.moment.nanos; kind = signal.kind; channel = row.parameter; on = signal.on })
 
@@ -356,7 +366,7 @@ abbrev pub is_heard : ℕ → List InputEvent → Bool
 is_heard from events = nat_lt 0 (last_tick from events)
 
 -- what was read by some lines: what was left out, the form of times, whether they said zones where none is asked for, the rows that counted with the moments of the first and
--- the last of them and the gaps between them, the devices of rows, how many channels that lead to an input had an event, and whether an input had one from tick 1 on
+-- the last of them and the gaps between them, the devices of rows, the first channels without an input that had an event, how many channels that lead to an input had one, and whether an input had one from tick 1 on
 abbrev pub summary_at : Given → Stand → Summary
 summary_at g s = record {
   left_out = record { of_other_devices = s.others; without_input = s.unwired; passed = s.passed; found = is_there s.columns };
@@ -367,6 +377,7 @@ summary_at g s = record {
   last = s.last;
   gaps = s.gaps;
   devices = s.devices;
+  unwired = s.strays;
   channels = how_many s.used;
   heard = is_heard g.from s.events;
 }

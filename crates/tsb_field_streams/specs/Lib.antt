@@ -1,5 +1,7 @@
 -- which devices rows are of, and the line that names them
 pub mod Devices
+-- which channels lead to no input, and how they are named
+pub mod Channels
 -- what lines of events come to, one after another
 pub mod Filtering
 -- how far a filter has come

@@ -50,6 +50,7 @@ pub record StandsAt (g : Given) (s : Stand) (f : Filter) : Type 0 where
   pub last : f.last ≡ s.last
   pub gaps : f.gaps ≡ s.gaps
   pub devices : f.devices ≡ s.devices
+  pub strays : f.unwired ≡ s.strays
   pub used : f.used.items ≡ s.used
   pub others : f.left_out.of_other_devices ≡ s.others
   pub unwired : f.left_out.without_input ≡ s.unwired

@@ -11,6 +11,7 @@ ghost use Rattle.tsb_field_streams.specs.Filtering.{Given, Stand, how_many, may_
 ghost use Rattle.tsb_field_streams.specs.Blame.{IsOfText};
 ghost use Rattle.tsb_field_streams.specs.declared.error.FilterError.TheVariants.{LogTooLarge};
 
+mod channels;
 mod devices;
 mod events;
 mod gaps;
@@ -19,6 +20,8 @@ mod zones;
 
 use crate::Held;
 use crate::error::{Disorder, FilterError};
+pub use channels::{Channel, Channels, append_channels};
+use channels::{NO_CHANNELS, with_channel};
 pub use devices::{Devices, MOST_NAMED, append_devices};
 use devices::{NO_DEVICES, with_device};
 pub use gaps::Gaps;
@@ -83,6 +86,8 @@ pub struct Summary {
     pub gaps: Gaps,
     /// The devices of rows; none where one was asked for.
     pub devices: Devices,
+    /// The first channels that had an event and lead to no input.
+    pub unwired: Channels,
     /// How many channels that lead to an input had an event, also before tick 1.
     pub channels: usize,
     /// Whether an input had an event from the moment on at which tick 1 begins.
@@ -112,6 +117,8 @@ pub struct Filter<'a> {
     gaps: Gaps,
     /// The devices of rows; none where one is asked for.
     devices: Devices,
+    /// The first channels that had an event and lead to no input.
+    unwired: Channels,
     /// For each wire whether it is the first of its channel and had an event.
     used: Vec<bool>,
     /// How many rows of the log are known.
@@ -160,6 +167,7 @@ impl<'a> Filter<'a> {
             last: 0,
             gaps: NO_GAPS,
             devices: NO_DEVICES,
+            unwired: NO_CHANNELS,
             used,
             rows: 0,
             left_out: LeftOut {
@@ -455,6 +463,7 @@ impl<'a> Filter<'a> {
             last: self.last,
             gaps: self.gaps,
             devices: self.devices,
+            unwired: self.unwired,
             channels: how_many(self.used.as_slice()),
             heard: self.street.has_begun(),
         }

@@ -14,8 +14,8 @@ mod stream;
 pub use error::{Disorder, FilterError};
 pub use fault_lines::{FaultLine, LONGEST};
 pub use filter::{
-    Devices, Filter, Gaps, LINE, LeftOut, MOST_HELD, MOST_NAMED, MOST_ROWS, RowOptions, Summary,
-    append_devices,
+    Channel, Channels, Devices, Filter, Gaps, LINE, LeftOut, MOST_HELD, MOST_NAMED, MOST_ROWS,
+    RowOptions, Summary, append_channels, append_devices,
 };
 pub use held::Held;
 pub use laws::late_rows_tell_what_sorted_rows_tell;
