@@ -16,6 +16,8 @@ pub mod Blame
 pub mod Clocks
 -- what holds of rows that are sorted within a window
 pub mod SortLaws
+-- what holds of rows that say their zones
+pub mod ZoneLaws
 -- the line that tells what ended a filter
 pub mod FaultLines
 -- rows in the order of time

@@ -10,6 +10,7 @@ mod laws;
 mod order_laws;
 mod rows;
 mod stream;
+mod zone_laws;
 
 pub use error::{Disorder, FilterError};
 pub use fault_lines::{FaultLine, LONGEST};
@@ -21,3 +22,4 @@ pub use held::Held;
 pub use laws::late_rows_tell_what_sorted_rows_tell;
 pub use order_laws::sorted_rows_are_in_order;
 pub use stream::{EVENTS, log};
+pub use zone_laws::zones_are_seen;
