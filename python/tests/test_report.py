@@ -441,8 +441,8 @@ def test_channels_of_a_street(
     came = {it[1]: it[2] for it in table if it[0] == "2"}
     assert came == {"A": "386", "B": "386"}
     left_out = (
-        "left out: 0 rows of other devices, 1 events of channels without an input,"
-        " 0 lines that are no rows"
+        "left out: 0 rows of other devices, 1 events of channels without an input"
+        " (vehicle 30), 0 lines that are no rows"
     )
     assert capsys.readouterr().err == f"{PROGRAM}: {left_out}\n"
     assert left_out in (tmp_path / "page.html").read_text()

@@ -496,7 +496,7 @@ def worked_runs():
     """All worked runs."""
     return [
         *field_cases.form_runs(), *field_cases.wide_runs(), *field_cases.separator_runs(), *field_cases.export_runs(),
-        *field_cases.moment_runs(), *field_cases.wire_runs(), *field_cases.manner_runs(), *field_cases.sort_runs(), *field_cases.outputs_runs(),
+        *field_cases.moment_runs(), *field_cases.wire_runs(), *field_cases.zone_runs(), *field_cases.manner_runs(), *field_cases.sort_runs(), *field_cases.outputs_runs(),
         *field_cases.fault_runs(),
         *field_cases.event_runs(), *field_cases.record_runs(), *field_cases.form_of_record_runs(), *field_cases.cycle_runs(), *field_cases.clock_runs(),
         *field_cases.record_faults(),
