@@ -1,4 +1,4 @@
--- A mistake in how zones are seen, with an example that tells it from the definition.
+-- A mistake in how zones are seen, and an example that shows it.
 use Rattle.std.specs.Prelude.{◌≡◌, ◌==◌, not, true, false, Some, codes, refl}
 use Rattle.tsb_event_text.specs.TimeForms.{moved, utc}
 use Rattle.tsb_field_streams.specs.ZoneLaws.{has_zone}
