@@ -1,30 +1,35 @@
--- Clocks of moments, computed: a day is counted from 1999-12-24, and 2026-11-22 is day 9,830.
-use Rattle.std.proofs.Common.{◌≡◌, ◌+◌, ◌*◌, ℕ, List, Option, Some, None, codes, option_map, refl}
-use Rattle.tsb_event_text.specs.Times.{moment_of}
-use Rattle.tsb_field.specs.Clocks.{clock_at}
+-- Clocks of moments, computed: a moment counts nanoseconds from -9999-01-01, and a clock tenths of a second from 1999-12-24.
+use Rattle.std.proofs.Common.{◌≡◌, ℕ, Some, None, true, false, refl}
+use Rattle.tsb_event_text.specs.declared.times.Moment.{Moment}
+use Rattle.tsb_field.specs.Clocks.{clock_at, clock_of, lacks_clock}
 
--- the clock of a time
-abbrev at : List ℕ → Option (Option ℕ)
-at text = option_map clock_at (moment_of text)
+abbrev at : ℕ → Moment
+at n = record { nanos = n }
 
--- a tenth after seven, and what is less than a tenth is left out
-seven : at (codes "2026-11-22 07:00:00.19") ≡ Some (Some (9830 * 864000 + 252001))
-unfolding moment_of
+-- a tenth after 7:00 on 2026-11-22, day 9,830, and what is less than a tenth is left out
+seven : clock_at (at 379500447600190000000) ≡ Some 8493372001
 seven = refl
 
--- the first and the last tenth that a clock has, and those before and after
-first : at (codes "2000-01-01 00:00:00") ≡ Some (Some 6912000)
-unfolding moment_of
+-- the first and the last tenth that a clock has
+first : clock_at (at 378651801600000000000) ≡ Some 6912000
 first = refl
 
-last : at (codes "2099-12-31 23:59:59.999999999") ≡ Some (Some 31564511999)
-unfolding moment_of
+last : clock_at (at 381807561599999999999) ≡ Some 31564511999
 last = refl
 
-before : at (codes "1999-12-31 23:59:59.999999999") ≡ Some None
-unfolding moment_of
+-- and the moments before and after
+before : clock_at (at 378651801599999999999) ≡ None
 before = refl
 
-after : at (codes "2100-01-01 00:00:00") ≡ Some None
-unfolding moment_of
+after : clock_at (at 381807561600000000000) ≡ None
 after = refl
+
+-- a record of such a moment lacks a clock, unless words say that it has none
+lacks : lacks_clock false (at 378651801599999999999) ≡ true
+lacks = refl
+
+lacks_none : lacks_clock true (at 378651801599999999999) ≡ false
+lacks_none = refl
+
+has_none : clock_of true (at 379500447600190000000) ≡ None
+has_none = refl
