@@ -4,5 +4,5 @@ use Rattle.tsb_field.proofs.record_run.write_record.Goals as goal
 pub returns-then-lacks_clock : goal.returns-then-lacks_clock
 returns-then-lacks_clock g c = rw (sym c.lacks_clock.ensures ∙ c.if-lacks_clock.true) c.tell_no_clock.ensures
 
-pub returns-else-lacks_clock : goal.returns-else-lacks_clock
-returns-else-lacks_clock g c = rw (sym c.lacks_clock.ensures ∙ c.if-lacks_clock.false) c.record_files.ensures
+pub returns : goal.returns
+returns g c = rw (sym c.lacks_clock.ensures ∙ c.if-lacks_clock.false) c.record_files.ensures
