@@ -240,14 +240,15 @@ def in_pattern(end: int, offset: int = 0) -> pd.DataFrame:
 
 def test_the_last_cycle_of_a_pattern() -> None:
     """It is whole where the pattern ends at its local zero, and not a tick before."""
-    assert rows(measures.cycles(in_pattern(900)))[-1:] == [(600, 900, 1, 30.0)]
-    assert rows(measures.cycles(in_pattern(899)))[-1:] == [(300, 600, 1, 30.0)]
+    assert rows(measures.cycles(in_pattern(900), 0))[-1:] == [(600, 900, 1, 30.0)]
+    assert rows(measures.cycles(in_pattern(899), 0))[-1:] == [(300, 600, 1, 30.0)]
     # and the first where it begins at it
     events = table((300, 131, 1), (300, 132, 30), (300, 133, 0), (900, 7, 2))
-    assert rows(measures.cycles(events)) == [(300, 600, 1, 30.0), (600, 900, 1, 30.0)]
+    both = [(300, 600, 1, 30.0), (600, 900, 1, 30.0)]
+    assert rows(measures.cycles(events, 0)) == both
     events = table((301, 131, 1), (301, 132, 30), (301, 133, 0), (900, 7, 2))
-    assert rows(measures.cycles(events)) == [(600, 900, 1, 30.0)]
-    assert rows(measures.cycles(in_pattern(900, 4))) == [
+    assert rows(measures.cycles(events, 0)) == [(600, 900, 1, 30.0)]
+    assert rows(measures.cycles(in_pattern(900, 4), 0)) == [
         (40, 340, 1, 30.0), (340, 640, 1, 30.0)
     ]  # fmt: skip
 
@@ -267,14 +268,15 @@ def test_what_is_no_pattern() -> None:
     "told, wanted",
     [
         ([(1, 132, 30), (1, 133, 4)], (None, None, None)),
-        ([(1, 131, 1), (1, 133, 4)], (None, None, None)),
+        ([(1, 131, 1), (1, 133, 4)], (1, None, 4)),
         ([(1, 131, 1), (1, 132, 30)], (1, 30, 0)),
     ],
 )
 def test_a_pattern_of_which_a_part_is_not_told(
     told: list[tuple[int, int, int]], wanted: tuple[int | None, ...]
 ) -> None:
-    """Without its number or its cycle it is none; without an offset that is 0."""
+    """Without its number it is none; without a cycle that is not known, and without an
+    offset that is 0."""
     assert rows(measures.patterns(table(*told, (5, 7, 2)))) == [(1, 6, *wanted)]
 
 
@@ -323,7 +325,7 @@ def test_places_in_a_cycle_at_its_ends() -> None:
     """In a pattern from 40 to 700 with local zero at 40, 340, 640."""
     events = table((40, 131, 2), (40, 132, 30), (40, 133, 4), (700, 131, 254), (800, 7, 1))
     ticks = pd.Series([39, 40, 41, 339, 340, 699, 700], index=range(10, 17))
-    found = measures.in_cycle(events, ticks)
+    found = measures.in_cycle(events, ticks, 0)
     assert rows(found.reset_index()) == [
         (10, None), (11, 0.0), (12, 0.1), (13, 29.9), (14, 0.0), (15, 5.9), (16, None)
     ]  # fmt: skip
@@ -671,6 +673,7 @@ def test_actuations_by_parts_of_a_cycle() -> None:
         (100, 82, 4), (200, 131, 2), (200, 132, 20), (200, 82, 2), (399, 82, 2),
         (400, 131, 254), (400, 82, 2), (450, 82, 2),
     )  # fmt: skip
+    of = Numbers(replace(of.run, is_observed=True))
     assert rows(of.folded.reset_index()) == [
         (2, 1, 2, 0, 0), (2, 20, 2, 0, 0), (4, 1, 0, 0, 1)
     ]  # fmt: skip
@@ -736,6 +739,7 @@ def test_coordinated_phases() -> None:
     plain["vehicleDetectorCallPhase"] = {2: 16, 3: 1, 4: 8}
     cars = [(9, 82, it) for it in (2, 3, 4)]
     run = Run("hand", table(*one, *cars), np.datetime64(START, "ns"), 99, plain)
+    run = replace(run, is_observed=True)
     assert Numbers(run).coordinated == [1, 8, 16]
     assert Numbers(replace(run, plan=None)).coordinated == []
 

@@ -417,7 +417,7 @@ def test_the_traffic_of_a_sweep(traffic: Traffic, tmp_path: Path) -> None:
 ALL = [
     "a.json", "b.json", "--days", "x.csv", "y.csv", "--out", "out", "--measure",
     "splits", "--measure", "waits", "--begin", "07:00:00", "--seconds", "60",
-    "--device", "7", "--pattern", "3", "--sumo", "net.xml", "--routes", "r.xml",
+    "--device", "7", "--pattern", "3", "--no-clock", "--sumo", "net.xml", "--routes", "r.xml",
     "--mapping", "m.json", "--additional", "d.xml", "--seeds", "1", "2",
     "--scheduler", "tcp://x:1", "--workers", "1",
 ]  # fmt: skip
@@ -428,14 +428,14 @@ def test_the_words_of_a_sweep(capsys: pytest.CaptureFixture[str]) -> None:
     assert vars(_words().parse_args(ALL)) == {
         "plans": ["a.json", "b.json"], "days": ["x.csv", "y.csv"], "out": Path("out"),
         "measure": ["splits", "waits"], "begin": "07:00:00", "seconds": 60,
-        "device": "7", "pattern": 3, "sumo": "net.xml", "routes": "r.xml",
+        "device": "7", "pattern": 3, "no_clock": True, "sumo": "net.xml", "routes": "r.xml",
         "mapping": "m.json", "additional": "d.xml", "seeds": [1, 2],
         "scheduler": "tcp://x:1", "workers": 1,
     }  # fmt: skip
     assert vars(_words().parse_args(["a.json", "--out", "o"])) == {
         "plans": ["a.json"], "days": [], "out": Path("o"), "measure": None,
         "begin": "00:00:00", "seconds": 86400, "device": None, "pattern": 0,
-        "sumo": None, "routes": "", "mapping": "", "additional": "", "seeds": [],
+        "no_clock": False, "sumo": None, "routes": "", "mapping": "", "additional": "", "seeds": [],
         "scheduler": None, "workers": None,
     }  # fmt: skip
     for words in (["a.json"], ["--out", "o"], ["a.json", "--out", "o", "--workers", "0"]):

@@ -323,7 +323,9 @@ def log_of_export(
 def _refused(words: list[str], died: ProgramDied) -> str:
     """What `tsb_field log` says of an export, or of these words."""
     if died.status != BAD_WORDS:
-        return died.stderr.strip()
+        # (that is a word of the program, and none of Python's commands)
+        allowed = " (give --allow-empty where that is right)"
+        return died.stderr.strip().removesuffix(allowed)
     return f"{' '.join(words)}: docs/use/FIELD.md has the ranges of these words"
 
 

@@ -123,7 +123,7 @@ def _clearance(plan: Plan, phase: int) -> tuple[tuple[str, int], ...]:
 
 def sums(plan: Plan, number: int, phases: frozenset[int]) -> dict[str, Sum]:
     """The rows of a worksheet for phases that conflict: the greatest of each."""
-    others = sorted(plan.phases - phases)
+    others = plan.phases - phases
     rows = {
         "conflicting vehicle": [vehicle(plan, number, it) for it in others],
         "conflicting pedestrian": [

@@ -110,9 +110,9 @@ def tasks_of(
     seconds: int,
     device: str | None,
     pattern: int,
-    no_clock: bool,
     traffic: Traffic | None,
     seeds: Iterable[int],
+    no_clock: bool = False,
 ) -> list[Task]:
     """The runs of a sweep."""
     files = [_path(it) for it in plans]

@@ -1,5 +1,5 @@
 //! The commands of a record: they are carried out, and what is refused is told.
-ghost use Rattle.std.specs.Prelude.{◌≡◌, ◌++◌, ℕ, IfErr, List, OnOk, false, true};
+ghost use Rattle.std.specs.Prelude.{◌≡◌, ◌++◌, ℕ, [], IfErr, List, OnOk, false, true};
 ghost use Rattle.tsb_objects.specs.Checked.{checked_plan};
 ghost use Rattle.tsb_dialog.specs.Blame.{AfterCalls};
 ghost use Rattle.tsb_dialog.specs.Said.{Said, Wrote};
@@ -164,7 +164,7 @@ fn carried_out<R: Read, E: Write>(
     requires reads { reader.old.failed ≡ false }
     requires writes { errors.old.failed ≡ false }
     requires flushed { errors.old.flushed ≡ true }
-    ensures ended { (given : Setup) (form : LogFormValue) (first : List InputValue) → Stands given given.log course first → course.mode ≡ modes.Recording form
+    ensures ended { (given : Setup) (form : LogFormValue) (first : List InputValue) → Stands given given.log course.entry first → course.entry.mode ≡ modes.Recording form
         → Ended result on_fault form given first (R.remaining reader.old.device) (R.remaining reader.new.device) (E.contents errors.old.device) (E.contents errors.new.device) }
     ensures blame { Blames result reader.new.failed errors.new.failed errors.new.flushed }
 {

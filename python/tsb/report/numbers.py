@@ -9,10 +9,10 @@ from typing import Any
 import numpy as np
 import pandas as pd
 
-from tsb import measures
+from tsb import frames, measures
 from tsb.plan import Plan
 from tsb.report.runs import Run
-from tsb.told import CAUSES, FREE, OFFSET, OTHER, PATTERN, WALK
+from tsb.told import CAUSES, CYCLE_STATE, FREE, LOCAL_ZERO, OFFSET, OTHER, PATTERN, WALK
 
 ENDS = [*CAUSES.values(), OTHER]
 SHOWN = ["green", "yellow", "red"]
@@ -196,6 +196,16 @@ class Numbers:
             else:
                 yield "free operation"
 
+    @property
+    def _offsets_from(self) -> int | None:
+        """The tick of midnight, from which a street counts its offsets as a rule; None
+        where events have local zeros, as those of a bench do."""
+        events, start = self.run.events, self.run.start
+        is_zero = (events["code"] == CYCLE_STATE) & (events["parameter"] == LOCAL_ZERO)
+        if not self.run.is_observed or is_zero.any():
+            return None
+        return -int((start - start.astype("datetime64[D]")) // frames.TENTH)
+
     @cached_property
     def patterns(self) -> pd.DataFrame:
         """The stretches of patterns (`measures.patterns`)."""
@@ -204,12 +214,12 @@ class Numbers:
     @cached_property
     def cycles(self) -> pd.DataFrame:
         """The whole cycles (`measures.cycles`), a row for each."""
-        return measures.cycles(self.run.events)
+        return measures.cycles(self.run.events, self._offsets_from)
 
     @cached_property
     def a_cycle(self) -> pd.DataFrame:
         """Greens a cycle (`measures.greens_a_cycle`)."""
-        return measures.greens_a_cycle(self.run.events)
+        return measures.greens_a_cycle(self.run.events, self._offsets_from)
 
     @cached_property
     def each_wait(self) -> pd.DataFrame:
@@ -237,7 +247,7 @@ class Numbers:
         """Each actuation (`measures.arriving`), with its place in the cycle:
         `in_cycle_s`, NA in free operation."""
         found = measures.arriving(self.run.events, self.run.phases)
-        place = measures.in_cycle(self.run.events, found["tick"])
+        place = measures.in_cycle(self.run.events, found["tick"], self._offsets_from)
         return found.assign(in_cycle_s=place)
 
     @cached_property

@@ -172,8 +172,8 @@ def cycles(both: Both) -> Section:
         "cycles", "Greens a cycle",
         "Below 1 a phase was skipped in some cycles; above, it came again within one."
         " Cycles of a pattern begin at local zero, where events tell it (150 with 5),"
-        " and else by its cycle and offset. Those of free operation begin where the"
-        " barrier is crossed to the first side.",
+        " and else by its cycle and its offset from midnight. Those of free operation"
+        " begin where the barrier is crossed to the first side.",
         any(len(it.cycles) for it in both), "No whole cycle.", made,
     )  # fmt: skip
 

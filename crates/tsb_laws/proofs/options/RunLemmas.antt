@@ -11,6 +11,7 @@ use Rattle.tsb_step.specs.tsb_rules.Rules.{first_broken}
 use Rattle.tsb_step.specs.tsb_coord.declared.correction.Correction.{Correction}
 use Rattle.tsb_step.specs.tsb_coord.Clock.{midnight_at, start_of}
 use Rattle.tsb_step.specs.tsb_coord.Coordinated.{selects}
+use Rattle.tsb_step.specs.tsb_coord.Correction.{clocked}
 use Rattle.tsb_step.specs.tsb_ring.Rings as rings
 use Rattle.tsb_step.specs.tsb_transact.Calls as desk
 use Rattle.tsb_step.specs.tsb_transact.Commit.{changes_some, is_preempt_list}
@@ -25,8 +26,9 @@ use Rattle.tsb_step.proofs.tsb_coord.CorrectionLemmas.{in_step_at_once, local_in
 use Rattle.tsb_laws.specs.Differing.{DifferIn, IsSameBut}
 use Rattle.tsb_laws.specs.CorrectionLimits.{is_limit, CorrectsAtOnce, ShowAndRefuseTheSame}
 use Rattle.tsb_laws.proofs.operation.pattern.OptionLemmas.{begins_at_once}
-use Rattle.tsb_laws.proofs.options.DifferLemmas.{with_limit, as_others, from_others, limit_alone, corrects_at_once, values_differ, changes_same}
+use Rattle.tsb_laws.proofs.options.DifferLemmas.{with_limit, as_others, from_others, limit_alone, corrects_at_once, values_differ, limit_is, changes_same}
 use Rattle.tsb_laws.proofs.options.LimitLemmas.{first_broken-same}
+use Rattle.tsb_laws.proofs.options.TickLemmas as ticks
 use Rattle.tsb_laws.proofs.options.TickLemmas.{swapped, display-same, field-same, watched-same, ticked-same}
 
 -- ## As equations
@@ -75,7 +77,7 @@ module _ (s : State) (v : Object → ℕ → ℕ) where
   sees-same : (test : Object → Bool) → test CoordCorrectionLimit ≡ false →
       changes_some test (with_limit s.plan v) s.desk.edits ≡ changes_some test s.plan s.desk.edits
   sees-same test out =
-      ap (λ (q : Plan). changes_some test q s.desk.edits) (sym (limit_alone s.plan v)) ∙ changes_same s.plan v test out s.desk.edits
+      ap (λ (q : Plan). changes_some test q s.desk.edits) (sym (limit_alone s.plan v)) ∙ changes_same is_limit s.plan v test (λ o k. ap test (limit_is o k) ∙ out) s.desk.edits
 
   commits-same : IsSameBut is_limit (committed s) (committed (swapped s v))
   commits-same = record {
@@ -123,6 +125,7 @@ runs_same x y (i ∷ is) d off =
 local-same : (s : State) (v : Object → ℕ → ℕ) → correction_mode s.plan ≡ AtOnce → correction_mode (with_limit s.plan v) ≡ AtOnce → local (swapped s v) ≡ local s
 local-same s v mode other =
     local_in_step (with_limit s.plan v) s.pattern s.correction s.now (in_step_at_once (with_limit s.plan v) s.pattern s.correction s.now other)
+    ∙ ticks.local-same s.plan v (clocked s.plan s.pattern s.correction s.now) s.pattern
     ∙ sym (local_in_step s.plan s.pattern s.correction s.now (in_step_at_once s.plan s.pattern s.correction s.now mode))
 
 refuses-same : (s : State) (v : Object → ℕ → ℕ) (i : Input) → verdict (swapped s v) i ≡ verdict s i

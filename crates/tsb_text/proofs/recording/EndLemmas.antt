@@ -124,7 +124,7 @@ not-recorded stands w form given first dialog.Read new i l o n d =
       taken = d.taken;
       told = d.written;
       grown = d.grown;
-      so = inr (front-begun w given d.read d.written tells);
+      so = inr (front-begun w given first d.read d.written tells);
       large = (λ h. absurd h, λ h. absurd (let e = d.large.1 h in cc));
       most = d.limited;
       whole = λ f. tells;
@@ -137,7 +137,7 @@ not-recorded stands w form given first dialog.TooLarge new i l o n d =
       taken = d.taken;
       told = d.written;
       grown = d.grown;
-      so = inr (front-begun w given d.read d.written tells);
+      so = inr (front-begun w given first d.read d.written tells);
       large = (λ h. d.large.0 refl, λ h. tt);
       most = d.limited;
       whole = λ f. tells;

@@ -19,10 +19,10 @@ returns-in_default-clause-ended g c = none-recorded c.args.options.on_fault c.ar
 pub returns-in-Ok-set_clock-clause-ended : goal.returns-in-Ok-set_clock-clause-ended
 returns-in-Ok-set_clock-clause-ended g c =
     let given : Setup = record { plan = checked_plan c.args.plan; log = c.args.log.now } in
-    let begins : Stands given given.log c.new.result [] =
-    course-begins given given.log c.new.result refl c.new.ensures.rows
-    (subst (λ (b : Held). Follows given.plan (whole b) []) (sym c.new.ensures.bench) (follows-start controller (start given.plan) (whole c.in-Ok.bench) c.in-Ok.ensures)) c.new.ensures.kept c.new.ensures.told in
-    c.carried_out.ensures.ended given c.args.options.form (first_inputs c.args.options.clock) (c.in-Ok-set_clock.ensures.set given given.log begins) (c.set_clock.ensures.mode ∙ c.new.ensures.mode)
+    let begins : Stands given given.log c.new-begun.result [] =
+    course-begins given given.log c.new-begun.result refl c.new-begun.ensures.rows
+    (subst (λ (b : Held). Follows given.plan (whole b) []) (sym c.new-begun.ensures.bench) (follows-start controller (start given.plan) (whole c.in-Ok.bench) c.in-Ok.ensures)) c.new-begun.ensures.kept c.new-begun.ensures.told in
+    c.carried_out.ensures.ended given c.args.options.form (first_inputs c.args.options.clock) (c.in-Ok-set_clock.ensures.set given given.log begins) (c.set_clock.ensures.mode ∙ c.new-begun.ensures.mode)
 
 pub returns-in-Err-clause-ended : goal.returns-in-Err-clause-ended
 returns-in-Err-clause-ended g c =
