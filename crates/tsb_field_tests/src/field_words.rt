@@ -304,7 +304,7 @@ fn review_words(rt: HostRuntime) {
 const FROM: &str = "--from=2026-11-22T07:00:00";
 
 /// Words that ask for nothing.
-const BAD: [&[&str]; 30] = [
+const BAD: [&[&str]; 32] = [
     &["tsb_field"],
     &["tsb_field", "help"],
     &["tsb_field", "log"],
