@@ -718,8 +718,8 @@ def test_what_ran_before_the_events_is_not_known() -> None:
     of = Numbers(replace(bench.run, events=table(*three), is_observed=True))
     assert dict(_facts(of))["operation"] == "pattern 3 (cycle 30 s, offset 7 s)"
     crossings = [(100, 31, 1), (200, 31, 1), (300, 31, 1), (300, 131, 254), (420, 31, 1)]
-    street = Numbers(replace(bench.run, events=table(*crossings), is_observed=True))
-    lengths = _lengths(street).reset_index()[["pattern", "count", "longest"]]
+    seen = Numbers(replace(bench.run, events=table(*crossings), is_observed=True))
+    lengths = _lengths(seen).reset_index()[["pattern", "count", "longest"]]
     assert rows(lengths) == [("free", 1, 12.0), ("not known", 2, 10.0)]
 
 

@@ -405,11 +405,12 @@ def test_the_clock_of_a_report(
     words = ["--plan-a", examples / "quad.json", "--pattern-a", 1, "--seconds", 180]
     words += ["--log", examples / "empty.log"]
     what = "plan quad.json, on the bench from power-up; inputs of empty.log"
-    for more, said in (
+    cases: list[tuple[list[str], str]] = [
         (["--from", START], f"{what}; its clock set to --from"),
         (["--from", START, "--no-clock"], what), ([], what),
         (["--from", "1999-12-31 23:00:00", "--no-clock"], what),
-    ):  # fmt: skip
+    ]  # fmt: skip
+    for more, said in cases:
         page = made([*words, *more], tmp_path / "page.html")
         assert page.tables[": "][1][1] == said
     late = [*map(str, words), "--from", "2100-01-01 00:00:00", "--out", "x.html"]

@@ -126,9 +126,11 @@ def test_records_of_each_kind(examples: Path) -> None:
     """Without a word calls of recalls and outputs are in none."""
     plan, log = examples / "main_and_oak.json", Log.read(examples / "hour_of_traffic.log")
     plain = recorded(plan, log, "step 600\n", recalls=False, outputs=False)
-    for words in ({"recalls": True}, {"outputs": True}):
-        assert not recorded(plan, log, "step 600\n", **words).equals(plain)
-        assert not record(plan, log, 60, **words).equals(plain)
+    for recalls in (True, False):
+        said = recorded(plan, log, "step 600\n", recalls=recalls, outputs=not recalls)
+        assert not said.equals(plain)
+        said = record(plan, log, 60, recalls=recalls, outputs=not recalls)
+        assert not said.equals(plain)
     assert recorded(plan, log, "step 600\n").equals(plain)
     assert record(plan, log, 60).equals(plain)
 
