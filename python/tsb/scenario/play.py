@@ -293,6 +293,5 @@ def _answer(bench: Bench, command: Command) -> str:
 def _looked(miss: Miss, bench: Bench) -> Miss:
     """What the bench shows at the tick of a line that is not met."""
     display = bench.seek(min(miss.tick, bench.now)).line
-    waits = [(phase, it.words) for phase, it in sorted(bench.status.waits.items())]
-    told = tuple(f"phase {phase} waits for {words}" for phase, words in waits)
-    return replace(miss, display=display, waits=told)
+    waits = tuple(str(it) for _, it in sorted(bench.status.waits.items()))
+    return replace(miss, display=display, waits=waits)
