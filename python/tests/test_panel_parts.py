@@ -536,7 +536,8 @@ def test_every_state_has_its_words() -> None:
     ("wait", "sentence"),
     [
         (Wait(4, "barrier", 2), "phase 4 waits for the barrier, which phase 2 keeps"),
-        (Wait(4, "redRevert", left=0), "phase 4 waits for its own red revert: 0.0 s left"),
+        (Wait(4, "redRevert", left=0),
+         "phase 4 waits for its own red revert: 0.0 s left"),
         (Wait(16, "across", 2, left=6005),
          "phase 16 waits for phase 2 of the other ring to clear: 600.5 s left"),
         (Wait(4, "green", 3, lack="initial", left=44),

@@ -11,12 +11,12 @@ from pathlib import Path
 
 from tsb.errors import Error, shown
 from tsb.manual import NEWEST, OBJECTS, Object
-from tsb.options import Words
+from tsb.options import Words, called
 from tsb.patterns import Timing, timings_of
 from tsb.plan import Plan
 from tsb.values import parts_of, phases_of, time_of, unit_of
 
-PROGRAM = "python3 -m tsb diff"
+PROGRAM = called("diff")
 ALIKE, DIFFER, FAULT = 0, 1, 2  # statuses, as those of diff
 NONE = "none"  # of a time that a pattern has no more, or not yet
 

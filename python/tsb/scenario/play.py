@@ -22,6 +22,7 @@ from tsb.errors import (
 )
 from tsb.files import regular
 from tsb.manual import NEWEST
+from tsb.options import called
 from tsb.panel.keep import Source
 from tsb.panel.requests import given_of
 from tsb.plan import Plan
@@ -30,7 +31,7 @@ from tsb.scenario.expect import Came, Played, Stretch, Waits
 from tsb.scenario.text import Command, Laid, Scenario
 from tsb.scenario.times import Times, Value
 
-PROGRAM = "python3 -m tsb test"
+PROGRAM = called("test")
 
 
 @dataclass(frozen=True)
