@@ -353,6 +353,8 @@ def test_the_status(quad: Path) -> None:
         assert status.rings[0].ring_status == "minimumGreen"
         assert status.rings[0].initial_left == 50 and status.rings[0].phase == 2
         assert status.waits[4].cause == "barrier" and status.waits[4].of == 2
+        said = "phase 4 waits for the barrier, which phase 2 keeps"
+        assert str(status.waits[4]) == said
         assert status.preempt_state == ("notActive",) * 4
         assert status.local_free_status == "commandFree" and status.desk.owner is None
         told = json.loads(line)

@@ -13,13 +13,13 @@ from pathlib import Path
 from tsb.bench import Bench
 from tsb.errors import Error, LogFault, PlanFault
 from tsb.lines import Display
-from tsb.options import Words
+from tsb.options import Words, called
 from tsb.plan import Plan
 from tsb.programs import marked
 from tsb.progress import progress
 from tsb.rows import PREEMPTS, Log
 
-PROGRAM = "python3 -m tsb preempt"
+PROGRAM = called("preempt")
 PIECE = 100  # ticks that pass between two looks at the heads
 WITHIN = 600  # seconds in which a green has to come, without --within
 

@@ -26,7 +26,7 @@ import pandas as pd
 from tsb import kept
 from tsb.errors import Error
 from tsb.measures import MEASURES
-from tsb.options import Words
+from tsb.options import Words, called
 from tsb.processes import RETRIES, Processes, local
 from tsb.progress import progress
 from tsb.tasks import (
@@ -334,7 +334,7 @@ def _traffic(given: argparse.Namespace) -> Traffic | None:
 
 def _words() -> argparse.ArgumentParser:
     words = Words(
-        prog="python3 -m tsb sweep",
+        prog=called("sweep"),
         description="Runs each plan on each day, or on SUMO's traffic with each seed.",
     )
     words.add_argument("plans", nargs="+")

@@ -18,11 +18,11 @@ from typing import NamedTuple
 from tsb.errors import Error, NoSuchObject, OutOfRange, shown
 from tsb.exchange.oids import blank_density
 from tsb.exchange.remarks import Remark, warn
-from tsb.options import Words
+from tsb.options import Words, called
 from tsb.plan import Plan
 from tsb.values import RINGS, object_of
 
-PROGRAM = "python3 -m tsb utdf"
+PROGRAM = called("utdf")
 PHASES, TIMEPLANS, LANES = "phases", "timeplans", "lanes"
 TITLES = {PHASES: "Phasing Data", TIMEPLANS: "Timing Plan Settings"}
 #: The one pattern of a file, with its table of splits and its sequence.

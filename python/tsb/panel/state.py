@@ -66,7 +66,7 @@ def _told(status: Status) -> dict[str, Any]:
             for it in status.rings
         ],
         "waits": [
-            {"phase": it.phase, "says": words.wait(it)} for it in status.waits.values()
+            {"phase": it.phase, "says": it.words} for it in status.waits.values()
         ],
         "preempts": [words.PREEMPTS.get(it, it) for it in status.preempt_state],
         "pattern": words.pattern(status),

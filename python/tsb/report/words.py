@@ -4,9 +4,9 @@ import argparse
 from collections.abc import Sequence
 from pathlib import Path
 
-from tsb.options import Words
+from tsb.options import Words, called
 
-PROGRAM = "python3 -m tsb report"
+PROGRAM = called("report")
 USAGE = f"""
   {PROGRAM} --plan-a PLAN [--plan-b PLAN | --street]
       (--log LOG | --export CSV --from TIME) --out HTML

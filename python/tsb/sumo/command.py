@@ -9,7 +9,7 @@ from typing import Any
 
 from tsb.errors import Error, shown
 from tsb.files import word
-from tsb.options import Words
+from tsb.options import Words, called
 from tsb.programs import run
 from tsb.progress import progress
 from tsb.rows import Log
@@ -22,7 +22,7 @@ from tsb.sumo.nema import read_nema
 from tsb.sumo.propose import propose, zones
 from tsb.sumo.trips import read_trips, summary
 
-PROGRAM = "python3 -m tsb sumo"
+PROGRAM = called("sumo")
 OTHERS = ("propose", "nema", "example")  # commands beside a run
 SOME = 100  # ticks, after which it is asked whether trips are left
 FROM = "2000-01-01 00:00:00"  # of the events, where no other time is given
