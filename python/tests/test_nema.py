@@ -131,6 +131,10 @@ def test_the_offset_is_that_of_the_first_ring() -> None:
     plan["splitTime"][table, 6] = plan["splitTime"][table, 2] + 7
     plan["patternOffsetTime"][1] = plan["splitTime"][table, 2]
     assert _offset(plan, 1) == pytest.approx(-0.1)
+    plan.version = 3
+    plan["coordReference"][1] = 1
+    with pytest.raises(NemaFault, match="coordReference is not 0"):
+        _offset(plan, 1)
 
 
 # Read

@@ -42,6 +42,53 @@ def test_version_3_is_version_2_with_another_number(examples: Path) -> None:
         assert bench.plan == plan == newest.wide()
 
 
+def test_a_plan_with_what_version_3_alone_has() -> None:
+    """It stays one of version 3, with the reference of its offsets."""
+    plan = Plan.of_text('{"version":3,"coordReference":{"1":3},"phaseWalk":{"2":7}}')
+    wide = plan.wide()
+    assert wide.version == 3 and wide["coordReference"][1] == 3
+    assert wide["phaseWalk"][2] == 7
+
+
+NOTES = {"site": "Elm é", "phaseWalk.2": "a school"}
+NOTED = json.dumps({"version": 3, "phaseWalk": {"2": 7}, "notes": NOTES})
+
+
+def test_notes_are_kept(tmp_path: Path) -> None:
+    """Through texts, files and wide plans; two plans with other notes differ."""
+    plan = Plan.of_text(NOTED)
+    assert plan.notes == NOTES
+    plan.write(tmp_path / "plan.json")
+    for it in (Plan.read(tmp_path / "plan.json"), plan.wide(), Plan.of_text(plan.text)):
+        assert it == plan and it.version == 3 and it.notes == plan.notes
+    plan.notes = {}
+    assert "notes" not in plan.text and plan != Plan.of_text(NOTED)
+
+
+def test_the_bench_keeps_notes(examples: Path, tmp_path: Path) -> None:
+    """Those of a plan, and those of a file."""
+    plan = Plan.read(examples / "main_and_oak.json").noted(NOTES)
+    plan.write(tmp_path / "plan.json")
+    given: list[Plan | Path] = [plan, tmp_path / "plan.json"]
+    for it in given:
+        with tsb.Bench(it) as bench:
+            assert bench.plan == plan and bench.plan.notes == NOTES
+
+
+@pytest.mark.parametrize(
+    "text, said",
+    [
+        ('{"version":3,"notes":[]}', "plan: notes: not a table"),
+        ('{"version":3,"notes":{"site":1}}', "plan: notes.site: not a text"),
+        ('{"version":2,"notes":{}}', "notes"),
+    ],
+)
+def test_notes_that_are_none(text: str, said: str) -> None:
+    """As the program says it; versions 1 and 2 have no notes."""
+    with pytest.raises(tsb.Error, match=said):
+        Plan.of_text(text)
+
+
 def test_written_and_read(examples: Path, tmp_path: Path) -> None:
     """A file of a plan."""
     plan = Plan.read(examples / "tee.json")

@@ -21,7 +21,7 @@ from tsb.errors import (
     shown,
 )
 from tsb.files import up_to
-from tsb.manual import OBJECTS
+from tsb.manual import NEWEST, OBJECTS
 from tsb.programs import run
 from tsb.values import (
     Index,
@@ -38,6 +38,7 @@ if TYPE_CHECKING:
 
 OK = "plan ok"
 LONGEST = 1 << 20  # bytes of a plan's text
+NOTES = "notes"  # the member that has them, in texts of the newest version
 
 
 class Values(MutableMapping[int, int]):
@@ -111,12 +112,14 @@ def _place(fault: Exception) -> str:
 
 class Plan:
     """A plan. `plan["phaseYellowChange"][2] = tsb.seconds(4)` changes a value; what
-    is never given is 0. `version` is that of its text, 1, 2 or 3."""
+    is never given is 0. `version` is that of its text, 1, 2 or 3. `notes` are texts of
+    `site` or of a value, as `phaseWalk.2`, which texts of version 3 have."""
 
     def __init__(self, version: int = 2) -> None:
         if version not in (1, 2, 3):
             raise PlanFault("plan: version")
         self.version = version
+        self.notes: dict[str, str] = {}
         self._objects: dict[str, Values] = {}
 
     @classmethod
@@ -136,8 +139,20 @@ class Plan:
             raise PlanFault("plan: version")
         plan = cls(version)
         for name, values in told.items():
-            plan._take(name, values)
+            if name == NOTES and version == NEWEST:
+                plan._take_notes(values)
+            else:
+                plan._take(name, values)
         return plan
+
+    def _take_notes(self, notes: Any) -> None:
+        """Takes the notes that a text has."""
+        if not isinstance(notes, dict):
+            raise PlanFault(f"plan: {NOTES}: not a table")
+        for name, note in notes.items():
+            if not isinstance(note, str):
+                raise PlanFault(f"plan: {NOTES}.{name}: not a text")
+        self.notes = notes
 
     def _take(self, name: str, values: Any) -> None:
         """Takes the values of an object as a text has them."""
@@ -168,6 +183,8 @@ class Plan:
         for name, values in self.items():
             told = {str(index): value for index, value in values.items()}
             lines.append(f'"{name}": {json.dumps(told)}')
+        if self.notes:
+            lines.append(f'"{NOTES}": {json.dumps(self.notes, ensure_ascii=False)}')
         return "{\n  " + ",\n  ".join(lines) + "\n}\n"
 
     def items(self) -> Iterator[tuple[str, Values]]:
@@ -217,12 +234,24 @@ class Plan:
             values[number, ring, at] = phase
 
     def wide(self, version: int = 2) -> "Plan":
-        """The same plan in version 2, or 3."""
-        plan = Plan(version)
+        """The same plan in this version, 2 or 3, or in the first later one that has all that it has."""
+        newer = (OBJECTS[name].since for name, _ in self.items())
+        plan = Plan(NEWEST if self.notes else max((version, *newer)))
+        plan.notes = dict(self.notes)
         for name, values in self.items():
             taken = plan[name]
             for index, value in values.items():
                 taken[wide_index(values.object, index, self.version)] = value
+        return plan
+
+    def noted(self, notes: dict[str, str]) -> "Plan":
+        """The same plan with these notes, in version 3 where there are any."""
+        if not notes:
+            return self
+        plan = Plan(NEWEST)
+        plan.notes = dict(notes)
+        for name, values in self.wide().items():
+            plan[name] = dict(values)
         return plan
 
     def fault(self) -> PlanFault | None:

@@ -23,9 +23,9 @@ COMMENT = re.compile(r"`(\w+)`: (.+?), (.+); 0 to ([\d,]+)\.")
 ROW = re.compile(r'\s+(\w+) +"(\w+)" +\d+ \[(\d+) (\d+)\] +\[(?:since (\d)|(\d+) (\d+))\] +(structural|free)')
 
 # What some example has: commands, words of `when`, kinds of input that `undo` names.
-COMMANDS = """step back seek undo show when begin set verify commit abort pattern preempt fault reset quit""".split()
+COMMANDS = """step back seek undo show when begin set verify commit abort pattern preempt fault reset clock quit""".split()
 WATCHES = """interval ped call output alarm stage trip""".split()
-KINDS = """tick pattern switch fault reset begin set verify commit abort""".split()
+KINDS = """tick pattern switch fault reset begin set verify commit abort clock""".split()
 
 # Refusals that no example has: without memory, and behind 6,000,000 display lines.
 NOT_SHOWN = ["E1", "E11"]

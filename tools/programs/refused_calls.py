@@ -32,14 +32,15 @@ BAD = [["what"], ["run", PLAN], ["check", PLAN, "--what"]]
 # Inputs of each kind, none of them refused after any of the others.
 INPUTS = [
     "pattern 1", "preempt 1 on", "step 3", "fault P2 G", "fault P2 R", "reset", "fault none", "begin 1",
-    "set 1 phaseMaximum1 2 30", "verify 1", "commit 1", "begin 2", "abort 2", "preempt 1 off", "pattern 0", "step 2",
+    "set 1 phaseMaximum1 2 30", "verify 1", "commit 1", "begin 2", "abort 2", "preempt 1 off", "pattern 0",
+    "clock 2026-11-22 07:00:00", "step 2",
 ]
-KINDS = ["step", "pattern", "preempt", "fault", "reset", "begin", "set", "verify", "commit", "abort"]
+KINDS = ["step", "pattern", "preempt", "fault", "reset", "begin", "set", "verify", "commit", "abort", "clock"]
 WAY_BACK = ["show", "undo", "undo", "when interval 2", "back 3", "seek 1", "show", "undo", "undo", "show"]
 
 # The history has some 2,000 bytes of room from the start, and a commit asks for more. Any other input does where less
-# is left than a record of 212 cells can take: behind `NEARLY`, the third input. So each kind is the third there.
-NEARLY = [*["begin 1", "abort 1"] * 24, *["reset"] * 9]
+# is left than a record of 215 cells can take: behind `NEARLY`, the third input. So each kind is the third there.
+NEARLY = [*["begin 1", "abort 1"] * 24, *["reset"] * 5]
 FIRST = [[*NEARLY, "begin 1", "abort 1", *INPUTS[k:], *INPUTS] for k in range(len(INPUTS))]
 BEHIND = [[*NEARLY, "begin 1", "set 1 phaseMaximum1 2 30", "verify 1"],
           [*NEARLY, "begin 1", "set 1 phaseMaximum1 2 30", "abort 1"],

@@ -121,16 +121,20 @@ def of_table(name: str, entries: Pairs) -> Iterator[str]:
             yield f"{name}.{index}: {shown(value)} is out of range, 0 to {most}" + (f": {unit}" if unit else "")
 
 
+# Members that are no objects.
+BESIDE = ("version", "notes")
+
+
 def notes(text: bytes) -> list[str]:
     """What is printed of a text."""
     value = parsed(text)
     found: list[str] = []
     for at, (name, it) in enumerate(value.pairs if isinstance(value, Table) else []):
-        if name in OBJECTS or name == "version":
+        if name in OBJECTS or name in BESIDE:
             found += again(name, at, value.pairs)
         if name in OBJECTS and isinstance(it, Table):
             found += of_table(name, it.pairs)
-        if name not in OBJECTS and name != "version":
+        if name not in OBJECTS and name not in BESIDE:
             right = near(name)
             found.append(f"{name}: no such object" + (f", did you mean {right}?" if right else ""))
     return found
@@ -140,7 +144,7 @@ OTHERS = ["3.2", "7.5", "0.5", "12.0", "3.25", "-1", "1e2", "32.0e0", "429496729
           '"32"', '"a\\nb\\u00e9"', "true", "null", "[1, 2.5]", '{"a": {}}', "0", "35", "1"]
 # Slips of the hand, short and long forms of names, and names that are near none.
 SLIPS = ["phaseMinGreen", "phaseYelowChange", "PhaseWalk", "phasePedClear", "phaseRedClearance", "phaseWlak", "phaseMaxGreen", "unknown",
-         "phase", "", "splitTimes", "pedDetectorCallPhase", "phaseMxRecall", "phaseMinimum Green", "patternOfset", "sequenceDat"]
+         "phase", "", "splitTimes", "pedDetectorCallPhase", "phaseMxRecall", "phaseMinimum Green", "patternOfset", "sequenceDat", "notes", "note"]
 INDICES = ["0", "01", "1", "2", "8", "16", "17", "+1", "128", "129", ""]
 
 

@@ -3,8 +3,8 @@
 `with_options` gives the module `tsb_oracle` of a reference the seven objects of docs/use/MANUAL.md, "Coordination
 options": `coordForceMode`, `coordMaximumMode`, `coordCorrectionMode`, `coordCorrectionLimit`, `patternPermissiveTime`,
 `patternLeadLag` and `phasePedestrianRecycle`, with K23 and what `patternLeadLag` changes of K20. It has
-`overlapAcrossRings` and `preemptChoosesAnew` of the same chapter too, and reads texts of version 3, which alone have
-these. All tools that take `--reference FOLDER` do so; a reference that has the options stays as it is.
+`overlapAcrossRings`, `preemptChoosesAnew` and `coordReference` of the same chapter too, and reads texts of version 3,
+which alone have these. All tools that take `--reference FOLDER` do so; a reference that has the options stays as it is.
 
 It replaces the functions that an option changes. The tick of the reference itself is taken as it is. It is not told the
 local counter, by which it would force phases off, but which greens the pattern ends for a conflict in this tick: as
@@ -33,7 +33,7 @@ OBJECTS = {
 }
 # The objects that plan texts of version 3 alone have, those of them that a commit changes only while nothing is in
 # service, and that version.
-OF_VERSION_3 = {"overlapAcrossRings": (4, 1), "preemptChoosesAnew": (4, 1)}
+OF_VERSION_3 = {"overlapAcrossRings": (4, 1), "preemptChoosesAnew": (4, 1), "coordReference": (1, 5)}
 STRUCTURAL = {"overlapAcrossRings"}
 NEWEST = 3
 # The functions of the reference that are replaced.
@@ -42,6 +42,8 @@ REPLACED = ("clear", "local_of", "check", "tick", "step", "overlap", "read_plan"
 PATTERNS, OVERLAPS = range(1, 17), range(1, 5)
 STAGE_LISTS = {"Track": "preemptTrackPhase", "Dwell": "preemptDwellPhase", "Exit": "preemptExitPhase"}
 AT_ONCE, DWELL, SHORT_WAY = range(3)
+# The numbers of coordReference: what offsets are counted to.
+OF_GREEN, OF_YELLOW, OF_RED, OF_LAST = (1, 2), (3, 4), (5,), (2, 4)
 LATE, FLOATING = (1, 2), 2
 PATTERN_MAXIMUMS = {1: "phaseMaximum1", 2: "phaseMaximum2"}
 PEDESTRIAN_RECALLS, OMITTED = (3, 4), 5
@@ -62,6 +64,7 @@ class Pattern:
         order, table = plan["patternSequenceNumber"][number], plan["patternSplitNumber"][number]
         ends: dict[int, int] = {p: bench.ends_at(plan, lim, order, table, p) for p in phases}
         self.fo = {p: (10 * (ends[p] - ends[self.first]) - self.clearance(p)) % self.cycle for p in phases}
+        self.zero = self.local_zero({p: 10 * end for p, end in ends.items()})
 
     def of_split(self, name: str, phase: int) -> int:
         """A value that the split table has for a phase."""
@@ -71,9 +74,23 @@ class Pattern:
         """Yellow and red clearance of a phase."""
         return self.plan["phaseYellowChange"][phase] + self.plan["phaseRedClear"][phase]
 
+    def local_zero(self, ends: dict[int, int]) -> int:
+        """The tick at which the local counter is first 0, in step, by the ends of splits in ticks."""
+        reference, offset = self.plan["coordReference"][1], 10 * self.plan["patternOffsetTime"][self.number]
+        before = {p: self.plan["phaseRedClear"][p] for p in self.coord}
+        if reference in OF_YELLOW:
+            before = {p: self.clearance(p) for p in self.coord}
+        elif reference in OF_GREEN:
+            before = {p: 10 * self.of_split("splitTime", p) for p in self.coord}
+        elif reference not in OF_RED:
+            return offset
+        moments = [ends[p] - before[p] for p in self.coord]
+        moment = max(moments) if reference in OF_LAST else min(moments)
+        return (offset + ends[self.first] - moment) % self.cycle
+
     def in_step(self, tick: int) -> int:
         """The local counter at a tick, if it is in step then."""
-        return (tick - 10 * self.plan["patternOffsetTime"][self.number]) % self.cycle
+        return (tick - self.zero) % self.cycle
 
     def behind(self, phase: int, local: int) -> int:
         """How many steps ago a local counter was at the instant of a phase last."""
@@ -445,11 +462,11 @@ def without_version(data: bytes) -> bytes | None:
     return json.dumps(text | {"version": NEWEST - 1}).encode()
 
 
-def with_options(bench: Any) -> Any:
+def with_options(bench: Any, made: "type[Options] | None" = None) -> Any:
     """The module of a reference, which has the options from now on. One that had them stays as it was."""
     if OBJECTS.keys() <= bench.V2.objects.keys():
         return bench
-    options = Options(bench)
+    options = (made or Options)(bench)
     bench.V2.objects |= OBJECTS | OF_VERSION_3
     bench.V2.structural |= STRUCTURAL
     bench.State = OptionState

@@ -227,6 +227,7 @@ of-tick kinds.Set is = absurd (false≢true is)
 of-tick kinds.Verify is = absurd (false≢true is)
 of-tick kinds.Commit is = absurd (false≢true is)
 of-tick kinds.Abort is = absurd (false≢true is)
+of-tick kinds.Clock is = absurd (false≢true is)
 
 of-none : (es : List (ℕ × ℕ)) → has_none es ≡ true → es ≡ []
 of-none [] is = refl

@@ -114,6 +114,7 @@ impl Cabinet {
             Input::Verify(station) => self.desk.verify_refusal(*station),
             Input::Commit(station) => self.commit_refusal(*station),
             Input::Abort(station) => self.desk.abort_refusal(*station),
+            Input::Clock(_) => None,
         }
     }
 
@@ -172,6 +173,7 @@ impl Cabinet {
             Input::Verify(station) => self.verify(tick, *station, out),
             Input::Commit(station) => self.commit(tick, *station, out),
             Input::Abort(station) => self.abort(tick, *station, out),
+            Input::Clock(moment) => self.set_clock(tick, *moment, out),
         }
         tick
     }

@@ -1,4 +1,4 @@
-//! The inputs that change the layers and the monitor: ticks, patterns, switches, faults and resets.
+//! The inputs that change the layers and the monitor: ticks, patterns, clocks, switches, faults and resets.
 #![tactic(auto, unfolding(tsb_objects::specs::Checked::checked_plan, tsb_plan::specs::PlanOf::plan_of))]
 
 ghost use Rattle.std.specs.Prelude.{◌≡◌, ℕ, ◌+◌, ◌≤◌, [], None, true, is_some, IfSome};
@@ -17,7 +17,7 @@ ghost use Rattle.tsb_bench.specs.declared.cabinet.TheConstants.{MOST_CELLS};
 use crate::cabinet::{Cabinet, Changes};
 use tsb_heads::Trip;
 use tsb_objects::Row;
-use tsb_types::Lamp;
+use tsb_types::{ClockTime, Lamp};
 
 impl Cabinet {
     /// The tick after tick number `tick`, with the inputs of `row` on. A tick of a controller that has tripped changes
@@ -63,6 +63,22 @@ impl Cabinet {
     {
         self.controller.open();
         self.controller.set_pattern(n, tick, &self.plan);
+        self.controller.close_onto(out);
+    }
+
+    /// Sets the clock: tick number `tick` is at this moment.
+    pub(crate) fn set_clock(&mut self, tick: u32, moment: ClockTime, out: &mut Changes)
+        requires shut { IsShut self.old }
+        requires by { AreAllBy tick (rows_of self.old) }
+        requires in_time { tick ≤ last_tick }
+        requires empty { out.old.items ≡ [] }
+        ensures done { IsDone (inputs.Clock moment) tick (rows_of self.old) (rows_of self.new) out.new.items }
+        ensures few { array_vec_len out.new ≤ MOST_CELLS }
+        ensures shut { IsShut self.new }
+        ensures passing { self.new.passing ≡ self.old.passing }
+    {
+        self.controller.open();
+        self.controller.set_clock(moment, tick, &self.plan);
         self.controller.close_onto(out);
     }
 

@@ -1,6 +1,7 @@
 -- The commands of a session, by the words of a line.
 use Rattle.std.specs.Prelude.{ℕ, nat_lt, Bool, true, false, List, [], ◌∷◌, if◌then◌else◌, length, Option, Some, None, codes, bytes_eq}
 use Rattle.std.specs.Option.{option_map}
+use Rattle.tsb_command_text.specs.clock.ClockText.{clock_of}
 use Rattle.tsb_lines.specs.Words.{words_of, number_of}
 use Rattle.tsb_plan.specs.Names.{object_named}
 use Rattle.tsb_plan.specs.declared.object.Object.{Object}
@@ -9,7 +10,7 @@ use Rattle.tsb_types.specs.declared.watch.Watch.{Watch}
 use Rattle.tsb_types.specs.declared.watch.Watch.TheVariants.{Interval, Ped, Call, Output, Alarm, Stage, Trip}
 use Rattle.tsb_command_text.specs.Lamps.{phase_of, detector_of, station_of, lamp_of}
 use Rattle.tsb_command_text.specs.declared.command.Command.{Command}
-use Rattle.tsb_command_text.specs.declared.command.Command.TheVariants.{Step, Back, Seek, Undo, Show, When, Begin, Set, Verify, Commit, Abort, Pattern, Preempt, Fault, Reset, Quit}
+use Rattle.tsb_command_text.specs.declared.command.Command.TheVariants.{Step, Back, Seek, Undo, Show, When, Begin, Set, Verify, Commit, Abort, Pattern, Preempt, Fault, Reset, Clock, Quit}
 
 -- what is watched, by one word and by two
 abbrev pub watch_of_one : List ℕ → Option Watch
@@ -69,7 +70,8 @@ unfoldable pub command_of_three : List ℕ → List ℕ → List ℕ → Option 
 command_of_three w x y =
     if bytes_eq w (codes "when") then option_map When (watch_of_two x y) else
     if bytes_eq w (codes "preempt") then preempt_of (number_of x) (on_or_off y) else
-    if bytes_eq w (codes "fault") then option_map (λ l. Fault (Some l)) (lamp_of x y) else None
+    if bytes_eq w (codes "fault") then option_map (λ l. Fault (Some l)) (lamp_of x y) else
+    if bytes_eq w (codes "clock") then option_map Clock (clock_of x y) else None
 
 -- of five
 unfoldable pub command_of_five : List ℕ → List ℕ → List ℕ → List ℕ → List ℕ → Option Command

@@ -1,7 +1,7 @@
 //! The commands of a session.
 
 use tsb_plan::ObjectId;
-use tsb_types::{Lamp, Station, Watch};
+use tsb_types::{ClockTime, Lamp, Station, Watch};
 
 /// What a session does on command. A number that nothing has, such as that of a pattern or an index, is refused when
 /// the command is done, and not when it is read.
@@ -37,6 +37,8 @@ pub enum Command {
     Fault(Option<Lamp>),
     /// `reset`: resets the monitor.
     Reset,
+    /// `clock YYYY-MM-DD HH:MM:SS[.d]`: the next tick begins then.
+    Clock(ClockTime),
     /// `quit`: ends the session.
     Quit,
 }

@@ -86,6 +86,7 @@ fn of_14(word: &[u8]) -> Option<Object>
         PhaseRedRevert b"phaseRedRevert"
         CoordForceMode b"coordForceMode"
         PatternLeadLag b"patternLeadLag"
+        CoordReference b"coordReference"
     }
 }
 

@@ -4,6 +4,7 @@ ghost use Rattle.tsb_command_text.specs.Commands.{command_in, command_of, comman
 ghost use Rattle.tsb_command_text.specs.Readings.{reading};
 ghost use Rattle.tsb_lines.specs.Words.{words_of};
 
+use crate::clock::read_clock;
 use crate::command::{Command, Reading};
 use crate::lamps::{detector, lamp, phase, station};
 use crate::names::is;
@@ -131,6 +132,9 @@ fn of_three(name: &[u8], first: &[u8], second: &[u8]) -> Option<Command>
     }
     if is(name, b"fault") {
         return Some(Command::Fault(Some(lamp(first, second)?)));
+    }
+    if is(name, b"clock") {
+        return Some(Command::Clock(read_clock(first, second)?));
     }
     None
 }

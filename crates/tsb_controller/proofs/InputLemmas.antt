@@ -1,4 +1,4 @@
--- What power-up, a reset, a selected pattern and a switch make of the rows is what the one step makes of the state.
+-- What power-up, a reset, a selected pattern, a clock and a switch make of the rows is what the one step makes of the state.
 use Rattle.std.proofs.Common.{◌≡◌, ℕ, ◌==◌, Bool, true, false, not, ◌&&◌, ◌||◌, if◌then◌else◌, List, Option, Some, None, refl, sym, ap, ◌∙◌, inl, inr}
 use Rattle.std.proofs.Math.Path.{fun_ext}
 use Rattle.std.proofs.lemmas.Bool.{cases_Bool, true≢false, eqb-true}
@@ -20,7 +20,8 @@ use Rattle.tsb_phase.specs.Moves.{unforced}
 use Rattle.tsb_phase.specs.Cells.{phase_in}
 use Rattle.tsb_phase.specs.Promises as phases
 use Rattle.tsb_coord.specs.Coordinated as coordination
-use Rattle.tsb_coord.specs.Cells.{pattern_in, correction_in}
+use Rattle.tsb_coord.specs.Cells.{pattern_in, correction_in, start_in}
+use Rattle.tsb_coord.specs.Clock.{midnight_at, start_of}
 use Rattle.tsb_coord.specs.Correction.{local_now, selected_correction}
 use Rattle.tsb_coord.specs.Promises as coord
 use Rattle.tsb_preempt.specs.Preempts as preempts_words
@@ -68,11 +69,18 @@ selected n now plan old new allowed done = done.pattern ∙ ap (λ (o : Option R
 
 -- how its local counter comes into step, by the plan beside the rows
 pub corrected : (n now : ℕ) (plan beside : Plan) (old new : List ℕ) → coordination.refusal plan n ≡ None → coord.IsSelected n now plan old new → beside ≡ plan →
-    correction_in new ≡ selected_correction beside (coordination.selects n) now (local_now beside (pattern_in old) (correction_in old) now)
+    correction_in new ≡ selected_correction beside (coordination.selects n) now (midnight_at (start_in old) now) (local_now beside (pattern_in old) (correction_in old) now)
 corrected n now plan beside old new allowed done same =
     done.correction
     ∙ ap (λ (o : Option Refusal). coord.correction_after o plan now n old) allowed
-    ∙ ap (λ (x : Plan). selected_correction x (coordination.selects n) now (local_now x (pattern_in old) (correction_in old) now)) (sym same)
+    ∙ ap (λ (x : Plan). selected_correction x (coordination.selects n) now (midnight_at (start_in old) now) (local_now x (pattern_in old) (correction_in old) now)) (sym same)
+
+-- with a clock that is set
+pub clocked : (moment now : ℕ) (plan beside : Plan) (old new : List ℕ) → coord.IsClocked moment now plan old new → beside ≡ plan →
+    correction_in new ≡ selected_correction beside (pattern_in old) now (midnight_at (Some (start_of moment now)) now) (local_now beside (pattern_in old) (correction_in old) now)
+clocked moment now plan beside old new done same =
+    done.correction
+    ∙ ap (λ (x : Plan). selected_correction x (pattern_in old) now (midnight_at (Some (start_of moment now)) now) (local_now x (pattern_in old) (correction_in old) now)) (sym same)
 
 -- ## Preempts
 

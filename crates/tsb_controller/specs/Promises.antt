@@ -17,7 +17,7 @@ use Rattle.tsb_transact.specs.Desk.{Desk, closed}
 use Rattle.tsb_step.specs.Cells.{clock_at}
 use Rattle.tsb_step.specs.Signs.{display, field, local, stage}
 use Rattle.tsb_step.specs.State.{start, restarted}
-use Rattle.tsb_step.specs.Step.{ticked, with_pattern, with_switch, with_lamp, is_serving}
+use Rattle.tsb_step.specs.Step.{ticked, with_pattern, with_clock, with_switch, with_lamp, is_serving}
 use Rattle.tsb_step.specs.Tick.{next}
 use Rattle.tsb_controller.specs.Rows.{Rows, Beside, AreBy, untripped, state_of}
 
@@ -62,6 +62,10 @@ IsLit was lamp plan rows found = (now : ℕ) (desk : Desk) →
 -- `set_pattern(n, now, plan)`, at that tick
 abbrev pub IsSelected : ℕ → ℕ → Plan → Rows → Rows → Type 0
 IsSelected n now plan old new = (b : Beside) → b.plan ≡ plan → state_of now b new ≡ with_pattern n (state_of now b old)
+
+-- `set_clock(moment, now, plan)`, at that tick
+abbrev pub IsClocked : ℕ → ℕ → Plan → Rows → Rows → Type 0
+IsClocked moment now plan old new = (b : Beside) → b.plan ≡ plan → state_of now b new ≡ with_clock moment (state_of now b old)
 
 -- `switch(n, on, plan)`
 abbrev pub IsSwitched : ℕ → Bool → Rows → Rows → Type 0

@@ -11,7 +11,7 @@ use Rattle.tsb_phase.specs.Cells.{phase_in}
 use Rattle.tsb_ring.specs.Cells as rings
 use Rattle.tsb_ring.specs.Cells.{rings_in}
 use Rattle.tsb_coord.specs.Cells as coord
-use Rattle.tsb_coord.specs.Cells.{pattern_in, correction_in}
+use Rattle.tsb_coord.specs.Cells.{pattern_in, correction_in, start_in}
 use Rattle.tsb_preempt.specs.Cells as preempts
 use Rattle.tsb_preempt.specs.Cells.{preempts_in}
 use Rattle.tsb_transact.specs.Desk.{Desk}
@@ -46,6 +46,7 @@ state_of now b r = record {
   desk = b.desk;
   pattern = pattern_in r.pattern;
   correction = correction_in r.pattern;
+  start_moment = start_in r.pattern;
   detectors = detector_in (clock_at now b.trip) r.detectors;
   memories = memories_in r.calls;
   phases = phase_in (clock_at now b.trip) r.phases;

@@ -209,6 +209,7 @@ pub record IsToldPattern (s : State) (x : PatternTold) : Type 0 where
   pub free : x.free ≡ (status s).free
   pub local : x.local ≡ (status s).local
   pub sync : x.sync ≡ (status s).sync
+  pub time : x.time ≡ (status s).time
 
 -- at tick number `now`
 abbrev pub TellsPattern : ℕ → Plan → Rows → PatternTold → Type 0

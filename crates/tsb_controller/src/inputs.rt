@@ -1,5 +1,5 @@
-//! The controller at power-up, and the inputs between ticks that change its layers: a pattern, a switch, a reset, and a
-//! commit of the structure.
+//! The controller at power-up, and the inputs between ticks that change its layers: a pattern, a clock, a switch, a reset,
+//! and a commit of the structure.
 ghost use Rattle.std.specs.Prelude.{◌≡◌, ◌+◌, ◌<◌, ◌≤◌, ◌^◌, None};
 ghost use Rattle.tsb_objects.specs.Checked.{checked_plan};
 ghost use Rattle.tsb_coord.specs.Coordinated.{refusal};
@@ -8,7 +8,7 @@ ghost use Rattle.tsb_step.specs.Step.{last_tick};
 ghost use Rattle.tsb_ring.specs.Cells as rings;
 ghost use Rattle.tsb_coord.specs.Cells as coord;
 ghost use Rattle.tsb_controller.specs.Rows.{AreBy};
-ghost use Rattle.tsb_controller.specs.Promises.{IsAtPowerUp, IsSelected, IsSwitched, IsRestarted, IsForgotten, KeepsBy};
+ghost use Rattle.tsb_controller.specs.Promises.{IsAtPowerUp, IsSelected, IsClocked, IsSwitched, IsRestarted, IsForgotten, KeepsBy};
 
 use crate::controller::Controller;
 use tsb_calls::Calls;
@@ -18,6 +18,7 @@ use tsb_objects::Checked;
 use tsb_phase::Phases;
 use tsb_preempt::Preempts;
 use tsb_ring::Rings;
+use tsb_types::ClockTime;
 
 impl Controller {
     ghost use Rattle.tsb_controller.specs.Layer.{rows_of, kept_of, IsOpen, IsClosed};
@@ -54,6 +55,19 @@ impl Controller {
         self.phases.unforce();
     }
 
+    /// Sets the clock: tick number `now` is at this moment.
+    pub fn set_clock(&mut self, moment: ClockTime, now: u32, plan: &Checked)
+        requires opened { IsOpen self.old }
+        requires pattern_by { coord.IsBy (rows_of self.old).pattern }
+        requires in_time { now ≤ last_tick }
+        ensures state { IsClocked moment now (checked_plan plan.now) (rows_of self.old) (rows_of self.new) }
+        ensures by { KeepsBy (rows_of self.old) (rows_of self.new) }
+        ensures kept { kept_of self.new ≡ kept_of self.old }
+        ensures opened { IsOpen self.new }
+    {
+        self.coord.set_clock(moment, now, plan);
+    }
+
     /// Sets the switch of a preempt. `Preempts::switch_refusal` says whether it may be set.
     pub fn switch(&mut self, n: u32, on: bool, plan: &Checked)
         requires opened { IsOpen self.old }
@@ -66,7 +80,7 @@ impl Controller {
         let _done = self.preempts.switch(n, on, plan);
     }
 
-    /// All layers start anew at tick `now`, as at power-up, except the switches of preempts.
+    /// All layers start anew at tick `now`, as at power-up, except the switches of preempts and the clock.
     pub fn reset(&mut self, now: u32)
         requires opened { IsOpen self.old }
         requires fits { now + 1 < 2 ^ 32 }

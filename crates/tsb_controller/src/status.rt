@@ -1,6 +1,7 @@
 //! The status of the controller, by the names of NTCIP 1202's status objects.
-ghost use Rattle.std.specs.Prelude.{◌≡◌, ◌≤◌, ◌||◌, ◌%◌, [], ◌∷◌, ℕ, true, option_map, if◌then◌else◌, IfSome};
+ghost use Rattle.std.specs.Prelude.{◌≡◌, ◌<◌, ◌≤◌, ◌||◌, ◌+◌, ◌*◌, ◌%◌, [], ◌∷◌, ℕ, true, option_map, if◌then◌else◌, IfSome};
 ghost use Rattle.tsb_objects.specs.Checked.{checked_plan};
+ghost use Rattle.tsb_step.specs.tsb_types.declared.clock_time.TheConstants.{DAY, LAST_DAY};
 ghost use Rattle.tsb_coord.specs.Cells as coord;
 ghost use Rattle.tsb_ring.specs.Cells as rings;
 ghost use Rattle.tsb_step.specs.tsb_plan.Parts.{cycle, is_used};
@@ -8,7 +9,7 @@ ghost use Rattle.tsb_step.specs.tsb_types.declared.event.TheConstants.{FREE};
 ghost use Rattle.tsb_step.specs.tsb_types.Lists.{is, or_number};
 ghost use Rattle.tsb_step.specs.tsb_types.Sets.{has_number};
 ghost use Rattle.tsb_step.specs.declared.status.FlashStatus.TheVariants.{Mmu, NotFlash};
-ghost use Rattle.tsb_step.specs.Status.{free_status, idle_state, state_in};
+ghost use Rattle.tsb_step.specs.Status.{free_status, global_time, idle_state, state_in};
 ghost use Rattle.tsb_step.specs.Step.{last_tick};
 ghost use Rattle.tsb_controller.specs.Rows.{AreBy};
 ghost use Rattle.tsb_controller.specs.StatusPromises.{TellsPattern, TellsPreempt, TellsPreempts, TellsSets, TellsStatus, force_off_by, ring_status_by, stage_by, state_by};
@@ -21,6 +22,7 @@ use tsb_objects::{Checked, Interval, NumberSet, Pattern, Preempt, Stage, Station
 use tsb_status::{PhaseFound, RingStatus, Status, ring};
 use tsb_step::{FlashStatus, FreeStatus, PreemptState};
 use tsb_transact::DeskState;
+use tsb_types::clock_time::CLOCK_EPOCH;
 use tsb_types::event::FREE;
 
 /// What a status has that the controller does not keep.
@@ -62,8 +64,10 @@ pub(crate) struct PatternTold {
     free: FreeStatus,
     /// The local counter.
     local: Option<u32>,
-    /// Where its clock is.
+    /// Where its cycle is.
     sync: Option<u32>,
+    /// `globalTime`.
+    time: Option<u32>,
 }
 
 /// The phases that the rings start next.
@@ -104,14 +108,26 @@ fn free_status(runs: &Option<Pattern>, selected: Option<Pattern>) -> FreeStatus
     }
 }
 
-/// Where the clock of the pattern that runs is, at tick number `now`.
-fn sync(runs: &Option<Pattern>, now: u32, plan: &Checked) -> Option<u32>
+/// Where the cycle of the pattern that runs is, so many ticks after its reference.
+fn sync(runs: &Option<Pattern>, clocked: u32, plan: &Checked) -> Option<u32>
     requires used { IfSome runs.now (λ n. is_used (checked_plan plan.now) n ≡ true) }
-    ensures { result ≡ option_map (λ n. now % cycle (checked_plan plan.now) n) runs.now }
+    ensures { result ≡ option_map (λ n. clocked % cycle (checked_plan plan.now) n) runs.now }
 {
     match runs {
         None => None,
-        Some(n) => Some(now % plan.plan().cycle(*n)),
+        Some(n) => Some(clocked % plan.plan().cycle(*n)),
+    }
+}
+
+/// `globalTime` at tick number `now`, by the moment of tick number 0.
+fn time(start: &Option<u64>, now: u32) -> Option<u32>
+    requires counted { IfSome start.now (λ m. m < (LAST_DAY + 1) * DAY) }
+    requires in_time { now ≤ last_tick }
+    ensures { result ≡ option_map (λ m. global_time (m + now)) start.now }
+{
+    match start {
+        None => None,
+        Some(start) => Some(CLOCK_EPOCH + ((*start + u64::from(now)) / 10) as u32),
     }
 }
 
@@ -227,7 +243,8 @@ impl Controller {
             number: number_of(&runs),
             free: free_status(&runs, self.coord.pattern()),
             local: self.coord.local(now, plan),
-            sync: sync(&runs, now, plan),
+            sync: sync(&runs, self.coord.clocked(now, plan), plan),
+            time: time(&self.coord.start(), now),
         }
     }
 
@@ -306,6 +323,7 @@ impl Controller {
             free: pattern.free,
             local: pattern.local,
             sync: pattern.sync,
+            time: pattern.time,
             flash: flash(beside.tripped),
             owner: beside.owner,
             desk: beside.desk,

@@ -6,6 +6,8 @@ pub mod PermissiveExamples
 pub mod LeadLagExamples
 pub mod RecycleExamples
 pub mod CorrectionExamples
+pub mod OffsetExamples
+pub mod ClockExamples
 pub mod Mistakes
 pub mod LawMistakes
 pub mod LateMistakes
@@ -13,3 +15,4 @@ pub mod PermissiveMistakes
 pub mod RecycleMistakes
 pub mod CorrectionMistakes
 pub mod RangeMistakes
+pub mod ClockMistakes

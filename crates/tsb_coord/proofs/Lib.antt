@@ -2,6 +2,8 @@ pub mod LocalLemmas
 pub mod CellLemmas
 pub mod AheadLemmas
 pub mod CorrectionLemmas
+pub mod ClockLemmas
 pub mod SpanLemmas
 pub mod WaitLemmas
+pub mod OffsetLemmas
 pub mod Examples

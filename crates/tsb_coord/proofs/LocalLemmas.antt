@@ -7,21 +7,21 @@ use Rattle.std.proofs.lemmas.Bool.{and_parts, cases_lt, leb-true}
 use Rattle.std.proofs.lemmas.Bool.Decides.{nat_tests}
 use Rattle.tsb_objects.specs.tsb_types.Lists.{run_from, first, or_else, or_number}
 use Rattle.tsb_objects.specs.tsb_plan.Plan.{Plan, is_enabled, ring_of, yellow_change, red_clear}
-use Rattle.tsb_objects.specs.tsb_plan.Parts.{is_used, cycle, offset, permissive_time, leads_and_lags, split_of, is_coordinated, forces_late}
+use Rattle.tsb_objects.specs.tsb_plan.Parts.{is_used, cycle, permissive_time, leads_and_lags, split_of, is_coordinated, forces_late}
 use Rattle.tsb_objects.specs.tsb_plan.Running.{running, is_coordinated_now, coordinates_in}
 use Rattle.tsb_objects.specs.tsb_rules.Consistent.{IsPhase, IsWhole}
 use Rattle.tsb_objects.specs.tsb_rules.PatternRules.{split_end}
 use Rattle.tsb_objects.specs.tsb_rules.Rules.{first_broken}
-use Rattle.tsb_objects.specs.Instants.{is_coordinated_in}
+use Rattle.tsb_objects.specs.Instants.{is_coordinated_in, offset_in_effect}
 use Rattle.tsb_objects.proofs.tsb_rules.ConsistentLemmas.{whole, coordinated}
-use Rattle.tsb_objects.proofs.InstantLemmas.{instant-below, coordinated-has-no-end, others-have-no-time}
+use Rattle.tsb_objects.proofs.InstantLemmas.{instant-below, offset-below, coordinated-has-no-end, others-have-no-time}
 use Rattle.tsb_coord.specs.Coordinated.{counter, local, residue_of_difference, end_in, end_of, instant_from, coordinated_in_ring, first_coordinated, reference, instant_by, force_off, agree, yields_to, instant_of, late_end, is_from_to, is_late, is_forced_late, yields_for, is_behind, is_permitted, is_at_force_off, is_in_permissive_time, asks_force_off, is_pattern}
 use Rattle.tsb_coord.specs.Laws.{clear_of, IsCountedFrom, IsAtMostBehind}
 
 -- ## Residues
 
 -- numbers that differ by multiples of m have one residue
-same_residue : (m a b i j : ℕ) → a + i * m ≡ b + j * m → a % m ≡ b % m
+pub same_residue : (m a b i j : ℕ) → a + i * m ≡ b + j * m → a % m ≡ b % m
 same_residue m a b i j e =
     sym (add-mul-mod_self_right a i m) ∙ (ap (λ x. x % m) e ∙ add-mul-mod_self_right b j m)
 
@@ -37,7 +37,7 @@ difference_moves_on m a b k some =
         a + (m - s) + k + x ≡ a + (m - r) + y
     balanced m a b k x y r s one other low below = omega (arith, one, other, low, below)
 
-no_difference : (m a : ℕ) → 0 < m → residue_of_difference m a a ≡ 0
+pub no_difference : (m a : ℕ) → 0 < m → residue_of_difference m a a ≡ 0
 no_difference m a some =
     ap (λ x. x % m) (whole_turns m a (a / m) (a % m) (div-add-mod' a m) (mod-lt a some)) ∙ mul-mod_left (a / m + 1) m
   where
@@ -46,17 +46,17 @@ no_difference m a some =
 
 -- ## The local counter
 
-pub counter_moves_on : (plan : Plan) (n t k : ℕ) → offset plan n < cycle plan n →
+pub counter_moves_on : (plan : Plan) (n t k : ℕ) → offset_in_effect plan n < cycle plan n →
     counter plan n (t + k) ≡ (counter plan n t + k) % cycle plan n
 counter_moves_on plan n t k below =
-    ap (λ x. x % cycle plan n) (later_by t k (cycle plan n) (offset plan n) below) ∙
-    sym (mod-add-mod (t + cycle plan n - offset plan n) (cycle plan n) k)
+    ap (λ x. x % cycle plan n) (later_by t k (cycle plan n) (offset_in_effect plan n) below) ∙
+    sym (mod-add-mod (t + cycle plan n - offset_in_effect plan n) (cycle plan n) k)
   where
     later_by : (t k c o : ℕ) → o < c → t + k + c - o ≡ t + c - o + k
     later_by t k c o below = omega (arith, below)
 
 -- at the instant i, and a yellow change and red clearance later
-clear_at : (plan : Plan) (n t p c : ℕ) → offset plan n < cycle plan n → counter plan n t ≡ instant_from plan n c p →
+clear_at : (plan : Plan) (n t p c : ℕ) → offset_in_effect plan n < cycle plan n → counter plan n t ≡ instant_from plan n c p →
     counter plan n (clear_of plan t p) ≡ residue_of_difference (cycle plan n) (end_of plan n p) (end_of plan n c)
 clear_at plan n t p c below at =
     let k : ℕ = yellow_change plan p + red_clear plan p in
@@ -71,7 +71,7 @@ clear_at plan n t p c below at =
     joined t y r = omega arith
 
 -- so many ticks after the instant, and a yellow change and red clearance later
-clear_behind : (plan : Plan) (n t p c k : ℕ) → offset plan n < cycle plan n → counter plan n t ≡ (instant_from plan n c p + k) % cycle plan n →
+clear_behind : (plan : Plan) (n t p c k : ℕ) → offset_in_effect plan n < cycle plan n → counter plan n t ≡ (instant_from plan n c p + k) % cycle plan n →
     counter plan n (clear_of plan t p) ≡ (residue_of_difference (cycle plan n) (end_of plan n p) (end_of plan n c) + k) % cycle plan n
 clear_behind plan n t p c k below at =
     let m : ℕ = cycle plan n in
@@ -306,7 +306,7 @@ same_end plan none n c d parts is counted = go (leads_and_lags plan n) refl
         only e = cc
     go false at_one = ends_agree plan none n c d parts at_one one.is_phase counted.is_phase one.is_one counted.is_one
 
-local_now : (plan : Plan) (n t : ℕ) → is_used plan n ≡ true → local plan t (Some n) ≡ Some (counter plan n t)
+pub local_now : (plan : Plan) (n t : ℕ) → is_used plan n ≡ true → local plan t (Some n) ≡ Some (counter plan n t)
 local_now plan n t used = rw used refl
 
 pub runs_now : (plan : Plan) (n : ℕ) → is_used plan n ≡ true → running plan (Some n) ≡ Some n
@@ -322,13 +322,13 @@ ends_with_its_split plan none n t p c is asked from =
     is_counted plan n p (counter plan n t) (instant_asked plan n t p range.2 asked) in
     let same : end_of plan n counted.from ≡ end_of plan n c = same_end plan none n counted.from c parts counted.is from in
     local_now plan n (clear_of plan t p) range.2 ∙
-    ap Some (clear_at plan n t p counted.from parts.below counted.at ∙
+    ap Some (clear_at plan n t p counted.from (offset-below plan n parts.below) counted.at ∙
     ap (residue_of_difference (cycle plan n) (end_of plan n p)) same)
 
 pub ends_at_zero : (plan : Plan) → first_broken plan ≡ None → (n t p : ℕ) → is_pattern plan n ≡ true → IsCountedFrom plan n p →
     is_at_force_off plan t (Some n) p ≡ true → local plan (clear_of plan t p) (Some n) ≡ Some 0
 ends_at_zero plan none n t p is from at =
-    let below : offset plan n < cycle plan n = (its_parts plan none n is).below in
+    let below : offset_in_effect plan n < cycle plan n = offset-below plan n (its_parts plan none n is).below in
     ends_with_its_split plan none n t p p is at from ∙
     ap Some (no_difference (cycle plan n) (end_of plan n p) (omega (arith, below)))
 
@@ -391,10 +391,10 @@ at_instant_behind plan n p l used here is =
     }
 
 -- a coordinated phase that is forced off
-asked_behind : (plan : Plan) (n t p : ℕ) → is_used plan n ≡ true → offset plan n < cycle plan n → is_coordinated_now plan (Some n) p ≡ true →
+asked_behind : (plan : Plan) (n t p : ℕ) → is_used plan n ≡ true → offset_in_effect plan n < cycle plan n → is_coordinated_now plan (Some n) p ≡ true →
     asks_force_off plan t (Some n) p ≡ true → StandsBehind plan n p (counter plan n t)
 asked_behind plan n t p used below one asked =
-    let here : counter plan n t < cycle plan n = mod-lt (t + cycle plan n - offset plan n) (omega (arith, below)) in
+    let here : counter plan n t < cycle plan n = mod-lt (t + cycle plan n - offset_in_effect plan n) (omega (arith, below)) in
     let running_one : is_coordinated_now plan (running plan (Some n)) p ≡ true = ap (λ o. is_coordinated_now plan o p) (runs_now plan n used) ∙ one in
     let either : (is_at_force_off plan t (Some n) p || is_in_permissive_time plan t (Some n) p) ≡ true =
     sym (coordinated_at_instant plan t (Some n) p running_one) ∙ asked in
@@ -413,7 +413,7 @@ ends_in_time plan none n t p c is one asked from =
     let used : is_used plan n ≡ true = (in_range plan n is).2 in
     let parts : IsWhole plan n = its_parts plan none n is in
     let m : ℕ = cycle plan n in
-    let it : StandsBehind plan n p (counter plan n t) = asked_behind plan n t p used parts.below one asked in
+    let it : StandsBehind plan n p (counter plan n t) = asked_behind plan n t p used (offset-below plan n parts.below) one asked in
     let counted : IsCounted plan n p it.instant = is_counted plan n p it.instant it.is in
     let same : end_of plan n counted.from ≡ end_of plan n c = same_end plan none n counted.from c parts counted.is from in
     let at : counter plan n t ≡ (instant_from plan n counted.from p + it.ticks) % m = it.at ∙ ap (λ x. (x + it.ticks) % m) counted.at in (
@@ -421,14 +421,14 @@ ends_in_time plan none n t p c is one asked from =
       (
         it.most,
         local_now plan n (clear_of plan t p) used
-            ∙ ap Some (clear_behind plan n t p counted.from it.ticks parts.below at ∙ ap (λ x. (residue_of_difference m (end_of plan n p) x + it.ticks) % m) same),
+            ∙ ap Some (clear_behind plan n t p counted.from it.ticks (offset-below plan n parts.below) at ∙ ap (λ x. (residue_of_difference m (end_of plan n p) x + it.ticks) % m) same),
       ),
     )
 
 pub ends_near_zero : (plan : Plan) → first_broken plan ≡ None → (n t p : ℕ) → is_pattern plan n ≡ true → IsCountedFrom plan n p →
     asks_force_off plan t (Some n) p ≡ true → IsAtMostBehind plan n 0 (permissive_time plan n) (local plan (clear_of plan t p) (Some n))
 ends_near_zero plan none n t p is from asked =
-    let below : offset plan n < cycle plan n = (its_parts plan none n is).below in
+    let below : offset_in_effect plan n < cycle plan n = offset-below plan n (its_parts plan none n is).below in
     let it = ends_in_time plan none n t p p is from.is_one asked from in
     (it.0, (it.1.0, it.1.1 ∙ ap (λ x. Some ((x + it.0) % cycle plan n)) (no_difference (cycle plan n) (end_of plan n p) (omega (arith, below)))))
 

@@ -7,17 +7,17 @@ use Rattle.std.proofs.lemmas.Bool.Decides.{nat_tests}
 use Rattle.tsb_objects.specs.tsb_types.Lists.{first, run_from, or_else}
 use Rattle.tsb_objects.specs.tsb_plan.Plan.{Plan, is_enabled, ring_of}
 use Rattle.tsb_objects.specs.tsb_plan.declared.object.Object.TheVariants.{PatternCycleTime}
-use Rattle.tsb_objects.specs.tsb_plan.Parts.{is_used, cycle, offset, leads_and_lags, forces_late}
+use Rattle.tsb_objects.specs.tsb_plan.Parts.{is_used, cycle, leads_and_lags, forces_late}
 use Rattle.tsb_objects.specs.tsb_plan.Running.{running, coordinates_in, is_coordinated_now}
 use Rattle.tsb_objects.specs.tsb_rules.Rules.{first_broken}
 use Rattle.tsb_objects.specs.tsb_rules.Consistent.{IsWhole, AreCoordinated}
 use Rattle.tsb_objects.specs.Instants.{is_coordinated_in, coordinated_in_ring}
 use Rattle.tsb_objects.proofs.tsb_rules.ConsistentLemmas.{whole, coordinated}
-use Rattle.tsb_objects.proofs.InstantLemmas.{instants-below, late-end-below}
+use Rattle.tsb_objects.proofs.InstantLemmas.{instants-below, offset-below, late-end-below}
 use Rattle.tsb_coord.specs.declared.coordination.Coordination.{Coordination}
 use Rattle.tsb_coord.specs.Cells.{pattern_in, correction_in}
-use Rattle.tsb_coord.specs.Coordinated.{counter, local_in, instant_from, first_coordinated, reference, force_off, agree, yields_to, instant_of, late_end, is_late, is_forced_late, yields_for, is_behind, is_permitted, permissive_end, forces_off, walk_and_clearance, may_recycle, is_left, recycles, recycle_end_from, recycle_end, asks_force_off, asks_recycle}
-use Rattle.tsb_coord.specs.Correction.{Correction, counted_tick, steps_twice, forces, is_in_step, lets_walk_again}
+use Rattle.tsb_coord.specs.Coordinated.{counter, offset_in_effect, local_in, instant_from, first_coordinated, reference, force_off, agree, yields_to, instant_of, late_end, is_late, is_forced_late, yields_for, is_behind, is_permitted, permissive_end, forces_off, walk_and_clearance, may_recycle, is_left, recycles, recycle_end_from, recycle_end, asks_force_off, asks_recycle}
+use Rattle.tsb_coord.specs.Correction.{Correction, counted_tick, steps_twice, forces, is_in_step, lets_walk_again, shift_of, shift_in, clocked}
 use Rattle.tsb_coord.specs.Due.{ForcesOff, EndsPermission, EndsRecycle, IsMet, IsEnded, IsExact}
 use Rattle.tsb_coord.specs.Promises.{AreOrders}
 use Rattle.tsb_coord.proofs.CorrectionLemmas.{stays_in_step, forces_in_step, walks_in_step}
@@ -67,7 +67,7 @@ late_end_is plan few n p =
 -- ## Orders in the meantime
 
 -- no instant is met, now and at each tick of the meantime, and no permissive time and no time for a walk ends from the
--- next tick on, while the pattern n runs
+-- next tick on, while the pattern n runs; `now` is the tick as one that counts from tick number 0 has it
 pub record IsQuiet (plan : Plan) (n now wait : ℕ) : Type 0 where
   pub at : (p k : ℕ) → 1 ≤ p → p ≤ 16 → k < wait → 1 < wait →
       agree (Some ((counter plan n now + k) % cycle plan n)) (force_off plan (Some n) p) ≡ false
@@ -103,7 +103,7 @@ module _ (plan : Plan) (few : plan.phase_count ≤ 16) (none : first_broken plan
 
   asked : (p k : ℕ) → asks_force_off plan (now + k) selected p ≡ forces_off plan (Some n) (Some ((counter plan n now + k) % cycle plan n)) p
   asked p k =
-      let below : offset plan n < cycle plan n = (whole plan none n from_one within used).below in
+      let below : offset_in_effect plan n < cycle plan n = offset-below plan n (whole plan none n from_one within used).below in
       ap (λ o. forces_off plan o (local_in plan (now + k) o) p) runs
       ∙ ap (λ x. forces_off plan (Some n) (Some x) p) (counter_moves_on plan n now k below)
 
@@ -136,7 +136,7 @@ module _ (plan : Plan) (few : plan.phase_count ≤ 16) (none : first_broken plan
   -- nor is a phase let walk again, or no more
   asked_recycle : (p k : ℕ) → asks_recycle plan (now + k) selected p ≡ recycles plan (Some n) (Some ((counter plan n now + k) % cycle plan n)) p
   asked_recycle p k =
-      let below : offset plan n < cycle plan n = (whole plan none n from_one within used).below in
+      let below : offset_in_effect plan n < cycle plan n = offset-below plan n (whole plan none n from_one within used).below in
       ap (λ o. recycles plan o (local_in plan (now + k) o) p) runs
       ∙ ap (λ x. recycles plan (Some n) (Some x) p) (counter_moves_on plan n now k below)
 
@@ -171,30 +171,36 @@ module _ (plan : Plan) (few : plan.phase_count ≤ 16) (none : first_broken plan
           (same_left m time (counter plan n now) k at (instants-below plan n p at used refl) (λ j to_k. quiet.at p j from to (omega arith) some) ends)
 
   -- where the local counter was in step before, so that it is in each tick of the meantime
-  pub same_orders : (row : List ℕ) (t : ℕ) (orders : Coordination) → pattern_in row ≡ selected →
-      is_in_step plan (pattern_in row) (correction_in row) (now - 1) ≡ true → now < t → t < now + wait →
-      AreOrders now plan row orders → AreOrders t plan row orders
-  same_orders row t orders is in_step later before said =
+  pub same_orders : (row : List ℕ) (tick t : ℕ) (orders : Coordination) → pattern_in row ≡ selected → now ≡ tick + shift_of plan n (correction_in row) →
+      is_in_step plan (pattern_in row) (correction_in row) (tick - 1) ≡ true → tick < t → t < tick + wait →
+      AreOrders tick plan row orders → AreOrders t plan row orders
+  same_orders row tick t orders is shifted in_step later before said =
       let c : Correction = correction_in row in
+      let s : ℕ = shift_of plan n c in
       let some : 1 < wait = omega arith in
-      let here : now + 0 ≡ now = omega arith in
-      let there : now + (t - now) ≡ t = omega arith in
-      let still : is_in_step plan (pattern_in row) c (t - 1) ≡ true = stays_in_step plan (pattern_in row) c (now - 1) (t - 1) in_step (omega arith) in
-      let same : (p : ℕ) → 1 ≤ p → p ≤ 16 → asks_force_off plan now selected p ≡ asks_force_off plan t selected p =
-      λ p from to. ap (λ x. asks_force_off plan x selected p) (sym here) ∙ same_asked p (t - now) from to (omega arith) some
+      let its : running plan (pattern_in row) ≡ Some n = ap (running plan) is ∙ runs in
+      let from_here : now + 0 ≡ tick + s = omega (arith, shifted) in
+      let from_there : now + (t - tick) ≡ t + s = omega (arith, shifted, later) in
+      let here : now + 0 ≡ clocked plan (pattern_in row) c tick = from_here ∙ sym (ap (λ o. tick + shift_in plan o c) its) in
+      let there : now + (t - tick) ≡ clocked plan (pattern_in row) c t = from_there ∙ sym (ap (λ o. t + shift_in plan o c) its) in
+      let still : is_in_step plan (pattern_in row) c (t - 1) ≡ true = stays_in_step plan (pattern_in row) c (tick - 1) (t - 1) in_step (omega arith) in
+      let same : (p : ℕ) → 1 ≤ p → p ≤ 16 → asks_force_off plan (clocked plan (pattern_in row) c tick) selected p ≡ asks_force_off plan (clocked plan (pattern_in row) c t) selected p =
+      λ p from to. ap (λ x. asks_force_off plan x selected p) (sym here) ∙ same_asked p (t - tick) from to (omega arith) some
       ∙ ap (λ x. asks_force_off plan x selected p) there in
-      let same_walks : (p : ℕ) → 1 ≤ p → p ≤ 16 → asks_recycle plan now selected p ≡ asks_recycle plan t selected p =
-      λ p from to. ap (λ x. asks_recycle plan x selected p) (sym here) ∙ same_recycle p (t - now) from to (omega arith) some
+      let same_walks : (p : ℕ) → 1 ≤ p → p ≤ 16 → asks_recycle plan (clocked plan (pattern_in row) c tick) selected p ≡ asks_recycle plan (clocked plan (pattern_in row) c t) selected p =
+      λ p from to. ap (λ x. asks_recycle plan x selected p) (sym here) ∙ same_recycle p (t - tick) from to (omega arith) some
       ∙ ap (λ x. asks_recycle plan x selected p) there in
       record {
         runs = said.runs;
         sequence = said.sequence;
         hold = said.hold;
-        forced = λ p from to. said.forced p from to ∙ forces_in_step plan (pattern_in row) c now p in_step
-            ∙ ap (λ o. asks_force_off plan now o p) is ∙ same p from to ∙ sym (ap (λ o. asks_force_off plan t o p) is)
+        forced = λ p from to. said.forced p from to ∙ forces_in_step plan (pattern_in row) c tick p in_step
+            ∙ ap (λ o. asks_force_off plan (clocked plan (pattern_in row) c tick) o p) is ∙ same p from to
+            ∙ sym (ap (λ o. asks_force_off plan (clocked plan (pattern_in row) c t) o p) is)
             ∙ sym (forces_in_step plan (pattern_in row) c t p still);
-        recycle = λ p from to. said.recycle p from to ∙ walks_in_step plan (pattern_in row) c now p in_step
-            ∙ ap (λ o. asks_recycle plan now o p) is ∙ same_walks p from to ∙ sym (ap (λ o. asks_recycle plan t o p) is)
+        recycle = λ p from to. said.recycle p from to ∙ walks_in_step plan (pattern_in row) c tick p in_step
+            ∙ ap (λ o. asks_recycle plan (clocked plan (pattern_in row) c tick) o p) is ∙ same_walks p from to
+            ∙ sym (ap (λ o. asks_recycle plan (clocked plan (pattern_in row) c t) o p) is)
             ∙ sym (walks_in_step plan (pattern_in row) c t p still);
         omit = said.omit;
       }
@@ -217,7 +223,7 @@ free_orders plan row now t orders free said = record {
 
     no_walk : (t p : ℕ) → lets_walk_again plan (pattern_in row) (correction_in row) t p ≡ false
     no_walk t p =
-        ap (λ b. is_in_step plan (pattern_in row) (correction_in row) (t - 1) && b) (ap (λ o. recycles plan o (local_in plan t o) p) free)
+        ap (λ b. is_in_step plan (pattern_in row) (correction_in row) (t - 1) && b) (ap (λ o. recycles plan o (local_in plan (t + shift_in plan o (correction_in row)) o) p) free)
         ∙ and_false (is_in_step plan (pattern_in row) (correction_in row) (t - 1))
 
     none_at : (t p : ℕ) → asks_force_off plan t (pattern_in row) p ≡ false
@@ -271,7 +277,7 @@ has_instant plan none n from_one within used =
     let some : (d : ℕ) × (first_coordinated plan n ≡ Some d) =
     found (is_coordinated_now plan (Some n)) 1 plan.phase_count them.one them.is_phase.from_one (let to : them.one ≤ plan.phase_count = them.is_phase.within in omega arith) named in
     let counted : (d : ℕ) × (reference plan n ≡ Some d) = reference_found plan n some.0 some.1 in
-    let offset_below : offset plan n < cycle plan n = parts.below in
+    let offset_below : offset_in_effect plan n < cycle plan n = offset-below plan n parts.below in
     record {
       phase = them.one;
       from_one = them.is_phase.from_one;
@@ -296,52 +302,68 @@ no_whole_cycle plan few none n now ticks from_one within used here quiet some wh
     both_ways : true ≡ false → ⊥
     both_ways e = cc
 
+-- so many ticks later one that counts from tick number 0 is as many further
+later : (plan : Plan) (n now ticks : ℕ) (selected : Option ℕ) (c : Correction) → running plan selected ≡ Some n →
+    clocked plan selected c (now + ticks) ≡ now + shift_of plan n c + ticks
+later plan n now ticks selected c runs =
+    let turned : now + ticks + shift_of plan n c ≡ now + shift_of plan n c + ticks = omega arith in
+    ap (λ o. now + ticks + shift_in plan o c) runs ∙ turned
+
 -- a phase whose instant is met is forced off then, or is now, where the local counter was in step before
 pub forced_then : (plan : Plan) → first_broken plan ≡ None → (n now ticks p : ℕ) → 1 ≤ n → n ≤ 16 → is_used plan n ≡ true →
     (selected : Option ℕ) (c : Correction) → running plan selected ≡ Some n → is_in_step plan selected c (now - 1) ≡ true →
-    IsMet (cycle plan n) (counter plan n now) (force_off plan (Some n) p) ticks →
+    IsMet (cycle plan n) (counter plan n (now + shift_of plan n c)) (force_off plan (Some n) p) ticks →
     ForcesOff plan selected c (now + ticks) ⊎ ((now + ticks ≡ now + 1) × ForcesOff plan selected c now)
 forced_then plan none n now ticks p from_one within used selected c runs in_step met =
-    let below : offset plan n < cycle plan n = (whole plan none n from_one within used).below in
+    let x : ℕ = now + shift_of plan n c in
+    let here_is : clocked plan selected c now ≡ x = ap (λ o. now + shift_in plan o c) runs in
+    let there_is : clocked plan selected c (now + ticks) ≡ x + ticks = later plan n now ticks selected c runs in
+    let below : offset_in_effect plan n < cycle plan n = offset-below plan n (whole plan none n from_one within used).below in
     let still : is_in_step plan selected c (now + ticks - 1) ≡ true = stays_in_step plan selected c (now - 1) (now + ticks - 1) in_step (omega arith) in
     elim met [
       | inl it ↦ inl (
         p,
         forces_in_step plan selected c (now + ticks) p still
-            ∙ at_instant_asks plan (now + ticks) selected p
-            (ap (λ o. agree (local_in plan (now + ticks) o) (force_off plan o p)) runs
-            ∙ ap (λ x. agree (Some x) (force_off plan (Some n) p)) (counter_moves_on plan n now ticks below) ∙ it),
+            ∙ ap (λ k. asks_force_off plan k selected p) there_is
+            ∙ at_instant_asks plan (x + ticks) selected p
+            (ap (λ o. agree (local_in plan (x + ticks) o) (force_off plan o p)) runs
+            ∙ ap (λ l. agree (Some l) (force_off plan (Some n) p)) (counter_moves_on plan n x ticks below) ∙ it),
       )
       | inr here ↦ inr (
         ap (λ (k : ℕ). now + k) here.0,
         (
           p,
           forces_in_step plan selected c now p in_step
-              ∙ at_instant_asks plan now selected p (ap (λ o. agree (local_in plan now o) (force_off plan o p)) runs ∙ here.1),
+              ∙ ap (λ k. asks_force_off plan k selected p) here_is
+              ∙ at_instant_asks plan x selected p (ap (λ o. agree (local_in plan x o) (force_off plan o p)) runs ∙ here.1),
         ),
       )
     ]
 
 -- a phase whose permissive time is at its end has ended it then
 ended_then : (plan : Plan) → first_broken plan ≡ None → (n now ticks p : ℕ) → 1 ≤ n → n ≤ 16 → is_used plan n ≡ true →
-    (selected : Option ℕ) → running plan selected ≡ Some n → IsEnded (cycle plan n) (counter plan n now) (permissive_end plan (Some n) p) ticks →
-    EndsPermission plan selected (now + ticks)
-ended_then plan none n now ticks p from_one within used selected runs ended =
-    let below : offset plan n < cycle plan n = (whole plan none n from_one within used).below in (
+    (selected : Option ℕ) (c : Correction) → running plan selected ≡ Some n →
+    IsEnded (cycle plan n) (counter plan n (now + shift_of plan n c)) (permissive_end plan (Some n) p) ticks → EndsPermission plan selected c (now + ticks)
+ended_then plan none n now ticks p from_one within used selected c runs ended =
+    let x : ℕ = now + shift_of plan n c in
+    let below : offset_in_effect plan n < cycle plan n = offset-below plan n (whole plan none n from_one within used).below in (
       p,
-      ap (λ o. agree (local_in plan (now + ticks) o) (permissive_end plan o p)) runs
-          ∙ ap (λ x. agree (Some x) (permissive_end plan (Some n) p)) (counter_moves_on plan n now ticks below) ∙ ended,
+      ap (λ k. agree (local_in plan k (running plan selected)) (permissive_end plan (running plan selected) p)) (later plan n now ticks selected c runs)
+          ∙ ap (λ o. agree (local_in plan (x + ticks) o) (permissive_end plan o p)) runs
+          ∙ ap (λ l. agree (Some l) (permissive_end plan (Some n) p)) (counter_moves_on plan n x ticks below) ∙ ended,
     )
 
 -- and one whose time for a walk is at its end has ended it then
 recycle_ended_then : (plan : Plan) → first_broken plan ≡ None → (n now ticks p : ℕ) → 1 ≤ n → n ≤ 16 → is_used plan n ≡ true →
-    (selected : Option ℕ) → running plan selected ≡ Some n → IsEnded (cycle plan n) (counter plan n now) (recycle_end plan (Some n) p) ticks →
-    EndsRecycle plan selected (now + ticks)
-recycle_ended_then plan none n now ticks p from_one within used selected runs ended =
-    let below : offset plan n < cycle plan n = (whole plan none n from_one within used).below in (
+    (selected : Option ℕ) (c : Correction) → running plan selected ≡ Some n →
+    IsEnded (cycle plan n) (counter plan n (now + shift_of plan n c)) (recycle_end plan (Some n) p) ticks → EndsRecycle plan selected c (now + ticks)
+recycle_ended_then plan none n now ticks p from_one within used selected c runs ended =
+    let x : ℕ = now + shift_of plan n c in
+    let below : offset_in_effect plan n < cycle plan n = offset-below plan n (whole plan none n from_one within used).below in (
       p,
-      ap (λ o. agree (local_in plan (now + ticks) o) (recycle_end plan o p)) runs
-          ∙ ap (λ x. agree (Some x) (recycle_end plan (Some n) p)) (counter_moves_on plan n now ticks below) ∙ ended,
+      ap (λ k. agree (local_in plan k (running plan selected)) (recycle_end plan (running plan selected) p)) (later plan n now ticks selected c runs)
+          ∙ ap (λ o. agree (local_in plan (x + ticks) o) (recycle_end plan o p)) runs
+          ∙ ap (λ l. agree (Some l) (recycle_end plan (Some n) p)) (counter_moves_on plan n x ticks below) ∙ ended,
     )
 
 some_cycle : (plan : Plan) (n : ℕ) → is_used plan n ≡ true → 1 < cycle plan n
@@ -349,29 +371,30 @@ some_cycle plan n used = let some : 1 ≤ plan.value PatternCycleTime n = grind 
 
 pub is_exact : (plan : Plan) → plan.phase_count ≤ 16 → first_broken plan ≡ None → (n now ticks local : ℕ) → 1 ≤ n → n ≤ 16 → is_used plan n ≡ true →
     (row : List ℕ) → running plan (pattern_in row) ≡ Some n → is_in_step plan (pattern_in row) (correction_in row) (now - 1) ≡ true →
-    local ≡ counter plan n now → local < cycle plan n → IsQuiet plan n now ticks →
+    local ≡ counter plan n (now + shift_of plan n (correction_in row)) → local < cycle plan n → IsQuiet plan n (now + shift_of plan n (correction_in row)) ticks →
     ((ticks ≡ cycle plan n) ⊎ (((p : ℕ) × IsMet (cycle plan n) local (force_off plan (Some n) p) ticks)
     ⊎ (((p : ℕ) × IsEnded (cycle plan n) local (permissive_end plan (Some n) p) ticks)
     ⊎ ((p : ℕ) × IsEnded (cycle plan n) local (recycle_end plan (Some n) p) ticks)))) → IsExact now plan row (now + ticks)
 is_exact plan most none n now ticks local from_one within used row runs in_step told below quiet met =
-    let here : counter plan n now < cycle plan n = subst (λ (x : ℕ). x < cycle plan n) told below in
     let c : Correction = correction_in row in
+    let x : ℕ = now + shift_of plan n c in
+    let here : counter plan n x < cycle plan n = subst (λ (l : ℕ). l < cycle plan n) told below in
     let Now : Type 0 = ForcesOff plan (pattern_in row) c now ⊎ (is_in_step plan (pattern_in row) c (now - 1) ≡ false) in
     let forces_then : ForcesOff plan (pattern_in row) c (now + ticks)
-    ⊎ (EndsPermission plan (pattern_in row) (now + ticks) ⊎ (EndsRecycle plan (pattern_in row) (now + ticks) ⊎ ((now + ticks ≡ now + 1) × Now))) =
+    ⊎ (EndsPermission plan (pattern_in row) c (now + ticks) ⊎ (EndsRecycle plan (pattern_in row) c (now + ticks) ⊎ ((now + ticks ≡ now + 1) × Now))) =
     elim met [
-      | inl whole_cycle ↦ absurd (no_whole_cycle plan most none n now ticks from_one within used here quiet (some_cycle plan n used) whole_cycle)
+      | inl whole_cycle ↦ absurd (no_whole_cycle plan most none n x ticks from_one within used here quiet (some_cycle plan n used) whole_cycle)
       | inr either ↦ elim either [
         | inl it ↦ elim (forced_then plan none n now ticks it.0 from_one within used (pattern_in row) c runs in_step
-            (subst (λ (x : ℕ). IsMet (cycle plan n) x (force_off plan (Some n) it.0) ticks) told it.1)) [
+            (subst (λ (l : ℕ). IsMet (cycle plan n) l (force_off plan (Some n) it.0) ticks) told it.1)) [
               | inl there ↦ inl there
               | inr next ↦ inr (inr (inr (next.0, inl next.1)))
             ]
         | inr ends ↦ elim ends [
-          | inl it ↦ inr (inl (ended_then plan none n now ticks it.0 from_one within used (pattern_in row) runs
-              (subst (λ (x : ℕ). IsEnded (cycle plan n) x (permissive_end plan (Some n) it.0) ticks) told it.1)))
-          | inr it ↦ inr (inr (inl (recycle_ended_then plan none n now ticks it.0 from_one within used (pattern_in row) runs
-              (subst (λ (x : ℕ). IsEnded (cycle plan n) x (recycle_end plan (Some n) it.0) ticks) told it.1))))
+          | inl it ↦ inr (inl (ended_then plan none n now ticks it.0 from_one within used (pattern_in row) c runs
+              (subst (λ (l : ℕ). IsEnded (cycle plan n) l (permissive_end plan (Some n) it.0) ticks) told it.1)))
+          | inr it ↦ inr (inr (inl (recycle_ended_then plan none n now ticks it.0 from_one within used (pattern_in row) c runs
+              (subst (λ (l : ℕ). IsEnded (cycle plan n) l (recycle_end plan (Some n) it.0) ticks) told it.1))))
         ]
       ]
     ] in

@@ -12,9 +12,9 @@ use Rattle.std.specs.Prelude.{ℕ, ◌+◌, ◌-◌, ◌%◌, ◌==◌, nat_le, 
 use Rattle.tsb_objects.specs.tsb_types.declared.refusal.Refusal.{Refusal}
 use Rattle.tsb_objects.specs.tsb_types.declared.refusal.Refusal.TheVariants.{NoSuchPattern}
 use Rattle.tsb_objects.specs.tsb_plan.Plan.{Plan, sequence}
-use Rattle.tsb_objects.specs.tsb_plan.Parts.{is_used, cycle, offset, unless_zero}
+use Rattle.tsb_objects.specs.tsb_plan.Parts.{is_used, cycle, unless_zero}
 use Rattle.tsb_objects.specs.tsb_plan.Running.{running, sequence_in_effect, is_coordinated_now, is_omitted_now}
-pub use Rattle.tsb_objects.specs.Instants.{residue_of_difference, end_in, end_of, instant_from, is_same_from_both, coordinated_in_ring, first_coordinated, reference, instant_by, agree, yields_to, instant_of, late_end, is_from_to, counted_on, is_late, is_forced_late, yields_for, is_behind, is_permitted, permissive_end_from, permissive_end, forces_off, walk_and_clearance, may_recycle, is_left, recycles, recycle_end_from, recycle_end}
+pub use Rattle.tsb_objects.specs.Instants.{residue_of_difference, end_in, end_of, instant_from, is_same_from_both, coordinated_in_ring, first_coordinated, reference, instant_by, agree, yields_to, instant_of, late_end, is_from_to, counted_on, is_late, is_forced_late, yields_for, is_behind, is_permitted, permissive_end_from, permissive_end, forces_off, walk_and_clearance, may_recycle, is_left, recycles, recycle_end_from, recycle_end, offset_in_effect}
 -- re-exported as well: the instant with which the local counter is compared
 unfoldable pub use Rattle.tsb_objects.specs.Instants.{force_off}
 
@@ -24,9 +24,10 @@ unfoldable pub use Rattle.tsb_objects.specs.Instants.{force_off}
 abbrev pub at_power_up : Option ℕ
 at_power_up = None
 
--- the local counter of a pattern in step: t less the offset, within the cycle. K17: the offset is below the cycle.
+-- the local counter of a pattern in step: t less the offset in effect, within the cycle. K17: the
+-- offset is below the cycle, as is that in effect.
 abbrev pub counter : Plan → ℕ → ℕ → ℕ
-counter plan n t = (t + cycle plan n - offset plan n) % cycle plan n
+counter plan n t = (t + cycle plan n - offset_in_effect plan n) % cycle plan n
 
 -- that of the pattern that runs; none in free operation
 abbrev pub local_in : Plan → ℕ → Option ℕ → Option ℕ

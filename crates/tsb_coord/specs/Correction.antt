@@ -3,8 +3,8 @@
 -- it a cycle is made longer or shorter meanwhile. How the counter goes is the profile's own. Times are in ticks, which
 -- are tenths of a second.
 --
--- In step the local counter is that of the cycle and the offset, `counter`. With mode 0, and from free operation, it is
--- in step at once. Otherwise it goes on from where that of the old pattern stood, so many ticks ahead of the one in
+-- In step the local counter is that of the cycle and the offset, `counter`, of the ticks since tick number 0, or since a
+-- midnight where a clock is set. With mode 0, and from free operation, it is in step at once. Otherwise it goes on from where that of the old pattern stood, so many ticks ahead of the one in
 -- step, round the cycle. How many it still is in a later tick is found from these two numbers and the plan, so that no
 -- tick has to change the state.
 use Rattle.std.specs.Prelude.{ℕ, ◌+◌, ◌-◌, ◌*◌, ◌/◌, ◌%◌, ◌==◌, nat_le, Bool, ◌&&◌, ◌||◌, if◌then◌else◌, min, max, Option, Some, None, false}
@@ -15,13 +15,18 @@ use Rattle.tsb_objects.specs.tsb_plan.Parts.{cycle, correction_mode, correction_
 use Rattle.tsb_objects.specs.tsb_plan.Running.{running}
 use Rattle.tsb_coord.specs.Coordinated.{counter, local, residue_of_difference, asks_force_off, asks_recycle, is_at_force_off}
 use Rattle.tsb_objects.specs.Instants.{waiting_point}
+use Rattle.tsb_coord.specs.Clock.{shift}
 -- re-exported: the tick number at which the pattern was selected, and how many ticks its local counter was ahead then;
--- none ahead is in step
+-- none ahead is in step; and the midnight that it counts from
 pub use Rattle.tsb_coord.specs.declared.correction.Correction.{Correction}
 
--- in step from the start: at power-up, after a reset, and with mode 0
+-- in step from the start: at power-up, after a reset, and in free operation
 abbrev pub in_step : Correction
-in_step = record { since = 0; ahead = 0 }
+in_step = record { since = 0; ahead = 0; midnight = 0 }
+
+-- the same, with this midnight
+abbrev pub in_step_from : ℕ → Correction
+in_step_from midnight = record in_step { midnight = midnight }
 
 -- ## How far it has come, so many ticks after the selection
 
@@ -41,9 +46,13 @@ longest_wait limit m = if limit == 0 then m else max 1 (m * limit / 100)
 abbrev pub waited : ℕ → ℕ → ℕ → ℕ
 waited m most ticks = ticks / (m + most) * most + min most (ticks % (m + most))
 
+-- by how many ticks the counter of pattern n is further than one that counts from tick number 0
+abbrev pub shift_of : Plan → ℕ → Correction → ℕ
+shift_of plan n c = shift (cycle plan n) c.midnight
+
 -- how many ticks it takes to where it waits from where it stood at the selection
 abbrev pub way : Plan → ℕ → Correction → ℕ
-way plan n c = residue_of_difference (cycle plan n) (waiting_point plan n) (counter plan n c.since + c.ahead)
+way plan n c = residue_of_difference (cycle plan n) (waiting_point plan n) (counter plan n (c.since + shift_of plan n c) + c.ahead)
 
 -- ## How far it is ahead
 
@@ -83,9 +92,18 @@ ahead_in plan (Some n) c t = ahead_by (correction_mode plan) plan n (within_cycl
 
 -- ## The local counter as it goes, of the pattern that is selected, where it runs
 
--- the tick in which the counter in step is where the local counter is in tick t: as many later as it is ahead
+-- by how many ticks that of the pattern that runs is further, if one runs
+abbrev pub shift_in : Plan → Option ℕ → Correction → ℕ
+shift_in plan None c = 0
+shift_in plan (Some n) c = shift_of plan n c
+
+-- the tick in which one that counts from tick number 0 is where the counter in step is in tick t: t without a clock
+abbrev pub clocked : Plan → Option ℕ → Correction → ℕ → ℕ
+clocked plan selected c t = t + shift_in plan (running plan selected) c
+
+-- and in which it is where the local counter is in tick t: as many later as it is ahead
 abbrev pub counted_tick : Plan → Option ℕ → Correction → ℕ → ℕ
-counted_tick plan selected c t = t + ahead_in plan (running plan selected) c t
+counted_tick plan selected c t = clocked plan selected c t + ahead_in plan (running plan selected) c t
 
 -- the local counter itself; none in free operation
 abbrev pub local_now : Plan → Option ℕ → Correction → ℕ → Option ℕ
@@ -122,7 +140,7 @@ is_in_step plan selected c t = ahead_in plan (running plan selected) c t == 0
 
 -- p may walk again in tick t: the local counter was in step before it, as by a faster one the instant comes sooner
 abbrev pub lets_walk_again : Plan → Option ℕ → Correction → ℕ → ℕ → Bool
-lets_walk_again plan selected c t p = is_in_step plan selected c (t - 1) && asks_recycle plan t selected p
+lets_walk_again plan selected c t p = is_in_step plan selected c (t - 1) && asks_recycle plan (clocked plan selected c t) selected p
 
 -- ## What a selection makes of it
 
@@ -134,17 +152,18 @@ ahead_with ShortWay ahead = ahead
 ahead_with AddOnly ahead = ahead
 
 -- how many ticks pattern n is ahead where its counter goes on from that of the old pattern, if one ran, within its
--- cycle
+-- cycle; in step it is where one from tick number 0 is in tick `t`
 abbrev pub ahead_from : Plan → ℕ → ℕ → Option ℕ → ℕ
-ahead_from plan n now None = 0
-ahead_from plan n now (Some l) =
-    ahead_with (correction_mode plan) (residue_of_difference (cycle plan n) (l % cycle plan n) (counter plan n now))
+ahead_from plan n t None = 0
+ahead_from plan n t (Some l) =
+    ahead_with (correction_mode plan) (residue_of_difference (cycle plan n) (l % cycle plan n) (counter plan n t))
 
 -- one that is not ahead is in step
-abbrev pub begun : ℕ → ℕ → Correction
-begun now ahead = if ahead == 0 then in_step else record { since = now; ahead = ahead }
+abbrev pub begun : ℕ → ℕ → ℕ → Correction
+begun now midnight ahead = if ahead == 0 then in_step_from midnight else record { since = now; ahead = ahead; midnight = midnight }
 
--- behind tick `now`, in which the old pattern's local counter was this, if it ran; free operation has none
-abbrev pub selected_correction : Plan → Option ℕ → ℕ → Option ℕ → Correction
-selected_correction plan None now l = in_step
-selected_correction plan (Some n) now l = begun now (ahead_from plan n now l)
+-- with this midnight, in tick `now`, in which the old pattern's local counter was this, if it ran; free operation has
+-- none. A clock that is set selects the same pattern with another midnight
+abbrev pub selected_correction : Plan → Option ℕ → ℕ → ℕ → Option ℕ → Correction
+selected_correction plan None now midnight l = in_step
+selected_correction plan (Some n) now midnight l = begun now midnight (ahead_from plan n (now + shift (cycle plan n) midnight) l)

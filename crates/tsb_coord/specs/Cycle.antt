@@ -14,7 +14,7 @@ use Rattle.tsb_coord.specs.declared.cycle.CycleState.{CycleState}
 use Rattle.tsb_coord.specs.declared.cycle.CycleState.TheVariants.{Free, InStep, Adds, Subtracts, Dwells}
 use Rattle.tsb_coord.specs.Cells.{pattern_in, correction_in}
 use Rattle.tsb_coord.specs.Coordinated.{agree, counter, force_off}
-use Rattle.tsb_coord.specs.Correction.{Correction, ahead_in, is_slower_way, stays_in, steps_twice_in}
+use Rattle.tsb_coord.specs.Correction.{Correction, ahead_in, is_slower_way, shift_of, stays_in, steps_twice_in}
 
 -- the number of a state in an event
 abbrev pub number_of : CycleState → ℕ
@@ -40,9 +40,9 @@ state_in plan (Some n) c t = if ahead_in plan (Some n) c t == 0 then InStep else
 abbrev pub cycle_state : Plan → Option ℕ → Correction → ℕ → CycleState
 cycle_state plan selected c t = state_in plan (running plan selected) c t
 
--- the tick in which a counter in step is where that of pattern n is in tick t
+-- the tick in which one that counts from tick number 0 is where that of pattern n is in tick t
 abbrev pub counted : Plan → ℕ → Correction → ℕ → ℕ
-counted plan n c t = t + ahead_in plan (Some n) c t
+counted plan n c t = t + shift_of plan n c + ahead_in plan (Some n) c t
 
 -- where that of pattern n comes to with a step, by the tick in which one in step is there; nowhere without a step
 abbrev pub place_by : Plan → ℕ → Bool → ℕ → Option ℕ

@@ -6,7 +6,7 @@ use Rattle.tsb_objects.specs.tsb_plan.Running.{running}
 use Rattle.tsb_coord.specs.declared.coordination.Coordination.{Coordination}
 use Rattle.tsb_coord.specs.Cells.{pattern_in, correction_in}
 use Rattle.tsb_coord.specs.Coordinated.{agree, ends_permissive_time, ends_recycle}
-use Rattle.tsb_coord.specs.Correction.{Correction, forces, is_in_step}
+use Rattle.tsb_coord.specs.Correction.{Correction, clocked, forces, is_in_step}
 use Rattle.tsb_coord.specs.Promises.{AreOrders}
 
 -- clause `quiet`: the orders of `now` are those of each tick in between
@@ -19,12 +19,12 @@ abbrev pub ForcesOff : Plan → Option ℕ → Correction → ℕ → Type 0
 ForcesOff plan selected c t = (p : ℕ) × (forces plan selected c t p ≡ true)
 
 -- the permissive time of a coordinated phase has just ended in tick t, where it has one
-abbrev pub EndsPermission : Plan → Option ℕ → ℕ → Type 0
-EndsPermission plan selected t = (p : ℕ) × (ends_permissive_time plan t selected p ≡ true)
+abbrev pub EndsPermission : Plan → Option ℕ → Correction → ℕ → Type 0
+EndsPermission plan selected c t = (p : ℕ) × (ends_permissive_time plan (clocked plan selected c t) selected p ≡ true)
 
 -- in tick t a coordinated phase with pedestrian recycle has just ceased to have time for a walk up to its instant
-abbrev pub EndsRecycle : Plan → Option ℕ → ℕ → Type 0
-EndsRecycle plan selected t = (p : ℕ) × (ends_recycle plan t selected p ≡ true)
+abbrev pub EndsRecycle : Plan → Option ℕ → Correction → ℕ → Type 0
+EndsRecycle plan selected c t = (p : ℕ) × (ends_recycle plan (clocked plan selected c t) selected p ≡ true)
 
 -- clause `exact`: while a pattern runs, a phase is forced off in that tick, or a permissive time or the time for a walk
 -- has just ended there, or it is the next tick and a phase is forced off now or the local counter was not in step
@@ -32,8 +32,8 @@ EndsRecycle plan selected t = (p : ℕ) × (ends_recycle plan t selected p ≡ t
 pub record IsExact (now : ℕ) (plan : Plan) (row : List ℕ) (result : ℕ) : Type 0 where
   pub runs : (n : ℕ) → running plan (pattern_in row) ≡ Some n →
       ForcesOff plan (pattern_in row) (correction_in row) result
-      ⊎ (EndsPermission plan (pattern_in row) result
-      ⊎ (EndsRecycle plan (pattern_in row) result
+      ⊎ (EndsPermission plan (pattern_in row) (correction_in row) result
+      ⊎ (EndsRecycle plan (pattern_in row) (correction_in row) result
       ⊎ ((result ≡ now + 1) × (ForcesOff plan (pattern_in row) (correction_in row) now
       ⊎ (is_in_step plan (pattern_in row) (correction_in row) (now - 1) ≡ false)))))
   pub free : running plan (pattern_in row) ≡ None → result ≡ 6000001

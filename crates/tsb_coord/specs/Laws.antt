@@ -2,7 +2,7 @@
 -- phases and modes of late force-off and of the permissive time; how the local counter comes into step; and that the
 -- cells of coordination are those of what they say. Each law here is the contract of a function in src/laws.rt, and
 -- proved there.
-use Rattle.std.specs.Prelude.{◌≡◌, ◌≢◌, ℕ, ◌+◌, ◌-◌, ◌*◌, ◌/◌, ◌%◌, ◌<◌, ◌≤◌, true, false, ◌||◌, List, Option, Some}
+use Rattle.std.specs.Prelude.{◌≡◌, ◌≢◌, ℕ, ◌+◌, ◌-◌, ◌*◌, ◌/◌, ◌%◌, ◌<◌, ◌≤◌, true, false, ◌||◌, List, Option, Some, None, IfSome}
 use Rattle.tsb_objects.specs.tsb_plan.Plan.{Plan, yellow_change, red_clear}
 use Rattle.tsb_objects.specs.tsb_plan.declared.plan.patterns.CorrectionMode.{CorrectionMode}
 use Rattle.tsb_objects.specs.tsb_plan.declared.plan.patterns.CorrectionMode.TheVariants.{AtOnce, Dwell, ShortWay, AddOnly}
@@ -10,9 +10,11 @@ use Rattle.tsb_objects.specs.tsb_plan.Parts.{cycle, permissive_time, leads_and_l
 use Rattle.tsb_objects.specs.tsb_plan.Running.{running, is_coordinated_now}
 use Rattle.tsb_objects.specs.tsb_rules.Consistent.{IsPhase}
 use Rattle.tsb_objects.specs.tsb_types.declared.limits.TheConstants.{TICKS}
-use Rattle.tsb_coord.specs.Cells.{pattern_in, correction_in, pattern_cells, IsBy}
-use Rattle.tsb_coord.specs.Correction.{Correction, longest_wait, way, is_slower_way, local_now, forces, is_in_step, selected_correction}
-use Rattle.tsb_coord.specs.Coordinated.{local, residue_of_difference, end_of, reference, is_at_force_off, is_in_permissive_time, asks_force_off, yields_to, is_pattern}
+use Rattle.tsb_objects.specs.tsb_types.declared.clock_time.TheConstants.{DAY, FIRST_MOMENT, LAST_DAY}
+use Rattle.tsb_coord.specs.Cells.{pattern_in, correction_in, start_in, pattern_cells, IsBy}
+use Rattle.tsb_coord.specs.Clock.{midnight_at, shift}
+use Rattle.tsb_coord.specs.Correction.{Correction, longest_wait, way, is_slower_way, clocked, local_now, forces, is_in_step, selected_correction}
+use Rattle.tsb_coord.specs.Coordinated.{counter, local, residue_of_difference, end_of, reference, is_at_force_off, is_in_permissive_time, asks_force_off, yields_to, is_pattern}
 
 -- the tick at which p has ended its yellow change and red clearance, if its green ended in tick t
 abbrev pub clear_of : Plan → ℕ → ℕ → ℕ
@@ -105,13 +107,13 @@ TakesFewSteps plan = (n : ℕ) (c : Correction) (t l : ℕ) → is_pattern plan 
 
 -- nor where it is selected, but with mode 0: it goes on from where that of the old pattern stood, within the new cycle
 abbrev pub GoesOn : Plan → Type 0
-GoesOn plan = (n now l : ℕ) → is_pattern plan n ≡ true → correction_mode plan ≢ AtOnce →
-    local_now plan (Some n) (selected_correction plan (Some n) now (Some l)) now ≡ Some (l % cycle plan n)
+GoesOn plan = (n now midnight l : ℕ) → is_pattern plan n ≡ true → correction_mode plan ≢ AtOnce →
+    local_now plan (Some n) (selected_correction plan (Some n) now midnight (Some l)) now ≡ Some (l % cycle plan n)
 
--- in tick t it is in step: it is that of the cycle and the offset
+-- in tick t it is in step: it is that of the cycle and the offset, which without a clock counts from tick number 0
 pub record CountsInStep (plan : Plan) (selected : Option ℕ) (c : Correction) (t : ℕ) : Type 0 where
   pub there : is_in_step plan selected c t ≡ true
-  pub counts : local_now plan selected c t ≡ local plan t selected
+  pub counts : local_now plan selected c t ≡ local plan (clocked plan selected c t) selected
 
 -- once it is in step it stays so
 abbrev pub StaysInStep : Plan → Type 0
@@ -121,7 +123,7 @@ StaysInStep plan = (selected : Option ℕ) (c : Correction) (t u : ℕ) → is_i
 -- from the next tick on a phase is forced off as by the counter in step
 abbrev pub ForcesInStep : Plan → Type 0
 ForcesInStep plan = (selected : Option ℕ) (c : Correction) (t p : ℕ) → is_in_step plan selected c (t - 1) ≡ true →
-    forces plan selected c t p ≡ asks_force_off plan t selected p
+    forces plan selected c t p ≡ asks_force_off plan (clocked plan selected c t) selected p
 
 -- so many ticks are enough for a slower counter
 abbrev pub HasLostAll : Plan → Correction → ℕ → Type 0
@@ -151,11 +153,33 @@ abbrev pub ComesIntoStep : Plan → Type 0
 ComesIntoStep plan = (n : ℕ) (c : Correction) (t : ℕ) → is_pattern plan n ≡ true → correction_limit plan ≤ 50 → c.ahead < cycle plan n →
     IsLongEnough (correction_mode plan) plan n c (t - c.since) → is_in_step plan (Some n) c t ≡ true
 
+-- ## The clock
+
+-- without a clock a counter counts from tick number 0
+abbrev pub CountsFromTick0 : Plan → Type 0
+CountsFromTick0 plan = (selected : Option ℕ) (c : Correction) (now t : ℕ) → c.midnight ≡ midnight_at None now →
+    clocked plan selected c t ≡ t
+
+-- the tenths since the midnight at or before tick number `now`, in tick t; tick number 0 is at the moment `start`
+abbrev pub since_midnight : ℕ → ℕ → ℕ → ℕ
+since_midnight start now t = (start + now) % DAY + (t - now)
+
+-- with one the counter in step is that of the tenths since the midnight at or before the tick in which the pattern is
+-- selected, or the clock set: those less the offset, within the cycle
+abbrev pub CountsFromMidnight : Plan → Type 0
+CountsFromMidnight plan = (n start now t : ℕ) → is_pattern plan n ≡ true → now ≤ TICKS → now ≤ t →
+    counter plan n (t + shift (cycle plan n) (midnight_at (Some start) now)) ≡ counter plan n (since_midnight start now t)
+
+-- so where tick number 0 is at a midnight, nothing changes for what is selected on that day
+abbrev pub CountsAlike : Plan → Type 0
+CountsAlike plan = (n day now t : ℕ) → is_pattern plan n ≡ true → now < DAY → now ≤ t →
+    counter plan n (t + shift (cycle plan n) (midnight_at (Some (day * DAY)) now)) ≡ counter plan n t
+
 -- ## The cells
 
 -- a row that coordination can hold is the table of what it says
 abbrev pub RowsAreTold : Type 0
-RowsAreTold = (row : List ℕ) → IsBy row → pattern_cells (pattern_in row) (correction_in row) ≡ row
+RowsAreTold = (row : List ℕ) → IsBy row → pattern_cells (pattern_in row) (correction_in row) (start_in row) ≡ row
 
 -- a pattern that can be selected, if one is, is one of 1 to 16
 pub record IsSelectable (selected : Option ℕ) : Type 0 where
@@ -166,16 +190,24 @@ pub record IsSelectable (selected : Option ℕ) : Type 0 where
 pub record IsCorrectable (c : Correction) : Type 0 where
   pub since : c.since ≤ TICKS
   pub ahead : c.ahead ≤ 2550
+  pub midnight : c.midnight < FIRST_MOMENT + DAY
 
--- the table of such a pattern and of how its counter comes into step is read as these
-pub record AreRead (selected : Option ℕ) (c : Correction) : Type 0 where
-  pub pattern : pattern_in (pattern_cells selected c) ≡ selected
-  pub correction : correction_in (pattern_cells selected c) ≡ c
+-- the moment that tick number 0 can have, if a clock is set: one of the days that are counted
+abbrev pub IsStart : Option ℕ → Type 0
+IsStart start = IfSome start (λ m. (1 ≤ m) × (m < (LAST_DAY + 1) * DAY))
+
+-- the table of such a pattern, of how its counter comes into step, and of such a clock is read as these
+pub record AreRead (selected : Option ℕ) (c : Correction) (first : Option ℕ) : Type 0 where
+  pub pattern : pattern_in (pattern_cells selected c first) ≡ selected
+  pub correction : correction_in (pattern_cells selected c first) ≡ c
+  pub start : start_in (pattern_cells selected c first) ≡ first
 
 -- so of each
 abbrev pub StatesAreRead : Type 0
-StatesAreRead = (selected : Option ℕ) (c : Correction) → IsSelectable selected → AreRead selected c
+StatesAreRead = (selected : Option ℕ) (c : Correction) (start : Option ℕ) → IsSelectable selected → IsStart start →
+    AreRead selected c start
 
 -- and is a row that coordination can hold: it can keep the selection of each pattern from 1 to 16, and of none
 abbrev pub StatesAreBy : Type 0
-StatesAreBy = (selected : Option ℕ) (c : Correction) → IsSelectable selected → IsCorrectable c → IsBy (pattern_cells selected c)
+StatesAreBy = (selected : Option ℕ) (c : Correction) (start : Option ℕ) → IsSelectable selected → IsCorrectable c → IsStart start →
+    IsBy (pattern_cells selected c start)

@@ -9,9 +9,11 @@ use Rattle.tsb_objects.specs.tsb_plan.Running.{running}
 use Rattle.tsb_coord.specs.declared.coordination.Coordination.{Coordination}
 use Rattle.tsb_coord.specs.Coordinated.{at_power_up, asks_hold, asks_omit, sequence_now, refusal, selects}
 use Rattle.tsb_coord.specs.Correction.{Correction, in_step, forces, lets_walk_again, local_now, selected_correction}
-use Rattle.tsb_coord.specs.Cells.{pattern_in, correction_in}
+use Rattle.tsb_coord.specs.Cells.{pattern_in, correction_in, start_in}
+use Rattle.tsb_coord.specs.Clock.{midnight_at, start_of}
 
--- `new`, `reset(now)`: no pattern is selected, and nothing is to come into step
+-- `new`, `reset(now)`: no pattern is selected, and nothing is to come into step. At power-up no clock is set, and a
+-- reset keeps it
 abbrev pub IsAtPowerUp : List ℕ → Type 0
 IsAtPowerUp new = (pattern_in new ≡ at_power_up) × (correction_in new ≡ in_step)
 
@@ -36,13 +38,22 @@ selected_after (Some r) n was = was
 -- its local counter goes on from that of the old pattern, or is in step at once; or all is as it was
 abbrev pub correction_after : Option Refusal → Plan → ℕ → ℕ → List ℕ → Correction
 correction_after None plan now n old =
-    selected_correction plan (selects n) now (local_now plan (pattern_in old) (correction_in old) now)
+    selected_correction plan (selects n) now (midnight_at (start_in old) now) (local_now plan (pattern_in old) (correction_in old) now)
 correction_after (Some r) plan now n old = correction_in old
 
 -- the cells say this after the call, refused or not
 pub record IsSelected (n now : ℕ) (plan : Plan) (old new : List ℕ) : Type 0 where
   pub pattern : pattern_in new ≡ selected_after (refusal plan n) n (pattern_in old)
   pub correction : correction_in new ≡ correction_after (refusal plan n) plan now n old
+  pub start : start_in new ≡ start_in old
+
+-- `set_clock(moment, now, plan)`: tick number `now` is at this moment. The pattern that is selected stays so, and its
+-- local counter comes into step with the new midnight, as where it is selected
+pub record IsClocked (moment now : ℕ) (plan : Plan) (old new : List ℕ) : Type 0 where
+  pub pattern : pattern_in new ≡ pattern_in old
+  pub correction : correction_in new
+      ≡ selected_correction plan (pattern_in old) now (midnight_at (Some (start_of moment now)) now) (local_now plan (pattern_in old) (correction_in old) now)
+  pub start : start_in new ≡ Some (start_of moment now)
 
 -- `local(now, plan)`: the local counter at tick number `now`, which goes on while tripped, or `None` in free operation.
 -- So `now` is here the tick number itself, also of a bench that has tripped, and not the tick of the trip.

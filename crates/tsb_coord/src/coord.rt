@@ -1,5 +1,5 @@
 //! Coordination over its cells.
-ghost use Rattle.std.specs.Prelude.{◌≡◌, ℕ, ◌+◌, ◌<◌, ◌≤◌, ◌^◌, ◌++◌, true, false, Some, None, IfSome, length};
+ghost use Rattle.std.specs.Prelude.{◌≡◌, ℕ, ◌+◌, ◌*◌, ◌<◌, ◌≤◌, ◌^◌, ◌++◌, true, false, Some, None, IfSome, length};
 ghost use Rattle.arrayvec.specs.ArrayVec.{array_vec_len};
 ghost use Rattle.tsb_objects.specs.tsb_types.declared.limits.TheConstants.{TICKS};
 ghost use Rattle.tsb_cells.specs.Diff.{diff, shifted};
@@ -9,13 +9,17 @@ ghost use Rattle.tsb_objects.specs.tsb_plan.Running.{running};
 ghost use Rattle.tsb_objects.specs.tsb_types.declared.refusal.Refusal.{Refusal};
 ghost use Rattle.tsb_objects.specs.tsb_types.Sets.{has};
 ghost use Rattle.tsb_coord.specs.declared.TheConstants.{CELLS};
-ghost use Rattle.tsb_coord.specs.Cells.{pattern_in, correction_in, IsBy};
+ghost use Rattle.tsb_objects.specs.tsb_types.declared.clock_time.TheConstants.{DAY, FIRST_MOMENT, LAST_DAY};
+ghost use Rattle.tsb_coord.specs.Cells.{pattern_in, correction_in, start_in, IsBy};
+ghost use Rattle.tsb_coord.specs.Clock.{midnight_at};
 ghost use Rattle.tsb_coord.specs.Coordinated.{refusal};
 ghost use Rattle.tsb_coord.specs.Due.{KeepsOrders, IsExact};
-ghost use Rattle.tsb_coord.specs.Promises.{IsAtPowerUp, AreOrders, IsAnswered, IsSelected, correction_after, TellsLocal, TellsPattern};
+ghost use Rattle.tsb_coord.specs.Correction.{clocked, local_now, selected_correction};
+ghost use Rattle.tsb_coord.specs.Promises.{IsAtPowerUp, AreOrders, IsAnswered, IsSelected, IsClocked, TellsLocal, TellsPattern};
 
 use crate::CELLS;
 use crate::asked::asked_in;
+use crate::clock::{midnight_at, shift};
 use crate::coordination::Coordination;
 use crate::correction::{Correction, ahead_before, ahead_in, begun};
 use crate::counting::counter;
@@ -24,12 +28,13 @@ use arrayvec::ArrayVec;
 use tsb_cells::{Bank, Diff, Reversible};
 use tsb_objects::limits::TICKS;
 use tsb_objects::{Checked, Pattern, PhaseSet, Refusal, Sequence};
+use tsb_types::{ClockTime, DAY};
 
 /// The sequence in free operation.
 const FREE_SEQUENCE: u8 = 1;
 
-/// Coordination: which pattern is selected, and how its local counter comes into step. All else is found from these,
-/// the plan and the number of the tick.
+/// Coordination: which pattern is selected, how its local counter comes into step, and the clock, where one is set. All
+/// else is found from these, the plan and the number of the tick.
 #[derive(Clone, Copy)]
 pub struct Coord {
     bank: Bank<CELLS>,
@@ -58,20 +63,23 @@ fn free() -> Coordination
 impl Coord {
     ghost use Rattle.tsb_coord.specs.Layer.{cells_of, kept_of, is_open};
 
-    /// Coordination as at power-up: no pattern is selected, which is free operation.
+    /// Coordination as at power-up: no pattern is selected, which is free operation, and no clock is set.
     pub fn new() -> Coord
         ensures each { IsAtPowerUp (cells_of result) }
+        ensures start { start_in (cells_of result) ≡ None }
         ensures by { IsBy (cells_of result) }
         ensures closed { is_open result ≡ false }
     {
         Coord { bank: Bank::new() }
     }
 
-    /// Coordination as at power-up: no pattern is selected. The tick is that of every layer's `reset`; nothing begins
-    /// at it.
+    /// Coordination as at power-up: no pattern is selected. A clock that is set goes on. The tick is that of every layer's
+    /// `reset`; nothing begins at it.
     pub fn reset(&mut self, _now: u32)
         requires opened { is_open self.old ≡ true }
+        requires by { IsBy (cells_of self.old) }
         ensures each { IsAtPowerUp (cells_of self.new) }
+        ensures start { start_in (cells_of self.new) ≡ start_in (cells_of self.old) }
         ensures by { IsBy (cells_of self.new) }
         ensures kept { kept_of self.new ≡ kept_of self.old }
         ensures opened { is_open self.new ≡ true }
@@ -79,6 +87,7 @@ impl Coord {
         self.bank.put(0, 0);
         self.bank.put(1, 0);
         self.bank.put(2, 0);
+        self.bank.put(3, 0);
     }
 
     /// Why a pattern cannot be selected, if it cannot: `NoSuchPattern` (E9), where the number is neither 0, which is
@@ -118,28 +127,76 @@ impl Coord {
         match Coord::refusal(n, plan) {
             Some(refusal) => Err(refusal),
             None => {
-                let correction = self.selected(n, now, plan);
+                let midnight = midnight_at(&self.start(), now);
+                let correction = self.selected(&Pattern::new(n), now, midnight, plan);
                 self.bank.put(0, n);
                 self.bank.put(1, correction.since);
                 self.bank.put(2, correction.ahead);
+                self.bank.put(3, correction.midnight);
                 Ok(())
             }
         }
     }
 
-    /// How the local counter comes into step where this pattern is selected, which is not refused.
-    fn selected(&self, n: u32, now: u32, plan: &Checked) -> Correction
+    /// Sets the clock: tick number `now` is at this moment. The local counter of the pattern that is selected comes into
+    /// step with the midnight at or before it, as where the pattern is selected.
+    pub fn set_clock(&mut self, moment: ClockTime, now: u32, plan: &Checked)
+        requires opened { is_open self.old ≡ true }
+        requires by { IsBy (cells_of self.old) }
+        requires in_time { now ≤ TICKS }
+        ensures set { IsClocked moment now (checked_plan plan.now) (cells_of self.old) (cells_of self.new) }
+        ensures by { IsBy (cells_of self.new) }
+        ensures kept { kept_of self.new ≡ kept_of self.old }
+        ensures opened { is_open self.new ≡ true }
+    {
+        let start = moment.number().saturating_sub(u64::from(now));
+        let midnight = midnight_at(&Some(start), now);
+        let anew = self.selected(&self.pattern(), now, midnight, plan);
+        self.bank.put(1, anew.since);
+        self.bank.put(2, anew.ahead);
+        self.bank.put(3, anew.midnight);
+        self.bank.put(4, (start / u64::from(DAY)) as u32);
+        self.bank.put(5, (start % u64::from(DAY)) as u32);
+    }
+
+    /// How the local counter comes into step where this pattern is selected, with this midnight.
+    fn selected(
+        &self,
+        selected: &Option<Pattern>,
+        now: u32,
+        midnight: u32,
+        plan: &Checked,
+    ) -> Correction
         requires by { IsBy (cells_of self.now) }
         requires in_time { now ≤ TICKS }
-        requires allowed { refusal (checked_plan plan.now) n ≡ None }
-        ensures value { result ≡ correction_after None (checked_plan plan.now) now n (cells_of self.now) }
+        requires midnight { midnight < FIRST_MOMENT + DAY }
+        requires used { (n : ℕ) → selected.now ≡ Some n →
+            IfSome (local_now (checked_plan plan.now) (pattern_in (cells_of self.now)) (correction_in (cells_of self.now)) now) (λ l. is_used (checked_plan plan.now) n ≡ true) }
+        ensures value { result ≡ selected_correction (checked_plan plan.now) selected.now now midnight
+            (local_now (checked_plan plan.now) (pattern_in (cells_of self.now)) (correction_in (cells_of self.now)) now) }
         ensures since { result.since ≤ TICKS }
         ensures ahead { result.ahead ≤ 2550 }
+        ensures midnight { result.midnight < FIRST_MOMENT + DAY }
     {
-        match Pattern::new(n) {
-            None => Correction { since: 0, ahead: 0 },
-            Some(pattern) => begun(plan, pattern, now, &self.local(now, plan)),
+        match selected {
+            None => Correction {
+                since: 0,
+                ahead: 0,
+                midnight: 0,
+            },
+            Some(pattern) => begun(plan, *pattern, now, midnight, &self.local(now, plan)),
         }
+    }
+
+    /// The moment of tick number 0, in tenths of a second since 1999-12-24 00:00, or `None` where no clock is set.
+    #[inline(always)]
+    pub fn start(&self) -> Option<u64>
+        requires by { IsBy (cells_of self.now) }
+        ensures value { result ≡ start_in (cells_of self.now) }
+        ensures counted { IfSome result (λ m. m < (LAST_DAY + 1) * DAY) }
+    {
+        let start = u64::from(self.bank.get(4)) * u64::from(DAY) + u64::from(self.bank.get(5));
+        if start == 0 { None } else { Some(start) }
     }
 
     /// How the local counter comes into step.
@@ -148,10 +205,12 @@ impl Coord {
         requires by { IsBy (cells_of self.now) }
         ensures value { result ≡ correction_in (cells_of self.now) }
         ensures since { result.since ≤ TICKS }
+        ensures midnight { result.midnight < FIRST_MOMENT + DAY }
     {
         Correction {
             since: self.bank.get(1),
             ahead: self.bank.get(2),
+            midnight: self.bank.get(3),
         }
     }
 
@@ -222,8 +281,10 @@ impl Coord {
             Some(n) => {
                 n.known();
                 let _consistent = plan.plan();
-                if ahead_before(plan, n, self.correction(), now) == 0 {
-                    now + ticks_to_next(plan, n, counter(plan, n, now))
+                let correction = self.correction();
+                if ahead_before(plan, n, correction, now) == 0 {
+                    let clocked = now + shift(plan, n, correction.midnight);
+                    now + ticks_to_next(plan, n, counter(plan, n, clocked))
                 } else {
                     now + 1
                 }
@@ -241,9 +302,25 @@ impl Coord {
         match self.running(plan) {
             None => None,
             Some(n) => {
-                let ahead = ahead_in(plan, n, self.correction(), now);
-                Some(counter(plan, n, now + ahead))
+                let correction = self.correction();
+                let ahead = ahead_in(plan, n, correction, now);
+                let clocked = now + shift(plan, n, correction.midnight);
+                Some(counter(plan, n, clocked + ahead))
             }
+        }
+    }
+
+    /// The tick in which a counter from tick number 0 is where that in step is at tick number `now`, at most the last that
+    /// there is: `now` itself where no clock is set, and in free operation.
+    pub fn clocked(&self, now: u32, plan: &Checked) -> u32
+        requires by { IsBy (cells_of self.now) }
+        requires in_time { now ≤ TICKS }
+        ensures value { result ≡ clocked (checked_plan plan.now) (pattern_in (cells_of self.now)) (correction_in (cells_of self.now)) now }
+        ensures small { result ≤ TICKS + 2550 }
+    {
+        match self.running(plan) {
+            None => now,
+            Some(n) => now + shift(plan, n, self.bank.get(3)),
         }
     }
 

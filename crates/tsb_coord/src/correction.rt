@@ -1,12 +1,15 @@
 //! How the local counter comes into step once a pattern is selected while another one ran (`coordCorrectionMode`,
 //! profile). Times are in ticks.
-ghost use Rattle.std.specs.Prelude.{◌≡◌, ◌<◌, ◌≤◌, ◌-◌, true, Some};
+ghost use Rattle.std.specs.Prelude.{◌≡◌, ◌<◌, ◌≤◌, ◌+◌, ◌-◌, true, Some, IfSome};
+ghost use Rattle.tsb_objects.specs.tsb_types.declared.clock_time.TheConstants.{DAY, FIRST_MOMENT};
 ghost use Rattle.tsb_objects.specs.tsb_types.declared.limits.TheConstants.{TICKS};
 ghost use Rattle.tsb_objects.specs.tsb_plan.declared.plan.patterns.CorrectionMode.TheVariants.{Dwell};
 ghost use Rattle.tsb_objects.specs.tsb_plan.Parts.{cycle, is_used};
 ghost use Rattle.tsb_objects.specs.Checked.{checked_plan};
+ghost use Rattle.tsb_coord.specs.Clock.{shift};
 ghost use Rattle.tsb_coord.specs.Correction.{lost, gained, longest_wait, waited, way, by_short_way, ahead_by, ahead_in, begun, ahead_with, ahead_from};
 
+use crate::clock::shift;
 use crate::counting::{counter, cycle_of};
 use tsb_objects::{Checked, CorrectionMode, Pattern};
 
@@ -17,6 +20,9 @@ pub struct Correction {
     pub since: u32,
     /// How many ticks the local counter was ahead of the one in step; 0 for in step.
     pub ahead: u32,
+    /// The midnight that it counts from, as cell 3 has it: how long after it tick number 0 comes, in ticks, and eight
+    /// days; 0 where no clock is set.
+    pub midnight: u32,
 }
 
 /// How many ticks a cycle that is made longer loses in so many.
@@ -64,15 +70,17 @@ fn waited(cycle: u32, most: u32, ticks: u32) -> u32
 }
 
 /// How many ticks the local counter takes to where it waits from where it stood at the selection.
-fn way(plan: &Checked, n: Pattern, since: u32, ahead: u32) -> u32
+fn way(plan: &Checked, n: Pattern, begun: Correction) -> u32
     requires used { is_used (checked_plan plan.now) n ≡ true }
-    requires since { since ≤ TICKS }
-    requires ahead { ahead ≤ 2550 }
-    ensures value { result ≡ way (checked_plan plan.now) n (record { since = since; ahead = ahead }) }
+    requires since { begun.since ≤ TICKS }
+    requires ahead { begun.ahead ≤ 2550 }
+    requires midnight { begun.midnight < FIRST_MOMENT + DAY }
+    ensures value { result ≡ way (checked_plan plan.now) n begun }
     ensures below { result < cycle (checked_plan plan.now) n }
 {
     let cycle = cycle_of(plan, n);
-    let from = (counter(plan, n, since) + ahead) % cycle;
+    let since = begun.since + shift(plan, n, begun.midnight);
+    let from = (counter(plan, n, since) + begun.ahead) % cycle;
     (plan.waiting_point(n) + (cycle - from)) % cycle
 }
 
@@ -94,23 +102,25 @@ fn by_short_way(cycle: u32, limit: u32, ahead: u32, ticks: u32) -> u32
 }
 
 /// How far a counter is ahead that waits by that limit, so many ticks after the selection.
-fn by_dwell(plan: &Checked, n: Pattern, since: u32, ahead: u32, ticks: u32) -> u32
+fn by_dwell(plan: &Checked, n: Pattern, begun: Correction, ticks: u32) -> u32
     requires used { is_used (checked_plan plan.now) n ≡ true }
-    requires since { since ≤ TICKS }
-    requires ahead { ahead ≤ 2550 }
-    ensures value { result ≡ ahead_by Dwell (checked_plan plan.now) n (record { since = since; ahead = ahead }) ticks }
-    ensures within { result ≤ ahead }
+    requires since { begun.since ≤ TICKS }
+    requires ahead { begun.ahead ≤ 2550 }
+    requires midnight { begun.midnight < FIRST_MOMENT + DAY }
+    ensures value { result ≡ ahead_by Dwell (checked_plan plan.now) n begun ticks }
+    ensures within { result ≤ begun.ahead }
 {
     let cycle = cycle_of(plan, n);
     let most = longest_wait(plan.plan().correction_limit(), cycle);
-    let there = ticks.saturating_sub(way(plan, n, since, ahead));
-    ahead.saturating_sub(waited(cycle, most, there))
+    let there = ticks.saturating_sub(way(plan, n, begun));
+    begun.ahead.saturating_sub(waited(cycle, most, there))
 }
 
 /// How many ticks the local counter of a pattern is ahead of the one in step in tick `t`.
 pub(crate) fn ahead_in(plan: &Checked, n: Pattern, correction: Correction, t: u32) -> u32
     requires used { is_used (checked_plan plan.now) n ≡ true }
     requires since { correction.since ≤ TICKS }
+    requires midnight { correction.midnight < FIRST_MOMENT + DAY }
     requires in_time { t ≤ TICKS }
     ensures value { result ≡ ahead_in (checked_plan plan.now) (Some n) correction t }
     ensures small { result ≤ 2550 }
@@ -119,12 +129,16 @@ pub(crate) fn ahead_in(plan: &Checked, n: Pattern, correction: Correction, t: u3
         return 0;
     }
     let cycle = cycle_of(plan, n);
-    let ahead = correction.ahead % cycle;
+    let within = Correction {
+        ahead: correction.ahead % cycle,
+        ..correction
+    };
+    let ahead = within.ahead;
     let ticks = t.saturating_sub(correction.since);
     let limit = plan.plan().correction_limit();
     match plan.plan().correction_mode() {
         CorrectionMode::AtOnce => 0,
-        CorrectionMode::Dwell => by_dwell(plan, n, correction.since, ahead, ticks),
+        CorrectionMode::Dwell => by_dwell(plan, n, within, ticks),
         CorrectionMode::ShortWay => by_short_way(cycle, limit, ahead, ticks),
         CorrectionMode::AddOnly => ahead.saturating_sub(lost(limit, ticks)),
     }
@@ -135,6 +149,7 @@ pub(crate) fn ahead_in(plan: &Checked, n: Pattern, correction: Correction, t: u3
 pub(crate) fn ahead_before(plan: &Checked, n: Pattern, correction: Correction, t: u32) -> u32
     requires used { is_used (checked_plan plan.now) n ≡ true }
     requires since { correction.since ≤ TICKS }
+    requires midnight { correction.midnight < FIRST_MOMENT + DAY }
     requires in_time { t ≤ TICKS }
     ensures value { result ≡ ahead_in (checked_plan plan.now) (Some n) correction (t - 1) }
     ensures small { result ≤ 2550 }
@@ -156,26 +171,42 @@ fn ahead_with(mode: CorrectionMode, ahead: u32) -> u32
     }
 }
 
-/// How the local counter of a pattern that is selected in tick `now` comes into step, where that of the old pattern
-/// stood there, if one ran.
-pub(crate) fn begun(plan: &Checked, n: Pattern, now: u32, local: &Option<u32>) -> Correction
-    requires used { is_used (checked_plan plan.now) n ≡ true }
+/// How the local counter of a pattern that is selected in tick `now` comes into step with this midnight, where that of the
+/// old pattern stood there, if one ran.
+pub(crate) fn begun(
+    plan: &Checked,
+    n: Pattern,
+    now: u32,
+    midnight: u32,
+    local: &Option<u32>,
+) -> Correction
+    requires used { IfSome local.now (λ l. is_used (checked_plan plan.now) n ≡ true) }
     requires in_time { now ≤ TICKS }
-    ensures value { result ≡ begun now (ahead_from (checked_plan plan.now) n now local.now) }
+    requires midnight { midnight < FIRST_MOMENT + DAY }
+    ensures value { result ≡ begun now midnight (ahead_from (checked_plan plan.now) n (now + shift (cycle (checked_plan plan.now) n) midnight) local.now) }
     ensures since { result.since ≤ TICKS }
     ensures ahead { result.ahead ≤ 2550 }
+    ensures midnight { result.midnight < FIRST_MOMENT + DAY }
 {
-    let in_step = Correction { since: 0, ahead: 0 };
+    let in_step = Correction {
+        since: 0,
+        ahead: 0,
+        midnight,
+    };
     let Some(local) = local else {
         return in_step;
     };
     let cycle = cycle_of(plan, n);
-    let rest = cycle - counter(plan, n, now);
+    let rest = cycle - counter(plan, n, now + shift(plan, n, midnight));
     let mode = plan.plan().correction_mode();
     let ahead = ahead_with(mode, (*local % cycle + rest) % cycle);
     if ahead == 0 {
         in_step
     } else {
-        Correction { since: now, ahead }
+        Correction {
+            since: now,
+            ahead,
+            midnight,
+        }
     }
 }

@@ -18,16 +18,16 @@ pub(crate) fn cycle_of(plan: &Checked, n: Pattern) -> u32
     plan.plan().cycle(n)
 }
 
-/// The local counter of a pattern that is used, in step: the tick number less the offset, within the cycle. The number
-/// is at most a cycle past the last tick that there is.
+/// The local counter of a pattern that is used, in step: the ticks since tick number 0, less the offset in effect, within
+/// the cycle. The number is at most two cycles past the last tick that there is.
 #[inline(always)]
 pub(crate) fn counter(plan: &Checked, n: Pattern, now: u32) -> u32
     requires used { is_used (checked_plan plan.now) n ≡ true }
-    requires in_time { now ≤ TICKS + 2550 }
+    requires in_time { now ≤ TICKS + 5100 }
     ensures value { result ≡ counter (checked_plan plan.now) n now }
     ensures below { result < cycle (checked_plan plan.now) n }
 {
     let cycle = cycle_of(plan, n);
-    let offset = plan.plan().offset(n);
+    let offset = plan.offset_in_effect(n);
     (now + cycle).saturating_sub(offset) % cycle
 }

@@ -1,5 +1,6 @@
 //! How the local counter goes, for event logs: the state of the cycle, local zero and yield points.
-ghost use Rattle.std.specs.Prelude.{◌≡◌, ℕ, ◌+◌, ◌≤◌, true};
+ghost use Rattle.std.specs.Prelude.{◌≡◌, ℕ, ◌+◌, ◌<◌, ◌≤◌, true};
+ghost use Rattle.tsb_objects.specs.tsb_types.declared.clock_time.TheConstants.{DAY, FIRST_MOMENT};
 ghost use Rattle.tsb_objects.specs.tsb_types.declared.limits.TheConstants.{TICKS};
 ghost use Rattle.tsb_objects.specs.tsb_types.Sets.{has};
 ghost use Rattle.tsb_objects.specs.tsb_plan.Parts.{correction_mode, is_used};
@@ -8,6 +9,7 @@ ghost use Rattle.tsb_coord.specs.Cells.{IsBy};
 ghost use Rattle.tsb_coord.specs.Coordinated.{agree};
 ghost use Rattle.tsb_coord.specs.Cycle.{TellsCycle, TellsYields, TellsZero, first_place, is_either, last_place, number_of, place_by, way_in, yields_at};
 
+use crate::clock::shift;
 use crate::coord::Coord;
 use crate::correction::{Correction, ahead_before, ahead_in};
 use crate::counting::{counter, cycle_of};
@@ -78,7 +80,7 @@ struct Places {
 /// a step.
 fn place_by(plan: &Checked, n: Pattern, steps: bool, tick: u32) -> Option<u32>
     requires used { is_used (checked_plan plan.now) n ≡ true }
-    requires in_time { tick ≤ TICKS + 2550 }
+    requires in_time { tick ≤ TICKS + 5100 }
     ensures { result ≡ place_by (checked_plan plan.now) n steps tick }
 {
     if steps {
@@ -92,13 +94,14 @@ fn place_by(plan: &Checked, n: Pattern, steps: bool, tick: u32) -> Option<u32>
 fn places_in(plan: &Checked, n: Pattern, correction: Correction, now: u32) -> Places
     requires used { is_used (checked_plan plan.now) n ≡ true }
     requires since { correction.since ≤ TICKS }
+    requires midnight { correction.midnight < FIRST_MOMENT + DAY }
     requires in_time { now ≤ TICKS }
     ensures last { result.last ≡ last_place (checked_plan plan.now) n correction now }
     ensures first { result.first ≡ first_place (checked_plan plan.now) n correction now }
 {
     let before = ahead_before(plan, n, correction, now);
     let ahead = ahead_in(plan, n, correction, now);
-    let counted = now + ahead;
+    let counted = now + shift(plan, n, correction.midnight) + ahead;
     let stays = before == ahead + 1;
     let steps_twice = ahead == (before + 1) % cycle_of(plan, n);
     Places {

@@ -2,7 +2,8 @@
 //! that does nothing.
 ghost use Rattle.tsb_objects.specs.tsb_plan.Plan.{Plan};
 ghost use Rattle.tsb_objects.specs.tsb_rules.Consistent.{OfConsistentPlans};
-ghost use Rattle.tsb_coord.specs.Laws.{EndWithTheirSplits, CoordinatedEndAtZero, CoordinatedEndInTime, CoordinatedEndNearZero, AtInstantsInMode0, CoordinatedAtInstants, OthersAreNotPermitted, NoneIsPermittedWithout, ForcedAtInstants, EndsWhereItYields, GoesOn, TakesFewSteps, ComesIntoStep, StaysInStep, ForcesInStep, RowsAreTold, StatesAreRead, StatesAreBy};
+ghost use Rattle.tsb_coord.specs.OffsetLaws.{MomentsComeAtOffsets, OffsetsCountAlike, PlainOffsetsAct};
+ghost use Rattle.tsb_coord.specs.Laws.{EndWithTheirSplits, CoordinatedEndAtZero, CoordinatedEndInTime, CoordinatedEndNearZero, AtInstantsInMode0, CoordinatedAtInstants, OthersAreNotPermitted, NoneIsPermittedWithout, ForcedAtInstants, EndsWhereItYields, GoesOn, TakesFewSteps, ComesIntoStep, StaysInStep, ForcesInStep, RowsAreTold, StatesAreRead, StatesAreBy, CountsFromTick0, CountsFromMidnight, CountsAlike};
 
 /// A phase that is forced off at its instant has time to clear by the end of its split. Its yellow change and red
 /// clearance, counted from its force-off instant, end where its split ends on the local counter; those of the
@@ -63,6 +64,47 @@ pub fn counters_come_into_step()
     ensures arrives { OfConsistentPlans ComesIntoStep }
     ensures stays { (plan : Plan) → StaysInStep plan }
     ensures forces { (plan : Plan) → ForcesInStep plan }
+{}
+
+/// With a clock the local counter in step counts from a midnight. It is the tenths since the midnight at or before the tick
+/// in which its pattern is selected, or the clock set, less the offset, within the cycle. A pattern that runs across
+/// midnight goes on without a jump. Without a clock it counts from tick number 0, and so it does where that is a midnight,
+/// for what is selected on that day.
+///
+/// Needs: a plan that breaks no rule; a tick that there is.
+/// Not said: that the counter is in step then, which `counters_come_into_step` says.
+/// Mistakes: a counter from the midnight before tick number 0, `from_the_first` (`would_jump_back`); one that begins anew at
+/// each midnight, `from_each` (`would_begin_anew`).
+/// Witness: `from_seven`, `goes_on_at_midnight`, `selected_after_midnight` of ClockExamples.
+pub fn counters_count_from_midnight()
+    ensures without { (plan : Plan) → CountsFromTick0 plan }
+    ensures counts { OfConsistentPlans CountsFromMidnight }
+    ensures alike { OfConsistentPlans CountsAlike }
+{}
+
+/// What the offset of a pattern is counted to comes at the tick of the offset, and each cycle later: there the local
+/// counter in step is the time from local 0 to that moment. The begin of green, of yellow or of red that
+/// `coordReference` names is thus at the offset of the timing sheet.
+///
+/// Needs: a plan that breaks no rule, and a number of `coordReference` other than 0.
+/// Not said: that the phase turns green, yellow or red there: splits say when it is to.
+/// Mistakes: local 0 before the moment and not after it, `turned_round` of OffsetMistakes of tsb_objects
+/// (`would_be_before`); a first green that is always ring 1's, `of_ring_1` (`would_be_the_last`).
+/// Witness: `comes_at_the_offset` of OffsetExamples.
+pub fn offsets_are_counted_to_their_moments()
+    ensures { OfConsistentPlans MomentsComeAtOffsets }
+{}
+
+/// A plan with other offsets, counted to another moment, is coordinated as it was where in each pattern local 0 comes
+/// at the same time. With `coordReference` 0 an offset is in effect as it is. So a plan with `coordReference` runs as the
+/// one with 0 and the converted offsets, where these are whole seconds.
+///
+/// Not said: what a desk that changes splits, clearances or rings makes of it: the converted offset is then another.
+/// Mistakes: those of `offsets_are_counted_to_their_moments`.
+/// Witness: `are_alike` of OffsetExamples.
+pub fn offsets_act_by_when_local_0_comes()
+    ensures alike { OffsetsCountAlike }
+    ensures plain { PlainOffsetsAct }
 {}
 
 /// A row that the layer can have is the encoding of what is read in it.

@@ -4,7 +4,7 @@
 use Rattle.std.specs.Prelude.{◌≡◌, ℕ, zero, suc, ◌+◌, ◌-◌, ◌*◌, ◌/◌, ◌≤◌, ◌==◌, List, [], ◌∷◌, ◌++◌, length, All, slice_index, if◌then◌else◌}
 use Rattle.std.specs.Int.{w16, w32, to_le_bytes}
 use Rattle.tsb_history.specs.declared.kinds.Kind.{Kind}
-use Rattle.tsb_history.specs.declared.kinds.Kind.TheVariants.{Tick, Pattern, Switch, Fault, Reset, Begin, Set, Verify, Commit, Abort}
+use Rattle.tsb_history.specs.declared.kinds.Kind.TheVariants.{Tick, Pattern, Switch, Fault, Reset, Begin, Set, Verify, Commit, Abort, Clock}
 use Rattle.tsb_history.specs.History.{Change, FitsRecord}
 
 -- the byte of a kind
@@ -19,8 +19,9 @@ code_of Set = 6
 code_of Verify = 7
 code_of Commit = 8
 code_of Abort = 9
+code_of Clock = 10
 
--- the kind of a byte; no kind has a byte above 9
+-- the kind of a byte; no kind has a byte above 10
 abbrev pub kind_of : ℕ → Kind
 kind_of n =
     if n == 0 then Tick
@@ -32,7 +33,8 @@ kind_of n =
     else if n == 6 then Set
     else if n == 7 then Verify
     else if n == 8 then Commit
-    else Abort
+    else if n == 9 then Abort
+    else Clock
 
 -- an entry: the cell in two bytes and its old value in four, least first
 abbrev pub entry_bytes : ℕ × ℕ → List ℕ

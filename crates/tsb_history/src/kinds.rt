@@ -1,8 +1,8 @@
 ghost use Rattle.std.specs.Prelude.{◌≡◌};
 ghost use Rattle.tsb_history.specs.Bytes.{code_of, kind_of};
 
-/// What an input was. In the bytes of a history a kind is one number, from 0 for `Tick` to 9 for
-/// `Abort`, in this order.
+/// What an input was. In the bytes of a history a kind is one number, from 0 for `Tick` to 10 for
+/// `Clock`, in this order.
 #[derive(Clone, Copy, Debug, PartialEq, Eq)]
 pub enum Kind {
     /// A tick of the clock.
@@ -25,6 +25,8 @@ pub enum Kind {
     Commit,
     /// The edit was given up.
     Abort,
+    /// A clock that was set.
+    Clock,
 }
 
 impl Kind {
@@ -42,6 +44,7 @@ impl Kind {
             Kind::Verify => 7,
             Kind::Commit => 8,
             Kind::Abort => 9,
+            Kind::Clock => 10,
         }
     }
 
@@ -58,7 +61,8 @@ impl Kind {
             6 => Kind::Set,
             7 => Kind::Verify,
             8 => Kind::Commit,
-            _ => Kind::Abort,
+            9 => Kind::Abort,
+            _ => Kind::Clock,
         }
     }
 }

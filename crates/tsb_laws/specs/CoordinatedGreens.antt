@@ -19,7 +19,7 @@ use Rattle.tsb_step.specs.tsb_coord.Coordinated.{serving_order}
 use Rattle.tsb_step.specs.tsb_coord.Correction.{forces, comes_to_force_off}
 use Rattle.tsb_step.specs.tsb_ring.Rings.{Ring, other, number, in_ring}
 use Rattle.tsb_step.specs.declared.inputs.Input.{Input}
-use Rattle.tsb_step.specs.declared.inputs.Input.TheVariants.{Tick, Pattern, Commit}
+use Rattle.tsb_step.specs.declared.inputs.Input.TheVariants.{Tick, Pattern, Commit, Clock}
 use Rattle.tsb_step.specs.State.{State, interval}
 use Rattle.tsb_step.specs.Tick.{service, runs, hold, callable, conflict, ready}
 use Rattle.tsb_step.specs.Signs.{IsInStep}
@@ -69,6 +69,7 @@ ForceOffsCome = (plan : Plan) (is : List Input) (k p : ℕ) → IsConsistent pla
 abbrev pub is_pressed_in_pattern : ℕ → State → Input → Bool
 is_pressed_in_pattern p s (Tick row) = (is_green (interval s p) && conflict s row p) && (is_some (runs s) && is_none (service s row))
 is_pressed_in_pattern p s (Pattern n) = false
+is_pressed_in_pattern p s (Clock m) = false
 is_pressed_in_pattern p s (Commit station) = false
 is_pressed_in_pattern p s i = true
 
@@ -116,6 +117,7 @@ ReadyGreensMakeWay = (plan : Plan) (is : List Input) (row : Row) (r : Ring) (p :
 abbrev pub is_out : ℕ → State → Input → Bool
 is_out c s (Tick row) = (hold s c && not (is_green (interval s c))) && is_none (service s row)
 is_out c s (Pattern n) = false
+is_out c s (Clock m) = false
 is_out c s (Commit station) = false
 is_out c s i = true
 
@@ -154,6 +156,7 @@ time_to_be_served s k j h r c = time_by_turns s.plan (turn_in_pattern s.plan k j
 abbrev pub is_called_in_pattern : ℕ → State → Input → Bool
 is_called_in_pattern c s (Tick row) = callable s row c && (is_some (runs s) && is_none (service s row))
 is_called_in_pattern c s (Pattern n) = false
+is_called_in_pattern c s (Clock m) = false
 is_called_in_pattern c s (Commit station) = false
 is_called_in_pattern c s i = true
 

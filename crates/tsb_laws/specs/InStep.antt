@@ -7,7 +7,7 @@ use Rattle.tsb_step.specs.tsb_plan.Plan.{Plan}
 use Rattle.tsb_step.specs.tsb_coord.Coordinated.{is_pattern}
 use Rattle.tsb_step.specs.tsb_coord.Laws.{IsLongEnough}
 use Rattle.tsb_step.specs.declared.inputs.Input.{Input}
-use Rattle.tsb_step.specs.declared.inputs.Input.TheVariants.{Pattern, Commit}
+use Rattle.tsb_step.specs.declared.inputs.Input.TheVariants.{Pattern, Commit, Clock}
 use Rattle.tsb_step.specs.State.{State}
 use Rattle.tsb_step.specs.Tick.{runs}
 use Rattle.tsb_step.specs.Signs.{local, IsInStep}
@@ -20,9 +20,10 @@ use Rattle.tsb_laws.specs.CoordinatedGreens.{HasGoneOn}
 
 -- With correction mode 0 the local counter is in step in every state (`InStepAtOnce` of tsb_step).
 
--- the input selects no pattern
+-- the input selects no pattern, and sets no clock
 abbrev pub selects_none : State → Input → Bool
 selects_none s (Pattern n) = false
+selects_none s (Clock m) = false
 selects_none s i = true
 
 -- in free operation, or with mode 0, what is selected begins in step
@@ -30,18 +31,19 @@ abbrev pub BeginsInStep : State → Type 0
 BeginsInStep s = (runs s ≡ None) ⊎ (correction_mode s.plan ≡ AtOnce)
 
 -- A pattern that was selected in free operation is in step, in whatever mode, and so is one that was selected with mode
--- 0: until another is selected, and whatever is committed meanwhile.
+-- 0: until another is selected or a clock is set, and whatever is committed meanwhile.
 abbrev pub SelectedInStep : Type 0
 SelectedInStep = (plan : Plan) (is later : List Input) (n : ℕ) → BeginsInStep (replay plan is) →
     HasGoneOn selects_none plan (Pattern n ∷ is) later → IsInStep (replay plan (later ++ (Pattern n ∷ is)))
 
--- neither selects a pattern nor commits
+-- neither selects a pattern, nor sets a clock, nor commits
 abbrev pub keeps_in_step : Input → Bool
 keeps_in_step (Pattern n) = false
+keeps_in_step (Clock m) = false
 keeps_in_step (Commit station) = false
 keeps_in_step i = true
 
--- the next input leaves it in step, unless it selects a pattern or commits
+-- the next input leaves it in step, unless it selects a pattern, sets a clock or commits
 abbrev pub StaysInStep : State → Type 0
 StaysInStep s = (i : Input) → keeps_in_step i ≡ true → IsInStep s → IsInStep (step s i)
 
@@ -54,7 +56,7 @@ OnceInStep = OfEveryRun StaysInStep
 abbrev pub HasHadTime : State → ℕ → State → Type 0
 HasHadTime s n after = IsLongEnough (correction_mode s.plan) s.plan n s.correction (after.now - s.now)
 
--- A used pattern was selected, whatever ran before it; no later input selected a pattern or committed, and its counter
+-- A used pattern was selected, whatever ran before it; no later input selected a pattern, set a clock or committed, and its counter
 -- has had its time.
 pub record HasComeSince (plan : Plan) (is later : List Input) (n : ℕ) : Type 0 where
   pub used : is_pattern (replay plan (Pattern n ∷ is)).plan n ≡ true

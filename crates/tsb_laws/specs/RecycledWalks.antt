@@ -11,7 +11,7 @@ use Rattle.tsb_step.specs.tsb_phase.Phase.{held_of}
 use Rattle.tsb_step.specs.tsb_phase.Green.{initial_has_passed}
 use Rattle.tsb_step.specs.tsb_phase.Pedestrian.{pedestrian_now}
 use Rattle.tsb_step.specs.declared.inputs.Input.{Input}
-use Rattle.tsb_step.specs.declared.inputs.Input.TheVariants.{Tick, Pattern, Commit}
+use Rattle.tsb_step.specs.declared.inputs.Input.TheVariants.{Tick, Pattern, Commit, Clock}
 use Rattle.tsb_step.specs.State.{State, interval, pedestrian_part}
 use Rattle.tsb_step.specs.Tick.{service, hold, forced, conflict, pedestrian_call, phases_given, phase_read, ready}
 use Rattle.tsb_step.specs.Signs.{IsInStep}
@@ -69,6 +69,7 @@ is_unheld s row p = is_none (service s row) && not (rests_in_walk s.plan p && no
 abbrev pub is_unforced : ℕ → State → Input → Bool
 is_unforced p s (Tick row) = is_unheld s row p && not (forced s p)
 is_unforced p s (Pattern n) = false
+is_unforced p s (Clock m) = false
 is_unforced p s (Commit station) = false
 is_unforced p s i = true
 

@@ -1,11 +1,12 @@
 -- The runs that the laws of this crate are about: those of a plan such as the program holds, by inputs whose numbers
 -- are of the program's types.
-use Rattle.std.specs.Prelude.{◌≡◌, ℕ, ◌≤◌, List, [], ◌∷◌}
+use Rattle.std.specs.Prelude.{◌≡◌, ℕ, ◌<◌, ◌≤◌, List, [], ◌∷◌}
+use Rattle.tsb_step.specs.tsb_types.declared.clock_time.TheConstants.{FIRST_MOMENT, END_OF_DAYS}
 use Rattle.tsb_step.specs.tsb_plan.declared.object.Object.{Object}
 use Rattle.tsb_step.specs.tsb_plan.Objects.{greatest}
 use Rattle.tsb_step.specs.tsb_plan.Plan.{Plan}
 use Rattle.tsb_step.specs.declared.inputs.Input.{Input}
-use Rattle.tsb_step.specs.declared.inputs.Input.TheVariants.{Fault, Begin}
+use Rattle.tsb_step.specs.declared.inputs.Input.TheVariants.{Fault, Begin, Clock}
 use Rattle.tsb_step.specs.Laws.{IsConsistent}
 use Rattle.tsb_step.specs.MonitorLaws.{IsUpTo, IsLamp}
 use Rattle.tsb_step.specs.Runs.{AreTaken}
@@ -23,6 +24,7 @@ pub record IsHeld (plan : Plan) : Type 0 where
 abbrev pub IsTyped : Input → Type 0
 IsTyped (Fault lamp) = IsLamp lamp
 IsTyped (Begin station) = IsUpTo 4 station
+IsTyped (Clock m) = (FIRST_MOMENT ≤ m) × (m < END_OF_DAYS)
 IsTyped i = Unit {0}
 
 -- each input of a list is

@@ -11,7 +11,8 @@ use Rattle.tsb_step.specs.tsb_types.declared.row.Row.{Row}
 use Rattle.tsb_step.specs.tsb_types.Intervals.{is_yellow, is_walk, is_clearance}
 use Rattle.tsb_step.specs.tsb_types.Sets.{is_phase}
 use Rattle.tsb_step.specs.tsb_plan.Plan.{Plan, yellow_change, red_clear, red_revert}
-use Rattle.tsb_step.specs.tsb_plan.Parts.{cycle, offset}
+use Rattle.tsb_step.specs.tsb_plan.Parts.{cycle}
+use Rattle.tsb_step.specs.tsb_objects.Instants.{offset_in_effect}
 use Rattle.tsb_step.specs.tsb_coord.Coordinated.{force_off, agree}
 use Rattle.tsb_step.specs.tsb_ring.Rings.{Ring, own_ring}
 use Rattle.tsb_step.specs.tsb_phase.Phase.{held_of}
@@ -205,14 +206,15 @@ RedRevertsPassAsShown = (plan : Plan) (base later : List Input) (row : Row) (p n
 abbrev pub is_at_instant : ℕ → State → Bool
 is_at_instant p s = agree (local s) (force_off s.plan (runs s) p)
 
--- the local counter is in step in both states; the pattern that runs, its cycle and its offset, and the instant of p are
--- as they were where they were shown
+-- the local counter is in step in both states; the pattern that runs, its cycle and its offset, the midnight that it
+-- counts from, and the instant of p are as they were where they were shown
 pub record StaysInStep (p : ℕ) (shown s : State) : Type 0 where
   pub in_step : IsInStep shown
   pub still : IsInStep s
   pub same_pattern : runs s ≡ runs shown
   pub same_cycle : (m : ℕ) → runs shown ≡ Some m → cycle s.plan m ≡ cycle shown.plan m
-  pub same_offset : (m : ℕ) → runs shown ≡ Some m → offset s.plan m ≡ offset shown.plan m
+  pub same_offset : (m : ℕ) → runs shown ≡ Some m → offset_in_effect s.plan m ≡ offset_in_effect shown.plan m
+  pub same_midnight : s.correction.midnight ≡ shown.correction.midnight
   pub same_instant : force_off s.plan (runs s) p ≡ force_off shown.plan (runs shown) p
 
 -- j ticks on, of n that were shown, a test holds once all n have passed, and not before

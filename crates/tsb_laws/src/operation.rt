@@ -380,9 +380,10 @@ pub fn phases_are_served_in_patterns()
 /// end greens in free operation alone. Where no pattern leads and lags, K20 asks that coordinated splits end at one
 /// time, and instants are as counted from the first coordinated phase. Where no phase has pedestrian recycle, none may
 /// walk again within its green. Where `coordCorrectionMode` is 0, the local counter is in step at once, also after
-/// each selection, and it alone says what is forced off. Where no pattern has a permissive time, K23 asks for nothing.
-/// Where no overlap has `overlapAcrossRings`, overlaps last through a clearance by the ring of its phase alone. Where
-/// no preempt has `preemptChoosesAnew`, no ring gives up what it is committed to. So it is in every tick, for each
+/// each selection, and it alone says what is forced off. Where `coordReference` is 0, offsets are counted to local 0.
+/// Where no pattern has a permissive time, K23 asks for nothing. Where no overlap has `overlapAcrossRings`, overlaps
+/// last through a clearance by the ring of its phase alone. Where no preempt has `preemptChoosesAnew`, no ring gives up
+/// what it is committed to. So it is in every tick, for each
 /// phase, and whatever pattern is selected.
 ///
 /// Needs: for what instants are counted from, a plan that breaks no rule and a pattern that is used.
@@ -396,7 +397,8 @@ pub fn phases_are_served_in_patterns()
 /// the mode is, `goes_on_always` (`begins_in_step`, `would_begin_ahead`); a K23 that asks for a time, `asks_for_time`
 /// (`ends_in_time`, `would_refuse`); an overlap that goes on across rings always, `across_always`
 /// (`is_not_followed`, `would_follow`); preempts that always choose anew, `anew_always` (`is_not_anew`,
-/// `would_choose_anew`).
+/// `would_choose_anew`); offsets that are always counted to the first green, `to_green_always` (`is_at_100`,
+/// `would_be_at_650`).
 /// Witness: `two_has_none`, `quad_has_none` of OptionMistakes, the built-in plans.
 pub fn options_off_change_nothing()
     ensures { OptionsOffChangeNothing }

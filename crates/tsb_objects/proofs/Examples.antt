@@ -1,2 +1,3 @@
 -- Computed mistakes that the definitions refuse.
 pub mod WaitingMistakes
+pub mod OffsetMistakes

@@ -5,10 +5,10 @@ use Rattle.std.proofs.lemmas.Bool.Decides.{nat_tests}
 use Rattle.tsb_plan.specs.declared.object.Object.TheVariants.{PatternCycleTime}
 use Rattle.tsb_plan.specs.Objects.{AreInRange, value_in}
 use Rattle.tsb_plan.specs.PlanOf.{plan_in}
-use Rattle.tsb_plan.specs.Parts.{cycle, is_used, permissive_time, forces_late}
+use Rattle.tsb_plan.specs.Parts.{cycle, is_used, offset, offset_reference, permissive_time, forces_late}
 use Rattle.tsb_plan.specs.Plan.{Plan, is_enabled, yellow_change, red_clear}
 use Rattle.tsb_plan.specs.Running.{is_coordinated_now}
-use Rattle.tsb_objects.specs.Instants.{residue_of_difference, end_of, instant_from, reference, instant_by, force_off, agree, yields_to, instant_of, late_end, is_from_to, counted_on, is_late, yields_for, is_behind, permissive_end_from, permissive_end, forces_off, tick_before, waiting_point}
+use Rattle.tsb_objects.specs.Instants.{residue_of_difference, end_of, instant_from, reference, instant_by, force_off, agree, yields_to, instant_of, late_end, is_from_to, counted_on, is_late, yields_for, is_behind, permissive_end_from, permissive_end, forces_off, tick_before, waiting_point, end_within, counted_to, offset_from, offset_in_effect}
 use Rattle.tsb_objects.specs.PatternTables.{instant_in, end_behind, permissive_end_in}
 
 -- the residue of a difference is that of the residues' difference
@@ -50,6 +50,15 @@ instants-small cells ranged n p o used is = go o (instants-below (plan_in cells)
     go : (o : Option ℕ) → IfSome o (λ i. i < cycle (plan_in cells) n) → IfSome o (λ i. i < 2550)
     go None below = tt
     go (Some i) below = let low : i < cycle (plan_in cells) n = below in omega (arith, low, most)
+
+-- where the offset is below the cycle, the local counter is 0 within the first cycle
+pub offset-below : (plan : Plan) (n : ℕ) → offset plan n < cycle plan n → offset_in_effect plan n < cycle plan n
+offset-below plan n low = go (counted_to (offset_reference plan) plan n) (end_within plan n (reference plan n))
+  where
+    go : (moment end : Option ℕ) → offset_from plan n moment end < cycle plan n
+    go None end = low
+    go (Some x) None = low
+    go (Some x) (Some e) = mod-lt (offset plan n + e + (cycle plan n - x % cycle plan n)) (omega (arith, low))
 
 -- ## The words of an instant and an end, looked at as they are
 

@@ -1,6 +1,6 @@
 -- Plans agree on what is from one object up to another where their cells there are the same, and nowhere else.
-use Rattle.std.proofs.Common.{◌≡◌, ℕ, ◌+◌, ◌-◌, ◌<◌, ◌≤◌, Bool, true, false, List, length, get_or, refl, arith, sym, ap, ◌∙◌, inl, inr, if◌then◌else◌}
-use Rattle.std.proofs.lemmas.Bool.{cases_lt, cond-true}
+use Rattle.std.proofs.Common.{◌≡◌, ℕ, ◌+◌, ◌-◌, ◌<◌, ◌≤◌, Bool, true, false, List, length, get_or, refl, arith, sym, ap, ◌∙◌, inl, inr, if◌then◌else◌, subst}
+use Rattle.std.proofs.lemmas.Bool.{cases_lt, cond-true, cond-false}
 use Rattle.std.proofs.lemmas.Bool.Decides.{nat_tests}
 use Rattle.std.proofs.lemmas.List.{ext_get_or}
 use Rattle.std.proofs.lemmas.List.Edits.{get_or-between, length-between}
@@ -12,7 +12,7 @@ use Rattle.tsb_plan.specs.Objects.{order, indices, first_cell, has_index, value_
 use Rattle.tsb_plan.specs.PlanOf.{plan_in}
 use Rattle.tsb_plan.proofs.CellLemmas.{leave_no_cell}
 use Rattle.tsb_plan.proofs.TableLemmas.{order-injective, ends-before, ends-within, index-bounds}
-use Rattle.tsb_objects.specs.Agreement.{Agree, is_between}
+use Rattle.tsb_objects.specs.Agreement.{Agree, is_between, is_one}
 
 -- first cells are in the order of the objects
 pub first-cells : (o p : Object) → order o ≤ order p → first_cell o ≤ first_cell p
@@ -114,3 +114,24 @@ between-agree cells others from to full full_other before agree =
         get_or-between cells first end k 0 short
         ∙ cell-same cells others from to agree (first + k) (omega arith) short
         ∙ sym (get_or-between others first end k 0 short)
+
+-- ## An object of one index
+
+-- plans agree on it where both give it the same value there
+pub agree-one : (cells others : List ℕ) (one : Object) → indices one ≡ 1 → value_in cells one 1 ≡ value_in others one 1 →
+    Agree (is_one one) (plan_in cells) (plan_in others)
+agree-one cells others one single same =
+    record { each = λ o i is. each o i (order-injective one o (grind (arith, nat_tests, is))) (has_index o i) refl }
+  where
+    each : (o : Object) (i : ℕ) → one ≡ o → (b : Bool) → has_index o i ≡ b → value_in cells o i ≡ value_in others o i
+    each o i the false is = cond-false (has_index o i) _ 0 is ∙ sym (cond-false (has_index o i) _ 0 is)
+    each o i the true is =
+        let bounds : (1 ≤ i) × (i ≤ indices o) = index-bounds o i is in
+        let count : indices one ≡ indices o = ap indices the in
+        let at : 1 ≡ i = omega (arith, bounds.0, bounds.1, count, single) in
+        subst (λ (p : Object). value_in cells p i ≡ value_in others p i) the
+        (subst (λ (k : ℕ). value_in cells one k ≡ value_in others one k) at same)
+
+pub one-agrees : (cells others : List ℕ) (one : Object) → Agree (is_one one) (plan_in cells) (plan_in others) →
+    value_in cells one 1 ≡ value_in others one 1
+one-agrees cells others one agree = agree.each one 1 (grind (arith, nat_tests))

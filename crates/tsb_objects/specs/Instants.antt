@@ -1,15 +1,19 @@
 -- Force-off instants: when within the cycle of a pattern a phase is forced off, so that its split ends with its red
 -- clearance (fixed force-off, no transition after a change of pattern); late force-off and the permissive time, after
--- the instant; and pedestrian recycle, before it. Cycle, splits, split modes, coordinated phases and sequences are the
+-- the instant; and pedestrian recycle, before it; and the offset at which the local counter is 0. Cycle, splits, split modes, coordinated phases and sequences are the
 -- objects of NTCIP 1202 of these names; that the local counter is 0 where the coordinated split of ring 1 ends, late
 -- force-off, the permissive time and pedestrian recycle are the profile's own. Times are in ticks, which are tenths of
 -- a second.
-use Rattle.std.specs.Prelude.{◌≡◌, ℕ, ◌+◌, ◌-◌, ◌%◌, ◌==◌, nat_le, nat_lt, Bool, false, not, ◌&&◌, ◌||◌, if◌then◌else◌, Option, Some, None}
+use Rattle.std.specs.Prelude.{◌≡◌, ℕ, ◌+◌, ◌-◌, ◌%◌, ◌==◌, nat_le, nat_lt, Bool, false, not, ◌&&◌, ◌||◌, if◌then◌else◌, Option, Some, None, min, max}
 use Rattle.tsb_types.specs.Lists.{first, or_else}
 use Rattle.tsb_plan.specs.Plan.{Plan, phases, is_enabled, ring_of, walk, pedestrian_clear, recycles_walk, yellow_change, red_clear}
-use Rattle.tsb_plan.specs.Parts.{cycle, permissive_time, split_of, forces_late}
+use Rattle.tsb_plan.specs.Parts.{cycle, offset, offset_reference, permissive_time, split_of, split_time, forces_late}
+use Rattle.tsb_plan.specs.declared.plan.patterns.OffsetReference.{OffsetReference}
+use Rattle.tsb_plan.specs.declared.plan.patterns.OffsetReference.TheVariants.{SplitEnd, FirstGreen, LastGreen, FirstYellow, LastYellow, FirstRed}
 use Rattle.tsb_plan.specs.Running.{sequence_in_effect, is_coordinated_now}
 use Rattle.tsb_rules.specs.PatternRules.{split_end}
+use Rattle.tsb_objects.specs.declared.offsets.SplitMoment.{SplitMoment}
+use Rattle.tsb_objects.specs.declared.offsets.SplitMoment.TheVariants.{GreenBegin, YellowBegin, RedBegin}
 
 -- the residue of a - b, never negative, also where b is greater than a, or than m
 abbrev pub residue_of_difference : ℕ → ℕ → ℕ → ℕ
@@ -204,3 +208,71 @@ tick_before m (Some i) = residue_of_difference m i 1
 -- coordinated phase that instants are counted from
 abbrev pub waiting_point : Plan → ℕ → ℕ
 waiting_point plan n = tick_before (cycle plan n) (instant_of plan n (reference plan n))
+
+-- ## The offset
+
+-- the split of p by a split table, in tenths of a second; 0 without a table
+abbrev pub split_in : Plan → Option ℕ → ℕ → ℕ
+split_in plan None p = 0
+split_in plan (Some table) p = split_time plan table p
+
+-- how long before the end of its split p comes to a moment of it in pattern n: the split is its green, its yellow change
+-- and its red clearance
+abbrev pub time_from : SplitMoment → Plan → ℕ → ℕ → ℕ
+time_from GreenBegin plan n p = split_in plan (split_of plan n) p
+time_from YellowBegin plan n p = yellow_change plan p + red_clear plan p
+time_from RedBegin plan n p = red_clear plan p
+
+-- when it comes to it, counted from the begin of side 1's first split
+abbrev pub moment_of : SplitMoment → Plan → ℕ → ℕ → ℕ
+moment_of moment plan n p = end_of plan n p - time_from moment plan n p
+
+-- when a phase comes to it, if there is one
+abbrev pub moment_in : SplitMoment → Plan → ℕ → Option ℕ → Option ℕ
+moment_in moment plan n None = None
+moment_in moment plan n (Some c) = Some (moment_of moment plan n c)
+
+-- the lesser of two numbers, where both are there
+abbrev pub lesser : Option ℕ → Option ℕ → Option ℕ
+lesser None y = y
+lesser (Some x) None = Some x
+lesser (Some x) (Some y) = Some (min x y)
+
+-- the greater of them
+abbrev pub greater : Option ℕ → Option ℕ → Option ℕ
+greater None y = y
+greater (Some x) None = Some x
+greater (Some x) (Some y) = Some (max x y)
+
+-- when the coordinated phase of ring r comes to it
+abbrev pub moment_in_ring : SplitMoment → Plan → ℕ → ℕ → Option ℕ
+moment_in_ring moment plan n r = moment_in moment plan n (coordinated_in_ring plan n r)
+
+-- when the first coordinated phase comes to it. K20: all are on one side, and a ring has one at most
+abbrev pub first_moment : SplitMoment → Plan → ℕ → Option ℕ
+first_moment moment plan n = lesser (moment_in_ring moment plan n 1) (moment_in_ring moment plan n 2)
+
+-- when the last one does
+abbrev pub last_moment : SplitMoment → Plan → ℕ → Option ℕ
+last_moment moment plan n = greater (moment_in_ring moment plan n 1) (moment_in_ring moment plan n 2)
+
+-- what offsets are counted to in pattern n, from the begin of side 1's first split; none where it is local 0
+abbrev pub counted_to : OffsetReference → Plan → ℕ → Option ℕ
+counted_to SplitEnd plan n = None
+counted_to FirstGreen plan n = first_moment GreenBegin plan n
+counted_to LastGreen plan n = last_moment GreenBegin plan n
+counted_to FirstYellow plan n = first_moment YellowBegin plan n
+counted_to LastYellow plan n = last_moment YellowBegin plan n
+counted_to FirstRed plan n = first_moment RedBegin plan n
+
+-- The offset at which local 0 comes, where the moment comes at the offset of the plan: later by the time from the moment
+-- to the end of the coordinated split, within the cycle. Without a moment it is the offset of the plan.
+abbrev pub offset_from : Plan → ℕ → Option ℕ → Option ℕ → ℕ
+offset_from plan n None end = offset plan n
+offset_from plan n (Some moment) None = offset plan n
+offset_from plan n (Some moment) (Some end) = residue_of_difference (cycle plan n) (offset plan n + end) moment
+
+-- how long after tick 0 the local counter of pattern n is first 0: the offset of the plan, counted to what
+-- coordReference says; with 0 it is the offset of the plan
+abbrev pub offset_in_effect : Plan → ℕ → ℕ
+offset_in_effect plan n = offset_from plan n (counted_to (offset_reference plan) plan n) (end_within plan n (reference plan n))

@@ -6,7 +6,7 @@ use Rattle.tsb_plan.specs.Running.{is_coordinated_now, is_omitted_now, is_on_min
 use Rattle.tsb_objects.specs.declared.pattern_tables.PatternQuestion.{PatternQuestion}
 use Rattle.tsb_objects.specs.declared.pattern_tables.PatternQuestion.TheVariants.{Coordinated, Omitted, MinimumRecall, MaximumRecall, PedestrianRecall, PedestrianRecycle}
 use Rattle.tsb_objects.specs.declared.pattern_tables.PatternTables.{PatternTables}
-use Rattle.tsb_objects.specs.Instants.{force_off, late_end, counted_on, yields_for, may_recycle, waiting_point}
+use Rattle.tsb_objects.specs.Instants.{force_off, late_end, counted_on, yields_for, may_recycle, waiting_point, offset_in_effect}
 use Rattle.tsb_types.specs.Sets.{names}
 
 -- what is asked of phase p while a pattern runs, or in free operation
@@ -64,7 +64,12 @@ abbrev pub AreWaitingPoints : Plan → List ℕ → Type 0
 AreWaitingPoints plan words =
     (n : ℕ) → 1 ≤ n → n ≤ 16 → is_used plan n ≡ true → slice_index words (n - 1) ≡ waiting_point plan n
 
--- six tables of lists and three of ticks, so that no tick has to search the plan for them
+-- a word for each pattern: the offset at which its local counter is 0
+abbrev pub AreOffsets : Plan → List ℕ → Type 0
+AreOffsets plan words =
+    (n : ℕ) → 1 ≤ n → n ≤ 16 → is_used plan n ≡ true → slice_index words (n - 1) ≡ offset_in_effect plan n
+
+-- six tables of lists and four of ticks, so that no tick has to search the plan for them
 pub record ArePatternTables (plan : Plan) (tables : PatternTables) : Type 0 where
   pub coordinated : AreInEffect plan Coordinated tables.coordinated
   pub omitted : AreInEffect plan Omitted tables.omitted
@@ -75,3 +80,4 @@ pub record ArePatternTables (plan : Plan) (tables : PatternTables) : Type 0 wher
   pub instants : AreInstants plan tables.instants
   pub ends : AreEnds plan tables.ends
   pub waiting_points : AreWaitingPoints plan tables.waiting_points
+  pub offsets : AreOffsets plan tables.offsets

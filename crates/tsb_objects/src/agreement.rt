@@ -1,9 +1,9 @@
 //! Whether two plans agree on the objects that tables are made from: then the tables of one are those of the other.
 #![tactic(auto, unfolding(tsb_plan::specs::PlanOf::plan_of))]
 
-ghost use Rattle.std.specs.Prelude.{◌≤◌, ◌↔◌, IsTrue};
-ghost use Rattle.tsb_objects.specs.Agreement.{Agree, is_between, is_for_phases, is_for_detectors, is_for_patterns, is_for_unions};
-ghost use Rattle.tsb_plan.specs.Objects.{order};
+ghost use Rattle.std.specs.Prelude.{◌≡◌, ◌≤◌, ◌↔◌, IsTrue};
+ghost use Rattle.tsb_objects.specs.Agreement.{Agree, is_between, is_one, is_for_phases, is_for_detectors, is_for_patterns, is_for_unions};
+ghost use Rattle.tsb_plan.specs.Objects.{order, indices};
 ghost use Rattle.tsb_plan.specs.PlanOf.{plan_of};
 
 use tsb_plan::{Object, Plan};
@@ -15,6 +15,15 @@ fn agree_between(plan: &Plan, other: &Plan, from: Object, to: Object) -> bool
     ensures { IsTrue result ↔ Agree (is_between from to) (plan_of plan.now) (plan_of other.now) }
 {
     plan.has_same_cells(other, from.first_cell(), to.first_cell())
+}
+
+/// Whether two plans give the same value for an object that has one index.
+#[inline(always)]
+fn agree_on(plan: &Plan, other: &Plan, object: Object) -> bool
+    requires { indices object ≡ 1 }
+    ensures { IsTrue result ↔ Agree (is_one object) (plan_of plan.now) (plan_of other.now) }
+{
+    plan.at(object, 1) == other.at(object, 1)
 }
 
 /// Whether two plans agree on what the tables of phases are made from.
@@ -59,6 +68,7 @@ pub(crate) fn agree_for_patterns(plan: &Plan, other: &Plan) -> bool
             Object::CoordForceMode,
             Object::CoordCorrectionMode,
         )
+        && agree_on(plan, other, Object::CoordReference)
 }
 
 /// Whether two plans agree on what the unions are made from.

@@ -15,7 +15,7 @@ use tsb_types::{Pattern, Phase};
 const REFERENCE_RING: u32 = 1;
 
 /// The cycle of a pattern that is used.
-fn cycle_of(plan: &Plan, n: Pattern) -> u32
+pub(crate) fn cycle_of(plan: &Plan, n: Pattern) -> u32
     requires used { is_used (plan_of plan.now) n ≡ true }
     ensures value { result ≡ cycle (plan_of plan.now) n }
     ensures some { 1 ≤ result }
@@ -33,7 +33,7 @@ fn clearance(plan: &Plan, p: Phase) -> u32
 }
 
 /// When the split of a phase ends.
-fn end_of(plan: &Plan, n: Pattern, p: Phase) -> u32
+pub(crate) fn end_of(plan: &Plan, n: Pattern, p: Phase) -> u32
     ensures { result ≡ end_of (plan_of plan.now) n p }
 {
     match plan.split_of(n) {

@@ -10,6 +10,7 @@ pub mod checked;
 mod detector_tables;
 mod instants;
 mod late_ends;
+mod offsets;
 mod pattern_tables;
 mod recycle;
 mod red_reverts;
@@ -19,8 +20,8 @@ mod unions;
 
 pub use checked::Checked;
 pub use tsb_plan::{
-    CorrectionMode, Object, ObjectId, PLAN_CELLS, Plan, Range, SplitMode, Version, is_structural,
-    range_of,
+    CorrectionMode, Object, ObjectId, OffsetReference, PLAN_CELLS, Plan, Range, SplitMode, Version,
+    is_structural, range_of,
 };
 pub use tsb_rules::{Rule, check, split_end};
 pub use tsb_types::{

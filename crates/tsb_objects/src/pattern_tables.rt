@@ -2,8 +2,8 @@
 #![tactic(auto, unfolding(tsb_plan::specs::PlanOf::plan_of))]
 
 ghost use Rattle.std.specs.Prelude.{◌≡◌, ◌≢◌, ℕ, ◌+◌, ◌-◌, ◌*◌, ◌<◌, ◌≤◌, true, false, None, Some, IfSome, is_some, length, slice_index};
-ghost use Rattle.tsb_objects.specs.PatternTables.{is_so, AreInEffect, AreInstants, AreEnds, AreWaitingPoints, ArePatternTables, instant_in, late_until, end_behind, permissive_end_in};
-ghost use Rattle.tsb_objects.specs.Instants.{force_off, late_end, is_from_to, yields_for, end_within, reference, instant_of, tick_before, waiting_point};
+ghost use Rattle.tsb_objects.specs.PatternTables.{is_so, AreInEffect, AreInstants, AreEnds, AreWaitingPoints, AreOffsets, ArePatternTables, instant_in, late_until, end_behind, permissive_end_in};
+ghost use Rattle.tsb_objects.specs.Instants.{force_off, late_end, is_from_to, yields_for, end_within, reference, instant_of, tick_before, waiting_point, offset_in_effect};
 ghost use Rattle.tsb_plan.specs.Parts.{cycle, is_used, unless_zero};
 ghost use Rattle.tsb_plan.specs.PlanOf.{plan_of};
 ghost use Rattle.tsb_plan.specs.Running.{split_in_effect};
@@ -12,6 +12,7 @@ ghost use Rattle.tsb_types.specs.Sets.{has, names};
 use crate::agreement::agree_for_patterns;
 use crate::instants::{counted_from, instant, reference};
 use crate::late_ends::{late_end, yields_for};
+use crate::offsets::offset_in_effect;
 use tsb_plan::Plan;
 use tsb_types::{Pattern, Phase, PhaseSet};
 
@@ -52,6 +53,8 @@ pub struct PatternTables {
     pub(crate) ends: [u16; 256],
     /// Where on its local counter each pattern waits while it comes into step (`coordCorrectionMode` 1).
     pub(crate) waiting_points: [u16; 16],
+    /// The offset at which the local counter of each pattern is 0 (`patternOffsetTime`, `coordReference`).
+    pub(crate) offsets: [u16; 16],
 }
 
 impl PatternTables {
@@ -70,6 +73,7 @@ impl PatternTables {
             instants: words,
             ends: ends(plan, &words),
             waiting_points: waiting_points(plan, &words),
+            offsets: offsets(plan),
         }
     }
 
@@ -335,6 +339,29 @@ fn waiting_word(plan: &Plan, instants: &[u16; 256], n: Pattern) -> u16
     }
 }
 
+/// The offsets at which the local counters of the patterns are 0.
+fn offsets(plan: &Plan) -> [u16; 16]
+    ensures full { length result ≡ 16 }
+    ensures told { AreOffsets (plan_of plan.now) result }
+{
+    let mut words = [0; 16];
+    for k in 0..16usize {
+        words[k] = offset_word(plan, Pattern::of(k as u8 + 1));
+    }
+    words
+}
+
+/// The offset at which the local counter of a pattern is 0, as a word. It has no meaning for a pattern that is not used.
+fn offset_word(plan: &Plan, n: Pattern) -> u16
+    ensures { is_used (plan_of plan.now) n ≡ true → result ≡ offset_in_effect (plan_of plan.now) n }
+{
+    if plan.is_used(n) {
+        offset_in_effect(plan, n) as u16
+    } else {
+        0
+    }
+}
+
 /// The instant of a phase in a pattern, from the words of all.
 #[inline(always)]
 pub(crate) fn instant_at(words: &[u16; 256], n: Pattern, p: Phase) -> Option<u32>
@@ -348,9 +375,9 @@ pub(crate) fn instant_at(words: &[u16; 256], n: Pattern, p: Phase) -> Option<u32
     }
 }
 
-/// Where a pattern waits, from the words of all.
+/// The word of a pattern, of words with one for each.
 #[inline(always)]
-pub(crate) fn waiting_at(words: &[u16; 16], n: Pattern) -> u32
+pub(crate) fn word_at(words: &[u16; 16], n: Pattern) -> u32
     ensures { result ≡ slice_index words.now (n - 1) }
 {
     u32::from(words[usize::from(n.number()) - 1])
@@ -380,9 +407,18 @@ pub(crate) fn permissive_end_at(
     }
 }
 
+/// Whether a phase with that instant and that end is forced off at that local counter: from the instant to the end, in this
+/// cycle or from the last one on. A phase without an instant ends at 0, which leaves it out.
+#[inline(always)]
+fn is_forced(at: u16, end: u16, cycle: u32, local: u32) -> bool
+    ensures { result ≡ is_from_to cycle local at end }
+{
+    let from_last = u64::from(local) + u64::from(cycle);
+    (u32::from(at) <= local && local < u32::from(end)) || from_last < u64::from(end)
+}
+
 /// The phases that are forced off in a pattern with that cycle at that local counter, from the words of their instants
-/// and ends: from the instant to the end, in this cycle or from the last one on. A phase without an instant ends at 0,
-/// which leaves it out.
+/// and ends.
 #[inline(always)]
 pub(crate) fn forced_in(
     instants: &[u16; 256],
@@ -396,13 +432,11 @@ pub(crate) fn forced_in(
         (slice_index ends.now (16 * (n - 1) + (p - 1))) }
 {
     let first = words_before(n);
-    let from_last = u64::from(local) + u64::from(cycle);
     let mut set = PhaseSet::empty();
     for number in 1..17u8 {
         let at = instants[first + (usize::from(number) - 1)];
         let end = ends[first + (usize::from(number) - 1)];
-        let on = (u32::from(at) <= local && local < u32::from(end)) || from_last < u64::from(end);
-        set = joined(set, Phase::of(number), on);
+        set = joined(set, Phase::of(number), is_forced(at, end, cycle, local));
     }
     set
 }

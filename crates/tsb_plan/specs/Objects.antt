@@ -3,7 +3,7 @@
 -- 1202; ranges of detector, pattern and preempt objects are the profile's.
 use Rattle.std.specs.Prelude.{ℕ, ◌+◌, ◌-◌, ◌≤◌, Bool, true, false, ◌&&◌, nat_le, if◌then◌else◌, List, codes, sum_by, take, slice_index}
 use Rattle.tsb_plan.specs.declared.object.Object.{Object}
-use Rattle.tsb_plan.specs.declared.object.Object.TheVariants.{PhaseEnabled, PhaseNonLock, PhaseMinRecall, PhaseMaxRecall, PhasePedRecall, PhaseSoftRecall, PhaseDualEntry, PhaseSimGapDisable, PhaseRestInWalk, PhaseVariableInitial, PhaseRing, PhaseSide, PhaseConcurrency, PhaseWalk, PhasePedestrianClear, PhaseMinimumGreen, PhaseMaximum1, PhaseMaximum2, PhaseMaximumInitial, PhaseTimeBeforeReduction, PhaseTimeToReduce, PhasePassage, PhaseYellowChange, PhaseRedClear, PhaseRedRevert, PhaseAddedInitial, PhaseMinimumGap, PhaseCarsBeforeReduction, VehicleDetectorCallPhase, VehicleDetectorDelay, VehicleDetectorExtend, VehicleDetectorNoActivity, VehicleDetectorMaxPresence, VehicleDetectorErraticCounts, VehicleDetectorFailTime, PedestrianDetectorCallPhase, OverlapIncludedPhases, PatternCycleTime, PatternOffsetTime, PatternSplitNumber, PatternSequenceNumber, SplitTime, SplitMode, SplitCoordPhase, SequenceData, PreemptDelay, PreemptMinimumDuration, PreemptMaximumPresence, PreemptMinimumGreen, PreemptMinimumWalk, PreemptEnterPedClear, PreemptTrackGreen, PreemptTrackPhase, PreemptDwellPhase, PreemptExitPhase, UnitRedRevert, UnitMax2, PhaseDynamicMaxLimit, PhaseDynamicMaxStep, OverlapType, OverlapModifierPhases, CoordForceMode, CoordMaximumMode, PatternPermissiveTime, PatternLeadLag, PhasePedestrianRecycle, CoordCorrectionMode, CoordCorrectionLimit, OverlapAcrossRings, PreemptChoosesAnew}
+use Rattle.tsb_plan.specs.declared.object.Object.TheVariants.{PhaseEnabled, PhaseNonLock, PhaseMinRecall, PhaseMaxRecall, PhasePedRecall, PhaseSoftRecall, PhaseDualEntry, PhaseSimGapDisable, PhaseRestInWalk, PhaseVariableInitial, PhaseRing, PhaseSide, PhaseConcurrency, PhaseWalk, PhasePedestrianClear, PhaseMinimumGreen, PhaseMaximum1, PhaseMaximum2, PhaseMaximumInitial, PhaseTimeBeforeReduction, PhaseTimeToReduce, PhasePassage, PhaseYellowChange, PhaseRedClear, PhaseRedRevert, PhaseAddedInitial, PhaseMinimumGap, PhaseCarsBeforeReduction, VehicleDetectorCallPhase, VehicleDetectorDelay, VehicleDetectorExtend, VehicleDetectorNoActivity, VehicleDetectorMaxPresence, VehicleDetectorErraticCounts, VehicleDetectorFailTime, PedestrianDetectorCallPhase, OverlapIncludedPhases, PatternCycleTime, PatternOffsetTime, PatternSplitNumber, PatternSequenceNumber, SplitTime, SplitMode, SplitCoordPhase, SequenceData, PreemptDelay, PreemptMinimumDuration, PreemptMaximumPresence, PreemptMinimumGreen, PreemptMinimumWalk, PreemptEnterPedClear, PreemptTrackGreen, PreemptTrackPhase, PreemptDwellPhase, PreemptExitPhase, UnitRedRevert, UnitMax2, PhaseDynamicMaxLimit, PhaseDynamicMaxStep, OverlapType, OverlapModifierPhases, CoordForceMode, CoordMaximumMode, PatternPermissiveTime, PatternLeadLag, PhasePedestrianRecycle, CoordCorrectionMode, CoordCorrectionLimit, OverlapAcrossRings, PreemptChoosesAnew, CoordReference}
 use Rattle.tsb_plan.specs.declared.object.Range.{Range}
 use Rattle.tsb_plan.specs.declared.object.TheConstants.Object.{ALL}
 use Rattle.tsb_plan.specs.declared.version.Version.{Version}
@@ -130,6 +130,7 @@ row CoordCorrectionMode = object 66 (codes "coordCorrectionMode") (to 1 3) since
 row CoordCorrectionLimit = object 67 (codes "coordCorrectionLimit") (to 1 50) since_2 free
 row OverlapAcrossRings = object 68 (codes "overlapAcrossRings") (to 4 1) since_3 structural
 row PreemptChoosesAnew = object 69 (codes "preemptChoosesAnew") (to 4 1) since_3 free
+row CoordReference = object 70 (codes "coordReference") (to 1 5) since_3 free
 
 -- all objects, in the order of their places
 unfoldable pub objects : List Object

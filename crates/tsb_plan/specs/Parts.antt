@@ -1,10 +1,13 @@
 -- What a plan says of detectors, overlaps, patterns, splits and preempts, each named by its number from 1. Times are in
 -- tenths of a second. Names are those of NTCIP 1202; the numbers of split modes, overlap types and force modes are the
--- profile's own. So are permissive time, lead and lag, overlaps across rings, and preempts that choose anew.
+-- profile's own. So are permissive time, lead and lag, overlaps across rings, preempts that choose anew, and what
+-- offsets are counted to.
 use Rattle.std.specs.Prelude.{ℕ, ◌+◌, ◌-◌, ◌*◌, ◌==◌, Bool, false, not, if◌then◌else◌, Option, Some, None}
-use Rattle.tsb_plan.specs.declared.object.Object.TheVariants.{VehicleDetectorCallPhase, VehicleDetectorDelay, VehicleDetectorExtend, VehicleDetectorNoActivity, VehicleDetectorMaxPresence, VehicleDetectorErraticCounts, VehicleDetectorFailTime, PedestrianDetectorCallPhase, OverlapIncludedPhases, PatternCycleTime, PatternOffsetTime, PatternSplitNumber, PatternSequenceNumber, SplitTime, SplitMode as SplitModeObject, SplitCoordPhase, PreemptDelay, PreemptMinimumDuration, PreemptMaximumPresence, PreemptMinimumGreen, PreemptMinimumWalk, PreemptEnterPedClear, PreemptTrackGreen, PreemptTrackPhase, PreemptDwellPhase, PreemptExitPhase, OverlapType, OverlapModifierPhases, CoordForceMode, PatternPermissiveTime, PatternLeadLag, CoordCorrectionMode, CoordCorrectionLimit, OverlapAcrossRings, PreemptChoosesAnew}
+use Rattle.tsb_plan.specs.declared.object.Object.TheVariants.{VehicleDetectorCallPhase, VehicleDetectorDelay, VehicleDetectorExtend, VehicleDetectorNoActivity, VehicleDetectorMaxPresence, VehicleDetectorErraticCounts, VehicleDetectorFailTime, PedestrianDetectorCallPhase, OverlapIncludedPhases, PatternCycleTime, PatternOffsetTime, PatternSplitNumber, PatternSequenceNumber, SplitTime, SplitMode as SplitModeObject, SplitCoordPhase, PreemptDelay, PreemptMinimumDuration, PreemptMaximumPresence, PreemptMinimumGreen, PreemptMinimumWalk, PreemptEnterPedClear, PreemptTrackGreen, PreemptTrackPhase, PreemptDwellPhase, PreemptExitPhase, OverlapType, OverlapModifierPhases, CoordForceMode, PatternPermissiveTime, PatternLeadLag, CoordCorrectionMode, CoordCorrectionLimit, OverlapAcrossRings, PreemptChoosesAnew, CoordReference}
 use Rattle.tsb_plan.specs.declared.plan.patterns.CorrectionMode.{CorrectionMode}
 use Rattle.tsb_plan.specs.declared.plan.patterns.CorrectionMode.TheVariants.{AtOnce, Dwell, ShortWay, AddOnly}
+use Rattle.tsb_plan.specs.declared.plan.patterns.OffsetReference.{OffsetReference}
+use Rattle.tsb_plan.specs.declared.plan.patterns.OffsetReference.TheVariants.{SplitEnd, FirstGreen, LastGreen, FirstYellow, LastYellow, FirstRed}
 use Rattle.tsb_plan.specs.declared.plan.patterns.SplitMode.{SplitMode}
 use Rattle.tsb_plan.specs.declared.plan.patterns.SplitMode.TheVariants.{NoMode, MinimumRecall, MaximumRecall, PedestrianRecall, MaximumAndPedestrianRecall, Omitted}
 use Rattle.tsb_plan.specs.Plan.{Plan}
@@ -96,6 +99,17 @@ correction_mode_of limit n =
 abbrev pub correction_mode : Plan → CorrectionMode
 correction_mode plan = correction_mode_of (correction_limit plan) (plan.value CoordCorrectionMode 1)
 
+-- what each number of coordReference means (profile): 0, and any over 5, for the end of the coordinated split
+abbrev pub offset_reference_of : ℕ → OffsetReference
+offset_reference_of n =
+    if n == 1 then FirstGreen
+    else (if n == 2 then LastGreen
+    else (if n == 3 then FirstYellow else (if n == 4 then LastYellow else (if n == 5 then FirstRed else SplitEnd))))
+
+-- what the offsets of all patterns are counted to
+abbrev pub offset_reference : Plan → OffsetReference
+offset_reference plan = offset_reference_of (plan.value CoordReference 1)
+
 -- the cycle length of the pattern, in tenths of a second; 0 for a pattern that is not used
 abbrev pub cycle : Plan → ℕ → ℕ
 cycle plan n = 10 * plan.value PatternCycleTime n
@@ -104,7 +118,8 @@ cycle plan n = 10 * plan.value PatternCycleTime n
 abbrev pub is_used : Plan → ℕ → Bool
 is_used plan n = not (plan.value PatternCycleTime n == 0)
 
--- how long after tick 0 the local counter of the pattern is first 0, in tenths of a second; K17: below the cycle
+-- how long after tick 0 what offsets are counted to first comes in the pattern, in tenths of a second; where that is the
+-- end of the coordinated split the local counter is then 0. K17: below the cycle
 abbrev pub offset : Plan → ℕ → ℕ
 offset plan n = 10 * plan.value PatternOffsetTime n
 

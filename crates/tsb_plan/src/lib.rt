@@ -12,5 +12,5 @@ pub mod version;
 pub mod version_laws;
 
 pub use object::{Object, ObjectId, PLAN_CELLS, Range, is_structural, range_of};
-pub use plan::{CorrectionMode, Plan, SplitMode};
+pub use plan::{CorrectionMode, OffsetReference, Plan, SplitMode};
 pub use version::Version;

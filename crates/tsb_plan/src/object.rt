@@ -154,6 +154,9 @@ pub enum Object {
     OverlapAcrossRings,
     /// `preemptChoosesAnew`: preempt, yes or no, whether rings give up commitments that it does not want (profile); 0 to 1.
     PreemptChoosesAnew,
+    /// `coordReference`: 1 alone, 0 end of split, 1 first green, 2 last green, 3 first yellow, 4 last yellow, 5 first
+    /// red (profile); 0 to 5.
+    CoordReference,
 }
 
 /// THE TABLE OF OBJECTS, each row as the macro that is named takes it: the object, its name in plan texts,
@@ -235,6 +238,7 @@ macro_rules! table {
             CoordCorrectionLimit        "coordCorrectionLimit"         1281 [1 50]      [since 2]   free
             OverlapAcrossRings          "overlapAcrossRings"           1282 [4 1]       [since 3]   structural
             PreemptChoosesAnew          "preemptChoosesAnew"           1286 [4 1]       [since 3]   free
+            CoordReference              "coordReference"               1290 [1 5]       [since 3]   free
         }
     };
 }

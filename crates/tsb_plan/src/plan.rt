@@ -15,7 +15,7 @@ mod preempts;
 mod running;
 
 use crate::object::{Object, ObjectId, PLAN_CELLS, range_of};
-pub use patterns::{CorrectionMode, SplitMode};
+pub use patterns::{CorrectionMode, OffsetReference, SplitMode};
 use tsb_types::{Phase, Refusal};
 
 /// A timing plan: the value of each object at each of its indices.

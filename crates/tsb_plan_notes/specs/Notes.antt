@@ -2,7 +2,7 @@
 -- values, the last one counting; of a value that is no whole number, its unit; of a value and of an index out of range, the
 -- range; and of a name that no object has, the object that was perhaps meant. What is no JSON has no notes. Names, indices
 -- and values are those of the newest version.
-use Rattle.std.specs.Prelude.{ℕ, List, [], ◌∷◌, ◌++◌, if◌then◌else◌, Bool, true, false, Option, Some, None, codes, bytes_eq, decimal, nat_le}
+use Rattle.std.specs.Prelude.{ℕ, List, [], ◌∷◌, ◌++◌, if◌then◌else◌, Bool, true, false, ◌||◌, Option, Some, None, codes, bytes_eq, decimal, nat_le}
 use Rattle.std.specs.Str.{is_utf8}
 use Rattle.std.specs.List.{list_any}
 use Rattle.json.specs.Find.{as_number}
@@ -135,9 +135,13 @@ near_end near = codes ": no such object" ++ near_text near ++ 10 ∷ []
 abbrev pub name_note : List ℕ → List ℕ
 name_note name = name ++ near_end (near_object name)
 
--- of a member with its value, before these: where it names an object, is the version, or is neither
+-- the name is that of the version, or of the notes of a plan
+abbrev pub is_known_member : List ℕ → Bool
+is_known_member name = bytes_eq name (codes "version") || bytes_eq name (codes "notes")
+
+-- of a member with its value, before these: where it names an object, is one of these two, or neither
 abbrev pub member_note : Option Object → List ℕ → Json → Members → List ℕ
-member_note None name d later = if bytes_eq name (codes "version") then twice_note name d (next_of name later) else name_note name
+member_note None name d later = if is_known_member name then twice_note name d (next_of name later) else name_note name
 member_note (Some o) name d later = twice_note name d (next_of name later) ++ table_notes o d
 
 -- of the members of a text

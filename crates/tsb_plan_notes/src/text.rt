@@ -16,6 +16,9 @@ use tsb_plan::{Object, Version};
 /// The name of the member that gives the version.
 const VERSION: &str = "version";
 
+/// The name of the member that has the notes of a plan, in the newest version.
+const NOTES: &str = "notes";
+
 /// What is noted of a plan text: a line, with its line feed, for each member or index that comes again later in its
 /// table, with both values, of which the last counts; one for each value that is no whole number, with its unit; one for
 /// each value or index out of range, with the range; and one for each name that no object has, with the object that was
@@ -91,7 +94,7 @@ fn add_member<'a>(
             add_table(alloc, object, &member.1, notes)
         }
         None => {
-            if name != VERSION {
+            if name != VERSION && name != NOTES {
                 return add_name(name, notes);
             }
             add_again(alloc, name, &member.1, later, notes)

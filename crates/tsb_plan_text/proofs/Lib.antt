@@ -4,3 +4,5 @@ pub mod RiseLemmas
 pub mod SaysLemmas
 pub mod TableLemmas
 pub mod TextLemmas
+pub mod NoteLemmas
+pub mod Examples

@@ -7,14 +7,14 @@ use Rattle.tsb_objects.specs.tsb_rules.Rules.{first_broken}
 use Rattle.tsb_objects.specs.tsb_rules.declared.rules.Rule.{Rule}
 use Rattle.tsb_plan.specs.declared.object.Object.{Object}
 use Rattle.tsb_plan.specs.declared.version.Version.{Version}
-use Rattle.serde_json.specs.Find.{as_object}
+use Rattle.serde_json.specs.Find.{as_object, as_str}
 use Rattle.tsb_plan.specs.Names.{object_named}
 use Rattle.tsb_plan.specs.Versions.{greatest_in, indices_in, translated}
 use Rattle.tsb_plan.specs.Plan.{Plan, empty, with_value}
 use Rattle.tsb_plan_text.specs.declared.error.PlanError.{PlanError}
 use Rattle.tsb_plan_text.specs.declared.error.PlanError.TheVariants.{TooLarge}
-use Rattle.tsb_plan_text.specs.PlanErrors.{Gives, Error, too_large, not_json, not_a_table, no_version, no_such_object, object_not_a_table, no_such_index, not_a_whole_number, out_of_range, broken}
-use Rattle.tsb_plan_text.specs.PlanText.{limit, or_fault, then_on, data_of, index_named, whole_number, version_in, with_entry, with_table, with_member, with_members, data_plan, unless_broken, checked, reading}
+use Rattle.tsb_plan_text.specs.PlanErrors.{Gives, Error, too_large, not_json, not_a_table, no_version, no_such_object, object_not_a_table, no_such_index, not_a_whole_number, out_of_range, notes_not_a_table, note_not_a_text, broken}
+use Rattle.tsb_plan_text.specs.PlanText.{limit, or_fault, then_on, data_of, index_named, whole_number, version_in, with_entry, with_table, with_object, is_notes, noted, with_notes, with_member, with_members, data_plan, unless_broken, checked, reading}
 
 -- it is not the fault of a text that is too large
 abbrev is_later : Error → Bool
@@ -56,16 +56,29 @@ table_later : (v : Version) (o : Object) (ms : Members) (p : Plan) → Later (wi
 table_later v o no_members p = later_ok p
 table_later v o (member text d rest) p = later_then _ _ (entry_later v o text d p) (λ q. table_later v o rest q)
 
-skipped : (p : Plan) (r : Result Plan Error) → Later r → (b : Bool) → Later (if b then Ok p else r)
-skipped p r l true = later_ok p
-skipped p r l false = l
+either : (r s : Result Plan Error) → Later r → Later s → (b : Bool) → Later (if b then r else s)
+either r s one other true = one
+either r s one other false = other
+
+object_later : (v : Version) (name : List ℕ) (d : Data) (p : Plan) → Later (with_object v name d p)
+unfolding with_object
+object_later v name d p =
+    later_or (object_named v name) (no_such_object name) _ refl
+    (λ o. later_or (as_object d) (object_not_a_table o) _ refl (λ table. table_later v o table p))
+
+texts_later : (ms : Members) (p : Plan) → Later (noted ms p)
+texts_later no_members p = later_ok p
+texts_later (member name d rest) p = later_or (as_str d) (note_not_a_text name) _ refl (λ text. texts_later rest p)
+
+notes_later : (d : Data) (p : Plan) → Later (with_notes d p)
+unfolding with_notes
+notes_later d p = later_or (as_object d) notes_not_a_table _ refl (λ table. texts_later table p)
 
 member_later : (v : Version) (name : List ℕ) (d : Data) (p : Plan) → Later (with_member v name d p)
 unfolding with_member
 member_later v name d p =
-    skipped p _ (later_or (object_named v name) (no_such_object name) _ refl
-    (λ o. later_or (as_object d) (object_not_a_table o) _ refl
-    (λ table. table_later v o table p))) (bytes_eq name (codes "version"))
+    either (Ok p) _ (later_ok p) (either (with_notes d p) (with_object v name d p) (notes_later d p) (object_later v name d p) (is_notes v name))
+    (bytes_eq name (codes "version"))
 
 members_later : (v : Version) (ms : Members) (p : Plan) → Later (with_members v ms p)
 members_later v no_members p = later_ok p

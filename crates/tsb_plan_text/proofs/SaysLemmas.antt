@@ -1,5 +1,5 @@
 -- A plan that was read says what its text says.
-use Rattle.std.proofs.Common.{IfOk, length, nat_lt, ◌≡◌, ◌≢◌, ℕ, ◌≤◌, Bool, true, false, List, Option, Some, None, option_and_then, Result, Ok, Err, if◌then◌else◌, bytes_eq, codes, nat_le, Ordering, Less, Equal, Greater, is_eq, nat_cmp, arith, rules, sym, ◌∙◌, ap, subst, refl, inl, inr}
+use Rattle.std.proofs.Common.{IfOk, length, nat_lt, ◌≡◌, ◌≢◌, ℕ, ◌≤◌, Bool, true, false, List, Option, Some, None, option_and_then, Result, Ok, Err, if◌then◌else◌, ◌||◌, bytes_eq, codes, nat_le, Ordering, Less, Equal, Greater, is_eq, nat_cmp, arith, rules, sym, ◌∙◌, ap, subst, refl, inl, inr}
 use Rattle.std.proofs.lemmas.Bool.{cases_Bool}
 use Rattle.std.proofs.lemmas.Bool.Decides.{nat_tests}
 use Rattle.std.proofs.lemmas.Fmt.{decimal_injective}
@@ -10,11 +10,12 @@ use Rattle.std.specs.Cmp.Lexicographic.{slice_cmp}
 use Rattle.std.specs.Fmt.{decimal}
 use Rattle.std.specs.Ordering.{match_ordering}
 use Rattle.serde_json.specs.Data.{Data, null, boolean, number, string, array, object, Members, no_members, member}
-use Rattle.serde_json.specs.Find.{get_member, as_object}
+use Rattle.serde_json.specs.Find.{get_member, as_object, as_str}
 use Rattle.tsb_plan.proofs.NameLemmas.{named_exact, names-apart}
 use Rattle.tsb_plan.proofs.TableLemmas.{order-injective}
 use Rattle.tsb_plan.specs.declared.object.Object.{Object}
 use Rattle.tsb_plan.specs.declared.version.Version.{Version}
+use Rattle.tsb_plan.specs.declared.version.Version.TheVariants.{One, Two, Three}
 use Rattle.tsb_plan.specs.Names.{name_of, object_named}
 use Rattle.tsb_plan.specs.Objects.{order}
 use Rattle.tsb_plan.specs.Plan.{Plan, empty, with_value, is_same}
@@ -30,8 +31,8 @@ use Rattle.tsb_objects.specs.Checked.{checked_plan}
 use Rattle.tsb_objects.specs.declared.checked.Checked.{Checked}
 use Rattle.tsb_objects.specs.tsb_rules.declared.rules.Rule.{Rule}
 use Rattle.tsb_plan_text.specs.declared.error.PlanError.{PlanError}
-use Rattle.tsb_plan_text.specs.PlanErrors.{Gives, Error, not_json, not_a_table, no_version, too_large, no_such_object, object_not_a_table, no_such_index, not_a_whole_number, out_of_range}
-use Rattle.tsb_plan_text.specs.PlanText.{limit, data_of, version_in, data_plan, unless_broken, checked, reading, or_fault, then_on, index_named, whole_number, with_entry, with_table, with_member, with_members}
+use Rattle.tsb_plan_text.specs.PlanErrors.{Gives, Error, not_json, not_a_table, no_version, too_large, no_such_object, object_not_a_table, no_such_index, not_a_whole_number, out_of_range, notes_not_a_table, note_not_a_text}
+use Rattle.tsb_plan_text.specs.PlanText.{limit, data_of, version_in, data_plan, unless_broken, checked, reading, or_fault, then_on, index_named, whole_number, with_entry, with_table, with_object, is_notes, noted, with_notes, with_member, with_members}
 use Rattle.tsb_plan_text.specs.PlanTextSays.{number_at, number_for, SaysThese, Says}
 
 -- ---- what was accepted
@@ -175,29 +176,63 @@ record Read (v : Version) (name : List ℕ) (d : Data) (p q : Plan) : Type 0 whe
   is_table : as_object d ≡ Some table
   made : with_table v object table p ≡ Ok q
 
--- a member that is not skipped
-read_of : (v : Version) (name : List ℕ) (d : Data) (p q : Plan) → bytes_eq name (codes "version") ≡ false → with_member v name d p ≡ Ok q → Read v name d p q
-unfolding with_member
-read_of v name d p q other e =
-    let o = or_ok (object_named v name) (no_such_object name) _ q (kept (bytes_eq name (codes "version")) _ other e) in
+-- a member that has nothing for the plan: the version, or the notes
+abbrev pub is_passed : Version → List ℕ → Bool
+is_passed v name = bytes_eq name (codes "version") || is_notes v name
+
+object_read : (v : Version) (name : List ℕ) (d : Data) (p q : Plan) → with_object v name d p ≡ Ok q → Read v name d p q
+unfolding with_object
+object_read v name d p q e =
+    let o = or_ok (object_named v name) (no_such_object name) _ q e in
     let t = or_ok (as_object d) (object_not_a_table o.0) _ q o.2 in
     let is = (named_exact v name o.0).0 o.1 in
     record { object = o.0; table = t.0; named = is.name; has = is.has; is_table = t.1; made = t.2 }
-  where
-    kept : (b : Bool) (r : Result Plan Error) → b ≡ false → (if b then Ok p else r) ≡ Ok q → r ≡ Ok q
-    kept true r h e = absurd (grind (arith, h))
-    kept false r h e = e
 
-skipped_is : (v : Version) (name : List ℕ) (d : Data) (p q : Plan) → bytes_eq name (codes "version") ≡ true → with_member v name d p ≡ Ok q → p ≡ q
+-- any other member
+read_of : (v : Version) (name : List ℕ) (d : Data) (p q : Plan) → is_passed v name ≡ false → with_member v name d p ≡ Ok q → Read v name d p q
 unfolding with_member
-skipped_is v name d p q skip e = passed (bytes_eq name (codes "version")) _ skip e
+read_of v name d p q other e =
+    object_read v name d p q (kept (bytes_eq name (codes "version")) (is_notes v name) (Ok p) (with_notes d p) (with_object v name d p) other e)
   where
-    passed : (b : Bool) (r : Result Plan Error) → b ≡ true → (if b then Ok p else r) ≡ Ok q → p ≡ q
-    passed true r h e = if_ok true p q too_large e
-    passed false r h e = absurd (grind (arith, h))
+    kept : (a b : Bool) (r s t : Result Plan Error) → (a || b) ≡ false → (if a then r else (if b then s else t)) ≡ Ok q → t ≡ Ok q
+    kept true b r s t h e = absurd (grind (arith, h))
+    kept false true r s t h e = absurd (grind (arith, h))
+    kept false false r s t h e = e
+
+texts_keep : (table : Members) (p q : Plan) → noted table p ≡ Ok q → p ≡ q
+texts_keep no_members p q e = if_ok true p q too_large e
+texts_keep (member name d rest) p q e = texts_keep rest p q (or_ok (as_str d) (note_not_a_text name) _ q e).2
+
+pub notes_keep : (d : Data) (p q : Plan) → with_notes d p ≡ Ok q → p ≡ q
+unfolding with_notes
+notes_keep d p q e =
+    let t = or_ok (as_object d) notes_not_a_table _ q e in
+    texts_keep t.0 p q t.2
+
+pub skipped_is : (v : Version) (name : List ℕ) (d : Data) (p q : Plan) → is_passed v name ≡ true → with_member v name d p ≡ Ok q → p ≡ q
+unfolding with_member
+skipped_is v name d p q skip e = passed (bytes_eq name (codes "version")) (is_notes v name) skip e
+  where
+    passed : (a b : Bool) → (a || b) ≡ true → (if a then Ok p else (if b then with_notes d p else with_object v name d p)) ≡ Ok q → p ≡ q
+    passed true b h e = if_ok true p q too_large e
+    passed false true h e = notes_keep d p q e
+    passed false false h e = absurd (grind (arith, h))
 
 no_object_is_version : (o : Object) → name_of o ≢ codes "version"
 no_object_is_version o = search rules
+
+no_object_is_notes : (o : Object) → name_of o ≢ codes "notes"
+no_object_is_notes o = search rules
+
+-- nor is it of an object
+passed_apart : (v : Version) (name : List ℕ) → is_passed v name ≡ true → (o : Object) → name_of o ≢ name
+passed_apart v name skip o = go v (bytes_eq name (codes "version")) refl skip
+  where
+    go : (v : Version) (a : Bool) → bytes_eq name (codes "version") ≡ a → (a || is_notes v name) ≡ true → name_of o ≢ name
+    go v true is h = λ same. no_object_is_version o (same ∙ (bytes_eq-Decides name (codes "version")).0 is)
+    go One false is h = absurd (grind (arith, h))
+    go Two false is h = absurd (grind (arith, h))
+    go Three false is h = λ same. no_object_is_notes o (same ∙ (bytes_eq-Decides name (codes "notes")).0 h)
 
 abbrev in_table : ℕ → Option Data → Option ℕ
 in_table i found = option_and_then (number_at i) (option_and_then as_object found)
@@ -230,11 +265,10 @@ members_say apart v no_members p q rises e o i has = ap (λ (r : Plan). r.value 
 members_say apart v (member name d rest) p q rises e o i has =
     let first = then_ok (with_member v name d p) (with_members v rest) q e in
     let later = members_say apart v rest first.0 q rises.2 first.2 o i has in
-    elim (cases_Bool (bytes_eq name (codes "version"))) [
+    elim (cases_Bool (is_passed v name)) [
       | inl skip ↦
-          let version : name ≡ codes "version" = (bytes_eq-Decides name (codes "version")).0 skip in
           let kept : p ≡ first.0 = skipped_is v name d p first.0 skip first.1 in
-          later ∙ rw (for_later o i name d rest (λ same. no_object_is_version o (same ∙ version))) (ap (λ (r : Plan). or_number (number_for rest o i) (r.value o (translated v o i))) (sym kept))
+          later ∙ rw (for_later o i name d rest (passed_apart v name skip o)) (ap (λ (r : Plan). or_number (number_for rest o i) (r.value o (translated v o i))) (sym kept))
       | inr read ↦
           let it = read_of v name d p first.0 read first.1 in
           elim (cases_Bool (bytes_eq (name_of o) name)) [
@@ -258,7 +292,7 @@ members_leave v no_members p q e o k none = ap (λ (r : Plan). r.value o k) (sym
 members_leave v (member name d rest) p q e o k none =
     let first = then_ok (with_member v name d p) (with_members v rest) q e in
     let later = members_leave v rest first.0 q first.2 o k none in
-    elim (cases_Bool (bytes_eq name (codes "version"))) [
+    elim (cases_Bool (is_passed v name)) [
       | inl skip ↦ later ∙ ap (λ (r : Plan). r.value o k) (sym (skipped_is v name d p first.0 skip first.1))
       | inr read ↦
           let it = read_of v name d p first.0 read first.1 in

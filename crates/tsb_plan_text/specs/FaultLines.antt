@@ -22,4 +22,6 @@ plan_fault (told.ObjectNotATable o) = codes "plan: " ++ name_of o ++ codes ": no
 plan_fault (told.NoSuchIndex o index) = at_index o (string_bytes index) (codes ": no such object")
 plan_fault (told.NotAWholeNumber o index) = at_index o (string_bytes index) (codes ": not a whole number")
 plan_fault (told.OutOfRange o index) = at_index o (string_bytes index) (codes ": out of range")
+plan_fault told.NotesNotATable = codes "plan: notes: not a table"
+plan_fault (told.NoteNotAText name) = codes "plan: notes." ++ string_bytes name ++ codes ": not a text"
 plan_fault (told.Rule r) = codes "plan: " ++ rule_line r

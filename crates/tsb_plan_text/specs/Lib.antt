@@ -10,3 +10,5 @@ pub mod PlanTextSays
 pub mod RuleLines
 -- the line that tells a fault
 pub mod FaultLines
+-- that notes change nothing
+pub mod NotesLaw

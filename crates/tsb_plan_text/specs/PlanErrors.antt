@@ -17,6 +17,8 @@ pub data Error : Type 0 where
   no_such_index : Object → List ℕ → Error
   not_a_whole_number : Object → List ℕ → Error
   out_of_range : Object → List ℕ → Error
+  notes_not_a_table : Error
+  note_not_a_text : List ℕ → Error
   broken : Rule → Error
 
 -- The answer is this fault, or memory ran out: `Memory` alone stands for any fault.
@@ -31,6 +33,8 @@ Tells (told.ObjectNotATable o) read = read ≡ Err (object_not_a_table o)
 Tells (told.NoSuchIndex o index) read = read ≡ Err (no_such_index o (string_bytes index))
 Tells (told.NotAWholeNumber o index) read = read ≡ Err (not_a_whole_number o (string_bytes index))
 Tells (told.OutOfRange o index) read = read ≡ Err (out_of_range o (string_bytes index))
+Tells told.NotesNotATable read = read ≡ Err notes_not_a_table
+Tells (told.NoteNotAText name) read = read ≡ Err (note_not_a_text (string_bytes name))
 Tells (told.Rule r) read = read ≡ Err (broken r)
 
 -- What was answered, seen by view, is what the definition gives, fault for fault, or memory ran out.
@@ -52,6 +56,7 @@ HasText (Err (no_such_object name)) = Unit {0}
 HasText (Err (no_such_index o index)) = Unit {0}
 HasText (Err (not_a_whole_number o index)) = Unit {0}
 HasText (Err (out_of_range o index)) = Unit {0}
+HasText (Err (note_not_a_text name)) = Unit {0}
 HasText (Err f) = ⊥
 
 -- The answer is this fault, or memory ran out for the text of a fault that has one.

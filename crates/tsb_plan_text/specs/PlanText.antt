@@ -1,11 +1,11 @@
 -- What a plan text says: the plan, or its first fault. `read` and `Data` are those of `serde_json`: an object's members
 -- stand in the byte order of their names, each name once with the value that it has last, so what goes over the members
 -- from the first on judges them in that order.
-use Rattle.std.specs.Prelude.{ℕ, ◌^◌, List, length, nat_lt, nat_le, ◌==◌, if◌then◌else◌, Option, Some, None, option_and_then, Result, Ok, Err, codes, bytes_eq, find}
+use Rattle.std.specs.Prelude.{ℕ, ◌^◌, List, length, nat_lt, nat_le, ◌==◌, if◌then◌else◌, Bool, false, Option, Some, None, option_and_then, Result, Ok, Err, codes, bytes_eq, find}
 use Rattle.std.specs.Fmt.{decimal}
 use Rattle.std.specs.Str.{is_utf8}
 use Rattle.serde_json.specs.Data.{Data, Members, no_members, member}
-use Rattle.serde_json.specs.Find.{get_member, as_number, as_object, as_u64}
+use Rattle.serde_json.specs.Find.{get_member, as_number, as_object, as_str, as_u64}
 use Rattle.serde_json.specs.Read.{read}
 use Rattle.tsb_objects.specs.tsb_rules.Rules.{first_broken}
 use Rattle.tsb_objects.specs.tsb_rules.declared.rules.Rule.{Rule}
@@ -16,7 +16,7 @@ use Rattle.tsb_plan.specs.Names.{object_named}
 use Rattle.tsb_plan.specs.Plan.{Plan, empty, with_value}
 use Rattle.tsb_plan.specs.Versions.{indices_in, greatest_in, translated}
 use Rattle.tsb_objects.specs.tsb_types.Lists.{run_from}
-use Rattle.tsb_plan_text.specs.PlanErrors.{Error, too_large, not_json, not_a_table, no_version, no_such_object, object_not_a_table, no_such_index, not_a_whole_number, out_of_range, broken}
+use Rattle.tsb_plan_text.specs.PlanErrors.{Error, too_large, not_json, not_a_table, no_version, no_such_object, object_not_a_table, no_such_index, not_a_whole_number, out_of_range, notes_not_a_table, note_not_a_text, broken}
 
 -- the longest text that is read, in bytes
 abbrev pub limit : ℕ
@@ -72,13 +72,33 @@ abbrev pub with_table : Version → Object → Members → Plan → Result Plan 
 with_table v o no_members plan = Ok plan
 with_table v o (member text d rest) plan = then_on (with_entry v o text d plan) (with_table v o rest)
 
+-- with a member that names an object
+unfoldable pub with_object : Version → List ℕ → Data → Plan → Result Plan Error
+with_object v name d plan =
+    or_fault (object_named v name) (no_such_object name) (λ o.
+    or_fault (as_object d) (object_not_a_table o) (λ table.
+    with_table v o table plan))
+
+-- the name is that of the notes, which texts of version 3 alone have
+abbrev pub is_notes : Version → List ℕ → Bool
+is_notes One name = false
+is_notes Two name = false
+is_notes Three name = bytes_eq name (codes "notes")
+
+-- the plan itself, where each note is a text
+abbrev pub noted : Members → Plan → Result Plan Error
+noted no_members plan = Ok plan
+noted (member name d rest) plan = or_fault (as_str d) (note_not_a_text name) (λ text. noted rest plan)
+
+-- with the notes; they change nothing of the plan
+unfoldable pub with_notes : Data → Plan → Result Plan Error
+with_notes d plan = or_fault (as_object d) notes_not_a_table (λ table. noted table plan)
+
 -- with a member of the text
 unfoldable pub with_member : Version → List ℕ → Data → Plan → Result Plan Error
 with_member v name d plan =
     if bytes_eq name (codes "version") then Ok plan else
-    or_fault (object_named v name) (no_such_object name) (λ o.
-    or_fault (as_object d) (object_not_a_table o) (λ table.
-    with_table v o table plan))
+    (if is_notes v name then with_notes d plan else with_object v name d plan)
 
 -- with all members
 abbrev pub with_members : Version → Members → Plan → Result Plan Error

@@ -28,7 +28,7 @@ pub enum PlanError {
     NotATable,
     /// The member `version` is absent or is not the whole number 1, 2 or 3.
     Version,
-    /// A member's name is not `version`, and not that of an object of the version.
+    /// A member's name is not `version`, in version 3 not `notes`, and not that of an object of the version.
     NoSuchObject {
         /// The name as the text has it, without JSON's escapes.
         name: String,
@@ -58,6 +58,13 @@ pub enum PlanError {
         object: Object,
         /// The index as the text has it.
         index: String,
+    },
+    /// What a text of version 3 gives for `notes` is not a JSON object.
+    NotesNotATable,
+    /// A note is not a text.
+    NoteNotAText {
+        /// The name of the note as the text has it, without JSON's escapes.
+        name: String,
     },
     /// The plan breaks a rule, this one first.
     Rule(Rule),
@@ -102,6 +109,8 @@ impl fmt::Display for PlanLine<'_> {
             PlanError::OutOfRange { object, index } => {
                 write!(f, "plan: {}.{index}: out of range", object.name())
             }
+            PlanError::NotesNotATable => f.write_str("plan: notes: not a table"),
+            PlanError::NoteNotAText { name } => write!(f, "plan: notes.{name}: not a text"),
             PlanError::Rule(rule) => write!(f, "plan: {}", rule_line(*rule)),
         }
     }

@@ -7,7 +7,9 @@
 #![tactic(auto)]
 
 mod error;
+pub mod laws;
 mod listed;
+mod notes;
 mod numbers;
 mod read;
 mod rules;

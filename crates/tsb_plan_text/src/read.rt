@@ -8,10 +8,11 @@ ghost use Rattle.tsb_plan.specs.PlanOf.{plan_of};
 ghost use Rattle.tsb_plan_text.specs.PlanErrors.{Gives, Makes, MakesOf, not_json};
 ghost use Rattle.tsb_plan_text.specs.PlanTextSays.{Says};
 ghost use Rattle.tsb_plan_text.specs.TreeSize.{has_room};
-ghost use Rattle.tsb_plan_text.specs.PlanText.{drafted, reading, data_plan, or_fault, with_member, with_members, data_of};
+ghost use Rattle.tsb_plan_text.specs.PlanText.{drafted, reading, data_plan, or_fault, with_object, with_member, with_members, data_of};
 
 use crate::error::PlanError;
 use crate::listed::Listed;
+use crate::notes::{is_notes, read_notes};
 use crate::numbers::version_of;
 use crate::tree::has_room;
 use serde_json::{Error, Map, Value};
@@ -166,6 +167,24 @@ fn read_member(
     if name == VERSION {
         return Ok(());
     }
+    if is_notes(version, name) {
+        return read_notes(alloc, value);
+    }
+    read_object(alloc, version, name, value, plan)
+}
+
+/// Puts what a member gives for an object into the plan.
+#[tactic(auto, unfolding(crate::specs::PlanText::with_object))]
+fn read_object(
+    alloc: Global,
+    version: Version,
+    name: &str,
+    value: &Value,
+    plan: &mut Plan,
+) -> Result<(), PlanError>
+    ensures { MakesOf result (plan_of plan.new)
+        (with_object version name.now (view value.now) (plan_of plan.old)) }
+{
     let Some(listed) = Listed::named(version, name) else {
         let name = String::from_str(alloc, name)?;
         return Err(PlanError::NoSuchObject { name });

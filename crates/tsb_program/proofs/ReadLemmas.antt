@@ -41,6 +41,8 @@ plan-read (Err (told.ObjectNotATable o)) known text front gives = (text, front, 
 plan-read (Err (told.NoSuchIndex o index)) known text front gives = (text, front, gives, λ is. cc)
 plan-read (Err (told.NotAWholeNumber o index)) known text front gives = (text, front, gives, λ is. cc)
 plan-read (Err (told.OutOfRange o index)) known text front gives = (text, front, gives, λ is. cc)
+plan-read (Err told.NotesNotATable) known text front gives = (text, front, gives, λ is. cc)
+plan-read (Err (told.NoteNotAText name)) known text front gives = (text, front, gives, λ is. cc)
 plan-read (Err (told.Rule r)) known text front gives = (text, front, gives, λ is. cc)
 
 pub log-came : {V : Type 0} (text_of : V → List ℕ) (read : Result V FileError) (result : Result (List LogRow) (ReadError RefusedLog)) (known : Option (List ℕ))
@@ -67,6 +69,8 @@ plan-placed (Err (told.ObjectNotATable o)) known text front gives = (text, front
 plan-placed (Err (told.NoSuchIndex o index)) known text front gives = (text, front, gives, λ is. cc, refl)
 plan-placed (Err (told.NotAWholeNumber o index)) known text front gives = (text, front, gives, λ is. cc, refl)
 plan-placed (Err (told.OutOfRange o index)) known text front gives = (text, front, gives, λ is. cc, refl)
+plan-placed (Err told.NotesNotATable) known text front gives = (text, front, gives, λ is. cc, refl)
+plan-placed (Err (told.NoteNotAText name)) known text front gives = (text, front, gives, λ is. cc, refl)
 plan-placed (Err (told.Rule r)) known text front gives = (text, front, gives, λ is. cc, refl)
 
 pub plan-found : {V : Type 0} (text_of : V → List ℕ) (read : Result V FileError) (result : Result Checked PlanFault) (known : Option (List ℕ))
@@ -100,6 +104,8 @@ plan-blamed may_open (Err (told.ObjectNotATable o)) = tt
 plan-blamed may_open (Err (told.NoSuchIndex o index)) = tt
 plan-blamed may_open (Err (told.NotAWholeNumber o index)) = tt
 plan-blamed may_open (Err (told.OutOfRange o index)) = tt
+plan-blamed may_open (Err told.NotesNotATable) = tt
+plan-blamed may_open (Err (told.NoteNotAText name)) = tt
 plan-blamed may_open (Err (told.Rule r)) = tt
 
 place-blamed : {R : Type 0} (may_open : Result R Error → Type 0) (made : Result Checked (ReadError PlanError)) (text : List ℕ) → IfErr made (BlamesFile may_open)

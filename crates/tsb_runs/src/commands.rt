@@ -3,8 +3,9 @@
 use std::alloc::{AllocError, Global};
 use tsb_bench::{Cmd, Input};
 use tsb_objects::{Lamp, Object, ObjectId, Phase, Row, SignalColor, Station, Watch};
+use tsb_types::ClockTime;
 
-/// Inputs of every kind but ticks, none of them refused on the built-in plan of eight phases.
+/// Inputs of every kind but ticks and clocks, none of them refused on the built-in plan of eight phases.
 fn inputs() -> [Input; 13] {
     let (first, second) = (Station::of(1), Station::of(2));
     let maximum = ObjectId {
@@ -26,6 +27,11 @@ fn inputs() -> [Input; 13] {
         Input::Begin(second),
         Input::Abort(second),
     ]
+}
+
+/// 2026-11-22 at seven.
+fn at_seven() -> Option<ClockTime> {
+    ClockTime::new(9830, 252_000)
 }
 
 /// When phase 2 changed last, asked before and after 40 ticks are taken back; then one more input is taken back.
@@ -58,6 +64,9 @@ pub fn commands(alloc: Global, left_out: u32) -> Result<Vec<Cmd>, AllocError> {
         put_ticks(&mut commands, 2)?;
         for input in inputs() {
             commands.push(Cmd::Apply(input))?;
+        }
+        if let Some(time) = at_seven() {
+            commands.push(Cmd::Apply(Input::Clock(time)))?;
         }
     }
     let place = left_out as usize;

@@ -28,6 +28,7 @@ pub record Alike (x y : Status) : Type 0 where
   pub free : x.free ≡ y.free
   pub local : x.local ≡ y.local
   pub sync : x.sync ≡ y.sync
+  pub time : x.time ≡ y.time
   pub flash : x.flash ≡ y.flash
   pub owner : x.owner ≡ y.owner
   pub desk : x.desk ≡ y.desk

@@ -71,6 +71,7 @@ status_of x = record {
   free = x.free;
   local = x.local;
   sync = x.sync;
+  time = x.time;
   flash = x.flash;
   owner = x.owner;
   desk = x.desk;

@@ -81,6 +81,9 @@ pub struct Status {
     pub local: Option<u32>,
     /// `coordSyncStatus`, less than the cycle; none in free operation.
     pub sync: Option<u32>,
+    /// `globalTime` (NTCIP 1201), in seconds since 1970-01-01 00:00 of the clock, which has no zone (profile); none where no
+    /// clock is set.
+    pub time: Option<u32>,
     /// `unitFlashStatus`.
     pub flash: FlashStatus,
     /// The station whose transaction is open (profile).

@@ -15,16 +15,16 @@ use Rattle.tsb_plan.proofs.TableLemmas.{at-order, few-indices, order-below, leng
 use Rattle.tsb_plan.specs.declared.object.Object.{Object}
 use Rattle.tsb_plan.specs.declared.object.Object.TheVariants.{PhaseEnabled}
 use Rattle.tsb_plan.specs.declared.version.Version.{Version}
-use Rattle.tsb_plan.specs.declared.version.Version.TheVariants.{Two, Three}
+use Rattle.tsb_plan.specs.declared.version.Version.TheVariants.{One, Two, Three}
 use Rattle.tsb_plan.specs.Names.{name_of, object_named}
 use Rattle.tsb_plan.specs.Objects.{objects, order, indices, greatest}
 use Rattle.tsb_plan.specs.Plan.{Plan, with_value}
 use Rattle.tsb_plan.specs.Versions.{has_object, indices_in, greatest_in, translated}
 use Rattle.tsb_plan_text.proofs.NumberLemmas.{index_found}
 use Rattle.tsb_plan_text.specs.PlanErrors.{Error}
-use Rattle.tsb_plan_text.specs.PlanText.{index_named, whole_number, with_entry, with_table, with_member, with_members}
+use Rattle.tsb_plan_text.specs.PlanText.{index_named, whole_number, with_entry, with_table, with_object, is_notes, with_member, with_members}
 use Rattle.tsb_status_text.specs.PlanLine.{is_all_zeros, version_for}
-use Rattle.tsb_status_text.proofs.FoundLemmas.{data_table, not_version, plan_members, put_entries, put_entry, put_object, put_objects, version_alone, whole_small}
+use Rattle.tsb_status_text.proofs.FoundLemmas.{data_table, not_version, not_notes, plan_members, put_entries, put_entry, put_object, put_objects, version_alone, whole_small}
 use Rattle.tsb_status_text.proofs.JsonLemmas.{AreSmall}
 
 -- the plan that a reading gives, with as many phases and sides as one before
@@ -123,14 +123,21 @@ members_put v k d (member l e ms) new h = go (members_put v k d ms new h.1) (sli
     go later Equal is = (subst (λ (t : List ℕ). IsMember v t d) (exact_bytes k l is) new, h.1)
     go later Greater is = (h.0, later)
 
+-- no object has the name of the notes
+apart_from_notes : (v : Version) (o : Object) → is_notes v (name_of o) ≡ false
+apart_from_notes One o = refl
+apart_from_notes Two o = refl
+apart_from_notes Three o = not_notes o
+
 member_accepted : (v : Version) → IsAsInPlan v → (name : List ℕ) (d : Data) (p : Plan) → IsMember v name d → Accepted (with_member v name d p) p
-unfolding with_member
+unfolding with_member with_object
 member_accepted v whole name d p (inl version) = record { plan = p; is = rw ((bytes_eq-Decides name (codes "version")).1 version) refl; phases = refl; sides = refl }
 member_accepted v whole name d p (inr (o, table, named, is, has, good)) =
     let other : bytes_eq name (codes "version") ≡ false = ap (λ (t : List ℕ). bytes_eq t (codes "version")) (sym named) ∙ not_version o in
     let found : object_named v name ≡ Some o = (named_exact v name o).1 (record { has = has; name = named }) in
+    let apart : is_notes v name ≡ false = ap (is_notes v) (sym named) ∙ apart_from_notes v o in
     let made = table_accepted v whole o table p good in
-    record { plan = made.plan; is = rw (other, found, is) made.is; phases = made.phases; sides = made.sides }
+    record { plan = made.plan; is = rw (other, apart, found, is) made.is; phases = made.phases; sides = made.sides }
 
 pub members_accepted : (v : Version) → IsAsInPlan v → (ms : Members) (p : Plan) → AreMembers v ms → Accepted (with_members v ms p) p
 members_accepted v whole no_members p h = record { plan = p; is = refl; phases = refl; sides = refl }

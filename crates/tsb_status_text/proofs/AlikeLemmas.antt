@@ -7,7 +7,7 @@ use Rattle.tsb_step.specs.Status.{Status}
 use Rattle.tsb_status_text.specs.Json.{array, member, number_in, numbers, object, onto, optional, string, values_from}
 use Rattle.tsb_status_text.specs.Names.{desk_name, flash_name, free_name, preempt_name}
 use Rattle.tsb_status.specs.Alike.{Alike}
-use Rattle.tsb_status_text.specs.StatusText.{phases_text, overlaps_text, detectors_text, preempts_text, desk_text, ring_text, rings_text, wait_in, wait_text, waits_text, status_text}
+use Rattle.tsb_status_text.specs.StatusText.{phases_text, overlaps_text, detectors_text, preempts_text, desk_text, ring_text, rings_text, time_member, wait_in, wait_text, waits_text, status_text}
 
 values-same : (f g : ℕ → Option (List ℕ)) (a n : ℕ) → ((p : ℕ) → a ≤ p → p < a + n → f p ≡ g p) → values_from f a n ≡ values_from g a n
 unfolding values_from
@@ -91,4 +91,4 @@ text-same x y a = λ i. object (
     ∷ member (codes "desk") (desk-same x y a i)
     ∷ member (codes "rings") (rings-same x y a i)
     ∷ member (codes "waits") (waits-same x.wait y.wait a.wait i)
-    ∷ [])
+    ∷ time_member (a.time i))

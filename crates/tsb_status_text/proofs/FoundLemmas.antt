@@ -241,6 +241,9 @@ value_there plan small o i has =
 pub not_version : (o : Object) → bytes_eq (name_of o) (codes "version") ≡ false
 not_version o = search rules
 
+pub not_notes : (o : Object) → bytes_eq (name_of o) (codes "notes") ≡ false
+not_notes o = search rules
+
 version_left : (b : Bool) (k : List ℕ) (d : Data) (found : Members) → codes "version" ≢ k → get_member (codes "version") (if b then found else put k d found) ≡ get_member (codes "version") found
 version_left true k d found ne = refl
 version_left false k d found ne = get_member-put_other (codes "version") k d found ne

@@ -27,7 +27,7 @@ member name value = 34 ∷ name ++ (34 ∷ 58 ∷ value)
 abbrev pub object : List (List ℕ) → List ℕ
 object members = 123 ∷ closed members 125
 
--- a number, and null where there is none
+-- a number, or null
 abbrev pub optional : Option ℕ → List ℕ
 optional None = codes "null"
 optional (Some n) = decimal n

@@ -9,7 +9,7 @@ use Rattle.tsb_step.specs.declared.waits.Lack.TheVariants as lacks
 use Rattle.tsb_step.specs.declared.waits.Wait.{Wait}
 use Rattle.tsb_step.specs.declared.waits.Wait.TheVariants as waits
 use Rattle.tsb_step.specs.Status.{RingStatus, Status}
-use Rattle.tsb_status_text.specs.Json.{string, array, member, object, optional, numbers, values_from}
+use Rattle.tsb_status_text.specs.Json.{string, array, member, more, object, optional, numbers, values_from}
 use Rattle.tsb_status_text.specs.Names.{part_name, preempt_name, free_name, flash_name, desk_name}
 
 -- ## Groups
@@ -154,6 +154,17 @@ wait_in wait p = option_map (wait_text p) (wait p)
 unfoldable pub waits_text : (ℕ → Option Wait) → List ℕ
 waits_text wait = array (values_from (wait_in wait) 1 16)
 
+-- ## The clock
+
+-- globalTime, where a clock is set
+abbrev pub time_member : Option ℕ → List (List ℕ)
+time_member None = []
+time_member (Some n) = member (codes "globalTime") (decimal n) ∷ []
+
+-- it, if there is one, and the end of the line
+abbrev pub end_text : Option ℕ → List ℕ
+end_text time = more (time_member time) 125
+
 -- ## The line
 
 -- the line of a status: a member for each group of status objects, and one for what phases wait for
@@ -172,4 +183,4 @@ status_text s = object (
     ∷ member (codes "desk") (desk_text s)
     ∷ member (codes "rings") (rings_text s.ring)
     ∷ member (codes "waits") (waits_text s.wait)
-    ∷ [])
+    ∷ time_member s.time)

@@ -8,7 +8,7 @@ ghost use Rattle.tsb_status_text.specs.Json.{numbers, optional, string};
 ghost use Rattle.tsb_status_text.specs.Names.{preempt_name};
 ghost use Rattle.tsb_lines.specs.ShortLines.{AddsShort};
 ghost use Rattle.tsb_status_text.specs.declared.line.TheConstants.{LONGEST};
-ghost use Rattle.tsb_status_text.specs.StatusText.{desk_text, detectors_text, overlaps_text, phases_text, preempts_text, rings_text, status_text, waits_text};
+ghost use Rattle.tsb_status_text.specs.StatusText.{desk_text, detectors_text, end_text, overlaps_text, phases_text, preempts_text, rings_text, status_text, waits_text};
 
 use crate::line::{StatusLine, push_byte, push_named, push_numbers, push_optional};
 use crate::names::{desk_name, flash_name, free_name, preempt_name};
@@ -59,8 +59,22 @@ pub fn status_line(status: &Status) -> StatusLine
     push_rings(&mut line, &status.rings);
     line.push(b",\"waits\":");
     push_waits(&mut line, &status.waits);
-    line.push(b"}");
+    push_end(&mut line, status.time);
     line
+}
+
+/// Adds `globalTime`, where a clock is set, and the end of the line.
+fn push_end(line: &mut StatusLine, time: Option<u32>)
+    ensures { AddsShort LONGEST 25 line.old (end_text time) line.new }
+{
+    match time {
+        None => line.push(b"}"),
+        Some(seconds) => {
+            line.push(b",\"globalTime\":");
+            line.push_number(seconds);
+            line.push(b"}");
+        }
+    }
 }
 
 /// Adds a set of phases or vehicle detectors to a line, after a name.

@@ -9,7 +9,7 @@ use tsb_lines::ShortLine;
 use tsb_types::{NumberSet, Phase};
 
 /// The most bytes that the line of a status can have.
-pub const LONGEST: usize = 2_749;
+pub const LONGEST: usize = 2_773;
 
 /// The bytes of a line.
 pub type StatusLine = ShortLine<LONGEST>;

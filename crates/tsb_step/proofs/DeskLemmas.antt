@@ -8,7 +8,7 @@ use Rattle.tsb_transact.specs.Desk.{closed}
 use Rattle.tsb_transact.specs.Commit.{forgets_last_phases}
 use Rattle.tsb_transact.specs.Calls.{committed_plan}
 use Rattle.tsb_step.specs.declared.inputs.Input.{Input}
-use Rattle.tsb_step.specs.declared.inputs.Input.TheVariants.{Tick, Pattern, Switch, Fault, Reset, Commit}
+use Rattle.tsb_step.specs.declared.inputs.Input.TheVariants.{Tick, Pattern, Switch, Fault, Reset, Commit, Clock}
 use Rattle.tsb_step.specs.State.{State}
 use Rattle.tsb_step.specs.Step.{step, ticked, with_lamp, reset}
 use Rattle.tsb_step.specs.Signs.{field, watched}
@@ -25,6 +25,7 @@ change_the_desk_alone s (Switch n on) of = cc
 change_the_desk_alone s (Fault lamp) of = cc
 change_the_desk_alone s Reset of = cc
 change_the_desk_alone s (Commit station) of = cc
+change_the_desk_alone s (Clock m) of = cc
 change_the_desk_alone s i of = refl
 
 -- ## What the others make of it, where the controller has tripped and where it has not

@@ -13,6 +13,7 @@ pub mod LawMistakes
 pub mod TimeMistakes
 pub mod CellsExamples
 pub mod DeskLawMistakes
+pub mod ClockMistakes
 pub mod TimeLawMistakes
 pub mod TimeRuns
 pub mod EndMistakes

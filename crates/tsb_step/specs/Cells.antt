@@ -9,7 +9,7 @@
 -- | `first_cell.CALLS` | the calls' |
 -- | `first_cell.PHASES` | the phases' |
 -- | `first_cell.RINGS` | the rings' |
--- | `first_cell.COORD` | coordination's: the pattern that is selected, and how its counter comes into step |
+-- | `first_cell.COORD` | coordination's, with the clock |
 -- | `first_cell.PREEMPTS` | the preempts' |
 -- | `first_cell.MONITOR` | the monitor's and the injected lamp's |
 --
@@ -29,7 +29,7 @@ use Rattle.tsb_phase.specs.Cells.{phases_cells, phase_in}
 use Rattle.tsb_ring.specs.declared.TheConstants.{CELLS as RING_CELLS}
 use Rattle.tsb_ring.specs.Cells.{rings_cells, rings_in}
 use Rattle.tsb_coord.specs.declared.TheConstants.{CELLS as PATTERN_CELLS}
-use Rattle.tsb_coord.specs.Cells.{pattern_cells, pattern_in, correction_in}
+use Rattle.tsb_coord.specs.Cells.{pattern_cells, pattern_in, correction_in, start_in}
 use Rattle.tsb_preempt.specs.declared.TheConstants.{CELLS as PREEMPT_CELLS}
 use Rattle.tsb_preempt.specs.Cells.{preempts_cells, preempts_in}
 use Rattle.tsb_step.specs.declared.TheConstants.{MONITOR_CELLS}
@@ -59,7 +59,7 @@ cells_of s =
     ++ memories_cells s.memories
     ++ phases_cells (clock s) s.phases
     ++ rings_cells s.rings
-    ++ pattern_cells s.pattern s.correction
+    ++ pattern_cells s.pattern s.correction s.start_moment
     ++ preempts_cells (clock s) s.preempts
     ++ monitor_cells s.lamp s.trip
 
@@ -109,6 +109,7 @@ state_in now row = record {
   desk = desk_in (desk_row row);
   pattern = pattern_in (pattern_row row);
   correction = correction_in (pattern_row row);
+  start_moment = start_in (pattern_row row);
   detectors = detector_in (clock_in now row) (detectors_row row);
   memories = memories_in (calls_row row);
   phases = phase_in (clock_in now row) (phases_row row);

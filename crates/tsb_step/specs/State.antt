@@ -35,6 +35,8 @@ pub record State : Type 0 where
   -- the pattern that the operator selected, and how its local counter comes into step
   pub pattern : Option ℕ
   pub correction : Correction
+  -- the moment of tick number 0, where a clock is set
+  pub start_moment : Option ℕ
   -- of each vehicle detector, of each phase
   pub detectors : ℕ → Detector
   pub memories : Memories
@@ -53,6 +55,7 @@ start plan = record {
   desk = closed;
   pattern = coordination.at_power_up;
   correction = in_step;
+  start_moment = None;
   detectors = λ d. detector.at_power_up;
   memories = calls.at_power_up;
   phases = λ p. phase.at_power_up;
@@ -62,9 +65,9 @@ start plan = record {
   trip = None;
 }
 
--- a controller that starts anew: as at power-up, except its plan, desk, switches and tick number
+-- a controller that starts anew: as at power-up, except its plan, desk, switches, tick number and clock
 abbrev pub restarted : State → State
-restarted s = record (start s.plan) { now = s.now; desk = s.desk; preempts = preempts.after_reset s.preempts }
+restarted s = record (start s.plan) { now = s.now; desk = s.desk; start_moment = s.start_moment; preempts = preempts.after_reset s.preempts }
 
 -- ## Words on the state
 

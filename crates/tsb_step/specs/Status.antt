@@ -4,7 +4,7 @@
 -- these.
 --
 -- Times are in tenths of a second. What is left of a time is 0 once it is reached.
-use Rattle.std.specs.Prelude.{ℕ, ◌+◌, ◌-◌, ◌%◌, ◌==◌, nat_lt, Bool, true, false, not, ◌&&◌, ◌||◌, if◌then◌else◌, Option, Some, None, is_some, option_map}
+use Rattle.std.specs.Prelude.{ℕ, ◌+◌, ◌-◌, ◌/◌, ◌%◌, ◌==◌, nat_lt, Bool, true, false, not, ◌&&◌, ◌||◌, if◌then◌else◌, Option, Some, None, is_some, option_map}
 use Rattle.tsb_cells.specs.Timer.{is_on}
 use Rattle.tsb_types.specs.declared.event.TheConstants.{FREE}
 use Rattle.tsb_types.specs.declared.interval.Interval.{Interval}
@@ -19,6 +19,8 @@ use Rattle.tsb_objects.specs.tsb_plan.Parts.{cycle}
 use Rattle.tsb_objects.specs.tsb_plan.Plan.{Plan, is_enabled, yellow_change, red_clear}
 use Rattle.tsb_objects.specs.tsb_rules.Rules.{serves_pedestrians}
 use Rattle.tsb_coord.specs.Coordinated.{force_off}
+use Rattle.tsb_types.specs.declared.clock_time.TheConstants.{CLOCK_EPOCH}
+use Rattle.tsb_coord.specs.Correction.{clocked}
 use Rattle.tsb_phase.specs.Green.{gap, is_gapped, acting_maximum}
 use Rattle.tsb_phase.specs.Pedestrian.{ended_by, walk_time, clearance_time}
 use Rattle.tsb_phase.specs.Phase.{held_of}
@@ -188,6 +190,8 @@ pub record Status : Type 0 where
   pub free : FreeStatus
   pub local : Option ℕ
   pub sync : Option ℕ
+  -- globalTime, by the clock, where one is set
+  pub time : Option ℕ
   -- unitFlashStatus
   pub flash : FlashStatus
   -- the desk: its owner, and how far its transaction is (NTCIP 1201, dbCreateTransaction)
@@ -197,6 +201,10 @@ pub record Status : Type 0 where
   pub ring : Ring → RingStatus
   -- what each phase waits for that is called and not Green
   pub wait : ℕ → Option Wait
+
+-- of a moment: seconds since 1970-01-01 00:00 of the clock, which has no zone. Moments are counted from 1999-12-24
+abbrev pub global_time : ℕ → ℕ
+global_time m = CLOCK_EPOCH + m / 10
 
 -- an enabled phase, red or in red clearance, and so also in flash
 abbrev pub is_red : State → ℕ → Bool
@@ -270,7 +278,8 @@ status s = record {
   pattern = or_number (runs s) FREE;
   free = free_status (runs s) s.pattern;
   local = local s;
-  sync = option_map (λ n. s.now % cycle s.plan n) (runs s);
+  sync = option_map (λ n. clocked s.plan s.pattern s.correction s.now % cycle s.plan n) (runs s);
+  time = option_map (λ m. global_time (m + s.now)) s.start_moment;
   flash = if is_some s.trip then Mmu else NotFlash;
   owner = s.desk.owner;
   desk = s.desk.state;

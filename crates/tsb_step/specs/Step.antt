@@ -14,13 +14,14 @@ use Rattle.tsb_objects.specs.tsb_rules.Rules.{first_broken}
 use Rattle.tsb_phase.specs.Moves.{unforced}
 use Rattle.tsb_ring.specs.Rings as rings
 use Rattle.tsb_coord.specs.Coordinated as coordination
+use Rattle.tsb_coord.specs.Clock.{midnight_at, start_of}
 use Rattle.tsb_coord.specs.Correction.{selected_correction}
 use Rattle.tsb_preempt.specs.Preempts as preempts
 use Rattle.tsb_transact.specs.Desk.{Desk, with_edits}
 use Rattle.tsb_transact.specs.Commit as commit
 use Rattle.tsb_transact.specs.Calls as desk
 use Rattle.tsb_step.specs.declared.inputs.Input.{Input}
-use Rattle.tsb_step.specs.declared.inputs.Input.TheVariants.{Tick, Pattern, Switch, Fault, Reset, Begin, Set, Verify, Commit, Abort}
+use Rattle.tsb_step.specs.declared.inputs.Input.TheVariants.{Tick, Pattern, Switch, Fault, Reset, Begin, Set, Verify, Commit, Abort, Clock}
 use Rattle.tsb_step.specs.State.{State, interval, restarted}
 use Rattle.tsb_step.specs.Tick as tick
 use Rattle.tsb_step.specs.Signs.{commitment, local, unless_tripped}
@@ -36,8 +37,16 @@ ticked row s = if is_some s.trip then record s { now = s.now + 1 } else unless_t
 abbrev pub with_pattern : ℕ → State → State
 with_pattern n s = record s {
   pattern = coordination.selects n;
-  correction = selected_correction s.plan (coordination.selects n) s.now (local s);
+  correction = selected_correction s.plan (coordination.selects n) s.now (midnight_at s.start_moment s.now) (local s);
   phases = λ p. unforced (s.phases p);
+}
+
+-- tick number `now` is at moment m. The pattern stays selected, and its local counter comes into step with the midnight at
+-- or before m, as where it is selected
+abbrev pub with_clock : ℕ → State → State
+with_clock m s = record s {
+  correction = selected_correction s.plan s.pattern s.now (midnight_at (Some (start_of m s.now)) s.now) (local s);
+  start_moment = Some (start_of m s.now);
 }
 
 -- the switch of preempt n is set; while it is on, so is the input of the preempt
@@ -84,6 +93,7 @@ step s (Set station id v) = with_desk (desk.with_set id v s.desk) s
 step s (Verify station) = with_desk (desk.after_check (found s.plan s.desk) s.desk) s
 step s (Commit station) = committed s
 step s (Abort station) = with_desk desk.after_abort s
+step s (Clock m) = with_clock m s
 
 -- ## Why an input is refused
 
@@ -115,6 +125,7 @@ verdict s (Set station id v) = set_refusal s station id v
 verdict s (Verify station) = desk.verify_refusal station s.desk
 verdict s (Commit station) = desk.commit_refusal s.plan station (is_serving s) (is_some s.preempts.service) s.desk
 verdict s (Abort station) = desk.abort_refusal station s.desk
+verdict s (Clock m) = None
 
 -- ## Kinds
 
@@ -130,3 +141,4 @@ kind_of (Set station id v) = kinds.Set
 kind_of (Verify station) = kinds.Verify
 kind_of (Commit station) = kinds.Commit
 kind_of (Abort station) = kinds.Abort
+kind_of (Clock m) = kinds.Clock

@@ -228,7 +228,7 @@ done s row = record {
 
 -- ## The new state, of a controller that has not tripped and before the monitor judges it
 
--- field by field, where rings give nothing up; plan, desk, pattern, lamp and trip are as they were
+-- field by field, where rings give nothing up; plan, desk, pattern, clock, lamp and trip are as they were
 abbrev pub after_moves : State → Row → State
 after_moves s row = record {
   now = s.now + 1;
@@ -236,6 +236,7 @@ after_moves s row = record {
   desk = s.desk;
   pattern = s.pattern;
   correction = s.correction;
+  start_moment = s.start_moment;
   detectors = new_detectors s row;
   memories = settled.next s.plan (calls_given s row) (done s row) s.memories;
   phases = λ p. phase_next.next s.plan (phases_given s row) (moved s row) p (s.phases p);

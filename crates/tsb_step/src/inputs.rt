@@ -1,9 +1,9 @@
 //! What the controller takes.
 
 use tsb_objects::{ObjectId, Row, Station};
-use tsb_types::Lamp;
+use tsb_types::{ClockTime, Lamp};
 
-/// An input of the controller: a tick from the field; a pattern, a switch, a fault or a reset from the operator; the
+/// An input of the controller: a tick from the field; a pattern, a switch, a fault, a reset or a clock from the operator; the
 /// database transactions of NTCIP 1201 from the stations.
 #[derive(Clone, Copy, PartialEq, Eq)]
 pub enum Input {
@@ -32,4 +32,7 @@ pub enum Input {
     Commit(Station),
     /// The station gives its transaction up. Refused with E6, E5.
     Abort(Station),
+    /// A clock is set: the next tick begins at this moment. Each tick has its moment from then on, and local counters count
+    /// from midnights (profile). Refused for want of memory alone.
+    Clock(ClockTime),
 }

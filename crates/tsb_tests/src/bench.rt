@@ -6,6 +6,7 @@ use tsb_bench::{
     Trip, Watch, answer, play,
 };
 use tsb_objects::{Aspect, Object, Phase, Rule, SignalColor};
+use tsb_types::ClockTime;
 
 fn tick() -> Input {
     Input::Tick(Row::all_off())
@@ -21,7 +22,7 @@ fn yellow(tenths: u32) -> Input {
 }
 
 /// Inputs of every kind, none of them refused where the others came before it.
-fn each_kind() -> [Input; 11] {
+fn each_kind(time: ClockTime) -> [Input; 12] {
     let station = Station::of(1);
     [
         Input::Begin(station),
@@ -34,6 +35,7 @@ fn each_kind() -> [Input; 11] {
         Input::Switch(1, false),
         Input::Fault(None),
         Input::Reset,
+        Input::Clock(time),
         tick(),
     ]
 }
@@ -222,8 +224,9 @@ fn desk_of(bench: &Bench) -> (Option<Station>, usize) {
 }
 
 /// The kinds of the inputs of each kind, from the last one back to the commit.
-const BACK_TO_COMMIT: [Kind; 8] = [
+const BACK_TO_COMMIT: [Kind; 9] = [
     Kind::Tick,
+    Kind::Clock,
     Kind::Reset,
     Kind::Fault,
     Kind::Switch,
@@ -237,8 +240,8 @@ const BACK_TO_COMMIT: [Kind; 8] = [
 const BACK_TO_BEGIN: [Kind; 4] = [Kind::Commit, Kind::Verify, Kind::Set, Kind::Begin];
 
 /// Whether inputs of each kind are taken and taken back, with the commit taken once more in between.
-fn takes_and_takes_back(bench: &mut Bench) -> bool {
-    takes(bench, &each_kind())
+fn takes_and_takes_back(bench: &mut Bench, time: ClockTime) -> bool {
+    takes(bench, &each_kind(time))
         && yellow_of(bench) == 35
         && takes_back(bench, &BACK_TO_COMMIT)
         && yellow_of(bench) == 30
@@ -253,10 +256,11 @@ fn takes_and_takes_back(bench: &mut Bench) -> bool {
 /// A commit changes the plan, and its undo gives it back with the edits, which may then be committed again.
 #[test]
 fn takes_back_each_kind(rt: HostRuntime) {
-    let Some(mut bench) = powered_up(rt.alloc()) else {
+    let (Some(mut bench), Some(time)) = (powered_up(rt.alloc()), ClockTime::new(9830, 252_000))
+    else {
         panic!(rt; "no memory");
     };
-    assert!(rt; takes_and_takes_back(&mut bench) && takes_and_takes_back(&mut bench));
+    assert!(rt; takes_and_takes_back(&mut bench, time) && takes_and_takes_back(&mut bench, time));
 }
 
 /// What a station is answered that edits a yellow change, has it verified and commits it, where it breaks a rule.

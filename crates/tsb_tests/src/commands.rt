@@ -2,7 +2,9 @@
 
 use tsb_command_text::{Command, Reading, read_command, reading_of};
 use tsb_plan::{Object, ObjectId};
-use tsb_types::{Detector, Lamp, Overlap, PedestrianColor, Phase, SignalColor, Station, Watch};
+use tsb_types::{
+    ClockTime, Detector, Lamp, Overlap, PedestrianColor, Phase, SignalColor, Station, Watch,
+};
 
 /// Whether the line is this command, or none.
 fn is(line: &[u8], wanted: Option<Command>) -> bool {
@@ -35,6 +37,40 @@ fn inputs_are_commands(two: Station) -> bool {
         && is(b"abort 2", Some(Command::Abort(two)))
         && is(b"pattern 4294967295", Some(Command::Pattern(4_294_967_295)))
         && is(b"fault none", Some(Command::Fault(None)))
+}
+
+/// The command that sets the clock to this time of a day, which is counted from 1999-12-24.
+fn set_to(day: u32, tenths: u32) -> Option<Command> {
+    Some(Command::Clock(ClockTime::new(day, tenths)?))
+}
+
+/// Whether the lines of dates that there are set a clock.
+fn dates_set_a_clock() -> bool {
+    is(b"clock 2000-01-01 00:00:00", set_to(8, 0))
+        && is(b"clock 2026-11-22 07:00:00", set_to(9830, 252_000))
+        && is(b"clock 2028-02-29 23:59:59.9", set_to(10_294, 863_999))
+        && is(b"clock 2099-12-31 23:59:59.9", set_to(36_532, 863_999))
+}
+
+/// Whether lines of other dates and times are none.
+fn other_dates_do_not() -> bool {
+    is(b"clock 1999-12-31 00:00:00", None)
+        && is(b"clock 2100-01-01 00:00:00", None)
+        && is(b"clock 2026-02-29 00:00:00", None)
+        && is(b"clock 2026-04-31 00:00:00", None)
+        && is(b"clock 2026-13-01 00:00:00", None)
+        && is(b"clock 2026-11-22 24:00:00", None)
+        && is(b"clock 2026-11-22 07:60:00", None)
+        && is(b"clock 2026-11-22 07:00:60", None)
+        && is(b"clock 2026-11-22 07:00:00.12", None)
+        && is(b"clock 2026-11-22T07:00:00", None)
+        && is(b"clock 2026-11-22", None)
+}
+
+#[test]
+fn dates_and_times_set_a_clock(rt: HostRuntime) {
+    assert!(rt; dates_set_a_clock());
+    assert!(rt; other_dates_do_not());
 }
 
 /// Whether lines ask when something was seen last.

@@ -247,3 +247,28 @@ fn late_force_off_goes_past_zero(rt: HostRuntime) {
     ];
     assert!(rt; matches!(&quad_with(&values), Some(plan) if forces(plan, &wanted)));
 }
+
+/// The offset at which the local counter of pattern 2 is 0, in the plan that leads and lags with this reference.
+fn offset_with(reference: u32) -> Option<u32> {
+    let mut values = [(Object::CoordReference, 1, reference); 19];
+    for k in 0..18usize {
+        values[k] = LEADING[k];
+    }
+    let plan = quad_with(&values)?;
+    Some(plan.offset_in_effect(Pattern::of(2)))
+}
+
+/// The offset of pattern 2 is 790. The split of 2 is from 0 to 250, that of 6 from 150 to 400, which is local 0; each has
+/// 30 of yellow change and 10 of red clearance.
+#[test]
+fn offsets_are_counted_to_their_references(rt: HostRuntime) {
+    let wanted = [790, 390, 240, 180, 30, 150];
+    for reference in 0..6u32 {
+        assert!(rt;
+            offset_with(reference) == Some(wanted[reference as usize]),
+            "reference {reference}"
+        );
+    }
+    laws::offsets_are_counted_to_their_moments();
+    laws::offsets_act_by_when_local_0_comes();
+}

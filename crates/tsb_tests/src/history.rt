@@ -200,6 +200,7 @@ fn keeps_each_kind(rt: HostRuntime) {
         (7, Kind::Verify),
         (8, Kind::Commit),
         (9, Kind::Abort),
+        (10, Kind::Clock),
     ];
     let mut history = History::new(rt.alloc());
     for (code, kind) in kinds {

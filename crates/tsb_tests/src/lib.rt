@@ -14,6 +14,8 @@ mod bench_alone;
 #[cfg(test)]
 mod cells;
 #[cfg(test)]
+mod clocks;
+#[cfg(test)]
 mod commands;
 #[cfg(test)]
 mod coordination;

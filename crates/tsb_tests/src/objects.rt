@@ -24,7 +24,7 @@ fn id(object: Object, index: u32) -> ObjectId {
 }
 
 /// Objects, each with how many indices it has and its greatest value.
-const RANGES: [Value; 25] = [
+const RANGES: [Value; 26] = [
     (Object::PhaseEnabled, 16, 1),
     (Object::PhaseSide, 16, 4),
     (Object::PhaseConcurrency, 16, 65_535),
@@ -50,6 +50,7 @@ const RANGES: [Value; 25] = [
     (Object::CoordCorrectionLimit, 1, 50),
     (Object::OverlapAcrossRings, 4, 1),
     (Object::PreemptChoosesAnew, 4, 1),
+    (Object::CoordReference, 1, 5),
 ];
 
 /// Whether the object has so many indices and this greatest value, said in both ways.
@@ -73,7 +74,7 @@ fn have_ranges(wanted: &[Value]) -> bool {
 
 #[test]
 fn objects_have_their_ranges(rt: HostRuntime) {
-    assert!(rt; have_ranges(&RANGES) && Object::ALL.len() == 70);
+    assert!(rt; have_ranges(&RANGES) && Object::ALL.len() == 71);
     laws::cells_are_told_apart();
     laws::values_are_told_apart();
 }

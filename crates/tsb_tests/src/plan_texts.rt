@@ -122,7 +122,7 @@ fn all_padded_are_answered(alloc: Global, wanted: &[(&str, &str)]) -> bool {
 }
 
 /// Texts, each with what reading answers for it.
-const TEXTS: [(&str, &str); 15] = [
+const TEXTS: [(&str, &str); 21] = [
     (r#""#, "plan: not JSON"),
     (r#"{"version":1"#, "plan: not JSON"),
     (r#"[]"#, "plan: not a table"),
@@ -148,6 +148,24 @@ const TEXTS: [(&str, &str); 15] = [
     (
         r#"{"version":3,"preemptChoosesAnew":{"4":2}}"#,
         "plan: preemptChoosesAnew.4: out of range",
+    ),
+    (
+        r#"{"version":2,"coordReference":{}}"#,
+        "plan: coordReference: no such object",
+    ),
+    (
+        r#"{"version":3,"coordReference":{"1":6}}"#,
+        "plan: coordReference.1: out of range",
+    ),
+    (r#"{"version":2,"notes":{}}"#, "plan: notes: no such object"),
+    (r#"{"version":3,"notes":[]}"#, "plan: notes: not a table"),
+    (
+        r#"{"version":3,"notes":{"site":1}}"#,
+        "plan: notes.site: not a text",
+    ),
+    (
+        r#"{"version":3,"notes":{"site":"Elm","phaseWalk.2":""}}"#,
+        "plan: rule K1",
     ),
     (SHORT_YELLOW, "plan: rule K8"),
 ];
@@ -323,7 +341,7 @@ fn bytes_that_are_no_text_are_not_json(rt: HostRuntime) {
 }
 
 /// Each fault with the line that it is printed as.
-fn faults_with_lines(alloc: Global) -> Result<[(PlanError, &'static str); 11], AllocError> {
+fn faults_with_lines(alloc: Global) -> Result<[(PlanError, &'static str); 12], AllocError> {
     let object = Object::PhaseWalk;
     let name = String::from_str(alloc, "Walk")?;
     let unknown = String::from_str(alloc, "17")?;
@@ -364,6 +382,7 @@ fn faults_with_lines(alloc: Global) -> Result<[(PlanError, &'static str); 11], A
             },
             "plan: phaseWalk.16: out of range",
         ),
+        (PlanError::NotesNotATable, "plan: notes: not a table"),
         (PlanError::Rule(Rule::K8), "plan: rule K8"),
     ])
 }

@@ -170,6 +170,7 @@ fn tells_of_patterns(plan: &Plan) -> bool {
     let (pattern, unused) = (Pattern::of(2), Pattern::of(3));
     plan.cycle(pattern) == 800
         && plan.offset(pattern) == 790
+        && plan.offset_reference() == OffsetReference::LastYellow
         && plan.is_used(pattern)
         && !plan.is_used(unused)
         && plan.split_of(pattern) == Some(Split::of(1))
@@ -318,6 +319,7 @@ fn plans_tell_of_overlaps_patterns_and_preempts(rt: HostRuntime) {
         (Object::PreemptExitPhase, 1, 0x8001),
         (Object::OverlapAcrossRings, 2, 1),
         (Object::PreemptChoosesAnew, 4, 1),
+        (Object::CoordReference, 1, 4),
     ];
     let Some(plan) = changed_quad(&values) else {
         panic!(rt; "a value was refused");

@@ -71,7 +71,11 @@ const NEW: [Object; 11] = [
 ];
 
 /// What version 3 alone has.
-const OF_3_ALONE: [Object; 2] = [Object::OverlapAcrossRings, Object::PreemptChoosesAnew];
+const OF_3_ALONE: [Object; 3] = [
+    Object::OverlapAcrossRings,
+    Object::PreemptChoosesAnew,
+    Object::CoordReference,
+];
 
 /// Whether version 1 has the objects with these indices and greatest values.
 fn have_ranges(wanted: &[(Object, u32, u32)]) -> bool {
@@ -165,11 +169,12 @@ fn names_are() -> bool {
         && is_named(Object::CoordCorrectionLimit, "coordCorrectionLimit")
         && is_named(Object::OverlapAcrossRings, "overlapAcrossRings")
         && is_named(Object::PreemptChoosesAnew, "preemptChoosesAnew")
+        && is_named(Object::CoordReference, "coordReference")
 }
 
 /// Whether objects are found by their names, where the version has them.
 fn names_are_found() -> bool {
-    let (split, last) = (Object::SplitTime, Object::PreemptChoosesAnew);
+    let (split, last) = (Object::SplitTime, Object::CoordReference);
     finds(Version::One, split.name(), Some(split))
         && finds(Version::Three, last.name(), Some(last))
         && finds(Version::Two, last.name(), None)

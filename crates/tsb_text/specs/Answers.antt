@@ -19,7 +19,7 @@ use Rattle.tsb_bench.specs.tsb_step.Signs.{display, local, stage}
 use Rattle.tsb_bench.specs.tsb_step.State.{State}
 use Rattle.tsb_display_text.specs.Line.{line_of, tick_field}
 use Rattle.tsb_command_text.specs.declared.command.Command.{Command}
-use Rattle.tsb_command_text.specs.declared.command.Command.TheVariants.{Step, Back, Seek, Undo, Show, Quit, When, Begin, Set, Verify, Commit, Abort, Pattern, Preempt, Fault, Reset}
+use Rattle.tsb_command_text.specs.declared.command.Command.TheVariants.{Step, Back, Seek, Undo, Show, Quit, When, Begin, Set, Verify, Commit, Abort, Pattern, Preempt, Fault, Reset, Clock}
 use Rattle.tsb_log_text.specs.declared.log.LogRow.{LogRow}
 use Rattle.tsb_log_text.specs.Logs.{row_at}
 use Rattle.tsb_dialog.specs.Said.{with_feed}
@@ -51,6 +51,7 @@ kind_name kinds.Set = codes "set"
 kind_name kinds.Verify = codes "verify"
 kind_name kinds.Commit = codes "commit"
 kind_name kinds.Abort = codes "abort"
+kind_name kinds.Clock = codes "clock"
 
 -- it names the station that owns the desk
 abbrev pub busy_line : ℕ → List ℕ
@@ -153,3 +154,4 @@ Answers given is (Pattern number) text new = Asked given is (asks.Apply (inputs.
 Answers given is (Preempt number on) text new = Asked given is (asks.Apply (inputs.Switch number on)) text new
 Answers given is (Fault lamp) text new = Asked given is (asks.Apply (inputs.Fault lamp)) text new
 Answers given is Reset text new = Asked given is (asks.Apply inputs.Reset) text new
+Answers given is (Clock time) text new = Asked given is (asks.Apply (inputs.Clock time)) text new

@@ -77,6 +77,7 @@ pub(crate) fn undone_line(kind: Kind) -> &'static [u8]
         Kind::Verify => b"undone verify",
         Kind::Commit => b"undone commit",
         Kind::Abort => b"undone abort",
+        Kind::Clock => b"undone clock",
     }
 }
 

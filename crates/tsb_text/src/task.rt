@@ -40,5 +40,6 @@ pub fn task_of(command: Command) -> Task
         Command::Preempt(number, on) => Task::Ask(Cmd::Apply(Input::Switch(number, on))),
         Command::Fault(lamp) => Task::Ask(Cmd::Apply(Input::Fault(lamp))),
         Command::Reset => Task::Ask(Cmd::Apply(Input::Reset)),
+        Command::Clock(time) => Task::Ask(Cmd::Apply(Input::Clock(time))),
     }
 }

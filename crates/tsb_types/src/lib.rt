@@ -4,6 +4,7 @@
 //! What is marked "profile" is this project's own choice. Nothing here takes memory.
 #![tactic(auto)]
 
+pub mod clock_time;
 pub mod event;
 pub mod flow;
 pub mod interval;
@@ -18,6 +19,7 @@ pub mod row;
 pub mod stage;
 pub mod watch;
 
+pub use clock_time::{ClockTime, DAY};
 pub use event::Event;
 pub use flow::{Called, Intervals, Moves, Orders, Pedestrians, RingMoves, Timing};
 pub use interval::{Interval, PedestrianInterval};

@@ -61,6 +61,8 @@ def _detectors(plan: Plan, at: Intersection) -> dict[str, str]:
 def _offset(plan: Plan, pattern: int) -> float:
     """SUMO's offset: its cycle begins with the coordinated green. (Tick k + 1 of the
     bench is SUMO's time k / 10.)"""
+    if plan.version == 3 and plan["coordReference"][1]:
+        raise NemaFault("coordReference is not 0: give the offset to the end of a split")
     table = plan["patternSplitNumber"][pattern]
     ends = []
     for ring in (plan.sequence(1, 1), plan.sequence(1, 2)):

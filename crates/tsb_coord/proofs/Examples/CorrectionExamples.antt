@@ -85,28 +85,28 @@ in_two_waits = refl
 -- ## A selection goes on from where the old counter is
 
 abbrev pub ahead_200 : Correction
-ahead_200 = record { since = 1000; ahead = 200 }
+ahead_200 = record { since = 1000; ahead = 200; midnight = 0 }
 
 abbrev pub ahead_600 : Correction
-ahead_600 = record { since = 1001; ahead = 600 }
+ahead_600 = record { since = 1001; ahead = 600; midnight = 0 }
 
 where_they_stand : local dwelling 1000 (Some 1) ∷ local dwelling 1000 (Some 2) ∷ local dwelling 1001 (Some 1) ∷ local dwelling 1001 (Some 2) ∷ []
     ≡ Some 200 ∷ Some 400 ∷ Some 201 ∷ Some 401 ∷ []
 unfolding dwelling quad
 where_they_stand = refl
 
-to_pattern_1 : map (λ plan. selected_correction plan (Some 1) 1000 (Some 400)) (dwelling ∷ by_short_way ∷ adding ∷ at_once ∷ [])
+to_pattern_1 : map (λ plan. selected_correction plan (Some 1) 1000 0 (Some 400)) (dwelling ∷ by_short_way ∷ adding ∷ at_once ∷ [])
     ≡ ahead_200 ∷ ahead_200 ∷ ahead_200 ∷ in_step ∷ []
 unfolding dwelling by_short_way adding at_once quad
 to_pattern_1 = refl
 
-to_pattern_2 : selected_correction by_short_way (Some 2) 1001 (Some 201) ≡ ahead_600
+to_pattern_2 : selected_correction by_short_way (Some 2) 1001 0 (Some 201) ≡ ahead_600
 unfolding by_short_way quad
 to_pattern_2 = refl
 
 -- from free operation it is in step at once; one that is already at its place in step is too, and free operation
-else_in_step : selected_correction dwelling (Some 1) 1000 None ∷ selected_correction dwelling (Some 1) 1000 (Some 200)
-    ∷ selected_correction dwelling None 1000 (Some 400) ∷ [] ≡ in_step ∷ in_step ∷ in_step ∷ []
+else_in_step : selected_correction dwelling (Some 1) 1000 0 None ∷ selected_correction dwelling (Some 1) 1000 0 (Some 200)
+    ∷ selected_correction dwelling None 1000 0 (Some 400) ∷ [] ≡ in_step ∷ in_step ∷ in_step ∷ []
 unfolding dwelling quad
 else_in_step = refl
 
@@ -124,12 +124,12 @@ again_selected : local_now adding (Some 1) ahead_200 1600 ≡ Some 100
 unfolding adding quad
 again_selected = refl
 
-anew : selected_correction adding (Some 1) 1600 (Some 100) ≡ record { since = 1600; ahead = 100 }
+anew : selected_correction adding (Some 1) 1600 0 (Some 100) ≡ record { since = 1600; ahead = 100; midnight = 0 }
 unfolding adding quad
 anew = refl
 
 -- in a cycle that a commit has made shorter it is ahead within that
-in_a_shorter_cycle : ahead_in adding (Some 1) (record { since = 1000; ahead = 900 }) 1000 ≡ 100
+in_a_shorter_cycle : ahead_in adding (Some 1) (record { since = 1000; ahead = 900; midnight = 0 }) 1000 ≡ 100
 unfolding adding quad
 in_a_shorter_cycle = refl
 

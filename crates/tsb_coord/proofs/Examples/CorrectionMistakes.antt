@@ -17,11 +17,11 @@ use Rattle.tsb_coord.proofs.Examples.CorrectionExamples.{adding, by_short_way, d
 abbrev pub at_once : CorrectionMode → ℕ → ℕ
 at_once mode ahead = 0
 
-stays_there : local_now adding (Some 1) (record { since = 1000; ahead = ahead_with AddOnly 200 }) 1000 ≡ Some 400
+stays_there : local_now adding (Some 1) (record { since = 1000; ahead = ahead_with AddOnly 200; midnight = 0 }) 1000 ≡ Some 400
 unfolding adding quad
 stays_there = refl
 
-would_jump : local_now adding (Some 1) (record { since = 1000; ahead = at_once AddOnly 200 }) 1000 ≡ Some 200
+would_jump : local_now adding (Some 1) (record { since = 1000; ahead = at_once AddOnly 200; midnight = 0 }) 1000 ≡ Some 200
 unfolding adding quad
 would_jump = refl
 
@@ -125,7 +125,7 @@ would_be_600 : ahead_of_old adding 1 1000 400 ≡ 600
 unfolding adding quad
 would_be_600 = refl
 
-would_jump_to_0 : local_now adding (Some 1) (record { since = 1000; ahead = 600 }) 1000 ≡ Some 0
+would_jump_to_0 : local_now adding (Some 1) (record { since = 1000; ahead = 600; midnight = 0 }) 1000 ≡ Some 0
 unfolding adding quad
 would_jump_to_0 = refl
 

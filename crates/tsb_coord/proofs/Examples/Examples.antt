@@ -145,12 +145,12 @@ selections = refl
 
 -- ## The cells
 
-reads_back : map (λ o. pattern_in (pattern_cells o in_step)) (None ∷ Some 16 ∷ []) ≡ None ∷ Some 16 ∷ []
+reads_back : map (λ o. pattern_in (pattern_cells o in_step None)) (None ∷ Some 16 ∷ []) ≡ None ∷ Some 16 ∷ []
 reads_back = refl
 
 -- and how its local counter comes into step
 abbrev pub ahead_7 : Correction
-ahead_7 = record { since = 1000; ahead = 7 }
+ahead_7 = record { since = 1000; ahead = 7; midnight = 0 }
 
-also_reads_back : map (λ c. correction_in (pattern_cells (Some 16) c)) (in_step ∷ ahead_7 ∷ []) ≡ in_step ∷ ahead_7 ∷ []
+also_reads_back : map (λ c. correction_in (pattern_cells (Some 16) c None)) (in_step ∷ ahead_7 ∷ []) ≡ in_step ∷ ahead_7 ∷ []
 also_reads_back = refl

@@ -1,7 +1,7 @@
 -- Commands that are taken are answered by a session.
 use Rattle.std.proofs.Common.{ℕ, zero, suc, List, [], ◌∷◌, ◌++◌, refl, inl}
 use Rattle.tsb_command_text.specs.declared.command.Command.{Command}
-use Rattle.tsb_command_text.specs.declared.command.Command.TheVariants.{Step, Begin, Set, Verify, Commit, Abort, Pattern, Preempt, Fault, Reset}
+use Rattle.tsb_command_text.specs.declared.command.Command.TheVariants.{Step, Begin, Set, Verify, Commit, Abort, Pattern, Preempt, Fault, Reset, Clock}
 use Rattle.tsb_dialog.specs.Said.{with_feed}
 use Rattle.tsb_live_text.specs.saved.Taken.{TakeAll, Takes, TakesInput, TakesTicks, saved_commands}
 use Rattle.tsb_live_text.proofs.saved.TakenLemmas.{ends-alike}
@@ -38,6 +38,7 @@ command-answered given (Pattern n) is left t = input-answered given (inputs.Patt
 command-answered given (Preempt n on) is left t = input-answered given (inputs.Switch n on) is left t
 command-answered given (Fault lamp) is left t = input-answered given (inputs.Fault lamp) is left t
 command-answered given Reset is left t = input-answered given inputs.Reset is left t
+command-answered given (Clock time) is left t = input-answered given (inputs.Clock time) is left t
 command-answered given c is left t = absurd t
 
 all-answered : (given : Setup) (cs : List Command) (is left : List Input) → TakeAll given.plan given.log cs is left → (text : List ℕ) × AnswersAll given is cs text left

@@ -86,6 +86,7 @@ committed_same s = go (commit.forgets_last_phases s.plan s.desk.edits)
       desk = desk.after_commit;
       pattern = s.pattern;
       correction = s.correction;
+      start_moment = s.start_moment;
       detectors = s.detectors;
       memories = s.memories;
       phases = s.phases;

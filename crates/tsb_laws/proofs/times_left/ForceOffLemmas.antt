@@ -4,12 +4,14 @@ use Rattle.std.proofs.Math.Nat.{mod-eq_of_lt, mod-lt, add-mul-mod_self_right}
 use Rattle.std.proofs.lemmas.Bool.{cases_lt, eqb-true}
 use Rattle.std.proofs.lemmas.Bool.Decides.{nat_tests}
 use Rattle.tsb_step.specs.tsb_types.Intervals.{is_green}
-use Rattle.tsb_step.specs.tsb_plan.Parts.{is_used, cycle, offset}
+use Rattle.tsb_step.specs.tsb_plan.Parts.{is_used, cycle}
+use Rattle.tsb_step.specs.tsb_objects.Instants.{offset_in_effect}
 use Rattle.tsb_step.specs.tsb_plan.Plan.{Plan}
 use Rattle.tsb_step.specs.tsb_plan.Running.{running}
 use Rattle.tsb_step.specs.tsb_rules.Consistent.{IsWhole}
 use Rattle.tsb_step.specs.tsb_coord.Coordinated.{counter, local_in, force_off, agree}
-use Rattle.tsb_step.specs.tsb_coord.Correction.{ahead_in}
+use Rattle.tsb_step.specs.tsb_coord.Clock.{shift}
+use Rattle.tsb_step.specs.tsb_coord.Correction.{ahead_in, shift_in, shift_of}
 use Rattle.tsb_step.specs.tsb_ring.Rings.{Ring}
 use Rattle.tsb_step.specs.declared.inputs.Input.{Input}
 use Rattle.tsb_step.specs.State.{State, interval}
@@ -21,7 +23,7 @@ use Rattle.tsb_step.specs.Laws.{IsConsistent}
 use Rattle.tsb_step.specs.Good.{IsGood, IsPatternNumber}
 use Rattle.tsb_step.proofs.GoodLemmas.{good_run}
 use Rattle.tsb_step.proofs.tsb_coord.LocalLemmas.{counter_moves_on}
-use Rattle.tsb_step.proofs.tsb_objects.InstantLemmas.{instant-below}
+use Rattle.tsb_step.proofs.tsb_objects.InstantLemmas.{instant-below, offset-below}
 use Rattle.tsb_step.proofs.tsb_rules.ConsistentLemmas.{whole}
 use Rattle.tsb_laws.specs.TimesLeft.{IsShown, is_at_instant, StaysInStep, ComesThen}
 use Rattle.tsb_laws.proofs.safety.StretchLemmas.{taken_before}
@@ -117,11 +119,12 @@ its_parts s good m h =
     let it : RunsPattern s m = runs_pattern s good m h in whole s.plan good.plan.rules m it.from_one it.within it.used
 
 -- in step the local counter is that of the cycle and the offset
-local_is : (s : State) (m : ℕ) → runs s ≡ Some m → IsInStep s → local s ≡ Some (counter s.plan m s.now)
+local_is : (s : State) (m : ℕ) → runs s ≡ Some m → IsInStep s → local s ≡ Some (counter s.plan m (s.now + shift_of s.plan m s.correction))
 local_is s m h step =
     let none : ahead_in s.plan (runs s) s.correction s.now ≡ 0 = eqb-true (ahead_in s.plan (runs s) s.correction s.now) 0 step in
-    ap (λ (k : ℕ). local_in s.plan (s.now + k) (runs s)) none
-    ∙ (ap (λ (o : Option ℕ). local_in s.plan (s.now + 0) o) h ∙ ap (λ (k : ℕ). Some (counter s.plan m k)) (no_more s.now))
+    ap (λ (k : ℕ). local_in s.plan (s.now + shift_in s.plan (runs s) s.correction + k) (runs s)) none
+    ∙ (ap (λ (o : Option ℕ). local_in s.plan (s.now + shift_in s.plan o s.correction + 0) o) h
+    ∙ ap (λ (k : ℕ). Some (counter s.plan m k)) (no_more (s.now + shift_of s.plan m s.correction)))
   where
     no_more : (k : ℕ) → k + 0 ≡ k
     no_more k = omega arith
@@ -178,14 +181,17 @@ force_offs_come plan base later r p n j ok taken shown stays clock = record {
     c : ℕ
     c = cycle (replay plan base).plan it.number
 
+    from : ℕ
+    from = (replay plan base).now + shift_of (replay plan base).plan it.number (replay plan base).correction
+
     x : ℕ
-    x = counter (replay plan base).plan it.number (replay plan base).now
+    x = counter (replay plan base).plan it.number from
 
     some : 0 < c
     some = let low = parts.below in omega (arith, low)
 
     below_x : x < c
-    below_x = mod-lt ((replay plan base).now + cycle (replay plan base).plan it.number - offset (replay plan base).plan it.number) some
+    below_x = mod-lt (from + cycle (replay plan base).plan it.number - offset_in_effect (replay plan base).plan it.number) some
 
     below_i : it.instant < c
     below_i =
@@ -201,10 +207,20 @@ force_offs_come plan base later r p n j ok taken shown stays clock = record {
     runs_then : runs (replay plan (later ++ base)) ≡ Some it.number
     runs_then = stays.same_pattern ∙ it.pattern
 
-    same_counter : counter (replay plan (later ++ base)).plan it.number (replay plan (later ++ base)).now ≡ (x + j) % c
+    s : State
+    s = replay plan (later ++ base)
+
+    same_shift : shift_of s.plan it.number s.correction ≡ shift_of (replay plan base).plan it.number (replay plan base).correction
+    same_shift = ap₂ shift (stays.same_cycle it.number it.pattern) stays.same_midnight
+
+    turned : s.now + shift_of s.plan it.number s.correction ≡ from + j
+    turned = omega (arith, clock, same_shift)
+
+    same_counter : counter s.plan it.number (s.now + shift_of s.plan it.number s.correction) ≡ (x + j) % c
     same_counter =
-        ap₂ (λ (m o : ℕ). ((replay plan (later ++ base)).now + m - o) % m) (stays.same_cycle it.number it.pattern) (stays.same_offset it.number it.pattern)
-        ∙ (ap (λ (k : ℕ). counter (replay plan base).plan it.number k) clock ∙ counter_moves_on (replay plan base).plan it.number (replay plan base).now j parts.below)
+        ap (λ (k : ℕ). counter s.plan it.number k) turned
+        ∙ ap₂ (λ (m o : ℕ). (from + j + m - o) % m) (stays.same_cycle it.number it.pattern) (stays.same_offset it.number it.pattern)
+        ∙ counter_moves_on (replay plan base).plan it.number from j (offset-below (replay plan base).plan it.number parts.below)
 
     at : is_at_instant p (replay plan (later ++ base)) ≡ ((x + j) % c == it.instant)
     at =

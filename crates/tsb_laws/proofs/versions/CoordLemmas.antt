@@ -1,22 +1,22 @@
 -- What runs, and what coordination asks of phases 1 to 8, is the same on the wide plan.
-use Rattle.std.proofs.Common.{◌≡◌, ℕ, ◌+◌, ◌-◌, ◌==◌, nat_le, Bool, true, false, ◌&&◌, ◌++◌, Option, Some, None, refl, sym, ◌∙◌, ap, ap₂, inl, inr, sum_by}
+use Rattle.std.proofs.Common.{◌≡◌, ℕ, ◌+◌, ◌-◌, ◌%◌, ◌==◌, nat_le, Bool, true, false, ◌&&◌, ◌++◌, Option, Some, None, refl, sym, ◌∙◌, ap, ap₂, inl, inr, sum_by}
 use Rattle.std.proofs.Math.Path.{fun_ext}
 use Rattle.std.proofs.lemmas.Bool.{cases_Bool}
 use Rattle.tsb_step.specs.tsb_types.Lists.{or_else, run_from, up_to}
 use Rattle.tsb_step.specs.tsb_plan.Plan.{Plan, is_enabled, ring_of, side_of, sequence}
-use Rattle.tsb_step.specs.tsb_plan.Parts.{split_of}
+use Rattle.tsb_step.specs.tsb_plan.Parts.{cycle, split_of}
 use Rattle.tsb_step.specs.tsb_plan.Running.{running, split_in_effect, sequence_in_effect, mode_in, mode_in_effect, coordinates_in, is_coordinated_now, is_omitted_now, is_on_minimum_recall, is_on_maximum_recall, is_on_pedestrian_recall}
 use Rattle.tsb_step.specs.tsb_rules.PatternRules.{is_on, has_phases, split_on, split_sum, side_sum, split_before, ring_sequence, split_end}
 use Rattle.tsb_step.specs.tsb_coord.Coordinated.{local_in, local, end_in, instant_from, reference, instant_by, force_off, is_at_force_off, asks_force_off, asks_recycle, asks_hold, asks_omit, sequence_now, serving_order}
 use Rattle.tsb_step.specs.tsb_objects.Instants.{is_coordinated_in, coordinated_in_ring, first_coordinated}
 use Rattle.tsb_step.specs.tsb_coord.declared.correction.Correction.{Correction}
-use Rattle.tsb_step.specs.tsb_coord.Correction.{is_in_step, local_now, forces, lets_walk_again, selected_correction}
+use Rattle.tsb_step.specs.tsb_coord.Correction.{shift_in, clocked, is_in_step, local_now, forces, lets_walk_again, selected_correction}
 use Rattle.tsb_step.proofs.tsb_coord.CorrectionLemmas.{forces_in_step, local_in_step, in_step_at_once}
 use Rattle.tsb_step.proofs.tsb_coord.LocalLemmas.{options_off}
 use Rattle.tsb_laws.specs.Widened.{IsNarrow, widened}
 use Rattle.tsb_laws.proofs.operation.pattern.OptionLemmas.{never_recycles, begins_at_once}
 use Rattle.tsb_laws.proofs.versions.ListLemmas.{is_narrow, is_beyond, sum-up_to}
-use Rattle.tsb_laws.proofs.versions.PlanLemmas.{first-same, any-same, sum-same, beyond-narrow, not-enabled, enabled-narrow, split_time-same, split_mode-same, is_coordinated-same, not-coordinated, not-late, at-once, no-permissive_time, no-second_walk, zeros, sequence-same}
+use Rattle.tsb_laws.proofs.versions.PlanLemmas.{first-same, any-same, sum-same, beyond-narrow, not-enabled, enabled-narrow, split_time-same, split_mode-same, is_coordinated-same, not-coordinated, not-late, plain-offset, wide-offset, at-once, no-permissive_time, no-second_walk, zeros, sequence-same}
 
 -- ## What runs
 
@@ -154,14 +154,24 @@ unfolding force_off
 force_off-same plan None p narrow = refl
 force_off-same plan (Some n) p narrow = rw (reference-same plan n narrow, instant_by-same plan n (reference plan n) p narrow) refl
 
-local_in-same : (plan : Plan) (t : ℕ) (runs : Option ℕ) → local_in (widened plan) t runs ≡ local_in plan t runs
-local_in-same plan t None = refl
-local_in-same plan t (Some n) = refl
+-- in both offsets are counted to local 0
+local_in-same : (plan : Plan) (t : ℕ) (runs : Option ℕ) → IsNarrow plan → local_in (widened plan) t runs ≡ local_in plan t runs
+local_in-same plan t None narrow = refl
+local_in-same plan t (Some n) narrow =
+    ap (λ (o : ℕ). Some ((t + cycle plan n - o) % cycle plan n)) (wide-offset plan n narrow ∙ sym (plain-offset plan n narrow))
 
-local-same : (plan : Plan) (t : ℕ) (selected : Option ℕ) → local (widened plan) t selected ≡ local plan t selected
-local-same plan t selected = rw (running-same plan selected) (local_in-same plan t (running plan selected))
+local-same : (plan : Plan) (t : ℕ) (selected : Option ℕ) → IsNarrow plan → local (widened plan) t selected ≡ local plan t selected
+local-same plan t selected narrow = rw (running-same plan selected) (local_in-same plan t (running plan selected) narrow)
 
 -- ## The local counter as it goes, which is in step in both
+
+shift_in-same : (plan : Plan) (runs : Option ℕ) (c : Correction) → shift_in (widened plan) runs c ≡ shift_in plan runs c
+shift_in-same plan None c = refl
+shift_in-same plan (Some n) c = refl
+
+clocked-same : (plan : Plan) (selected : Option ℕ) (c : Correction) (t : ℕ) → clocked (widened plan) selected c t ≡ clocked plan selected c t
+clocked-same plan selected c t =
+    ap (λ (o : Option ℕ). t + shift_in (widened plan) o c) (running-same plan selected) ∙ ap (λ (k : ℕ). t + k) (shift_in-same plan (running plan selected) c)
 
 counter-in_step : (plan : Plan) (selected : Option ℕ) (c : Correction) (t : ℕ) → IsNarrow plan → is_in_step plan selected c t ≡ true
 counter-in_step plan selected c t narrow = in_step_at_once plan selected c t (at-once plan narrow)
@@ -173,20 +183,21 @@ pub local_now-same : (plan : Plan) (selected : Option ℕ) (c : Correction) (t :
     local_now (widened plan) selected c t ≡ local_now plan selected c t
 local_now-same plan selected c t narrow =
     local_in_step (widened plan) selected c t (wide-in_step plan selected c t narrow)
-    ∙ local-same plan t selected ∙ sym (local_in_step plan selected c t (counter-in_step plan selected c t narrow))
+    ∙ ap (λ (k : ℕ). local (widened plan) k selected) (clocked-same plan selected c t)
+    ∙ local-same plan (clocked plan selected c t) selected narrow ∙ sym (local_in_step plan selected c t (counter-in_step plan selected c t narrow))
 
 -- whatever is selected, it begins in step
-pub selected_correction-same : (plan : Plan) (selected : Option ℕ) (now : ℕ) (l k : Option ℕ) → IsNarrow plan →
-    selected_correction (widened plan) selected now l ≡ selected_correction plan selected now k
-selected_correction-same plan selected now l k narrow =
-    begins_at_once (widened plan) selected now l (at-once plan narrow) ∙ sym (begins_at_once plan selected now k (at-once plan narrow))
+pub selected_correction-same : (plan : Plan) (selected : Option ℕ) (now midnight : ℕ) (l k : Option ℕ) → IsNarrow plan →
+    selected_correction (widened plan) selected now midnight l ≡ selected_correction plan selected now midnight k
+selected_correction-same plan selected now midnight l k narrow =
+    begins_at_once (widened plan) selected now midnight l (at-once plan narrow) ∙ sym (begins_at_once plan selected now midnight k (at-once plan narrow))
 
 -- ## The orders
 
 is_at_force_off-same : (plan : Plan) (t : ℕ) (selected : Option ℕ) (p : ℕ) → IsNarrow plan →
     is_at_force_off (widened plan) t selected p ≡ is_at_force_off plan t selected p
 is_at_force_off-same plan t selected p narrow =
-    rw (running-same plan selected, local_in-same plan t (running plan selected), force_off-same plan (running plan selected) p narrow) refl
+    rw (running-same plan selected, local_in-same plan t (running plan selected) narrow, force_off-same plan (running plan selected) p narrow) refl
 
 -- in neither is force-off late, nor is there a permissive time
 asks_force_off-same : (plan : Plan) (t : ℕ) (selected : Option ℕ) (p : ℕ) → IsNarrow plan →
@@ -206,14 +217,16 @@ pub forces-same : (plan : Plan) (selected : Option ℕ) (c : Correction) (t p : 
     forces (widened plan) selected c t p ≡ forces plan selected c t p
 forces-same plan selected c t p narrow =
     forces_in_step (widened plan) selected c t p (wide-in_step plan selected c (t - 1) narrow)
-    ∙ asks_force_off-same plan t selected p narrow ∙ sym (forces_in_step plan selected c t p (counter-in_step plan selected c (t - 1) narrow))
+    ∙ ap (λ (k : ℕ). asks_force_off (widened plan) k selected p) (clocked-same plan selected c t)
+    ∙ asks_force_off-same plan (clocked plan selected c t) selected p narrow ∙ sym (forces_in_step plan selected c t p (counter-in_step plan selected c (t - 1) narrow))
 
 pub lets_walk_again-same : (plan : Plan) (selected : Option ℕ) (c : Correction) (t p : ℕ) → IsNarrow plan →
     lets_walk_again (widened plan) selected c t p ≡ lets_walk_again plan selected c t p
 lets_walk_again-same plan selected c t p narrow =
     ap₂ (λ (a b : Bool). a && b)
     (wide-in_step plan selected c (t - 1) narrow ∙ sym (counter-in_step plan selected c (t - 1) narrow))
-    (asks_recycle-same plan t selected p narrow)
+    (ap (λ (k : ℕ). asks_recycle (widened plan) k selected p) (clocked-same plan selected c t)
+    ∙ asks_recycle-same plan (clocked plan selected c t) selected p narrow)
 
 pub asks_hold-same : (plan : Plan) (selected : Option ℕ) (p : ℕ) → IsNarrow plan → is_narrow p ≡ true →
     asks_hold (widened plan) selected p ≡ asks_hold plan selected p

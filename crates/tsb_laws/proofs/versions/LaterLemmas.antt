@@ -11,11 +11,12 @@ use Rattle.tsb_step.specs.tsb_plan.declared.object.Object.{Object}
 use Rattle.tsb_step.specs.tsb_plan.declared.version.Version.{Version}
 use Rattle.tsb_step.specs.tsb_plan.declared.version.Version.TheVariants.{Two, Three}
 use Rattle.tsb_step.specs.tsb_plan.Names.{object_named}
+use Rattle.tsb_step.specs.tsb_plan.Objects.{objects}
 use Rattle.tsb_step.specs.tsb_plan.Plan.{Plan, empty}
 use Rattle.tsb_step.specs.tsb_plan.Versions.{has_object, has_index_in}
 use Rattle.tsb_step.proofs.tsb_plan.NameLemmas.{named_exact}
 use Rattle.tsb_plan_text.specs.PlanErrors.{Error, no_such_object, object_not_a_table, too_large}
-use Rattle.tsb_plan_text.specs.PlanText.{limit, data_plan, checked, reading, or_fault, then_on, with_entry, with_table, with_member, with_members}
+use Rattle.tsb_plan_text.specs.PlanText.{limit, data_plan, checked, reading, or_fault, then_on, with_entry, with_table, with_object, is_notes, with_notes, with_member, with_members}
 use Rattle.tsb_plan_text.proofs.SaysLemmas.{or_ok, then_ok, if_ok}
 use Rattle.tsb_laws.specs.Texts.{IsOfVersion, renumbered}
 use Rattle.tsb_laws.proofs.versions.TextLemmas.{read-in}
@@ -41,22 +42,36 @@ member-by : (name : List ℕ) (d : Data) (p q : Plan) (o : Object) (table : Memb
     or_fault (object_named Three name) (no_such_object name) (λ o. or_fault (as_object d) (object_not_a_table o) (λ table. with_table Three o table p)) ≡ Ok q
 member-by name d p q o table found is made = rw (found, is) (sym (table-same o table p) ∙ made)
 
+-- a member that names an object
+object-later : (name : List ℕ) (d : Data) (p q : Plan) → with_object Two name d p ≡ Ok q → with_object Three name d p ≡ Ok q
+unfolding with_object
+object-later name d p q e =
+    let o = or_ok (object_named Two name) (no_such_object name) _ q e in
+    let t = or_ok (as_object d) (object_not_a_table o.0) _ q o.2 in
+    let found : object_named Three name ≡ Some o.0 = (named_exact Three name o.0).1 (record { has = refl; name = ((named_exact Two name o.0).0 o.1).name }) in
+    member-by name d p q o.0 t.0 found t.1 t.2
+
+-- which the notes do not
+no-notes : (d : Data) (p q : Plan) → with_object Two (codes "notes") d p ≡ Ok q → ⊥
+unfolding with_object object_named objects
+no-notes d p q e = cc
+
+not-notes : (name : List ℕ) (d : Data) (p q : Plan) → with_object Two name d p ≡ Ok q → bytes_eq name (codes "notes") ≡ false
+not-notes name d p q e = go (bytes_eq name (codes "notes")) refl
+  where
+    go : (b : Bool) → bytes_eq name (codes "notes") ≡ b → b ≡ false
+    go false is = refl
+    go true is = absurd (no-notes d p q (subst (λ (n : List ℕ). with_object Two n d p ≡ Ok q) ((bytes_eq-Decides name (codes "notes")).0 is) e))
+
 -- what a member of version 2 gives, one of version 3 gives too
 member-later : (name : List ℕ) (d : Data) (p q : Plan) → with_member Two name d p ≡ Ok q → with_member Three name d p ≡ Ok q
 unfolding with_member
 member-later name d p q e = judged (bytes_eq name (codes "version")) e
   where
-    judged : (b : Bool) →
-        (if b then Ok p else
-        or_fault (object_named Two name) (no_such_object name) (λ o. or_fault (as_object d) (object_not_a_table o) (λ table. with_table Two o table p))) ≡ Ok q →
-        (if b then Ok p else
-        or_fault (object_named Three name) (no_such_object name) (λ o. or_fault (as_object d) (object_not_a_table o) (λ table. with_table Three o table p))) ≡ Ok q
+    judged : (b : Bool) → (if b then Ok p else with_object Two name d p) ≡ Ok q →
+        (if b then Ok p else (if bytes_eq name (codes "notes") then with_notes d p else with_object Three name d p)) ≡ Ok q
     judged true e = e
-    judged false e =
-        let o = or_ok (object_named Two name) (no_such_object name) _ q e in
-        let t = or_ok (as_object d) (object_not_a_table o.0) _ q o.2 in
-        let found : object_named Three name ≡ Some o.0 = (named_exact Three name o.0).1 (record { has = refl; name = ((named_exact Two name o.0).0 o.1).name }) in
-        member-by name d p q o.0 t.0 found t.1 t.2
+    judged false e = rw (not-notes name d p q e) (object-later name d p q e)
 
 members-later : (ms : Members) (p q : Plan) → with_members Two ms p ≡ Ok q → with_members Three ms p ≡ Ok q
 members-later no_members p q e = e

@@ -6,11 +6,12 @@ use Rattle.std.proofs.lemmas.Bool.Decides.{nat_tests}
 use Rattle.tsb_step.specs.tsb_types.Lists.{first, run_from}
 use Rattle.tsb_step.specs.tsb_types.Sets.{names}
 use Rattle.tsb_step.proofs.tsb_types.SetLemmas.{names-above}
-use Rattle.tsb_step.specs.tsb_plan.declared.object.Object.TheVariants.{PhaseEnabled, PhaseRing, PhaseConcurrency, SplitTime, SplitMode, SplitCoordPhase, SequenceData, CoordForceMode, CoordMaximumMode, PatternPermissiveTime, PatternLeadLag, PhasePedestrianRecycle, CoordCorrectionMode, CoordCorrectionLimit}
+use Rattle.tsb_step.specs.tsb_plan.declared.object.Object.TheVariants.{PhaseEnabled, PhaseRing, PhaseConcurrency, SplitTime, SplitMode, SplitCoordPhase, SequenceData, CoordForceMode, CoordMaximumMode, PatternPermissiveTime, PatternLeadLag, PhasePedestrianRecycle, CoordCorrectionMode, CoordCorrectionLimit, CoordReference}
 use Rattle.tsb_step.specs.tsb_plan.declared.plan.patterns.CorrectionMode.TheVariants.{AtOnce}
 use Rattle.tsb_step.specs.tsb_plan.Plan.{Plan, phases, is_enabled, is_concurrent, recycles_walk, sequence}
-use Rattle.tsb_step.specs.tsb_plan.Parts.{forces_late, floats, correction_mode, permissive_time, leads_and_lags, split_index, mode_of, split_time, split_mode, is_omitted, is_coordinated}
+use Rattle.tsb_step.specs.tsb_plan.Parts.{offset, offset_reference_of, forces_late, floats, correction_mode, permissive_time, leads_and_lags, split_index, mode_of, split_time, split_mode, is_omitted, is_coordinated}
 use Rattle.tsb_step.specs.tsb_plan.Running.{maximum_by_mode}
+use Rattle.tsb_step.specs.tsb_objects.Instants.{reference, end_within, counted_to, offset_from, offset_in_effect}
 use Rattle.tsb_step.specs.tsb_ring.Rings.{Ring, Ring1, Ring2, in_ring}
 use Rattle.tsb_laws.specs.Widened.{IsNarrow, widened, widened_row}
 use Rattle.tsb_laws.proofs.versions.ListLemmas.{is_narrow, is_beyond, IsSameOnNarrow, IsBeyondNarrow, first-phases, any-phases, all-phases, sum-phases}
@@ -143,6 +144,18 @@ not-apart plan n narrow = rw (narrow.placed PatternLeadLag n refl) refl
 -- no phase walks again within its green
 pub no-second_walk : (plan : Plan) (p : ℕ) → IsNarrow plan → recycles_walk plan p ≡ false
 no-second_walk plan p narrow = rw (narrow.placed PhasePedestrianRecycle p refl) refl
+
+-- offsets are counted to local 0
+pub plain-offset : (plan : Plan) (n : ℕ) → IsNarrow plan → offset_in_effect plan n ≡ offset plan n
+plain-offset plan n narrow =
+    ap (λ (v : ℕ). offset_from plan n (counted_to (offset_reference_of v) plan n) (end_within plan n (reference plan n)))
+    (narrow.placed CoordReference 1 refl)
+
+-- and in the wide plan
+pub wide-offset : (plan : Plan) (n : ℕ) → IsNarrow plan → offset_in_effect (widened plan) n ≡ offset plan n
+wide-offset plan n narrow =
+    ap (λ (v : ℕ). offset_from (widened plan) n (counted_to (offset_reference_of v) (widened plan) n) (end_within (widened plan) n (reference (widened plan) n)))
+    (narrow.placed CoordReference 1 refl)
 
 -- the local counter comes into step at once
 pub at-once : (plan : Plan) → IsNarrow plan → correction_mode plan ≡ AtOnce

@@ -1,5 +1,5 @@
 -- Each input makes the same of both benches.
-use Rattle.std.proofs.Common.{◌≡◌, ℕ, ◌+◌, Bool, true, false, if◌then◌else◌, List, Option, is_some, option_map, refl, arith, ◌∙◌, ap, ap₂, inl, inr}
+use Rattle.std.proofs.Common.{◌≡◌, ℕ, ◌+◌, Bool, true, false, if◌then◌else◌, List, Option, Some, is_some, option_map, refl, arith, ◌∙◌, ap, ap₂, inl, inr}
 use Rattle.std.proofs.lemmas.Bool.{cases_Bool}
 use Rattle.tsb_step.specs.tsb_types.declared.lamp.Lamp.{Lamp}
 use Rattle.tsb_step.specs.tsb_types.declared.row.Row.{Row}
@@ -13,13 +13,14 @@ use Rattle.tsb_step.specs.tsb_transact.Desk.{Desk, with_edits}
 use Rattle.tsb_step.specs.tsb_transact.Commit as commit
 use Rattle.tsb_step.specs.tsb_transact.Calls as desk
 use Rattle.tsb_step.specs.tsb_ring.Rings as rings
+use Rattle.tsb_step.specs.tsb_coord.Clock.{midnight_at, start_of}
 use Rattle.tsb_step.specs.tsb_coord.Coordinated.{selects}
 use Rattle.tsb_step.specs.tsb_coord.declared.correction.Correction.{Correction}
 use Rattle.tsb_step.specs.tsb_heads.declared.monitor.Trip.{Trip}
 use Rattle.tsb_step.specs.tsb_heads.Displays as heads
 use Rattle.tsb_step.specs.tsb_heads.Monitoring as monitor
 use Rattle.tsb_step.specs.declared.inputs.Input.{Input}
-use Rattle.tsb_step.specs.declared.inputs.Input.TheVariants.{Tick, Pattern, Switch, Fault, Reset, Begin, Set, Verify, Commit, Abort}
+use Rattle.tsb_step.specs.declared.inputs.Input.TheVariants.{Tick, Pattern, Switch, Fault, Reset, Begin, Set, Verify, Commit, Abort, Clock}
 use Rattle.tsb_step.specs.State.{State, start, restarted}
 use Rattle.tsb_step.specs.Tick.{next}
 use Rattle.tsb_step.specs.Signs.{shown, display, field, local, watched, unless_tripped}
@@ -131,12 +132,19 @@ pattern-same : (s : State) (n : ℕ) → IsNarrow s.plan → step (widened_state
 unfolding step
 pattern-same s n narrow =
     ap (λ (c : Correction). record (widened_state s) { pattern = selects n; correction = c; phases = λ p. unforced (s.phases p) })
-    (selected_correction-same s.plan (selects n) s.now (local (widened_state s)) (local s) narrow)
+    (selected_correction-same s.plan (selects n) s.now (midnight_at s.start_moment s.now) (local (widened_state s)) (local s) narrow)
+
+clock-same : (s : State) (m : ℕ) → IsNarrow s.plan → step (widened_state s) (Clock m) ≡ widened_state (step s (Clock m))
+unfolding step
+clock-same s m narrow =
+    ap (λ (c : Correction). record (widened_state s) { correction = c; start_moment = Some (start_of m s.now) })
+    (selected_correction-same s.plan s.pattern s.now (midnight_at (Some (start_of m s.now)) s.now) (local (widened_state s)) (local s) narrow)
 
 pub step-same : (s : State) (i : Input) → IsNarrowState s → IsWithin i → step (widened_state s) (widened_input i) ≡ widened_state (step s i)
 unfolding step
 step-same s (Tick row) is low = ticked-same row s is
 step-same s (Pattern n) is low = pattern-same s n is.plan
+step-same s (Clock m) is low = clock-same s m is.plan
 step-same s (Fault lamp) is low = with_lamp-same lamp s is low
 step-same s Reset is low = reset-same s
 step-same s (Set station id v) is low = ap (λ (d : Desk). record (widened_state s) { desk = d }) (set-same s id v is low)
@@ -215,6 +223,15 @@ step-narrow s (Pattern n) is low = record {
   plan = is.plan;
   edits = is.edits;
   resting = λ p out. ap unforced (is.resting p out);
+  commitments = is.commitments;
+  side = is.side;
+  crossing = is.crossing;
+  lamp = is.lamp;
+}
+step-narrow s (Clock m) is low = record {
+  plan = is.plan;
+  edits = is.edits;
+  resting = is.resting;
   commitments = is.commitments;
   side = is.side;
   crossing = is.crossing;

@@ -14,7 +14,7 @@ use Rattle.tsb_step.specs.tsb_plan.VersionLaws.{TranslateApart}
 use Rattle.tsb_step.proofs.tsb_plan.TableLemmas.{order-injective}
 use Rattle.tsb_step.proofs.tsb_plan.PlanLemmas.{same-parts}
 use Rattle.tsb_plan_text.specs.PlanErrors.{Error, not_json, not_a_table, no_version, too_large, no_such_object, object_not_a_table, no_such_index, not_a_whole_number, out_of_range}
-use Rattle.tsb_plan_text.specs.PlanText.{limit, data_of, version_in, data_plan, unless_broken, checked, reading, or_fault, then_on, index_named, whole_number, with_entry, with_table, with_member, with_members}
+use Rattle.tsb_plan_text.specs.PlanText.{limit, data_of, version_in, data_plan, unless_broken, checked, reading, or_fault, then_on, index_named, whole_number, with_entry, with_table, with_object, is_notes, with_notes, with_member, with_members}
 use Rattle.tsb_plan_text.specs.PlanTextSays.{number_for, SaysThese, Says}
 use Rattle.tsb_plan_text.proofs.SaysLemmas.{says}
 use Rattle.tsb_step.specs.tsb_rules.declared.rules.Rule.{Rule}
@@ -23,7 +23,7 @@ use Rattle.tsb_step.specs.declared.inputs.Input.{Input}
 use Rattle.tsb_laws.specs.Widened.{IsNarrow, narrowed, AreWithin}
 use Rattle.tsb_laws.specs.Versions.{SaysTheSame}
 use Rattle.tsb_laws.specs.Texts.{IsOfVersion, named_plan, GoesAlike}
-use Rattle.tsb_plan_text.proofs.SaysLemmas.{or_ok, then_ok, if_ok, short}
+use Rattle.tsb_plan_text.proofs.SaysLemmas.{or_ok, then_ok, if_ok, notes_keep, short}
 use Rattle.tsb_laws.proofs.versions.DeskLemmas.{from-one, row_index-back, translated-row, translated-flat}
 use Rattle.tsb_laws.proofs.versions.RunLemmas.{break_the_same_rule, heads_agree, states_agree, take_the_same}
 
@@ -64,18 +64,21 @@ table-read v o (member text d rest) p q is e =
     let first = then_ok (with_entry v o text d p) (with_table v o rest) q e in
     table-read v o rest first.0 q (entry-read v o text d p first.0 is first.1) first.2
 
+object-read : (v : Version) (name : List ℕ) (d : Data) (p q : Plan) → IsRead v p → with_object v name d p ≡ Ok q → IsRead v q
+unfolding with_object
+object-read v name d p q is e =
+    let o = or_ok (object_named v name) (no_such_object name) _ q e in
+    let t = or_ok (as_object d) (object_not_a_table o.0) _ q o.2 in
+    table-read v o.0 t.0 p q is t.2
+
 member-read : (v : Version) (name : List ℕ) (d : Data) (p q : Plan) → IsRead v p → with_member v name d p ≡ Ok q → IsRead v q
 unfolding with_member
-member-read v name d p q is e = judged (bytes_eq name (codes "version")) e
+member-read v name d p q is e = judged (bytes_eq name (codes "version")) (is_notes v name) e
   where
-    judged : (b : Bool) →
-        (if b then Ok p else
-        or_fault (object_named v name) (no_such_object name) (λ o. or_fault (as_object d) (object_not_a_table o) (λ table. with_table v o table p))) ≡ Ok q → IsRead v q
-    judged true e = subst (IsRead v) (if_ok true p q too_large e) is
-    judged false e =
-        let o = or_ok (object_named v name) (no_such_object name) _ q e in
-        let t = or_ok (as_object d) (object_not_a_table o.0) _ q o.2 in
-        table-read v o.0 t.0 p q is t.2
+    judged : (a b : Bool) → (if a then Ok p else (if b then with_notes d p else with_object v name d p)) ≡ Ok q → IsRead v q
+    judged true b e = subst (IsRead v) (if_ok true p q too_large e) is
+    judged false true e = subst (IsRead v) (notes_keep d p q e) is
+    judged false false e = object-read v name d p q is e
 
 members-read : (v : Version) (ms : Members) (p q : Plan) → IsRead v p → with_members v ms p ≡ Ok q → IsRead v q
 members-read v no_members p q is e = subst (IsRead v) (if_ok true p q too_large e) is

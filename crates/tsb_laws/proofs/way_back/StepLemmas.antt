@@ -1,5 +1,5 @@
 -- Every state of a run is one that the cells of the program can hold.
-use Rattle.std.proofs.Common.{◌≡◌, ℕ, ◌+◌, ◌≤◌, nat_le, Bool, true, false, ◌&&◌, if◌then◌else◌, List, [], ◌∷◌, Option, None, is_some, refl, sym, ap, subst, arith, ◌∙◌}
+use Rattle.std.proofs.Common.{◌≡◌, ℕ, ◌+◌, ◌≤◌, ◌<◌, nat_le, Bool, true, false, ◌&&◌, if◌then◌else◌, List, [], ◌∷◌, Option, Some, None, is_some, refl, sym, ap, subst, arith, ◌∙◌}
 use Rattle.tsb_step.specs.tsb_types.declared.lamp.Lamp.{Lamp}
 use Rattle.tsb_step.specs.tsb_types.declared.row.Row.{Row}
 use Rattle.tsb_step.specs.tsb_types.Sets.{is_phase, has_number}
@@ -39,9 +39,16 @@ use Rattle.tsb_step.proofs.GoodLemmas.{rings_after_moves, good_next, good_step, 
 use Rattle.tsb_step.proofs.PlaceLemmas.{same_refusal}
 use Rattle.tsb_step.proofs.tsb_phase.MoveLemmas.{stays_at_power_up}
 use Rattle.tsb_laws.specs.Runs.{IsHeld, IsTyped, AreTyped}
+use Rattle.tsb_laws.proofs.safety.LastTickLemmas.{run_early}
 use Rattle.tsb_laws.proofs.way_back.PlanLemmas.{bounded-with}
 use Rattle.tsb_laws.proofs.way_back.DeskLemmas.{sound-set}
-use Rattle.tsb_laws.proofs.way_back.CorrectionLemmas.{cycles-within, ahead-selected}
+use Rattle.tsb_laws.proofs.way_back.CorrectionLemmas.{cycles-within, ahead-selected, ahead-clocked, midnight-selected, midnight-below}
+use Rattle.tsb_step.specs.tsb_types.declared.clock_time.TheConstants.{DAY, FIRST_MOMENT}
+use Rattle.tsb_step.specs.tsb_types.declared.limits.TheConstants.{TICKS}
+use Rattle.tsb_step.specs.tsb_coord.Clock.{midnight_at, start_of}
+use Rattle.tsb_step.specs.tsb_coord.Coordinated.{selects}
+use Rattle.tsb_step.specs.tsb_coord.Laws.{IsStart}
+use Rattle.tsb_step.specs.tsb_coord.declared.correction.Correction.{Correction}
 use Rattle.tsb_laws.proofs.way_back.DetectLemmas.{detectors-after, detectors-begin}
 use Rattle.tsb_laws.proofs.way_back.CallLemmas.{IsSettled, memories-after, memories-begin}
 use Rattle.tsb_laws.proofs.way_back.PhaseLemmas.{RunsIn, runs-after, runs-begin, runs-unforced}
@@ -59,12 +66,18 @@ pub record IsIn (c : ℕ) (s : State) : Type 0 where
   pub rings : rings.IsInRange s.rings
   pub preempts : preempts.IsStateBy c s.preempts
 
+-- how the local counter comes into step, and the clock, in the ranges of their cells
+pub record IsCounting (c : Correction) (moment : Option ℕ) : Type 0 where
+  pub ahead : c.ahead ≤ 2550
+  pub midnight : c.midnight < FIRST_MOMENT + DAY
+  pub start : IsStart moment
+
 -- the whole state, with what its clock is
 pub record IsTold (s : State) : Type 0 where
   pub plan : IsHeld s.plan
   pub desk : desk.IsInRange s.desk
   pub layers : IsIn (clock s) s
-  pub ahead : s.correction.ahead ≤ 2550
+  pub counting : IsCounting s.correction s.start_moment
   pub lamp : IsLamp s.lamp
   pub trip : IsTrip s.now s.trip
 
@@ -136,15 +149,15 @@ by-clock : (c k : ℕ) (s : State) → c ≡ k → IsIn c s → IsIn k s
 by-clock c k s e was = subst (λ (n : ℕ). IsIn n s) e was
 
 -- what the monitor adds
-told-watched : (before after : State) → IsHeld after.plan → desk.IsInRange after.desk → IsIn after.now after → after.correction.ahead ≤ 2550 → IsLamp after.lamp → IsTold (watched before after)
+told-watched : (before after : State) → IsHeld after.plan → desk.IsInRange after.desk → IsIn after.now after → IsCounting after.correction after.start_moment → IsLamp after.lamp → IsTold (watched before after)
 unfolding watched
-told-watched before after held d layers ahead lamp = record {
+told-watched before after held d layers counting lamp = record {
   plan = held;
   desk = d;
   layers = by-clock after.now (clock_at after.now (tripped-at after.now (judge after.plan (field before) (field after)))) _
       (sym (clock-now after.now (judge after.plan (field before) (field after))))
       (in-with after.now after after.now after.plan after.desk after.pattern after.lamp (tripped-at after.now (judge after.plan (field before) (field after))) layers);
-  ahead = ahead;
+  counting = counting;
   lamp = lamp;
   trip = judged-trip after.plan (field before) (field after) after.now held.phases;
 }
@@ -158,13 +171,13 @@ told-ticked s row good told = go (is_some s.trip) refl
       desk = told.desk;
       layers = by-clock (clock s) (clock_at (s.now + 1) s.trip) _ (clock-stands s.now (s.now + 1) s.trip e)
           (in-with (clock s) s (s.now + 1) s.plan s.desk s.pattern s.lamp s.trip told.layers);
-      ahead = told.ahead;
+      counting = told.counting;
       lamp = told.lamp;
       trip = trip-stays s.now (s.now + 1) s.trip (omega arith) told.trip;
     }
     go false e =
         told-watched s (tick.next s row) told.plan told.desk
-        (next-in s row good told.plan (by-clock (clock s) s.now s (clock-runs s.now s.trip e) told.layers)) told.ahead told.lamp
+        (next-in s row good told.plan (by-clock (clock s) s.now s (clock-runs s.now s.trip e) told.layers)) told.counting told.lamp
 
 -- ## What the operator does
 
@@ -176,13 +189,13 @@ told-lit s lamp is told = go (is_some s.trip) refl
       plan = told.plan;
       desk = told.desk;
       layers = in-with (clock s) s s.now s.plan s.desk s.pattern lamp s.trip told.layers;
-      ahead = told.ahead;
+      counting = told.counting;
       lamp = is;
       trip = told.trip;
     }
     go false e =
         told-watched s (record s { lamp = lamp }) told.plan told.desk
-        (in-with s.now s s.now s.plan s.desk s.pattern lamp s.trip (by-clock (clock s) s.now s (clock-runs s.now s.trip e) told.layers)) told.ahead is
+        (in-with s.now s s.now s.plan s.desk s.pattern lamp s.trip (by-clock (clock s) s.now s (clock-runs s.now s.trip e) told.layers)) told.counting is
 
 rings-begin : rings.IsInRange ring.power_up
 rings-begin = record { last = λ r. tt; commitment = λ r. tt; side = (omega arith, omega arith); crossing = tt }
@@ -199,7 +212,7 @@ told-restarted s told = record {
     rings = rings-begin;
     preempts = preempts-reset (clock s) s.now s.preempts told.layers.preempts;
   };
-  ahead = omega arith;
+  counting = record { ahead = omega arith; midnight = omega arith; start = told.counting.start };
   lamp = tt;
   trip = tt;
 }
@@ -224,7 +237,33 @@ told-pattern s n allowed told = record {
     rings = told.layers.rings;
     preempts = told.layers.preempts;
   };
-  ahead = ahead-selected s.plan n s.now (local s) allowed (cycles-within s.plan told.plan.bounded n);
+  counting = record {
+    ahead = ahead-selected s.plan n s.now (midnight_at s.start_moment s.now) (local s) allowed (cycles-within s.plan told.plan.bounded n);
+    midnight = midnight-selected s.plan (selects n) s.now (midnight_at s.start_moment s.now) (local s) (midnight-below s.start_moment s.now);
+    start = told.counting.start;
+  };
+  lamp = told.lamp;
+  trip = told.trip;
+}
+
+told-clock : (s : State) (m : ℕ) → IsTyped (inputs.Clock m) → s.now ≤ TICKS → IsTold s → IsTold (step s (inputs.Clock m))
+unfolding step
+told-clock s m typed early told = record {
+  plan = told.plan;
+  desk = told.desk;
+  layers = record {
+    detectors = told.layers.detectors;
+    memories = told.layers.memories;
+    phases = told.layers.phases;
+    others = told.layers.others;
+    rings = told.layers.rings;
+    preempts = told.layers.preempts;
+  };
+  counting = record {
+    ahead = ahead-clocked s.plan s.pattern s.correction s.now (midnight_at (Some (start_of m s.now)) s.now) (cycles-within s.plan told.plan.bounded);
+    midnight = midnight-selected s.plan s.pattern s.now (midnight_at (Some (start_of m s.now)) s.now) (local s) (midnight-below (Some (start_of m s.now)) s.now);
+    start = (let from = typed.0 in let to = typed.1 in (omega (arith, from, early), omega (arith, to)));
+  };
   lamp = told.lamp;
   trip = told.trip;
 }
@@ -242,7 +281,7 @@ told-switch s n on allowed told = record {
     rings = told.layers.rings;
     preempts = preempts-switched s.plan (clock s) n on s.preempts allowed told.layers.preempts;
   };
-  ahead = told.ahead;
+  counting = told.counting;
   lamp = told.lamp;
   trip = told.trip;
 }
@@ -254,7 +293,7 @@ told-desk s d is told = record {
   plan = told.plan;
   desk = is;
   layers = in-with (clock s) s s.now s.plan d s.pattern s.lamp s.trip told.layers;
-  ahead = told.ahead;
+  counting = told.counting;
   lamp = told.lamp;
   trip = told.trip;
 }
@@ -309,25 +348,26 @@ told-committed s station allowed good told =
         rings = rings-forgotten s _ told.layers.rings;
         preempts = told.layers.preempts;
       };
-      ahead = told.ahead;
+      counting = told.counting;
       lamp = told.lamp;
       trip = told.trip;
     }
 
 -- ## Every input, and every run
 
-pub told-step : (s : State) (i : Input) → verdict s i ≡ None → IsTyped i → IsGood s → IsTold s → IsTold (step s i)
+pub told-step : (s : State) (i : Input) → verdict s i ≡ None → IsTyped i → s.now ≤ TICKS → IsGood s → IsTold s → IsTold (step s i)
 unfolding step
-told-step s (inputs.Tick row) allowed typed good told = told-ticked s row good told
-told-step s (inputs.Pattern n) allowed typed good told = told-pattern s n allowed told
-told-step s (inputs.Switch n on) allowed typed good told = told-switch s n on allowed told
-told-step s (inputs.Fault lamp) allowed typed good told = told-lit s lamp typed told
-told-step s inputs.Reset allowed typed good told = told-reset s told
-told-step s (inputs.Begin station) allowed typed good told = told-begun s station typed told
-told-step s (inputs.Set station id v) allowed typed good told = told-set s station id v allowed told
-told-step s (inputs.Verify station) allowed typed good told = told-verified s station allowed told
-told-step s (inputs.Commit station) allowed typed good told = told-committed s station allowed good told
-told-step s (inputs.Abort station) allowed typed good told = told-desk s _ desk-closed told
+told-step s (inputs.Tick row) allowed typed early good told = told-ticked s row good told
+told-step s (inputs.Pattern n) allowed typed early good told = told-pattern s n allowed told
+told-step s (inputs.Switch n on) allowed typed early good told = told-switch s n on allowed told
+told-step s (inputs.Fault lamp) allowed typed early good told = told-lit s lamp typed told
+told-step s inputs.Reset allowed typed early good told = told-reset s told
+told-step s (inputs.Begin station) allowed typed early good told = told-begun s station typed told
+told-step s (inputs.Set station id v) allowed typed early good told = told-set s station id v allowed told
+told-step s (inputs.Verify station) allowed typed early good told = told-verified s station allowed told
+told-step s (inputs.Commit station) allowed typed early good told = told-committed s station allowed good told
+told-step s (inputs.Abort station) allowed typed early good told = told-desk s _ desk-closed told
+told-step s (inputs.Clock m) allowed typed early good told = told-clock s m typed early told
 
 told-start : (plan : Plan) → IsHeld plan → IsTold (start plan)
 told-start plan held = record {
@@ -341,7 +381,7 @@ told-start plan held = record {
     rings = rings-begin;
     preempts = preempts-begin 0;
   };
-  ahead = omega arith;
+  counting = record { ahead = omega arith; midnight = omega arith; start = tt };
   lamp = tt;
   trip = tt;
 }
@@ -349,4 +389,4 @@ told-start plan held = record {
 pub told-run : (plan : Plan) (is : List Input) → IsHeld plan → AreTaken plan is → AreTyped is → IsTold (replay plan is)
 told-run plan [] held taken typed = told-start plan held
 told-run plan (i ∷ is) held taken typed =
-    told-step (replay plan is) i taken.1 typed.0 (good_run plan is held.consistent taken.0) (told-run plan is held taken.0 typed.1)
+    told-step (replay plan is) i taken.1 typed.0 (run_early plan is taken.0) (good_run plan is held.consistent taken.0) (told-run plan is held taken.0 typed.1)

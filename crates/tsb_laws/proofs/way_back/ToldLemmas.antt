@@ -61,7 +61,7 @@ rows-of s = record {
     calls = memories_cells s.memories;
     phases = phases_cells (clock s) s.phases;
     rings = rings_cells s.rings;
-    pattern = pattern_cells s.pattern s.correction;
+    pattern = pattern_cells s.pattern s.correction s.start_moment;
     preempts = preempts_cells (clock s) s.preempts;
   };
   monitor = monitor_cells s.lamp s.trip;
@@ -71,7 +71,7 @@ pub cells-whole : (s : State) → cells_of s ≡ whole (rows-of s)
 unfolding cells_of
 cells-whole s =
     regrouped (plan_cells s.plan) (desk_cells s.desk) (detectors_cells (clock s) s.detectors) (memories_cells s.memories) (phases_cells (clock s) s.phases)
-    (rings_cells s.rings) (pattern_cells s.pattern s.correction) (preempts_cells (clock s) s.preempts) (monitor_cells s.lamp s.trip)
+    (rings_cells s.rings) (pattern_cells s.pattern s.correction s.start_moment) (preempts_cells (clock s) s.preempts) (monitor_cells s.lamp s.trip)
 
 -- ## Rows that the program can hold
 
@@ -123,7 +123,7 @@ module _ (s : State) (is : IsOfRun s) where
   selectable = record { from_one = λ n e. (is.good.pattern n e).from_one; within = λ n e. (is.good.pattern n e).within }
 
   correctable : IsCorrectable s.correction
-  correctable = record { since = is.since; ahead = is.told.ahead }
+  correctable = record { since = is.since; ahead = is.told.counting.ahead; midnight = is.told.counting.midnight }
 
   trip-read : trip_in (monitor_cells s.lamp s.trip) ≡ s.trip
   trip-read = (monitor.state-read s.now s.lamp s.trip is.told.lamp is.told.trip).1
@@ -134,7 +134,7 @@ module _ (s : State) (is : IsOfRun s) where
     calls = (calls.calls-read s.memories is.told.layers.memories).by;
     phases = (phases.states-read (clock s) s.phases phases-ranged).by;
     rings = rings.states-by s.rings is.told.layers.rings;
-    pattern = coord.pattern_by s.pattern s.correction selectable correctable;
+    pattern = coord.pattern_by s.pattern s.correction s.start_moment selectable correctable is.told.counting.start;
     preempts = preempts.states-by (clock s) s.preempts is.told.layers.preempts;
   }
 
@@ -166,8 +166,9 @@ module _ (s : State) (is : IsOfRun s) where
     now = s.now;
     plan = plan-read s.plan is.told.plan i;
     desk = (desk.states_are_read s.desk is.told.desk).0 i;
-    pattern = (coord.pattern_read s.pattern s.correction selectable).pattern i;
-    correction = (coord.pattern_read s.pattern s.correction selectable).correction i;
+    pattern = (coord.pattern_read s.pattern s.correction s.start_moment selectable is.told.counting.start).pattern i;
+    correction = (coord.pattern_read s.pattern s.correction s.start_moment selectable is.told.counting.start).correction i;
+    start_moment = (coord.pattern_read s.pattern s.correction s.start_moment selectable is.told.counting.start).start i;
     detectors = detectors-read i;
     memories = (calls.calls-read s.memories is.told.layers.memories).same i;
     phases = phases-read i;

@@ -1,5 +1,5 @@
 -- The saved commands are read as they were meant.
-use Rattle.std.proofs.Common.{◌≡◌, ◌∙◌, ℕ, suc, ◌+◌, ◌-◌, ◌%◌, ◌^◌, ◌<◌, ◌≤◌, ◌==◌, Bool, true, false, not, eqb, leb, List, [], ◌∷◌, ◌++◌, if◌then◌else◌, codes, decimal, length, length-append, get_or, map, append_assoc, append-nil, Option, Some, None, option_map, refl, sym, ap, arith, rules, inl, inr}
+use Rattle.std.proofs.Common.{◌≡◌, ◌∙◌, ℕ, suc, ◌+◌, ◌-◌, ◌%◌, ◌/◌, ◌^◌, ◌<◌, ◌≤◌, ◌==◌, Bool, true, false, not, eqb, leb, List, [], ◌∷◌, ◌++◌, if◌then◌else◌, codes, decimal, length, length-append, get_or, map, append_assoc, append-nil, Option, Some, None, option_map, refl, sym, ap, arith, rules, inl, inr}
 use Rattle.std.specs.List.{list_all}
 use Rattle.std.proofs.lemmas.List.{map-append}
 use Rattle.std.proofs.lemmas.Bool.{and_parts, le-leb, le-ltb, ne_eqb, not-true, true≢false}
@@ -25,7 +25,7 @@ use Rattle.tsb_text.specs.tsb_types.declared.lamp.SignalColor.TheVariants as sig
 use Rattle.tsb_text.specs.tsb_types.declared.lamp.PedestrianColor.{PedestrianColor}
 use Rattle.tsb_text.specs.tsb_types.declared.lamp.PedestrianColor.TheVariants as pedestrians
 use Rattle.tsb_step.specs.declared.inputs.Input.{Input}
-use Rattle.tsb_step.specs.declared.inputs.Input.TheVariants.{Tick, Pattern, Switch, Fault, Reset, Begin, Set, Verify, Commit, Abort}
+use Rattle.tsb_step.specs.declared.inputs.Input.TheVariants.{Tick, Pattern, Switch, Fault, Reset, Begin, Set, Verify, Commit, Abort, Clock}
 use Rattle.tsb_command_text.specs.Commands.{command_in, command_of_one, command_of_two, command_of_three, command_of_five, preempt_of, set_of}
 use Rattle.tsb_command_text.specs.Lamps.{from_one_to, head_number, lamp_of, station_of, with_both}
 use Rattle.tsb_command_text.specs.Readings.{reading, reading_in}
@@ -37,7 +37,12 @@ use Rattle.tsb_text.specs.declared.kept.Other.{Other}
 use Rattle.tsb_live_text.specs.saved.Laws.{AreSpelled, CommandsAreRead, IsLamp, IsSpelled, IsUpTo, command_of, commands_at, steps}
 use Rattle.tsb_live_text.specs.saved.Saved.{commands_from, input_line, input_text, lamp_line, number_word, pedestrian_word, signal_word, step_text, switch_word}
 use Rattle.tsb_live_text.specs.saved.Says.{are_plain, is_plain}
-use Rattle.tsb_live_text.proofs.saved.PlainLemmas.{Plain, name-plain, number-plain, plain-is, plain-join}
+use Rattle.tsb_live_text.proofs.saved.PlainLemmas.{Plain, date-plain, name-plain, number-plain, plain-is, plain-join, time-plain}
+use Rattle.tsb_types.specs.declared.clock_time.TheConstants.{DAY, FIRST_MOMENT, END_OF_DAYS}
+use Rattle.tsb_command_text.specs.clock.ClockText.{date_of, date_text, time_text}
+use Rattle.tsb_command_text.specs.declared.clock.calendar.ClockDate.{ClockDate}
+use Rattle.tsb_command_text.proofs.clock.ReadLemmas.{clock-read}
+use Rattle.tsb_lines.specs.Digits.{digit}
 
 -- ## Words
 
@@ -169,7 +174,7 @@ abort-read n h =
 -- ## Of three
 
 -- a word, a word that ends in a number, and a word
-three-line : (first second third : List ℕ) (c : Command) → length first ≤ 7 → length second ≤ 11 → length third ≤ 3 → IsWord first → IsWord second → IsWord third
+three-line : (first second third : List ℕ) (c : Command) → length first ≤ 7 → length second ≤ 11 → length third ≤ 10 → IsWord first → IsWord second → IsWord third
     → is_skipped (first ++ 32 ∷ (second ++ 32 ∷ third)) ≡ false → command_of_three first second third ≡ Some c → reading (first ++ 32 ∷ (second ++ 32 ∷ third)) ≡ Do c
 three-line first second third c few more end is and_is last_is heeded found =
     let tail : length (second ++ 32 ∷ third) ≡ length second + suc (length third) = length-append second (32 ∷ third) in
@@ -226,6 +231,25 @@ lamp-read : (lamp : Lamp) → IsLamp lamp → reading (lamp_line lamp) ≡ Do (c
 lamp-read (lamps.Phase p color) h = phase-lamp p color h
 lamp-read (lamps.Overlap p color) h = overlap-lamp p color h
 lamp-read (lamps.Pedestrian p color) h = pedestrian-lamp p color h
+
+-- a date and a time of day are words
+not-space : (t unit : ℕ) → digit t unit ≡ 32 → ⊥
+not-space t unit e = omega (arith, e)
+
+date-word : (d : ClockDate) → IsWord (date_text d)
+date-word d =
+    (not-space d.year 1000, (not-space d.year 100, (not-space d.year 10, (not-space d.year 1, ((λ e. omega (arith, e)), (not-space d.month 10, (not-space d.month 1, ((λ e. omega (arith, e)), (not-space d.day 10, not-space d.day 1)))))))))
+
+time-word : (t : ℕ) → IsWord (time_text t)
+time-word t =
+    (not-space (t / 36000) 10, (not-space (t / 36000) 1, ((λ e. omega (arith, e)), (not-space (t / 600 % 60) 10, (not-space (t / 600 % 60) 1, ((λ e. omega (arith, e)), (not-space (t / 10 % 60) 10, (not-space (t / 10 % 60) 1, ((λ e. omega (arith, e)), not-space (t % 10) 1)))))))))
+
+clock-line : (time : ℕ) → FIRST_MOMENT ≤ time → time < END_OF_DAYS → reading (input_line (Clock time)) ≡ Do (commands.Clock time)
+unfolding command_of_three
+clock-line time from before =
+    three-line (codes "clock") (date_text (date_of time)) (time_text (time % DAY)) (commands.Clock time) (omega arith) (omega arith) (omega arith)
+    (word-of (codes "clock") refl (omega arith)) (date-word (date_of time)) (time-word (time % DAY)) refl
+    (ap (option_map commands.Clock) (clock-read time from before))
 
 -- ## Of five
 
@@ -297,6 +321,9 @@ input-plain (Set s id v) h = set-plain s id v (omega (arith, h.0.1)) h.1 h.2
 input-plain (Verify s) h = behind (codes "verify ") s refl (omega (arith, h.1))
 input-plain (Commit s) h = behind (codes "commit ") s refl (omega (arith, h.1))
 input-plain (Abort s) h = behind (codes "abort ") s refl (omega (arith, h.1))
+input-plain (Clock time) h =
+    plain-join (codes "clock ") (date_text (date_of time) ++ (32 ∷ time_text (time % DAY))) refl
+    (plain-join (date_text (date_of time)) (32 ∷ time_text (time % DAY)) (date-plain (date_of time)) (time-plain (time % DAY)))
 
 pub step-plain : (n : ℕ) → n < 2 ^ 32 → are_plain (codes "step " ++ decimal n) ≡ true
 step-plain n lt = behind (codes "step ") n refl lt
@@ -316,6 +343,7 @@ input-read (Set s id v) rest h = one-line (input_line (Set s id v)) rest (comman
 input-read (Verify s) rest h = one-line (input_line (Verify s)) rest (commands.Verify s) (input-plain (Verify s) h) (verify-read s h)
 input-read (Commit s) rest h = one-line (input_line (Commit s)) rest (commands.Commit s) (input-plain (Commit s) h) (commit-read s h)
 input-read (Abort s) rest h = one-line (input_line (Abort s)) rest (commands.Abort s) (input-plain (Abort s) h) (abort-read s h)
+input-read (Clock time) rest h = one-line (input_line (Clock time)) rest (commands.Clock time) (input-plain (Clock time) h) (clock-line time h.0 h.1)
 
 steps-read : (n : ℕ) (rest : List ℕ) → n < 2 ^ 32 → map reading (lines_of (step_text n ++ rest)) ≡ map Do (steps n) ++ map reading (lines_of rest)
 steps-read n rest lt = go (n == 0)

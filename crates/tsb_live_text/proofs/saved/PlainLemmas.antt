@@ -11,6 +11,10 @@ use Rattle.tsb_log_text.specs.LogText.{mark, marks, row_line, set_marks}
 use Rattle.tsb_log_text.specs.declared.log.LogRow.{LogRow}
 use Rattle.tsb_text.specs.tsb_step.tsb_plan.Names.{name_of}
 use Rattle.tsb_text.specs.tsb_step.tsb_plan.declared.object.Object.{Object}
+use Rattle.std.proofs.Math.Nat.{mod-lt}
+use Rattle.tsb_lines.specs.Digits.{digit}
+use Rattle.tsb_command_text.specs.clock.ClockText.{date_text, time_text}
+use Rattle.tsb_command_text.specs.declared.clock.calendar.ClockDate.{ClockDate}
 use Rattle.tsb_live_text.specs.saved.Saved.{number_word}
 use Rattle.tsb_live_text.specs.saved.Says.{are_plain, is_plain}
 
@@ -40,6 +44,18 @@ name-plain o = search rules
 
 pub word-plain : (n : ℕ) → n < 2 ^ 64 → are_plain (number_word n) ≡ true
 word-plain n lt = plain-join (32 ∷ []) (decimal n) refl (number-plain n lt)
+
+-- a date and a time of day
+place-plain : (t unit : ℕ) → is_plain (digit t unit) ≡ true
+place-plain t unit = digit-plain (t / unit % 10) (mod-lt (t / unit) (omega arith))
+
+pub date-plain : (d : ClockDate) → are_plain (date_text d) ≡ true
+date-plain d =
+    rw (place-plain d.year 1000, place-plain d.year 100, place-plain d.year 10, place-plain d.year 1, place-plain d.month 10, place-plain d.month 1, place-plain d.day 10, place-plain d.day 1) refl
+
+pub time-plain : (t : ℕ) → are_plain (32 ∷ time_text t) ≡ true
+time-plain t =
+    rw (place-plain (t / 36000) 10, place-plain (t / 36000) 1, place-plain (t / 600 % 60) 10, place-plain (t / 600 % 60) 1, place-plain (t / 10 % 60) 10, place-plain (t / 10 % 60) 1, place-plain (t % 10) 1) refl
 
 -- ## The line of a row
 

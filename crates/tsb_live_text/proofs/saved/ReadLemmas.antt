@@ -24,6 +24,9 @@ use Rattle.tsb_log_text.specs.Rows.{field, has_space, inputs_of, inputs_with, li
 use Rattle.tsb_text.specs.declared.kept.Other.{Other}
 use Rattle.tsb_text.specs.kept.Kept.{kept_of}
 use Rattle.tsb_text.proofs.BackLemmas.{no-less}
+use Rattle.tsb_types.specs.declared.clock_time.TheConstants.{FIRST_MOMENT, END_OF_DAYS}
+use Rattle.tsb_command_text.specs.clock.ClockText.{clock_of}
+use Rattle.tsb_command_text.proofs.clock.ReadLemmas.{clock-ranged}
 use Rattle.tsb_live_text.specs.saved.Laws.{AreSpelled, IsFault, IsLamp, IsSpelled, IsUpTo, KeptAreSpelled, ReadsAreSpelled, RowsReadAreFit, command_of}
 
 -- what holds of it, if there is any
@@ -74,6 +77,7 @@ IsSound (commands.Set s id v) = IsUpTo 4 s × (id.index < 2 ^ 32) × (v < 2 ^ 32
 IsSound (commands.Verify s) = IsUpTo 4 s
 IsSound (commands.Commit s) = IsUpTo 4 s
 IsSound (commands.Abort s) = IsUpTo 4 s
+IsSound (commands.Clock t) = (FIRST_MOMENT ≤ t) × (t < END_OF_DAYS)
 IsSound c = Unit {0}
 
 one-sound : (w : List ℕ) → OfAny IsSound (command_of_one w)
@@ -119,12 +123,20 @@ preempt-fits (Some n) (Some on) h = h
 preempt-fits (Some n) None h = tt
 preempt-fits None on h = tt
 
+clock-fits : (x y : List ℕ) → OfAny IsSound (option_map commands.Clock (clock_of x y))
+clock-fits x y = go (clock_of x y) refl
+  where
+    go : (o : Option ℕ) → clock_of x y ≡ o → OfAny IsSound (option_map commands.Clock o)
+    go None e = tt
+    go (Some t) e = clock-ranged x y t e
+
 three-sound : (w x y : List ℕ) → OfAny IsSound (command_of_three w x y)
 unfolding command_of_three
 three-sound w x y =
     of-if IsSound (bytes_eq w (codes "when")) _ _ (of-map _ IsSound commands.When (watch_of_two x y) (any (watch_of_two x y)) (λ n h. tt))
     (of-if IsSound (bytes_eq w (codes "preempt")) _ _ (preempt-fits (number_of x) (on_or_off y) (number-fits x))
-    (of-if IsSound (bytes_eq w (codes "fault")) _ _ (of-map IsLamp IsSound (λ l. commands.Fault (Some l)) (lamp_of x y) (lamp-fits x y) (λ l h. h)) tt))
+    (of-if IsSound (bytes_eq w (codes "fault")) _ _ (of-map IsLamp IsSound (λ l. commands.Fault (Some l)) (lamp_of x y) (lamp-fits x y) (λ l h. h))
+    (of-if IsSound (bytes_eq w (codes "clock")) _ _ (clock-fits x y) tt)))
 
 set-fits : (s : Option ℕ) (o : Option Object) (i v : Option ℕ) → OfAny (IsUpTo 4) s → OfAny (λ n. n < 2 ^ 32) i → OfAny (λ n. n < 2 ^ 32) v → OfAny IsSound (set_of s o i v)
 set-fits None o i v hs hi hv = tt

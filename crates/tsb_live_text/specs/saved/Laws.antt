@@ -6,9 +6,10 @@ use Rattle.tsb_lines.specs.Lines.{HasNoFeed, lines_of}
 use Rattle.tsb_text.specs.tsb_types.declared.lamp.Lamp.{Lamp}
 use Rattle.tsb_text.specs.tsb_types.declared.lamp.Lamp.TheVariants as lamps
 use Rattle.tsb_text.specs.tsb_types.declared.limits.TheConstants.{TICKS}
+use Rattle.tsb_types.specs.declared.clock_time.TheConstants.{FIRST_MOMENT, END_OF_DAYS}
 use Rattle.tsb_text.specs.tsb_step.tsb_plan.Plan.{Plan}
 use Rattle.tsb_step.specs.declared.inputs.Input.{Input}
-use Rattle.tsb_step.specs.declared.inputs.Input.TheVariants.{Tick, Pattern, Switch, Fault, Reset, Begin, Set, Verify, Commit, Abort}
+use Rattle.tsb_step.specs.declared.inputs.Input.TheVariants.{Tick, Pattern, Switch, Fault, Reset, Begin, Set, Verify, Commit, Abort, Clock}
 use Rattle.tsb_step.specs.Runs.{replay}
 use Rattle.tsb_command_text.specs.declared.command.Command.{Command}
 use Rattle.tsb_command_text.specs.declared.command.Command.TheVariants as commands
@@ -71,6 +72,7 @@ IsSpelled (Set station id v) = IsUpTo 4 station × (id.index < 2 ^ 32) × (v < 2
 IsSpelled (Verify station) = IsUpTo 4 station
 IsSpelled (Commit station) = IsUpTo 4 station
 IsSpelled (Abort station) = IsUpTo 4 station
+IsSpelled (Clock time) = (FIRST_MOMENT ≤ time) × (time < END_OF_DAYS)
 
 -- each of these inputs is, and its tick is a number
 abbrev pub AreSpelled : List Other → Type 0
@@ -89,6 +91,7 @@ command_of (Set station id v) = commands.Set station id v ∷ []
 command_of (Verify station) = commands.Verify station ∷ []
 command_of (Commit station) = commands.Commit station ∷ []
 command_of (Abort station) = commands.Abort station ∷ []
+command_of (Clock time) = commands.Clock time ∷ []
 
 -- so many ticks; none need no command
 abbrev pub steps : ℕ → List Command

@@ -1,10 +1,12 @@
 -- What `save` answers: one line of JSON with two members, the text of a log and the lines of commands. `tsb run` takes
 -- from them the inputs that are kept: the rows of its ticks from the log, and the other inputs, with the ticks between
 -- them, from the commands.
-use Rattle.std.specs.Prelude.{ℕ, ◌-◌, ◌==◌, Bool, true, false, if◌then◌else◌, List, [], ◌∷◌, ◌++◌, Some, None, codes, decimal}
+use Rattle.std.specs.Prelude.{ℕ, ◌-◌, ◌%◌, ◌==◌, Bool, true, false, if◌then◌else◌, List, [], ◌∷◌, ◌++◌, Some, None, codes, decimal}
 use Rattle.json.specs.Json.{Json, string, object, no_members, member}
 use Rattle.json.specs.Print.{print}
 use Rattle.json.specs.Tree.{json_tokens}
+use Rattle.tsb_types.specs.declared.clock_time.TheConstants.{DAY}
+use Rattle.tsb_command_text.specs.clock.ClockText.{date_of, date_text, time_text}
 use Rattle.tsb_dialog.specs.Said.{with_feed}
 use Rattle.tsb_log_text.specs.LogText.{log_text}
 use Rattle.tsb_text.specs.tsb_step.tsb_plan.Names.{name_of}
@@ -15,7 +17,7 @@ use Rattle.tsb_text.specs.tsb_types.declared.lamp.SignalColor.TheVariants as sig
 use Rattle.tsb_text.specs.tsb_types.declared.lamp.PedestrianColor.{PedestrianColor}
 use Rattle.tsb_text.specs.tsb_types.declared.lamp.PedestrianColor.TheVariants as pedestrians
 use Rattle.tsb_step.specs.declared.inputs.Input.{Input}
-use Rattle.tsb_step.specs.declared.inputs.Input.TheVariants.{Tick, Pattern, Switch, Fault, Reset, Begin, Set, Verify, Commit, Abort}
+use Rattle.tsb_step.specs.declared.inputs.Input.TheVariants.{Tick, Pattern, Switch, Fault, Reset, Begin, Set, Verify, Commit, Abort, Clock}
 use Rattle.tsb_text.specs.declared.kept.Other.{Other}
 use Rattle.tsb_text.specs.kept.Kept.{Keeping}
 
@@ -61,6 +63,7 @@ input_line (Set station id v) = codes "set " ++ (decimal station ++ (32 ∷ (nam
 input_line (Verify station) = codes "verify " ++ decimal station
 input_line (Commit station) = codes "commit " ++ decimal station
 input_line (Abort station) = codes "abort " ++ decimal station
+input_line (Clock time) = codes "clock " ++ (date_text (date_of time) ++ (32 ∷ time_text (time % DAY)))
 
 -- ## Lines of commands
 

@@ -6,9 +6,10 @@ ghost use Rattle.tsb_text.specs.tsb_step.declared.inputs.Input.TheVariants as in
 
 use arrayvec::ArrayVec;
 use itoa::Buffer;
+use tsb_command_text::clock::{date_text, time_text};
 use tsb_objects::ObjectId;
 use tsb_step::Input;
-use tsb_types::{Lamp, PedestrianColor, SignalColor, Station};
+use tsb_types::{ClockTime, Lamp, PedestrianColor, SignalColor, Station};
 
 /// The most bytes of the line of a command.
 const LINE: usize = 80;
@@ -33,7 +34,20 @@ pub(crate) fn input_line(input: &Input) -> Line
         Input::Verify(station) => station_line(b"verify ", station),
         Input::Commit(station) => station_line(b"commit ", station),
         Input::Abort(station) => station_line(b"abort ", station),
+        Input::Clock(time) => clock_line(time),
     }
+}
+
+/// The command that sets a clock.
+fn clock_line(time: ClockTime) -> Line
+    ensures line { result.items ≡ input_line (inputs.Clock time) }
+    ensures plain { are_plain result.items ≡ true }
+{
+    let mut line = words(b"clock ");
+    let _ = line.try_extend_from_slice(&date_text(time));
+    let _ = line.try_extend_from_slice(b" ");
+    let _ = line.try_extend_from_slice(&time_text(time));
+    line
 }
 
 /// A line of these words.

@@ -4,13 +4,13 @@
 
 ghost use Rattle.std.specs.Prelude.{◌≡◌, ℕ, ◌<◌, ◌≤◌, ◌&&◌, not, true, Some, IfSome};
 ghost use Rattle.tsb_objects.specs.Checked.{checked_plan};
-ghost use Rattle.tsb_objects.specs.Instants.{force_off, permissive_end, forces_off, walk_and_clearance, is_left, may_recycle, recycle_end, waiting_point};
+ghost use Rattle.tsb_objects.specs.Instants.{force_off, permissive_end, forces_off, walk_and_clearance, is_left, may_recycle, recycle_end, waiting_point, offset_in_effect};
 ghost use Rattle.tsb_plan.specs.Parts.{cycle, is_used, unless_zero};
 ghost use Rattle.tsb_plan.specs.Running.{sequence_in_effect, is_coordinated_now, is_omitted_now, is_on_minimum_recall, is_on_maximum_recall, is_on_pedestrian_recall};
 ghost use Rattle.tsb_types.specs.Sets.{has};
 
 use crate::checked::Checked;
-use crate::pattern_tables::{forced_in, instant_at, permissive_end_at, waiting_at};
+use crate::pattern_tables::{forced_in, instant_at, permissive_end_at, word_at};
 use crate::recycle;
 use tsb_types::{Pattern, Phase, PhaseSet, Sequence};
 
@@ -201,6 +201,16 @@ impl Checked {
         ensures value { result ≡ waiting_point (checked_plan self.now) n }
         ensures below { result < cycle (checked_plan self.now) n }
     {
-        waiting_at(&self.pattern_tables.waiting_points, n)
+        word_at(&self.pattern_tables.waiting_points, n)
+    }
+
+    /// How long after tick 0 the local counter of a pattern that is used is first 0, in tenths of a second: its offset
+    /// (`patternOffsetTime`), counted to what `coordReference` says.
+    #[inline(always)]
+    pub fn offset_in_effect(&self, n: Pattern) -> u32
+        requires used { is_used (checked_plan self.now) n ≡ true }
+        ensures { result ≡ offset_in_effect (checked_plan self.now) n }
+    {
+        word_at(&self.pattern_tables.offsets, n)
     }
 }

@@ -39,6 +39,24 @@ pub enum CorrectionMode {
     AddOnly,
 }
 
+/// What the offsets of patterns are counted to (`coordReference`; its numbers are the profile's). "First" and "last" are
+/// by the splits of the pattern: the phase whose green, yellow or red begins before, or after, that of the others.
+#[derive(Clone, Copy, PartialEq, Eq)]
+pub enum OffsetReference {
+    /// The end of the coordinated split, where the local counter is 0: number 0.
+    SplitEnd,
+    /// The begin of green of the first coordinated phase: number 1.
+    FirstGreen,
+    /// The begin of green of the last coordinated phase: number 2.
+    LastGreen,
+    /// The begin of yellow of the first coordinated phase: number 3.
+    FirstYellow,
+    /// The begin of yellow of the last coordinated phase: number 4.
+    LastYellow,
+    /// The begin of red of the first coordinated phase: number 5.
+    FirstRed,
+}
+
 ghost use Rattle.std.specs.Prelude.{true};
 ghost use Rattle.tsb_plan.specs.declared.object.Object.TheVariants.{SplitTime};
 ghost use Rattle.tsb_plan.specs.Objects.{has_index};
@@ -60,7 +78,7 @@ fn places_before(sequence: Sequence, ring: Ring) -> u32
 }
 
 impl Plan {
-    ghost use Rattle.tsb_plan.specs.Parts.{forces_late, floats, correction_mode, correction_limit, cycle, is_used, offset, permissive_time, leads_and_lags, split_of, sequence_of, split_time, split_mode, is_omitted, is_coordinated};
+    ghost use Rattle.tsb_plan.specs.Parts.{forces_late, floats, correction_mode, correction_limit, offset_reference, cycle, is_used, offset, permissive_time, leads_and_lags, split_of, sequence_of, split_time, split_mode, is_omitted, is_coordinated};
     ghost use Rattle.tsb_plan.specs.PlanOf.{plan_of};
     ghost use Rattle.tsb_plan.specs.Plan.{sequence as sequence_places};
 
@@ -108,6 +126,20 @@ impl Plan {
         self.value(Object::CoordCorrectionLimit, 1)
     }
 
+    /// What the offsets of all patterns are counted to (`coordReference`, profile).
+    pub fn offset_reference(&self) -> OffsetReference
+        ensures { result ≡ offset_reference (plan_of self.now) }
+    {
+        match self.value(Object::CoordReference, 1) {
+            1 => OffsetReference::FirstGreen,
+            2 => OffsetReference::LastGreen,
+            3 => OffsetReference::FirstYellow,
+            4 => OffsetReference::LastYellow,
+            5 => OffsetReference::FirstRed,
+            _ => OffsetReference::SplitEnd,
+        }
+    }
+
     /// The cycle of the pattern, 0 where the pattern is not used (`patternCycleTime`), in tenths of a
     /// second.
     pub fn cycle(&self, pattern: Pattern) -> u32
@@ -124,9 +156,10 @@ impl Plan {
         self.value(Object::PatternCycleTime, u32::from(pattern.number())) != 0
     }
 
-    /// The offset of the pattern (`patternOffsetTime`), in tenths of a second.
+    /// The offset of the pattern (`patternOffsetTime`), in tenths of a second: that of what offsets are counted to.
     pub fn offset(&self, pattern: Pattern) -> u32
-        ensures { result ≡ offset (plan_of self.now) pattern }
+        ensures value { result ≡ offset (plan_of self.now) pattern }
+        ensures range { result ≤ 2540 }
     {
         10 * self.value(Object::PatternOffsetTime, u32::from(pattern.number()))
     }

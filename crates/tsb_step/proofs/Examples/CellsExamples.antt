@@ -46,7 +46,8 @@ busy = record {
     edits = record { id = record { object = PhaseWalk; index = 2 }; value = 7 } ∷ [];
   };
   pattern = Some 2;
-  correction = record { since = 30; ahead = 7 };
+  correction = record { since = 30; ahead = 7; midnight = 7164000 };
+  start_moment = Some 7164000;
   detectors = λ d. if d == 16 then record detector.at_power_up { alarm = Some Erratic; rises = 9 } else detector.at_power_up;
   memories = record { vehicle = λ p. p == 3; pedestrian = λ p. p == 2; count = λ p. if p == 16 then 5 else 0 };
   phases = λ p. if p == 16 then record phase.at_power_up { interval = Yellow; timer = On 12 } else phase.at_power_up;
@@ -65,7 +66,7 @@ unfolding opened busy
 how_many = refl
 
 first_cells : DESK ∷ DETECTORS ∷ CALLS ∷ PHASES ∷ RINGS ∷ COORD ∷ PREEMPTS ∷ MONITOR ∷ ALL_CELLS ∷ [] ≡
-    1290 ∷ 1422 ∷ 1476 ∷ 1494 ∷ 1610 ∷ 1614 ∷ 1617 ∷ 1627 ∷ 1634 ∷ []
+    1291 ∷ 1423 ∷ 1477 ∷ 1495 ∷ 1611 ∷ 1615 ∷ 1621 ∷ 1631 ∷ 1638 ∷ []
 first_cells = refl
 
 -- the plan: phaseEnabled of phase 8, and sequenceData at its index 20, which is phase 8
@@ -74,19 +75,24 @@ unfolding opened busy
 plan_cells_stand = refl
 
 -- the desk's owner, the last timer of the detectors, the last count, the cell of two lists, right of way and clearing
-ends_stand : slice_index (cells_of busy) 1290 ∷ slice_index (cells_of busy) 1493 ∷ slice_index (cells_of busy) 1494 ∷ [] ≡ 3 ∷ 5 ∷ 2147516416 ∷ []
+ends_stand : slice_index (cells_of busy) 1291 ∷ slice_index (cells_of busy) 1494 ∷ slice_index (cells_of busy) 1495 ∷ [] ≡ 3 ∷ 5 ∷ 2147516416 ∷ []
 unfolding opened busy
 ends_stand = refl
 
 -- the rings' side, the pattern, the preempt in service
-more_stand : slice_index (cells_of busy) 1612 ∷ slice_index (cells_of busy) 1614 ∷ slice_index (cells_of busy) 1623 ∷ [] ≡ 1 ∷ 2 ∷ 4 ∷ []
+more_stand : slice_index (cells_of busy) 1613 ∷ slice_index (cells_of busy) 1615 ∷ slice_index (cells_of busy) 1627 ∷ [] ≡ 1 ∷ 2 ∷ 4 ∷ []
 unfolding opened busy
 more_stand = refl
 
--- since when the local counter comes into step, and how far it was ahead then
-its_counter_stands : slice_index (cells_of busy) 1615 ∷ slice_index (cells_of busy) 1616 ∷ [] ≡ 30 ∷ 7 ∷ []
+-- since when the local counter comes into step, how far it was ahead then, and the midnight that it counts from
+its_counter_stands : slice_index (cells_of busy) 1616 ∷ slice_index (cells_of busy) 1617 ∷ slice_index (cells_of busy) 1618 ∷ [] ≡ 30 ∷ 7 ∷ 7164000 ∷ []
 unfolding opened busy
 its_counter_stands = refl
+
+-- tick number 0 was at 7:00 of 2000-01-01, which is day 8
+its_clock_stands : slice_index (cells_of busy) 1619 ∷ slice_index (cells_of busy) 1620 ∷ [] ≡ 8 ∷ 252000 ∷ []
+unfolding opened busy
+its_clock_stands = refl
 
 -- ## As they are read
 
@@ -100,6 +106,10 @@ pattern_again = refl
 correction_again : again.correction ≡ busy.correction
 unfolding opened busy
 correction_again = refl
+
+start_again : again.start_moment ≡ Some 7164000
+unfolding opened busy
+start_again = refl
 
 edits_again : again.desk.edits ≡ busy.desk.edits
 unfolding opened busy

@@ -15,7 +15,7 @@ use Rattle.tsb_step.proofs.Examples.Scenes.{opened, after, coordinated}
 -- pattern 1 was selected at tick 60, 10 ticks ahead, and the cycle is 800: it loses one in 3 ticks by add only, so that
 -- it is in step from tick 90 on. By a commit meanwhile the mode can be 0.
 abbrev ten_ahead : Correction
-ten_ahead = record { since = 60; ahead = 10 }
+ten_ahead = record { since = 60; ahead = 10; midnight = 0 }
 
 abbrev losing : ℕ → ℕ → State
 losing mode n = record (coordinated n) {

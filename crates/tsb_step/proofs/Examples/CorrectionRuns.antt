@@ -87,7 +87,7 @@ takes_the_short_way : correction_mode (hurried_at 0).plan ≡ ShortWay
 unfolding opened hurried second paced brisk two
 takes_the_short_way = refl
 
-is_ahead_70 : (hurried_at 0).correction ≡ record { since = 10; ahead = 70 }
+is_ahead_70 : (hurried_at 0).correction ≡ record { since = 10; ahead = 70; midnight = 0 }
 unfolding opened hurried second paced brisk two
 is_ahead_70 = refl
 

@@ -148,5 +148,5 @@ recycling n = record (coordinated n) { plan = with_value quad PhasePedestrianRec
 abbrev pub hurrying : ℕ → State → State
 hurrying n s = record s {
   plan = with_values s.plan ((CoordCorrectionMode, 1, 2) ∷ (CoordCorrectionLimit, 1, 50) ∷ []);
-  correction = record { since = n; ahead = 790 };
+  correction = record { since = n; ahead = 790; midnight = 0 };
 }

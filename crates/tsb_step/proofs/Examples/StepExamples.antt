@@ -9,14 +9,14 @@ use Rattle.tsb_objects.specs.tsb_plan.declared.object.ObjectId.{ObjectId}
 use Rattle.tsb_objects.specs.tsb_plan.Plan.{with_value}
 use Rattle.tsb_objects.specs.tsb_plan.Quad.{quad}
 use Rattle.tsb_objects.specs.tsb_rules.declared.rules.Rule.TheVariants.{K5}
-use Rattle.tsb_coord.specs.Correction.{in_step}
+use Rattle.tsb_coord.specs.Correction.{in_step, in_step_from}
 use Rattle.tsb_preempt.specs.Preempts as preempts
 use Rattle.tsb_ring.specs.Rings.{Ring1, Ring2}
 use Rattle.tsb_transact.specs.Desk.{closed}
 use Rattle.tsb_transact.specs.declared.desk_state.DeskState.{DeskState}
 use Rattle.tsb_transact.specs.declared.desk_state.DeskState.TheVariants.{Transaction, Verify as Refused, Done}
 use Rattle.tsb_transact.specs.declared.edit.Edit.{Edit}
-use Rattle.tsb_step.specs.declared.inputs.Input.TheVariants.{Tick, Pattern, Switch, Fault, Reset, Begin, Set, Verify, Commit, Abort}
+use Rattle.tsb_step.specs.declared.inputs.Input.TheVariants.{Tick, Pattern, Switch, Fault, Reset, Begin, Set, Verify, Commit, Abort, Clock}
 use Rattle.tsb_step.specs.State.{State, start}
 use Rattle.tsb_step.specs.Step.{step, kind_of}
 use Rattle.tsb_machine.specs.tsb_history.declared.kinds.Kind.TheVariants as kinds
@@ -45,7 +45,7 @@ is_selected = refl
 abbrev pub in_step_60 : State
 in_step_60 = hurrying 0 (coordinated 60)
 
-goes_on : map (λ n. (step in_step_60 (Pattern n)).correction) (0 ∷ 1 ∷ 2 ∷ []) ≡ in_step ∷ in_step ∷ record { since = 60; ahead = 790 } ∷ []
+goes_on : map (λ n. (step in_step_60 (Pattern n)).correction) (0 ∷ 1 ∷ 2 ∷ []) ≡ in_step ∷ in_step ∷ record { since = 60; ahead = 790; midnight = 0 } ∷ []
 unfolding opened
 goes_on = refl
 
@@ -69,7 +69,7 @@ stopped = record tripped {
   plan = with_value quad PhaseMaximum1 2 30;
   desk = record closed { owner = Some 1; state = Transaction };
   pattern = Some 1;
-  correction = record { since = 40; ahead = 7 };
+  correction = record { since = 40; ahead = 7; midnight = 0 };
   preempts = record (dwelling 5).preempts { switch = λ n. n == 2; delay = λ n. On 7 };
   lamp = green_lamp 3;
 }
@@ -154,11 +154,32 @@ aborts : (step (editing Done symmetric red) (Abort 1)) ≡ red
 unfolding opened
 aborts = refl
 
+-- ## The clock
+
+-- tick number 60 is at 7:00:00 of 2000-01-01, so that tick number 0 was 6 s before. The pattern that runs with a cycle of
+-- 80 s is then at 0, as 25,200 s are 315 cycles: the counter, which was at 60, is 60 ticks ahead
+abbrev pub at_seven : ℕ
+at_seven = 7164000
+
+tells_time : (step resting (Clock at_seven)).start_moment ≡ Some 7163940
+unfolding opened
+tells_time = refl
+
+clocks : map (λ s. (step s (Clock at_seven)).correction) (coordinated 60 ∷ in_step_60 ∷ resting ∷ [])
+    ≡ in_step_from 7163940 ∷ record { since = 60; ahead = 60; midnight = 7163940 } ∷ in_step ∷ []
+unfolding opened
+clocks = refl
+
+-- a pattern that is selected after that counts from the same midnight
+selects_by_clock : (step (step resting (Clock at_seven)) (Pattern 1)).correction ≡ in_step_from 7163940
+unfolding opened
+selects_by_clock = refl
+
 -- ## Kinds
 
 all_kinds : map kind_of
     (Tick all_off ∷ Pattern 1 ∷ Switch 1 true ∷ Fault None ∷ Reset
-    ∷ Begin 1 ∷ Set 1 (id PhaseMaximum1 2) 9 ∷ Verify 1 ∷ Commit 1 ∷ Abort 1 ∷ [])
+    ∷ Begin 1 ∷ Set 1 (id PhaseMaximum1 2) 9 ∷ Verify 1 ∷ Commit 1 ∷ Abort 1 ∷ Clock 6912000 ∷ [])
     ≡ kinds.Tick ∷ kinds.Pattern ∷ kinds.Switch ∷ kinds.Fault ∷ kinds.Reset
-    ∷ kinds.Begin ∷ kinds.Set ∷ kinds.Verify ∷ kinds.Commit ∷ kinds.Abort ∷ []
+    ∷ kinds.Begin ∷ kinds.Set ∷ kinds.Verify ∷ kinds.Commit ∷ kinds.Abort ∷ kinds.Clock ∷ []
 all_kinds = refl

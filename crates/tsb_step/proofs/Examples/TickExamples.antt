@@ -201,7 +201,7 @@ unfolding opened
 ends_on_its_way = refl
 
 -- a tick leaves how it comes into step
-keeps_correction : (after (hurrying 769 (coordinated 769)) all_off).correction ≡ record { since = 769; ahead = 790 }
+keeps_correction : (after (hurrying 769 (coordinated 769)) all_off).correction ≡ record { since = 769; ahead = 790; midnight = 0 }
 unfolding opened
 keeps_correction = refl
 

@@ -1,4 +1,5 @@
-use Rattle.std.proofs.Common.{◌≡◌, ◌∙◌, ℕ, ◌&&◌, Bool, true, false, Option, Some, inl, inr, sym, ap, subst, true≢false}
+use Rattle.std.proofs.Common.{◌≡◌, ◌∙◌, ℕ, ◌&&◌, Bool, true, false, Option, Some, inl, inr, sym, ap, subst, true≢false, arith}
+use Rattle.std.proofs.lemmas.Grind.{common_steps}
 use Rattle.std.proofs.lemmas.Bool.Decides.{eqb_tells}
 use Rattle.tsb_objects.specs.tsb_types.Sets.{has}
 use Rattle.tsb_objects.specs.Checked.{checked_plan}
@@ -35,3 +36,6 @@ loop-p-preserved c =
         | inr other ↦ joined.others q other.1 ∙ held.left q (sym (popped.others q other.1) ∙ on)
       ];
     }
+
+pub loop-p-init : goal.loop-p-init
+loop-p-init c = grind (arith, common_steps)

@@ -78,7 +78,7 @@ a_selection = record { other = not_at_once; begins = free_then; none = (tt, refl
 
 -- a pattern that begins at local 0
 abbrev from_zero : State → ℕ → Correction
-from_zero s n = begun s.now (residue_of_difference (cycle s.plan n) 0 (counter s.plan n s.now))
+from_zero s n = begun s.now 0 (residue_of_difference (cycle s.plan n) 0 (counter s.plan n s.now))
 
 would_be_ahead : ahead_in adding (Some 2) (from_zero (replay adding []) 2) 0 ≡ 10
 unfolding opened adding
@@ -103,7 +103,7 @@ record AtSelection : Type 0 where
   here : local (replay adding started) ≡ Some 1
   goes_on : local (replay adding chosen) ≡ Some 1
   jumps : coordination.local (replay adding started).plan (replay adding started).now (Some 2) ≡ Some 791
-  correction_is : (replay adding chosen).correction ≡ record { since = 1; ahead = 10 }
+  correction_is : (replay adding chosen).correction ≡ record { since = 1; ahead = 10; midnight = 0 }
   then_is : (replay adding chosen).plan ≡ adding
   pattern_is : (replay adding chosen).pattern ≡ Some 2
   now_is : (replay adding chosen).now ≡ 1
@@ -163,17 +163,17 @@ taken_then k low = all_taken adding all_off chosen k chosen_taken (in_time k low
 ticked : (k : ℕ) → (replay adding (after k)).now ≡ k + 1
 ticked k = let now = at_selection.now_is in let later = now_then adding all_off chosen k in omega (arith, now, later)
 
-in_step_is : (k : ℕ) → is_in_step adding (Some 2) (record { since = 1; ahead = 10 }) (k + 1) ≡ true → IsInStep (replay adding (after k))
+in_step_is : (k : ℕ) → is_in_step adding (Some 2) (record { since = 1; ahead = 10; midnight = 0 }) (k + 1) ≡ true → IsInStep (replay adding (after k))
 in_step_is k there =
     ap (λ (x : Plan). is_in_step x s.pattern s.correction s.now) (plan_then adding all_off chosen k ∙ at_selection.then_is)
     ∙ (ap (λ (o : Option ℕ). is_in_step adding o s.correction s.now) (pattern_then adding all_off chosen k ∙ at_selection.pattern_is)
     ∙ (ap (λ (c : Correction). is_in_step adding (Some 2) c s.now) (correction_then adding all_off chosen k ∙ at_selection.correction_is)
-    ∙ (ap (λ (t : ℕ). is_in_step adding (Some 2) (record { since = 1; ahead = 10 }) t) (ticked k) ∙ there)))
+    ∙ (ap (λ (t : ℕ). is_in_step adding (Some 2) (record { since = 1; ahead = 10; midnight = 0 }) t) (ticked k) ∙ there)))
   where
     s : State
     s = replay adding (after k)
 
-comes_into_step : is_in_step adding (Some 2) (record { since = 1; ahead = 10 }) 31 ≡ true
+comes_into_step : is_in_step adding (Some 2) (record { since = 1; ahead = 10; midnight = 0 }) 31 ≡ true
 unfolding opened adding
 comes_into_step = refl
 
@@ -195,7 +195,7 @@ a_step = record {
 abbrev loses_on : Plan → ℕ → Correction → ℕ → ℕ
 loses_on plan n c t = residue_of_difference (cycle plan n) c.ahead (lost (correction_limit plan) (t - c.since))
 
-would_fall_behind : loses_on adding 2 (record { since = 1; ahead = 10 }) 34 ≡ 799
+would_fall_behind : loses_on adding 2 (record { since = 1; ahead = 10; midnight = 0 }) 34 ≡ 799
 unfolding opened adding
 would_fall_behind = refl
 
@@ -210,11 +210,11 @@ only_ticks : (k : ℕ) → HasGoneOn (λ s i. keeps_in_step i) adding chosen (ti
 only_ticks zero = tt
 only_ticks (suc k) = (only_ticks k, refl)
 
-had_time : (plan : Plan) (c : Correction) (now begin : ℕ) → plan ≡ adding → c ≡ record { since = 1; ahead = 10 } → now ≡ 31 → begin ≡ 1 →
+had_time : (plan : Plan) (c : Correction) (now begin : ℕ) → plan ≡ adding → c ≡ record { since = 1; ahead = 10; midnight = 0 } → now ≡ 31 → begin ≡ 1 →
     IsLongEnough (correction_mode plan) plan 2 c (now - begin)
 had_time plan c now begin e f g h = rw e (rw f (rw g (rw h (rw is_add_only all))))
   where
-    all : IsLongEnough AddOnly adding 2 (record { since = 1; ahead = 10 }) (31 - 1)
+    all : IsLongEnough AddOnly adding 2 (record { since = 1; ahead = 10; midnight = 0 }) (31 - 1)
     all = rw limit_is (omega arith)
 
 record AWay (plan : Plan) (is later : List Input) (n : ℕ) : Type 0 where
@@ -241,6 +241,6 @@ a_way_into_step = record {
 abbrev loses_nothing : Plan → ℕ → Correction → ℕ → ℕ
 loses_nothing plan n c t = c.ahead % cycle plan n
 
-would_stay_ahead : loses_nothing adding 2 (record { since = 1; ahead = 10 }) 31 ≡ 10
+would_stay_ahead : loses_nothing adding 2 (record { since = 1; ahead = 10; midnight = 0 }) 31 ≡ 10
 unfolding opened adding
 would_stay_ahead = refl

@@ -1,19 +1,20 @@
 -- The built-in plans have no options, and mistakes that the law of options refuses.
-use Rattle.std.proofs.Common.{◌≡◌, ℕ, ◌-◌, ◌%◌, nat_lt, Bool, true, false, not, ◌&&◌, ◌||◌, Option, Some, None, is_some, is_none, refl}
+use Rattle.std.proofs.Common.{◌≡◌, ℕ, ◌+◌, ◌-◌, ◌%◌, nat_lt, Bool, true, false, not, ◌&&◌, ◌||◌, Option, Some, None, is_some, is_none, refl}
 use Rattle.tsb_step.specs.tsb_cells.declared.timer.Timer.TheVariants.{Off, On}
 use Rattle.tsb_step.specs.tsb_cells.Timer.{has_reached}
+use Rattle.tsb_step.specs.tsb_plan.declared.plan.patterns.OffsetReference.TheVariants.{FirstGreen}
 use Rattle.tsb_step.specs.tsb_plan.Parts.{cycle, permissive_time, is_anew}
 use Rattle.tsb_step.specs.tsb_plan.Plan.{Plan, maximum, yellow_change, red_clear}
 use Rattle.tsb_step.specs.tsb_plan.Quad.{quad}
 use Rattle.tsb_step.specs.tsb_plan.Running.{running, is_coordinated_now, split_green}
 use Rattle.tsb_step.specs.tsb_plan.Two.{two}
 use Rattle.tsb_step.specs.tsb_rules.PatternRules.{each_pattern, ends_with, permissive_times_end}
-use Rattle.tsb_step.specs.tsb_objects.Instants.{is_behind, walk_and_clearance, is_left}
+use Rattle.tsb_step.specs.tsb_objects.Instants.{is_behind, walk_and_clearance, is_left, end_within, counted_to, offset_from}
 use Rattle.tsb_step.specs.tsb_heads.Heads.{Shown}
 use Rattle.tsb_step.specs.tsb_heads.Overlaps.{is_followed_in_ring, is_followed_across, is_followed}
 use Rattle.tsb_step.specs.Signs.{shown}
 use Rattle.tsb_step.specs.tsb_coord.declared.correction.Correction.{Correction}
-use Rattle.tsb_step.specs.tsb_coord.Coordinated.{counter, local, residue_of_difference, end_of, force_off, agree, yields_to, instant_of, is_late, asks_force_off, asks_recycle}
+use Rattle.tsb_step.specs.tsb_coord.Coordinated.{counter, reference, local, residue_of_difference, end_of, force_off, agree, yields_to, instant_of, is_late, asks_force_off, asks_recycle}
 use Rattle.tsb_step.specs.tsb_coord.Correction.{in_step, by_short_way, is_in_step, begun, selected_correction}
 use Rattle.tsb_step.specs.tsb_phase.Phase.{Given, GreenHeld}
 use Rattle.tsb_step.specs.tsb_phase.Green.{conflict_timer, has_maxed_out, forced_latch}
@@ -32,6 +33,7 @@ two_has_none = record {
   coord_correction_mode = refl;
   overlap_across_rings = λ o. refl;
   preempt_chooses_anew = λ n. refl;
+  coord_reference = refl;
 }
 
 pub quad_has_none : HasNoOptions quad
@@ -45,6 +47,7 @@ quad_has_none = record {
   coord_correction_mode = refl;
   overlap_across_rings = λ o. refl;
   preempt_chooses_anew = λ n. refl;
+  coord_reference = refl;
 }
 
 -- ## Force-off that is late whatever the mode is
@@ -107,7 +110,7 @@ would_walk_again = refl
 
 -- 100 ticks ahead in tick 0
 abbrev far : Correction
-far = record { since = 0; ahead = 100 }
+far = record { since = 0; ahead = 100; midnight = 0 }
 
 -- with a limit of 20 percent
 abbrev steps_always : Plan → ℕ → Correction → ℕ → ℕ
@@ -125,16 +128,31 @@ would_lag = refl
 -- ## A selection that goes on from the old local counter whatever the mode is
 
 abbrev goes_on_always : Plan → ℕ → ℕ → ℕ → Correction
-goes_on_always plan n now l = begun now (residue_of_difference (cycle plan n) (l % cycle plan n) (counter plan n now))
+goes_on_always plan n now l = begun now 0 (residue_of_difference (cycle plan n) (l % cycle plan n) (counter plan n now))
 
 -- pattern 1 is selected in tick 12, in which that of the old pattern is 112
-begins_in_step : selected_correction quad (Some 1) 12 (Some 112) ≡ in_step
+begins_in_step : selected_correction quad (Some 1) 12 0 (Some 112) ≡ in_step
 unfolding opened
 begins_in_step = refl
 
-would_begin_ahead : goes_on_always quad 1 12 112 ≡ record { since = 12; ahead = 100 }
+would_begin_ahead : goes_on_always quad 1 12 112 ≡ record { since = 12; ahead = 100; midnight = 0 }
 unfolding opened
 would_begin_ahead = refl
+
+-- ## Offsets that are counted to the first green whatever the number is
+
+abbrev to_green_always : Plan → ℕ → ℕ → ℕ
+to_green_always plan n t =
+    (t + cycle plan n - offset_from plan n (counted_to FirstGreen plan n) (end_within plan n (reference plan n))) % cycle plan n
+
+is_at_100 : counter quad 1 100 ≡ 100
+unfolding opened
+is_at_100 = refl
+
+-- the split of 2 begins 250 ticks before local 0
+would_be_at_650 : to_green_always quad 1 100 ≡ 650
+unfolding opened
+would_be_at_650 = refl
 
 -- ## Instants that are counted from the begin of the cycle
 

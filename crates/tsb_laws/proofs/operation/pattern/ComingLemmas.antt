@@ -12,6 +12,7 @@ use Rattle.tsb_step.specs.tsb_plan.Parts.{cycle, offset, correction_mode, correc
 use Rattle.tsb_step.specs.tsb_rules.Rules.{first_broken}
 use Rattle.tsb_step.specs.tsb_coord.declared.correction.Correction.{Correction}
 use Rattle.tsb_step.specs.tsb_coord.Coordinated.{counter, residue_of_difference, is_pattern}
+use Rattle.tsb_step.specs.tsb_coord.Clock.{midnight_at, shift}
 use Rattle.tsb_step.specs.tsb_coord.Correction.{is_in_step, ahead_with, ahead_from, begun, selected_correction}
 use Rattle.tsb_step.specs.tsb_coord.Laws.{IsLongEnough}
 use Rattle.tsb_step.proofs.tsb_coord.CorrectionLemmas.{always_in_step, begun_none, begun_some, comes_into_step as comes_by_clock}
@@ -51,11 +52,11 @@ ahead_below plan none n now (Some l) known =
     below_with (correction_mode plan) (residue_of_difference (cycle plan n) (l % cycle plan n) (counter plan n now)) (cycle plan n)
     (mod-lt (l % cycle plan n + (cycle plan n - counter plan n now % cycle plan n)) some)
 
-begun_below : (plan : Plan) (n now a : ℕ) → a < cycle plan n → IsBegun plan n now (begun now a)
-begun_below plan n now a low =
+begun_below : (plan : Plan) (n now midnight a : ℕ) → a < cycle plan n → IsBegun plan n now (begun now midnight a)
+begun_below plan n now midnight a low =
     elim (cases_eq a 0) [
-      | inl none ↦ inl (ap (λ (c : Correction). c.ahead) (begun_none now a none))
-      | inr some ↦ (let is = begun_some now a some in
+      | inl none ↦ inl (ap (λ (c : Correction). c.ahead) (begun_none now midnight a none))
+      | inr some ↦ (let is = begun_some now midnight a some in
           inr (ap (λ (c : Correction). c.since) is, subst (λ (x : ℕ). x < cycle plan n) (sym (ap (λ (c : Correction). c.ahead) is)) low))
     ]
 
@@ -93,6 +94,7 @@ other_comes : (s : State) (i : Input) → keeps_in_step i ≡ true → Comes s (
 unfolding step
 other_comes s (inputs.Tick row) h = inl (record { plan = plan_stays s row; pattern = pattern_stays s row; correction = correction_stays s row })
 other_comes s (inputs.Pattern n) h = absurd (false≢true h)
+other_comes s (inputs.Clock m) h = absurd (false≢true h)
 other_comes s (inputs.Commit station) h = absurd (false≢true h)
 other_comes s (inputs.Fault lamp) h = inl (lit_keeps s lamp)
 other_comes s inputs.Reset h = reset_comes s
@@ -124,8 +126,10 @@ begins : (s : State) (n : ℕ) → first_broken s.plan ≡ None → is_pattern s
 unfolding step
 begins s n sound known = record {
   pattern = is_selected s.plan n known;
-  begun = subst (λ (o : Option ℕ). IsBegun s.plan n s.now (selected_correction s.plan o s.now (local s))) (sym (is_selected s.plan n known))
-      (begun_below s.plan n s.now (ahead_from s.plan n s.now (local s)) (ahead_below s.plan sound n s.now (local s) known));
+  begun = (let midnight : ℕ = midnight_at s.start_moment s.now in
+      let t : ℕ = s.now + shift (cycle s.plan n) midnight in
+      subst (λ (o : Option ℕ). IsBegun s.plan n s.now (selected_correction s.plan o s.now midnight (local s))) (sym (is_selected s.plan n known))
+      (begun_below s.plan n s.now midnight (ahead_from s.plan n t (local s)) (ahead_below s.plan sound n t (local s) known)));
 }
 
 -- the plan in effect is as it was

@@ -3,7 +3,9 @@
 use Rattle.std.proofs.Common.{◌≡◌, ℕ, ◌+◌, ◌%◌, ◌<◌, ◌≤◌, ◌==◌, Bool, true, false, if◌then◌else◌, List, Option, Some, None, refl, ap, arith, ◌∙◌}
 use Rattle.std.proofs.Math.Nat.{mod-lt}
 use Rattle.tsb_step.specs.tsb_plan.Plan.{Plan, is_enabled}
+use Rattle.tsb_step.specs.tsb_objects.Instants.{offset_in_effect}
 use Rattle.tsb_step.specs.tsb_plan.Parts.{is_used, cycle, offset}
+use Rattle.tsb_step.proofs.tsb_objects.InstantLemmas.{offset-below}
 use Rattle.tsb_step.specs.tsb_rules.Rules.{first_broken}
 use Rattle.tsb_step.specs.tsb_rules.Consistent.{IsWhole}
 use Rattle.tsb_step.specs.tsb_coord.Coordinated.{counter, local_in, instant_from, reference, instant_by, force_off, agree}
@@ -20,7 +22,7 @@ use Rattle.tsb_step.specs.Good.{IsGood, IsPatternNumber}
 use Rattle.tsb_step.proofs.GoodLemmas.{good_run}
 use Rattle.tsb_laws.specs.CoordinatedGreens.{ComesInCycle}
 use Rattle.tsb_laws.proofs.operation.pattern.CoordinatedCallLemmas.{IsRunning, running_is, runs_whole}
-use Rattle.tsb_laws.proofs.operation.pattern.InStepLemmas.{comes_as}
+use Rattle.tsb_laws.proofs.operation.pattern.InStepLemmas.{clocked_in, clocked_later, comes_as}
 
 -- each enabled phase has an instant in a pattern that runs, and it is below the cycle
 pub record HasOwnInstant (plan : Plan) (k p : ℕ) : Type 0 where
@@ -51,21 +53,24 @@ instant_now s k p good running on =
     own_instant s.plan good.plan.rules k p (runs_whole s k good running) number.from_one number.within chosen.used on
 
 comes_in : (s : State) (k p : ℕ) → IsGood s → runs s ≡ Some k → IsInStep s → is_enabled s.plan p ≡ true → ComesInCycle s k p
-comes_in s k p good running stepped on = go (met_within (cycle s.plan k) (counter s.plan k (s.now + 1)) own.instant (mod-lt _ some) own.below)
+comes_in s k p good running stepped on = go (met_within (cycle s.plan k) (counter s.plan k next) own.instant (mod-lt _ some) own.below)
   where
+    next : ℕ
+    next = clocked_in s (s.now + 1)
+
     parts : IsWhole s.plan k
     parts = runs_whole s k good running
 
     own : HasOwnInstant s.plan k p
     own = instant_now s k p good running on
 
-    below : offset s.plan k < cycle s.plan k
-    below = parts.below
+    below : offset_in_effect s.plan k < cycle s.plan k
+    below = offset-below s.plan k parts.below
 
     some : 0 < cycle s.plan k
     some = omega (arith, below)
 
-    go : (j : ℕ) × ((j < cycle s.plan k) × (((counter s.plan k (s.now + 1) + j) % cycle s.plan k == own.instant) ≡ true)) → ComesInCycle s k p
+    go : (j : ℕ) × ((j < cycle s.plan k) × (((counter s.plan k next + j) % cycle s.plan k == own.instant) ≡ true)) → ComesInCycle s k p
     go met =
         let less : met.0 < cycle s.plan k = met.1.0 in
         record {
@@ -73,9 +78,10 @@ comes_in s k p good running stepped on = go (met_within (cycle s.plan k) (counte
           later = omega arith;
           soon = omega (arith, less);
           at_instant = comes_as s (s.now + 1 + met.0) p stepped (omega arith)
-              ∙ (ap (λ (o : Option ℕ). agree (local_in s.plan (s.now + 1 + met.0) o) (force_off s.plan o p)) running
-              ∙ (ap (λ (o : Option ℕ). agree (Some (counter s.plan k (s.now + 1 + met.0))) o) own.is
-              ∙ (ap (λ (x : ℕ). x == own.instant) (counter_moves_on s.plan k (s.now + 1) met.0 below) ∙ met.1.1)));
+              ∙ (ap (λ (t : ℕ). agree (local_in s.plan t (runs s)) (force_off s.plan (runs s) p)) (clocked_later s (s.now + 1) met.0)
+              ∙ (ap (λ (o : Option ℕ). agree (local_in s.plan (next + met.0) o) (force_off s.plan o p)) running
+              ∙ (ap (λ (o : Option ℕ). agree (Some (counter s.plan k (next + met.0))) o) own.is
+              ∙ (ap (λ (x : ℕ). x == own.instant) (counter_moves_on s.plan k next met.0 below) ∙ met.1.1))));
         }
 
 pub instants_come : (plan : Plan) (is : List Input) (k p : ℕ) → IsConsistent plan → AreTaken plan is → runs (replay plan is) ≡ Some k →

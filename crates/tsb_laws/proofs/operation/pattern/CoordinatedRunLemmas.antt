@@ -65,6 +65,7 @@ pub leaves : (s : State) (i : Input) (p : ℕ) → is_tick i ≡ false → is_pr
 unfolding step
 leaves s (inputs.Tick row) p t h dark = absurd (true≢false t)
 leaves s (inputs.Pattern n) p t h dark = absurd (false≢true h)
+leaves s (inputs.Clock m) p t h dark = absurd (false≢true h)
 leaves s (inputs.Commit station) p t h dark = absurd (false≢true h)
 leaves s (inputs.Fault lamp) p t h dark = lit_leaves s lamp p
 leaves s inputs.Reset p t h dark = reset_leaves s p dark

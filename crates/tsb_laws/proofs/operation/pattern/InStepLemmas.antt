@@ -5,23 +5,37 @@ use Rattle.std.proofs.lemmas.Bool.{and_parts, and_from, or_cases, or_left, or_ri
 use Rattle.tsb_step.specs.tsb_plan.Plan.{Plan}
 use Rattle.tsb_step.specs.tsb_coord.declared.correction.Correction.{Correction}
 use Rattle.tsb_step.specs.tsb_coord.Coordinated.{is_at_force_off, asks_force_off, asks_recycle}
-use Rattle.tsb_step.specs.tsb_coord.Correction.{counted_tick, steps_twice, forces, comes_to_force_off, is_in_step}
+use Rattle.tsb_step.specs.tsb_plan.Running.{running}
+use Rattle.tsb_step.specs.tsb_coord.Correction.{clocked, shift_in, counted_tick, steps_twice, forces, comes_to_force_off, is_in_step}
 use Rattle.tsb_step.proofs.tsb_coord.CorrectionLemmas.{stays_in_step, forces_in_step, comes_in_step}
 use Rattle.tsb_step.proofs.tsb_coord.LocalLemmas.{at_instant_asks}
 use Rattle.tsb_step.specs.State.{State}
 use Rattle.tsb_step.specs.Signs.{IsInStep}
 use Rattle.tsb_step.specs.Tick.{recycle}
 
+-- ## By the clock
+
+-- the tick in which a counter from tick number 0 is where the one in step is in tick t
+abbrev pub clocked_in : State → ℕ → ℕ
+clocked_in s t = clocked s.plan s.pattern s.correction t
+
+-- so many ticks later it is as many later
+pub clocked_later : (s : State) (t k : ℕ) → clocked_in s (t + k) ≡ clocked_in s t + k
+clocked_later s t k = turned t k (shift_in s.plan (running s.plan s.pattern) s.correction)
+  where
+    turned : (t k x : ℕ) → t + k + x ≡ t + x + k
+    turned t k x = omega arith
+
 -- ## In step
 
 pub in_step_later : (s : State) (t : ℕ) → IsInStep s → s.now ≤ t → is_in_step s.plan s.pattern s.correction t ≡ true
 in_step_later s t stepped later = stays_in_step s.plan s.pattern s.correction s.now t stepped later
 
-pub forces_as : (s : State) (t p : ℕ) → IsInStep s → s.now < t → forces s.plan s.pattern s.correction t p ≡ asks_force_off s.plan t s.pattern p
+pub forces_as : (s : State) (t p : ℕ) → IsInStep s → s.now < t → forces s.plan s.pattern s.correction t p ≡ asks_force_off s.plan (clocked_in s t) s.pattern p
 forces_as s t p stepped later =
     forces_in_step s.plan s.pattern s.correction t p (in_step_later s (t - 1) stepped (omega (arith, later)))
 
-pub comes_as : (s : State) (t p : ℕ) → IsInStep s → s.now < t → comes_to_force_off s.plan s.pattern s.correction t p ≡ is_at_force_off s.plan t s.pattern p
+pub comes_as : (s : State) (t p : ℕ) → IsInStep s → s.now < t → comes_to_force_off s.plan s.pattern s.correction t p ≡ is_at_force_off s.plan (clocked_in s t) s.pattern p
 comes_as s t p stepped later =
     comes_in_step s.plan s.pattern s.correction t p (in_step_later s (t - 1) stepped (omega (arith, later)))
 
@@ -61,15 +75,15 @@ now_before s = omega arith
 -- a phase may walk again in the next tick where the local counter is in step and the cycle lets it
 pub record LetsWalk (s : State) (p : ℕ) : Type 0 where
   pub in_step : IsInStep s
-  pub asks : asks_recycle s.plan (s.now + 1) s.pattern p ≡ true
+  pub asks : asks_recycle s.plan (clocked_in s (s.now + 1)) s.pattern p ≡ true
 
 pub lets_walk : (s : State) (p : ℕ) → recycle s p ≡ true → LetsWalk s p
 lets_walk s p h = record { in_step = ap (λ (t : ℕ). is_in_step s.plan s.pattern s.correction t) (sym (now_before s)) ∙ both.0; asks = both.1 }
   where
-    both : (is_in_step s.plan s.pattern s.correction (s.now + 1 - 1) ≡ true) × (asks_recycle s.plan (s.now + 1) s.pattern p ≡ true)
-    both = and_parts (is_in_step s.plan s.pattern s.correction (s.now + 1 - 1)) (asks_recycle s.plan (s.now + 1) s.pattern p) h
+    both : (is_in_step s.plan s.pattern s.correction (s.now + 1 - 1) ≡ true) × (asks_recycle s.plan (clocked_in s (s.now + 1)) s.pattern p ≡ true)
+    both = and_parts (is_in_step s.plan s.pattern s.correction (s.now + 1 - 1)) (asks_recycle s.plan (clocked_in s (s.now + 1)) s.pattern p) h
 
 pub walk_let : (s : State) (p : ℕ) → LetsWalk s p → recycle s p ≡ true
 walk_let s p it =
-    and_from (is_in_step s.plan s.pattern s.correction (s.now + 1 - 1)) (asks_recycle s.plan (s.now + 1) s.pattern p)
+    and_from (is_in_step s.plan s.pattern s.correction (s.now + 1 - 1)) (asks_recycle s.plan (clocked_in s (s.now + 1)) s.pattern p)
     (ap (λ (t : ℕ). is_in_step s.plan s.pattern s.correction t) (now_before s) ∙ it.in_step) it.asks

@@ -17,7 +17,9 @@ use Rattle.tsb_step.specs.tsb_rules.PatternRules.{permissive_times_end}
 use Rattle.tsb_step.specs.tsb_rules.Rules.{first_broken}
 use Rattle.tsb_step.specs.tsb_objects.Instants.{is_coordinated_in, coordinated_in_ring, first_coordinated, recycles}
 use Rattle.tsb_step.specs.tsb_coord.Coordinated.{residue_of_difference, counter, reference, instant_by, force_off, is_same_from_both, is_pattern}
-use Rattle.tsb_step.specs.tsb_coord.Correction.{in_step, ahead_with, begun, selected_correction}
+use Rattle.tsb_step.specs.tsb_coord.Clock.{shift}
+use Rattle.tsb_step.specs.tsb_coord.Correction.{ahead_with, begun, selected_correction}
+use Rattle.tsb_laws.specs.Options.{in_step_with}
 use Rattle.tsb_step.proofs.tsb_coord.LocalLemmas.{IsFirst, first_passes, its_parts, ends_agree, IsReference, reference_is}
 use Rattle.tsb_step.specs.tsb_phase.Phase.{Given, GreenHeld}
 use Rattle.tsb_step.specs.tsb_phase.Green.{conflict_timer, has_reached_some, acting_maximum, has_maxed_out, forced_latch}
@@ -65,12 +67,17 @@ never_recycles plan (Some n) local p off = rw off refl
 
 -- ## What is selected is in step at once
 
-pub begins_at_once : (plan : Plan) (selected : Option ℕ) (now : ℕ) (l : Option ℕ) → correction_mode plan ≡ AtOnce →
-    selected_correction plan selected now l ≡ in_step
-begins_at_once plan None now l mode = refl
-begins_at_once plan (Some n) now None mode = refl
-begins_at_once plan (Some n) now (Some x) mode =
-    ap (λ (m : CorrectionMode). begun now (ahead_with m (residue_of_difference (cycle plan n) (x % cycle plan n) (counter plan n now)))) mode
+pub begins_at_once : (plan : Plan) (selected : Option ℕ) (now midnight : ℕ) (l : Option ℕ) → correction_mode plan ≡ AtOnce →
+    selected_correction plan selected now midnight l ≡ in_step_with selected midnight
+begins_at_once plan None now midnight l mode = refl
+begins_at_once plan (Some n) now midnight None mode = refl
+begins_at_once plan (Some n) now midnight (Some x) mode =
+    ap (λ (m : CorrectionMode). begun now midnight (ahead_with m (residue_of_difference (cycle plan n) (x % cycle plan n) (counter plan n (now + shift (cycle plan n) midnight))))) mode
+
+-- none of these is ahead
+pub none_ahead : (selected : Option ℕ) (midnight : ℕ) → (in_step_with selected midnight).ahead ≡ 0
+none_ahead None midnight = refl
+none_ahead (Some n) midnight = refl
 
 -- ## Rules K20 and K23
 

@@ -1,16 +1,17 @@
 -- In a plan whose options are 0, each definition that reads an option is the one without it. Proves
 -- `options_off_change_nothing`.
-use Rattle.std.proofs.Common.{◌≡◌, ℕ, ◌==◌, ◌-◌, ◌*◌, Bool, true, false, ◌&&◌, ◌||◌, if◌then◌else◌, Option, Some, None, refl, ap, ◌∙◌}
+use Rattle.std.proofs.Common.{◌≡◌, ℕ, ◌==◌, ◌+◌, ◌-◌, ◌*◌, ◌%◌, Bool, true, false, ◌&&◌, ◌||◌, if◌then◌else◌, Option, Some, None, refl, ap, ◌∙◌}
 use Rattle.std.proofs.Math.Path.{fun_ext}
 use Rattle.tsb_step.specs.tsb_plan.declared.object.Object.TheVariants.{CoordCorrectionMode}
 use Rattle.tsb_step.specs.tsb_plan.declared.plan.patterns.CorrectionMode.TheVariants.{AtOnce}
 use Rattle.tsb_step.specs.tsb_plan.Plan.{Plan, side_of, is_concurrent, recycles_walk}
-use Rattle.tsb_step.specs.tsb_plan.Parts.{forces_late, floats, permissive_time, leads_and_lags, split_of, sequence_of, correction_limit, correction_mode_of, correction_mode, overlaps_across_rings, is_anew}
+use Rattle.tsb_step.specs.tsb_plan.Parts.{cycle, offset, offset_reference_of, forces_late, floats, permissive_time, leads_and_lags, split_of, sequence_of, correction_limit, correction_mode_of, correction_mode, overlaps_across_rings, is_anew}
 use Rattle.tsb_step.specs.tsb_plan.Running.{running, maximum_by_mode}
 use Rattle.tsb_step.specs.tsb_rules.PatternRules.{some_and, each_pattern, split_end, ends_with, coordinated_agree, coordinated_phases_agree}
+use Rattle.tsb_step.specs.tsb_objects.Instants.{end_within, counted_to, offset_from, offset_in_effect}
 use Rattle.tsb_step.specs.tsb_heads.Heads.{Shown}
 use Rattle.tsb_step.specs.tsb_heads.Overlaps.{is_followed_in_ring, is_followed_across, is_followed}
-use Rattle.tsb_step.specs.tsb_coord.Coordinated.{local}
+use Rattle.tsb_step.specs.tsb_coord.Coordinated.{reference, local}
 use Rattle.tsb_step.proofs.tsb_coord.CorrectionLemmas.{in_step_at_once, local_in_step, forces_in_step}
 use Rattle.tsb_step.proofs.tsb_coord.LocalLemmas.{options_off}
 use Rattle.tsb_laws.specs.Options.{HasNoOptions, OptionsOff}
@@ -69,6 +70,10 @@ never_anew : (plan : Plan) (service : Option ℕ) → HasNoOptions plan → is_a
 never_anew plan None none = refl
 never_anew plan (Some n) none = ap (λ (value : ℕ). value == 1) (none.preempt_chooses_anew n)
 
+plain_offset : (plan : Plan) (n : ℕ) → HasNoOptions plan → offset_in_effect plan n ≡ offset plan n
+plain_offset plan n none =
+    ap (λ (value : ℕ). offset_from plan n (counted_to (offset_reference_of value) plan n) (end_within plan n (reference plan n))) none.coord_reference
+
 pub options-off : (plan : Plan) → HasNoOptions plan → OptionsOff plan
 options-off plan none = record {
   forced = λ t selected p. options_off plan t selected p (never_late plan none) (λ n. no_time plan n none);
@@ -79,8 +84,9 @@ options-off plan none = record {
   ends = λ n s t p q. ends_at_once plan n s t p q none;
   coordinated = agree_at_once plan none;
   recycled = λ t selected p. never_recycles plan (running plan selected) (local plan t selected) p (no_second_walk plan p none);
+  offsets = λ n t. ap (λ (o : ℕ). (t + cycle plan n - o) % cycle plan n) (plain_offset plan n none);
   stepped = λ selected c t. in_step_at_once plan selected c t (step_at_once plan none);
-  begun = λ selected now l. begins_at_once plan selected now l (step_at_once plan none);
+  begun = λ selected now midnight l. begins_at_once plan selected now midnight l (step_at_once plan none);
   counting = λ selected c t. local_in_step plan selected c t (in_step_at_once plan selected c t (step_at_once plan none));
   forcing = λ selected c t p. forces_in_step plan selected c t p (in_step_at_once plan selected c (t - 1) (step_at_once plan none));
   permissive = times_end plan (λ n. no_time plan n none);

@@ -33,6 +33,7 @@ use Rattle.tsb_step.proofs.ClearLemmas.{phases_then, one_later, plan_stays, patt
 use Rattle.tsb_step.proofs.GoodLemmas.{good_run}
 use Rattle.tsb_step.proofs.TellLemmas.{starts_no_green}
 use Rattle.tsb_laws.specs.Stretches.{IsUntripped}
+use Rattle.tsb_laws.proofs.operation.pattern.InStepLemmas.{clocked_in}
 use Rattle.tsb_laws.specs.ServedCalls.{longest_initial}
 use Rattle.tsb_laws.specs.CoordinatedGreens.{HasGoneOn, is_pressed_in_pattern}
 use Rattle.tsb_laws.specs.PatternEnds.{HasWaitedInPattern}
@@ -81,7 +82,7 @@ others_not s p other = ap (λ (b : Bool). is_in_step s.plan s.pattern s.correcti
     never_both true = refl
     never_both false = refl
 
-    go : (o : Option ℕ) → is_coordinated_now s.plan o p ≡ false → recycles s.plan o (local_in s.plan (s.now + 1) o) p ≡ false
+    go : (o : Option ℕ) → is_coordinated_now s.plan o p ≡ false → recycles s.plan o (local_in s.plan (clocked_in s (s.now + 1)) o) p ≡ false
     go None h = refl
     go (Some n) h = rw h (never (recycles_walk s.plan p) _)
       where

@@ -45,6 +45,7 @@ view_stays : (s : State) (i : Input) (c : ℕ) → is_tick i ≡ false → is_ca
 unfolding step
 view_stays s (inputs.Tick row) c t h dark = absurd (true≢false t)
 view_stays s (inputs.Pattern n) c t h dark = absurd (false≢true h)
+view_stays s (inputs.Clock m) c t h dark = absurd (false≢true h)
 view_stays s (inputs.Commit station) c t h dark = absurd (false≢true h)
 view_stays s (inputs.Fault lamp) c t h dark = lit_view false s lamp
 view_stays s inputs.Reset c t h dark = reset_view false s dark
@@ -190,6 +191,7 @@ module _ (plan : Plan) (base : List Input) (c : ℕ) (ok : IsConsistent plan) (p
       runs_on : is_some (runs (replay plan (later ++ base))) ≡ true
       runs_on = let it = held_runs (replay plan (later ++ base)) c inner.0 in ap is_some it.1
   called_on (inputs.Pattern n ∷ later) taken out = absurd (false≢true out.1)
+  called_on (inputs.Clock m ∷ later) taken out = absurd (false≢true out.1)
   called_on (inputs.Commit station ∷ later) taken out = absurd (false≢true out.1)
   called_on (i ∷ later) taken out = (called_on later taken.0 out.0, refl)
 

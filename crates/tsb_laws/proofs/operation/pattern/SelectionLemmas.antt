@@ -8,7 +8,8 @@ use Rattle.tsb_step.specs.tsb_plan.Plan.{Plan}
 use Rattle.tsb_step.specs.tsb_rules.Rules.{first_broken}
 use Rattle.tsb_step.specs.tsb_coord.declared.correction.Correction.{Correction}
 use Rattle.tsb_step.specs.tsb_coord.Coordinated.{local_in, is_pattern, selects}
-use Rattle.tsb_step.specs.tsb_coord.Correction.{in_step, counted_tick, local_now, selected_correction}
+use Rattle.tsb_step.specs.tsb_coord.Clock.{midnight_at}
+use Rattle.tsb_step.specs.tsb_coord.Correction.{counted_tick, local_now, selected_correction}
 use Rattle.tsb_step.proofs.tsb_coord.CorrectionLemmas.{always_in_step, goes_on}
 use Rattle.tsb_step.proofs.tsb_coord.LocalLemmas.{in_range}
 use Rattle.tsb_step.specs.declared.inputs.Input.{Input}
@@ -23,47 +24,51 @@ use Rattle.tsb_step.proofs.ClearLemmas.{stays_in_step, correction_stays}
 use Rattle.tsb_step.proofs.GoodLemmas.{good_run}
 use Rattle.tsb_laws.specs.CoordinatedGreens.{HasGoneOn}
 use Rattle.tsb_laws.specs.InStep.{selects_none, BeginsInStep, StaysInStep, GoesOnFrom}
-use Rattle.tsb_laws.proofs.operation.pattern.OptionLemmas.{begins_at_once}
+use Rattle.tsb_laws.proofs.operation.pattern.OptionLemmas.{begins_at_once, none_ahead}
 
 -- ## A selection in free operation, or with mode 0
 
-from_none : (plan : Plan) (o : Option ℕ) (now : ℕ) → selected_correction plan o now None ≡ in_step
-from_none plan None now = refl
-from_none plan (Some n) now = refl
+from_none : (plan : Plan) (o : Option ℕ) (now midnight : ℕ) → (selected_correction plan o now midnight None).ahead ≡ 0
+from_none plan None now midnight = refl
+from_none plan (Some n) now midnight = refl
 
-begins_in_step : (s : State) (n : ℕ) → BeginsInStep s → (step s (Pattern n)).correction ≡ in_step
+begins_in_step : (s : State) (n : ℕ) → BeginsInStep s → (step s (Pattern n)).correction.ahead ≡ 0
 unfolding step
 begins_in_step s n (inl free) =
-    ap (λ (l : Option ℕ). selected_correction s.plan (selects n) s.now l)
-    (ap (λ (o : Option ℕ). local_in s.plan (counted_tick s.plan s.pattern s.correction s.now) o) free) ∙ from_none s.plan (selects n) s.now
-begins_in_step s n (inr mode) = begins_at_once s.plan (selects n) s.now (local s) mode
+    ap (λ (l : Option ℕ). (selected_correction s.plan (selects n) s.now (midnight_at s.start_moment s.now) l).ahead)
+    (ap (λ (o : Option ℕ). local_in s.plan (counted_tick s.plan s.pattern s.correction s.now) o) free)
+    ∙ from_none s.plan (selects n) s.now (midnight_at s.start_moment s.now)
+begins_in_step s n (inr mode) =
+    ap (λ (c : Correction). c.ahead) (begins_at_once s.plan (selects n) s.now (midnight_at s.start_moment s.now) (local s) mode)
+    ∙ none_ahead (selects n) (midnight_at s.start_moment s.now)
 
-lit_keeps : (s : State) (lamp : Option Lamp) → s.correction ≡ in_step → (with_lamp lamp s).correction ≡ in_step
+lit_keeps : (s : State) (lamp : Option Lamp) → s.correction.ahead ≡ 0 → (with_lamp lamp s).correction.ahead ≡ 0
 unfolding watched
 lit_keeps s lamp e = go (is_some s.trip)
   where
-    go : (b : Bool) → (if b then record s { lamp = lamp } else watched s (record s { lamp = lamp })).correction ≡ in_step
+    go : (b : Bool) → (if b then record s { lamp = lamp } else watched s (record s { lamp = lamp })).correction.ahead ≡ 0
     go true = e
     go false = e
 
-reset_keeps : (s : State) → s.correction ≡ in_step → (reset s).correction ≡ in_step
+reset_keeps : (s : State) → s.correction.ahead ≡ 0 → (reset s).correction.ahead ≡ 0
 reset_keeps s e = go (is_some s.trip)
   where
-    go : (b : Bool) → (if b then restarted s else s).correction ≡ in_step
+    go : (b : Bool) → (if b then restarted s else s).correction.ahead ≡ 0
     go true = refl
     go false = e
 
 -- no other input has anything come into step
-none_begins : (s : State) (i : Input) → selects_none s i ≡ true → s.correction ≡ in_step → (step s i).correction ≡ in_step
+none_begins : (s : State) (i : Input) → selects_none s i ≡ true → s.correction.ahead ≡ 0 → (step s i).correction.ahead ≡ 0
 unfolding step
-none_begins s (inputs.Tick row) h e = correction_stays s row ∙ e
+none_begins s (inputs.Tick row) h e = ap (λ (c : Correction). c.ahead) (correction_stays s row) ∙ e
 none_begins s (inputs.Pattern n) h e = absurd (false≢true h)
+none_begins s (inputs.Clock m) h e = absurd (false≢true h)
 none_begins s (inputs.Fault lamp) h e = lit_keeps s lamp e
 none_begins s inputs.Reset h e = reset_keeps s e
 none_begins s i h e = e
 
-goes_on_so : (plan : Plan) (base later : List Input) → (replay plan base).correction ≡ in_step → HasGoneOn selects_none plan base later →
-    (replay plan (later ++ base)).correction ≡ in_step
+goes_on_so : (plan : Plan) (base later : List Input) → (replay plan base).correction.ahead ≡ 0 → HasGoneOn selects_none plan base later →
+    (replay plan (later ++ base)).correction.ahead ≡ 0
 goes_on_so plan base [] e gone = e
 goes_on_so plan base (i ∷ later) e gone = none_begins (replay plan (later ++ base)) i gone.1 (goes_on_so plan base later e gone.0)
 
@@ -71,7 +76,7 @@ pub selected_in_step : (plan : Plan) (is later : List Input) (n : ℕ) → Begin
     HasGoneOn selects_none plan (Pattern n ∷ is) later → IsInStep (replay plan (later ++ (Pattern n ∷ is)))
 selected_in_step plan is later n begins gone =
     always_in_step after.plan after.pattern after.correction after.now
-    (ap (λ (c : Correction). c.ahead) (goes_on_so plan (Pattern n ∷ is) later (begins_in_step (replay plan is) n begins) gone))
+    (goes_on_so plan (Pattern n ∷ is) later (begins_in_step (replay plan is) n begins) gone)
   where
     after : State
     after = replay plan (later ++ (Pattern n ∷ is))
@@ -97,6 +102,7 @@ pub once_so : (s : State) → StaysInStep s
 unfolding step
 once_so s (inputs.Tick row) h stepped = stays_in_step s (λ k. row) 1 stepped
 once_so s (inputs.Pattern n) h stepped = absurd (false≢true h)
+once_so s (inputs.Clock m) h stepped = absurd (false≢true h)
 once_so s (inputs.Commit station) h stepped = absurd (false≢true h)
 once_so s (inputs.Fault lamp) h stepped = lit_in_step s lamp stepped
 once_so s inputs.Reset h stepped = reset_in_step s stepped
@@ -115,9 +121,9 @@ is_selected plan n known = go (n == 0) refl
 goes_on_from : (s : State) → first_broken s.plan ≡ None → GoesOnFrom s
 unfolding step
 goes_on_from s sound n l known other here =
-    ap (λ (o : Option ℕ). local_now s.plan o (selected_correction s.plan o s.now (local s)) s.now) (is_selected s.plan n known)
-    ∙ (ap (λ (o : Option ℕ). local_now s.plan (Some n) (selected_correction s.plan (Some n) s.now o) s.now) here
-    ∙ goes_on s.plan sound n s.now l known other)
+    ap (λ (o : Option ℕ). local_now s.plan o (selected_correction s.plan o s.now (midnight_at s.start_moment s.now) (local s)) s.now) (is_selected s.plan n known)
+    ∙ (ap (λ (o : Option ℕ). local_now s.plan (Some n) (selected_correction s.plan (Some n) s.now (midnight_at s.start_moment s.now) o) s.now) here
+    ∙ goes_on s.plan sound n s.now (midnight_at s.start_moment s.now) l known other)
 
 -- ## After every run
 

@@ -4,13 +4,14 @@ use Rattle.std.proofs.Common.{◌≡◌, ℕ, ◌+◌, ◌-◌, ◌*◌, ◌%◌
 use Rattle.std.proofs.Math.Nat.{mod-eq_of_lt, mod-lt, add-mul-mod_self_right}
 use Rattle.std.proofs.lemmas.Bool.{and_parts, and_from, cases_lt, true≢false, false≢true}
 use Rattle.std.proofs.lemmas.Bool.Decides.{nat_tests}
-use Rattle.tsb_step.specs.tsb_plan.Parts.{cycle, offset, permissive_time}
+use Rattle.tsb_step.specs.tsb_objects.Instants.{offset_in_effect}
+use Rattle.tsb_step.specs.tsb_plan.Parts.{cycle, permissive_time}
 use Rattle.tsb_step.specs.tsb_plan.Plan.{Plan, is_enabled, walk, pedestrian_clear, recycles_walk}
 use Rattle.tsb_step.specs.tsb_plan.Running.{is_coordinated_now}
 use Rattle.tsb_step.specs.tsb_rules.Consistent.{IsWhole}
 use Rattle.tsb_step.specs.tsb_coord.Coordinated.{residue_of_difference, counter, local_in, force_off, agree, is_from_to, is_late, is_permitted, forces_off, asks_force_off, walk_and_clearance, may_recycle, is_left, recycles, asks_recycle}
 use Rattle.tsb_step.specs.tsb_coord.Correction.{forces}
-use Rattle.tsb_step.proofs.tsb_objects.InstantLemmas.{instants-below, coordinated-has-no-end}
+use Rattle.tsb_step.proofs.tsb_objects.InstantLemmas.{instants-below, offset-below, coordinated-has-no-end}
 use Rattle.tsb_step.proofs.tsb_coord.LocalLemmas.{counter_moves_on}
 use Rattle.tsb_step.proofs.tsb_rules.ConsistentLemmas.{is-off}
 use Rattle.tsb_step.specs.State.{State}
@@ -20,7 +21,7 @@ use Rattle.tsb_step.specs.Good.{IsGood}
 use Rattle.tsb_laws.specs.RecycledWalks.{FitsBeforeForceOff}
 use Rattle.tsb_laws.proofs.operation.pattern.CoordinatedCallLemmas.{IsRunning, running_is, runs_whole, held_runs}
 use Rattle.tsb_laws.proofs.operation.pattern.CoordinatedInstantLemmas.{HasOwnInstant, instant_now}
-use Rattle.tsb_laws.proofs.operation.pattern.InStepLemmas.{forces_as, LetsWalk, lets_walk, walk_let}
+use Rattle.tsb_laws.proofs.operation.pattern.InStepLemmas.{clocked_in, clocked_later, forces_as, LetsWalk, lets_walk, walk_let}
 
 -- ## On the local counter
 
@@ -136,23 +137,27 @@ recycles_so plan n t p h = go (force_off plan (Some n) p) refl inner.1
 
 -- by the cycle and the offset it is forced off in none of the ticks of its walk and its clearance
 abbrev AsksNoForceOff : State → ℕ → Type 0
-AsksNoForceOff s p = (t : ℕ) → s.now < t → t ≤ s.now + (walk s.plan p + pedestrian_clear s.plan p) → asks_force_off s.plan t s.pattern p ≡ false
+AsksNoForceOff s p = (t : ℕ) → s.now < t → t ≤ s.now + (walk s.plan p + pedestrian_clear s.plan p) → asks_force_off s.plan (clocked_in s t) s.pattern p ≡ false
 
 module _ (s : State) (good : IsGood s) (n p : ℕ) (runs_now : runs s ≡ Some n) where
   parts : IsWhole s.plan n
   parts = runs_whole s n good runs_now
 
-  below : offset s.plan n < cycle s.plan n
-  below = parts.below
+  below : offset_in_effect s.plan n < cycle s.plan n
+  below = offset-below s.plan n parts.below
 
   some : 0 < cycle s.plan n
   some = omega (arith, below)
 
+  -- the next tick by the clock
+  abbrev next : ℕ
+  next = clocked_in s (s.now + 1)
+
   asks_as : (t : ℕ) → asks_force_off s.plan t s.pattern p ≡ forces_off s.plan (Some n) (Some (counter s.plan n t)) p
   asks_as t = ap (λ (o : Option ℕ). forces_off s.plan o (local_in s.plan t o) p) runs_now
 
-  recycles_as : asks_recycle s.plan (s.now + 1) s.pattern p ≡ recycles s.plan (Some n) (Some (counter s.plan n (s.now + 1))) p
-  recycles_as = ap (λ (o : Option ℕ). recycles s.plan o (local_in s.plan (s.now + 1) o) p) runs_now
+  recycles_as : asks_recycle s.plan next s.pattern p ≡ recycles s.plan (Some n) (Some (counter s.plan n next)) p
+  recycles_as = ap (λ (o : Option ℕ). recycles s.plan o (local_in s.plan next o) p) runs_now
 
   instant_below : (i : ℕ) → force_off s.plan (Some n) p ≡ Some i → i < cycle s.plan n
   instant_below i own = instants-below s.plan n p (Some i) chosen.used (sym own)
@@ -161,16 +166,16 @@ module _ (s : State) (good : IsGood s) (n p : ℕ) (runs_now : runs s ≡ Some n
       chosen = running_is s.plan s.pattern n runs_now
 
   -- what may walk again in the next tick is not forced off before its walk and its clearance end
-  fits_later : asks_recycle s.plan (s.now + 1) s.pattern p ≡ true → (d : ℕ) → asks_force_off s.plan (s.now + 1 + d) s.pattern p ≡ true → walk_and_clearance s.plan p ≤ d
+  fits_later : asks_recycle s.plan next s.pattern p ≡ true → (d : ℕ) → asks_force_off s.plan (next + d) s.pattern p ≡ true → walk_and_clearance s.plan p ≤ d
   fits_later h d comes =
-      let it : Recycles s.plan n (s.now + 1) p = recycles_so s.plan n (s.now + 1) p (sym recycles_as ∙ h) in
-      let at : counter s.plan n (s.now + 1 + d) ≡ (counter s.plan n (s.now + 1) + d) % cycle s.plan n = counter_moves_on s.plan n (s.now + 1) d below in
-      let off : off_at (cycle s.plan n) it.instant (permissive_time s.plan n) ((counter s.plan n (s.now + 1) + d) % cycle s.plan n) ≡ true =
+      let it : Recycles s.plan n next p = recycles_so s.plan n next p (sym recycles_as ∙ h) in
+      let at : counter s.plan n (next + d) ≡ (counter s.plan n next + d) % cycle s.plan n = counter_moves_on s.plan n next d below in
+      let off : off_at (cycle s.plan n) it.instant (permissive_time s.plan n) ((counter s.plan n next + d) % cycle s.plan n) ≡ true =
       ap (λ (x : ℕ). off_at (cycle s.plan n) it.instant (permissive_time s.plan n) x) (sym at)
-      ∙ (sym (off_is s.plan n p it.instant (counter s.plan n (s.now + 1 + d)) it.coordinated it.own) ∙ (sym (asks_as (s.now + 1 + d)) ∙ comes)) in
-      let most : residue_of_difference (cycle s.plan n) it.instant (counter s.plan n (s.now + 1)) ≤ d =
-      off_after (cycle s.plan n) (counter s.plan n (s.now + 1)) it.instant (permissive_time s.plan n) d (mod-lt _ some) (instant_below it.instant it.own) it.not_now off in
-      let fits : walk_and_clearance s.plan p ≤ residue_of_difference (cycle s.plan n) it.instant (counter s.plan n (s.now + 1)) = le_of _ _ it.fits in
+      ∙ (sym (off_is s.plan n p it.instant (counter s.plan n (next + d)) it.coordinated it.own) ∙ (sym (asks_as (next + d)) ∙ comes)) in
+      let most : residue_of_difference (cycle s.plan n) it.instant (counter s.plan n next) ≤ d =
+      off_after (cycle s.plan n) (counter s.plan n next) it.instant (permissive_time s.plan n) d (mod-lt _ some) (instant_below it.instant it.own) it.not_now off in
+      let fits : walk_and_clearance s.plan p ≤ residue_of_difference (cycle s.plan n) it.instant (counter s.plan n next) = le_of _ _ it.fits in
       omega (arith, most, fits)
     where
       le_of : (a b : ℕ) → nat_le a b ≡ true → a ≤ b
@@ -178,27 +183,27 @@ module _ (s : State) (good : IsGood s) (n p : ℕ) (runs_now : runs s ≡ Some n
 
   -- and the other way round, of a coordinated phase with pedestrian recycle
   recycles_then : (i : ℕ) → force_off s.plan (Some n) p ≡ Some i → recycles_walk s.plan p ≡ true → is_coordinated_now s.plan (Some n) p ≡ true →
-      1 ≤ walk_and_clearance s.plan p → AsksNoForceOff s p → asks_recycle s.plan (s.now + 1) s.pattern p ≡ true
+      1 ≤ walk_and_clearance s.plan p → AsksNoForceOff s p → asks_recycle s.plan next s.pattern p ≡ true
   recycles_then i own may one least fits =
       recycles_as ∙ and_from (may_recycle s.plan (Some n) p) (not (forces_off s.plan (Some n) (Some here) p)
       && is_left (cycle s.plan n) (walk_and_clearance s.plan p) (Some here) (force_off s.plan (Some n) p))
       (and_from (recycles_walk s.plan p) (is_coordinated_now s.plan (Some n) p) may one)
       (and_from (not (forces_off s.plan (Some n) (Some here) p)) (is_left (cycle s.plan n) (walk_and_clearance s.plan p) (Some here) (force_off s.plan (Some n) p))
-      (ap not (sym (asks_as (s.now + 1)) ∙ fits (s.now + 1) (omega arith) (omega (arith, least))))
+      (ap not (sym (asks_as next) ∙ fits (s.now + 1) (omega arith) (omega (arith, least))))
       (rw own long))
     where
       here : ℕ
-      here = counter s.plan n (s.now + 1)
+      here = counter s.plan n next
 
       ticks : ℕ
       ticks = residue_of_difference (cycle s.plan n) i here
 
-      comes : asks_force_off s.plan (s.now + 1 + ticks) s.pattern p ≡ true
+      comes : asks_force_off s.plan (next + ticks) s.pattern p ≡ true
       comes =
-          asks_as (s.now + 1 + ticks)
-          ∙ (off_is s.plan n p i (counter s.plan n (s.now + 1 + ticks)) one own
+          asks_as (next + ticks)
+          ∙ (off_is s.plan n p i (counter s.plan n (next + ticks)) one own
           ∙ ap (λ (x : ℕ). off_at (cycle s.plan n) i (permissive_time s.plan n) x)
-          (counter_moves_on s.plan n (s.now + 1) ticks below ∙ reaches (cycle s.plan n) here i (mod-lt _ some) (instant_below i own))
+          (counter_moves_on s.plan n next ticks below ∙ reaches (cycle s.plan n) here i (mod-lt _ some) (instant_below i own))
           ∙ at_once (cycle s.plan n) i (permissive_time s.plan n))
         where
           at_once : (m i time : ℕ) → off_at m i time i ≡ true
@@ -207,7 +212,7 @@ module _ (s : State) (good : IsGood s) (n p : ℕ) (runs_now : runs s ≡ Some n
       long : nat_le (walk_and_clearance s.plan p) ticks ≡ true
       long =
           elim (cases_lt ticks (walk_and_clearance s.plan p)) [
-            | inl less ↦ absurd (true≢false (sym comes ∙ fits (s.now + 1 + ticks) (omega arith) (omega (arith, less))))
+            | inl less ↦ absurd (true≢false (sym comes ∙ ap (λ (k : ℕ). asks_force_off s.plan k s.pattern p) (sym (clocked_later s (s.now + 1) ticks)) ∙ fits (s.now + 1 + ticks) (omega arith) (omega (arith, less))))
             | inr more ↦ grind (arith, nat_tests, more)
           ]
 
@@ -218,14 +223,14 @@ unforced_now s p h = forces_as s (s.now + 1) p it.in_step (omega arith) ∙ go (
     it : LetsWalk s p
     it = lets_walk s p h
 
-    go : (o : Option ℕ) → recycles s.plan o (local_in s.plan (s.now + 1) o) p ≡ true → forces_off s.plan o (local_in s.plan (s.now + 1) o) p ≡ false
+    go : (o : Option ℕ) → recycles s.plan o (local_in s.plan (clocked_in s (s.now + 1)) o) p ≡ true → forces_off s.plan o (local_in s.plan (clocked_in s (s.now + 1)) o) p ≡ false
     go None k = absurd (false≢true k)
     go (Some n) k =
-        let outer = and_parts (may_recycle s.plan (Some n) p) (not (forces_off s.plan (Some n) (Some (counter s.plan n (s.now + 1))) p)
-        && is_left (cycle s.plan n) (walk_and_clearance s.plan p) (Some (counter s.plan n (s.now + 1))) (force_off s.plan (Some n) p)) k in
-        is-off (forces_off s.plan (Some n) (Some (counter s.plan n (s.now + 1))) p)
-        (and_parts (not (forces_off s.plan (Some n) (Some (counter s.plan n (s.now + 1))) p))
-        (is_left (cycle s.plan n) (walk_and_clearance s.plan p) (Some (counter s.plan n (s.now + 1))) (force_off s.plan (Some n) p)) outer.1).0
+        let outer = and_parts (may_recycle s.plan (Some n) p) (not (forces_off s.plan (Some n) (Some (counter s.plan n (clocked_in s (s.now + 1)))) p)
+        && is_left (cycle s.plan n) (walk_and_clearance s.plan p) (Some (counter s.plan n (clocked_in s (s.now + 1)))) (force_off s.plan (Some n) p)) k in
+        is-off (forces_off s.plan (Some n) (Some (counter s.plan n (clocked_in s (s.now + 1)))) p)
+        (and_parts (not (forces_off s.plan (Some n) (Some (counter s.plan n (clocked_in s (s.now + 1)))) p))
+        (is_left (cycle s.plan n) (walk_and_clearance s.plan p) (Some (counter s.plan n (clocked_in s (s.now + 1)))) (force_off s.plan (Some n) p)) outer.1).0
 
 -- the walk and the clearance of what may walk again in the next tick end by each tick in which it is forced off
 pub fits_to : (s : State) (p f : ℕ) → IsGood s → recycle s p ≡ true → s.now < f → forces s.plan s.pattern s.correction f p ≡ true →
@@ -235,14 +240,16 @@ fits_to s p f good h after comes = go (runs s) refl it.asks
     it : LetsWalk s p
     it = lets_walk s p h
 
-    asked : asks_force_off s.plan f s.pattern p ≡ true
+    asked : asks_force_off s.plan (clocked_in s f) s.pattern p ≡ true
     asked = sym (forces_as s f p it.in_step after) ∙ comes
 
-    go : (o : Option ℕ) → runs s ≡ o → recycles s.plan o (local_in s.plan (s.now + 1) o) p ≡ true → walk s.plan p + pedestrian_clear s.plan p ≤ f - (s.now + 1)
+    go : (o : Option ℕ) → runs s ≡ o → recycles s.plan o (local_in s.plan (clocked_in s (s.now + 1)) o) p ≡ true → walk s.plan p + pedestrian_clear s.plan p ≤ f - (s.now + 1)
     go None e k = absurd (false≢true k)
     go (Some n) e k =
         let then : s.now + 1 + (f - (s.now + 1)) ≡ f = omega (arith, after) in
-        fits_later s good n p e it.asks (f - (s.now + 1)) (ap (λ (t : ℕ). asks_force_off s.plan t s.pattern p) then ∙ asked)
+        fits_later s good n p e it.asks (f - (s.now + 1))
+        (ap (λ (t : ℕ). asks_force_off s.plan t s.pattern p) (sym (clocked_later s (s.now + 1) (f - (s.now + 1))))
+        ∙ (ap (λ (t : ℕ). asks_force_off s.plan (clocked_in s t) s.pattern p) then ∙ asked))
 
 -- what may walk again is a coordinated phase with pedestrian recycle, the local counter is in step, and in none of the
 -- ticks of its walk and its clearance is it forced off
@@ -258,10 +265,10 @@ recycled_so s p good h = go (runs s) refl lets.asks
     lets : LetsWalk s p
     lets = lets_walk s p h
 
-    go : (o : Option ℕ) → runs s ≡ o → recycles s.plan o (local_in s.plan (s.now + 1) o) p ≡ true → IsRecycled s p
+    go : (o : Option ℕ) → runs s ≡ o → recycles s.plan o (local_in s.plan (clocked_in s (s.now + 1)) o) p ≡ true → IsRecycled s p
     go None e k = absurd (false≢true k)
     go (Some n) e k =
-        let it : Recycles s.plan n (s.now + 1) p = recycles_so s.plan n (s.now + 1) p k in
+        let it : Recycles s.plan n (clocked_in s (s.now + 1)) p = recycles_so s.plan n (clocked_in s (s.now + 1)) p k in
         record {
           recycles = it.recycles;
           coordinated = ap (λ (o : Option ℕ). is_coordinated_now s.plan o p) e ∙ it.coordinated;
@@ -278,7 +285,7 @@ pub recycled_by : (s : State) (p : ℕ) → IsGood s → is_enabled s.plan p ≡
 recycled_by s p good on least it =
     let some = held_runs s p it.coordinated in
     let own : HasOwnInstant s.plan some.0 p = instant_now s some.0 p good some.1 on in
-    let asks : asks_recycle s.plan (s.now + 1) s.pattern p ≡ true =
+    let asks : asks_recycle s.plan (clocked_in s (s.now + 1)) s.pattern p ≡ true =
     recycles_then s good some.0 p some.1 own.instant own.is it.recycles
     (sym (ap (λ (o : Option ℕ). is_coordinated_now s.plan o p) some.1) ∙ it.coordinated) (omega (arith, least))
     (λ t after soon. sym (forces_as s t p it.in_step after) ∙ it.fits t after soon) in

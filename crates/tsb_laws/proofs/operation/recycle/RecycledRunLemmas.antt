@@ -366,6 +366,7 @@ module _ (s : State) (row : Row) (p : ℕ) (good : IsGood s) (few : s.plan.phase
 same_test : (p : ℕ) (s : State) (i : Input) → is_tick i ≡ false → is_unforced p s i ≡ true → is_pressed_in_pattern p s i ≡ true
 same_test p s (inputs.Tick row) t h = absurd (true≢false t)
 same_test p s (inputs.Pattern n) t h = absurd (false≢true h)
+same_test p s (inputs.Clock m) t h = absurd (false≢true h)
 same_test p s (inputs.Commit station) t h = absurd (false≢true h)
 same_test p s i t h = refl
 

@@ -181,7 +181,7 @@ again_dark : (replay faster selected_again).trip ≡ None
 unfolding opened faster
 again_dark = refl
 
-pub is_ahead : (replay faster selected_again).correction ≡ record { since = 1; ahead = 700 }
+pub is_ahead : (replay faster selected_again).correction ≡ record { since = 1; ahead = 700; midnight = 0 }
 unfolding opened faster
 is_ahead = refl
 

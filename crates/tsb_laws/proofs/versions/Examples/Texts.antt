@@ -15,14 +15,14 @@ use Rattle.tsb_step.specs.tsb_plan.Objects.{objects}
 use Rattle.tsb_step.specs.tsb_plan.Plan.{Plan, empty, with_value, with_values}
 use Rattle.tsb_step.specs.tsb_plan.Versions.{greatest_in, translated}
 use Rattle.tsb_plan_text.specs.PlanErrors.{no_such_object, no_such_index, out_of_range, broken}
-use Rattle.tsb_plan_text.specs.PlanText.{data_of, index_named, with_entry, with_member, data_plan, checked, reading}
+use Rattle.tsb_plan_text.specs.PlanText.{data_of, index_named, with_entry, with_object, with_notes, with_member, data_plan, checked, reading}
 use Rattle.tsb_step.specs.tsb_rules.declared.rules.Rule.TheVariants.{K6}
 use Rattle.tsb_laws.specs.Texts.{IsOfVersion, named_plan, renumbered}
 use Rattle.tsb_laws.proofs.versions.Examples.Examples.{opened}
 
 -- what a text that is read opens
 unfoldable pub opened_texts : Unit {0}
-unfolding opened serde_json_on_literals is_utf8 chars encode digits object_named objects data_of index_named with_entry with_member data_plan checked reading
+unfolding opened serde_json_on_literals is_utf8 chars encode digits object_named objects data_of index_named with_entry with_object with_notes with_member data_plan checked reading
 opened_texts = tt
 
 -- ## A text

@@ -50,9 +50,9 @@ was_none = refl
 
 -- and cells of the pattern without how its local counter comes into step
 abbrev is_coming : Correction
-is_coming = record { since = 1; ahead = 700 }
+is_coming = record { since = 1; ahead = 700; midnight = 0 }
 
-are_told : pattern_cells (Some 2) is_coming ≡ 2 ∷ 1 ∷ 700 ∷ []
+are_told : pattern_cells (Some 2) is_coming None ≡ 2 ∷ 1 ∷ 700 ∷ 0 ∷ 0 ∷ 0 ∷ []
 are_told = refl
 
 abbrev pattern_alone : Option ℕ → Correction → List ℕ

@@ -1,4 +1,5 @@
 use Rattle.std.proofs.Common.{ℕ, ◌<◌, ◌≤◌, Option, IfSome, ◌∙◌, subst, arith, rules}
+use Rattle.std.proofs.lemmas.Grind.{common_steps}
 use Rattle.tsb_plan.specs.PlanOf.{plan_of}
 use Rattle.tsb_objects.proofs.InstantLemmas.{instants-small}
 use Rattle.tsb_objects.proofs.pattern_tables.end_word.Goals as goal
@@ -17,3 +18,6 @@ overflow_cast-result c =
     (c.instant_at.ensures ∙ c.requires.told n p from within first last c.requires.used) in
     let below : c.in-Some.at < 2550 = subst (λ (o : Option ℕ). IfSome o (λ i. i < 2550)) c.in-Some.is low in
     omega (arith, below, c.yields_for.ensures.range, c.late_until-late.ensures.range, c.max.ensures)
+
+pub returns-in-Some : goal.returns-in-Some
+returns-in-Some c = grind (arith, common_steps)

@@ -31,7 +31,7 @@ returns-clause-line c =
     (then c.push_rings.ensures
     (then (part c.push-9.ensures.line)
     (then c.push_waits.ensures
-    (part c.push-10.ensures.line)))))))))))))))))))))))
+    c.push_end.ensures))))))))))))))))))))))
 
 pub returns-clause-alike : goal.returns-clause-alike
 returns-clause-alike c = λ s same. returns-clause-line c ∙ text-same _ s same

@@ -16,6 +16,14 @@ returns-in-Pattern c =
     let passing = may_none c.args.tick c.set_pattern.new.self (ap (λ (p : Passing). p.last) c.set_pattern.ensures.passing ∙ c.none-self.ensures) in
     rw c.in-Pattern.is (record { next = refl; done = c.set_pattern.ensures.done; few = c.set_pattern.ensures.few; shut = c.set_pattern.ensures.shut; passing = passing })
 
+pub set_clock-requires : goal.set_clock-requires
+set_clock-requires c = record { shut = still c.args.self.now c.none-self.result c.requires.shut; by = c.requires.by; in_time = c.requires.limit; empty = c.requires.empty }
+
+pub returns-in-Clock : goal.returns-in-Clock
+returns-in-Clock c =
+    let passing = may_none c.args.tick c.set_clock.new.self (ap (λ (p : Passing). p.last) c.set_clock.ensures.passing ∙ c.none-self.ensures) in
+    rw c.in-Clock.is (record { next = refl; done = c.set_clock.ensures.done; few = c.set_clock.ensures.few; shut = c.set_clock.ensures.shut; passing = passing })
+
 pub switch-requires : goal.switch-requires
 switch-requires c = record { shut = still c.args.self.now c.none-self.result c.requires.shut; by = c.requires.by; allowed = rw c.in-Switch.is at c.requires.allowed; empty = c.requires.empty }
 

@@ -14,6 +14,7 @@ returns-clause-state c plan = λ i. record {
   desk = closed;
   pattern = c.new-5.ensures.each.0 i;
   correction = c.new-5.ensures.each.1 i;
+  start_moment = c.new-5.ensures.start i;
   detectors = detectors-start 0 (detect.cells_of c.new.result) c.new.ensures.each i;
   memories = memories-start (calls.cells_of c.new-2.result) c.new-2.ensures.each i;
   phases = phases-start 0 (phases.cells_of c.new-3.result) (c.new-3.ensures.each 0) i;

@@ -14,6 +14,7 @@ returns-clause-state c b = λ i. record {
   desk = b.desk;
   pattern = c.reset-5.ensures.each.0 i;
   correction = c.reset-5.ensures.each.1 i;
+  start_moment = c.reset-5.ensures.start i;
   detectors = detectors-start c.args.now (detect.cells_of c.reset.new.self) c.reset.ensures.each i;
   memories = memories-start (calls.cells_of c.reset-2.new.self) c.reset-2.ensures.each i;
   phases = phases-start c.args.now (phases.cells_of c.reset-3.new.self) (c.reset-3.ensures.each c.args.now) i;

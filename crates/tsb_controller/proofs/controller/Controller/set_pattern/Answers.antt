@@ -13,6 +13,7 @@ returns-clause-state c b same = λ i. record (state_of c.args.now b (rows_of c.a
       c.requires.allowed c.set_pattern-done.ensures.selected i;
   correction = corrected c.args.n c.args.now (checked_plan c.args.plan.now) b.plan (coord.cells_of c.args.self.now.coord)
       (coord.cells_of c.set_pattern-done.new.self) c.requires.allowed c.set_pattern-done.ensures.selected same i;
+  start_moment = c.set_pattern-done.ensures.selected.start i;
   phases = unforced-all (clock_at c.args.now b.trip) (phases.cells_of c.args.self.now.phases) (phases.cells_of c.unforce.new.self) c.unforce.ensures.each i;
 }
 

@@ -51,6 +51,7 @@ returns c b stands =
       free = pattern.free;
       local = pattern.local;
       sync = pattern.sync;
+      time = pattern.time;
       flash = c.flash.ensures ∙ ap (λ (t : Bool). if t then Mmu else NotFlash) (sym stands.trips);
       owner = sym stands.owner_is;
       desk = sym stands.desk_is;

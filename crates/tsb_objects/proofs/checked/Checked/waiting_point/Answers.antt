@@ -12,7 +12,7 @@ unfolding checked_plan plan_of
 returns-clause-value c =
     let from : 1 ≤ c.args.n = search rules in
     let within : c.args.n ≤ 16 = search rules in
-    c.waiting_at.ensures ∙ c.args.self.now.patterns_are.waiting_points c.args.n from within c.requires.used
+    c.word_at.ensures ∙ c.args.self.now.patterns_are.waiting_points c.args.n from within c.requires.used
 
 pub returns-clause-below : goal.returns-clause-below
 unfolding checked_plan plan_of
@@ -20,5 +20,5 @@ returns-clause-below c =
     let from : 1 ≤ c.args.n = search rules in
     let within : c.args.n ≤ 16 = search rules in
     let plan : Plan = plan_of c.args.self.now.plan in
-    let told : c.waiting_at.result ≡ waiting_point plan c.args.n = c.waiting_at.ensures ∙ c.args.self.now.patterns_are.waiting_points c.args.n from within c.requires.used in
+    let told : c.word_at.result ≡ waiting_point plan c.args.n = c.word_at.ensures ∙ c.args.self.now.patterns_are.waiting_points c.args.n from within c.requires.used in
     subst (λ (x : ℕ). x < cycle plan c.args.n) (sym told) (waits-below plan c.args.n c.requires.used)

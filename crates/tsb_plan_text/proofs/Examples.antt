@@ -1,0 +1,2 @@
+-- Computed mistakes that the definitions refuse.
+pub mod NoteMistakes
