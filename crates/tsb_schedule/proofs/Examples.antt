@@ -1,0 +1,4 @@
+-- Worked cases, and computed mistakes.
+pub mod CalendarExamples
+pub mod ScheduleExamples
+pub mod ScheduleMistakes
