@@ -462,11 +462,11 @@ def without_version(data: bytes) -> bytes | None:
     return json.dumps(text | {"version": NEWEST - 1}).encode()
 
 
-def with_options(bench: Any) -> Any:
+def with_options(bench: Any, made: "type[Options] | None" = None) -> Any:
     """The module of a reference, which has the options from now on. One that had them stays as it was."""
     if OBJECTS.keys() <= bench.V2.objects.keys():
         return bench
-    options = Options(bench)
+    options = (made or Options)(bench)
     bench.V2.objects |= OBJECTS | OF_VERSION_3
     bench.V2.structural |= STRUCTURAL
     bench.State = OptionState

@@ -1,3 +1,2 @@
-pub mod CalendarLemmas
 pub mod ReadLemmas
 pub mod Examples

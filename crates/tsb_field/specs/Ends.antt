@@ -2,7 +2,7 @@
 --
 -- `before` and `after` are what is seen of all devices; of the output alone that is `old` and `new`, and of faults `told`
 -- and `tells`.
-use Rattle.std.specs.Prelude.{◌≡◌, ◌⊎◌, ℕ, Bool, not, false, List, [], IsSome, Option, Some, None, Result, Ok, Err, Vec, option_map, unwrap_or, codes}
+use Rattle.std.specs.Prelude.{◌≡◌, ◌⊎◌, ℕ, Bool, not, true, false, List, [], IsSome, Option, Some, None, Result, Ok, Err, Vec, option_map, unwrap_or, codes}
 use Rattle.std.specs.Io.KnownBytes.{Consumes, IsAtEnd}
 use Rattle.tsb_program.specs.Read.{HasLog, HasPlan, RefusesLog, RefusesPlanAt}
 use Rattle.tsb_program.specs.Failures.{Fails}
@@ -159,6 +159,7 @@ abbrev pub options_of : RecordManner → RecordOptions
 options_of manner = record {
   on_fault = after_fault (not manner.goes_on);
   form = record { recalls = manner.recalls; outputs = manner.outputs };
+  acts = true;
 }
 
 -- a run ended well; or with nothing written: with 4 because a line ended it, of which no more is told, or by a fault
@@ -178,7 +179,7 @@ RanSo status from device options given before after =
 -- how `record` ended on this plan and the log in the file of this name: after a run, or with nothing read and nothing written
 abbrev pub RecordedOn : ℕ → Moment → List ℕ → RecordOptions → Plan → (rows : List ℕ) → (List ℕ → Option (List ℕ)) → (before after : Devices) → Type 0
 RecordedOn status from device options plan rows files before after =
-    ((log : List LogRow) × HasLog (files rows) log × RanSo status from device options (record { plan = plan; log = log }) before after)
+    ((log : List LogRow) × HasLog (files rows) log × RanSo status from device options (record { plan = plan; log = log; acts = true }) before after)
     ⊎ OnlyTells (Stops files (Some rows) status) before after
 
 -- how `record` ended on the files of a plan and a log, of these names: after a run, or with nothing read and nothing written

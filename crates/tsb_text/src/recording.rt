@@ -39,6 +39,8 @@ pub struct RecordOptions {
     pub on_fault: OnFault,
     /// Its form.
     pub form: LogForm,
+    /// Whether the schedule of the plan acts.
+    pub acts: bool,
 }
 
 /// What came of the commands of a record.
@@ -154,7 +156,7 @@ pub fn record<R: Read, E: Write>(
     requires reads { reader.old.failed ≡ false }
     requires writes { errors.old.failed ≡ false }
     requires flushed { errors.old.flushed ≡ true }
-    ensures ended { Ended result options.on_fault options.form (record { plan = checked_plan plan; log = log.now })
+    ensures ended { Ended result options.on_fault options.form (record { plan = checked_plan plan; log = log.now; acts = options.acts })
         (R.remaining reader.old.device) (R.remaining reader.new.device) (E.contents errors.old.device) (E.contents errors.new.device) }
     ensures blame { Blames result reader.new.failed errors.new.failed errors.new.flushed }
 {
@@ -163,7 +165,13 @@ pub fn record<R: Read, E: Write>(
     };
     let rows = Rows::OfLog { log, place: 0 };
     let mut recording = Recording {
-        course: Course::new(alloc, bench, rows, Mode::Recording(options.form)),
+        course: Course::new(
+            alloc,
+            bench,
+            rows,
+            Mode::Recording(options.form),
+            options.acts,
+        ),
         on_fault: options.on_fault,
         stop: None,
     };
