@@ -21,7 +21,8 @@ use tsb_plan::{Object, Plan};
 use tsb_review::{Listing, Numbers, Place};
 use tsb_rules::split_end;
 use tsb_types::{
-    Action, DayEvent, DayPlan, Detector, Entry, Overlap, Pattern, PedestrianDetector, Phase, Ring, Sequence, Side, Split,
+    Action, DayEvent, DayPlan, Detector, Entry, Overlap, Pattern, PedestrianDetector, Phase, Ring,
+    Sequence, Side, Split,
 };
 
 /// Five numbers.

@@ -3,8 +3,8 @@ ghost use Rattle.std.specs.Prelude.{◌≡◌, ◌≤◌};
 ghost use Rattle.tsb_review.specs.Places.{firsts, seconds, thirds, place_of};
 
 use tsb_types::{
-    Action, DayEvent, DayPlan, Detector, Entry, Number, Overlap, Pattern, PedestrianDetector, Phase,
-    Preempt, Ring, Sequence, Side,
+    Action, DayEvent, DayPlan, Detector, Entry, Number, Overlap, Pattern, PedestrianDetector,
+    Phase, Preempt, Ring, Sequence, Side,
 };
 
 /// The number of a place in what a sequence has for a ring: 1 to 16.
@@ -212,7 +212,11 @@ pub fn place_of(shape: Shape, first: u8, second: u8, third: u8) -> Place
         Shape::Entry => Place::Entry(Entry::of(first)),
         Shape::DayEvent => Place::DayEvent(DayPlan::of(first), DayEvent::of(second)),
         Shape::DayEvents => {
-            Place::DayEvents(DayPlan::of(first), DayEvent::of(second), DayEvent::of(third))
+            Place::DayEvents(
+                DayPlan::of(first),
+                DayEvent::of(second),
+                DayEvent::of(third),
+            )
         }
         Shape::Action => Place::Action(Action::of(first)),
     }

@@ -112,7 +112,14 @@ fn talk<R: Read, W: Write>(
     let plan = Checked::new(Plan::two()).ok()?;
     let mut reader = Watched::new(reader);
     let mut writer = Watched::new(writer);
-    Some(session(alloc, plan, &Log::empty(alloc), true, &mut reader, &mut writer))
+    Some(session(
+        alloc,
+        plan,
+        &Log::empty(alloc),
+        true,
+        &mut reader,
+        &mut writer,
+    ))
 }
 
 /// Whether the session of a reader and a writer ends with the commands.
@@ -450,7 +457,15 @@ fn answered(alloc: Global, plan: &[u8], log: &[u8], commands: &[u8]) -> Option<V
     let log = read_log(alloc, log).ok()?;
     let mut reader = Watched::new(commands);
     let mut out = Vec::new(alloc);
-    session(alloc, plan, &log, true, &mut reader, &mut Watched::new(&mut out)).ok()?;
+    session(
+        alloc,
+        plan,
+        &log,
+        true,
+        &mut reader,
+        &mut Watched::new(&mut out),
+    )
+    .ok()?;
     Some(out)
 }
 

@@ -28,8 +28,8 @@ pub use interval::{Interval, PedestrianInterval};
 pub use lamp::{Aspect, Lamp, PedestrianAspect, PedestrianColor, SignalColor};
 pub use number_set::NumberSet;
 pub use numbers::{
-    Action, DayEvent, DayPlan, Detector, Entry, Number, Overlap, Pattern, PedestrianDetector, Phase,
-    Preempt, Ring, Sequence, Side, Split, Station,
+    Action, DayEvent, DayPlan, Detector, Entry, Number, Overlap, Pattern, PedestrianDetector,
+    Phase, Preempt, Ring, Sequence, Side, Split, Station,
 };
 pub use phase_set::PhaseSet;
 pub use refusal::Refusal;

@@ -35,13 +35,7 @@ impl Plan {
     }
 
     /// The later of an event of a day plan, where there is one, and of one with a greater number, if that has come.
-    fn later_event(
-        &self,
-        day_plan: u32,
-        minute: u32,
-        last: Option<u32>,
-        event: u32,
-    ) -> Option<u32>
+    fn later_event(&self, day_plan: u32, minute: u32, last: Option<u32>, event: u32) -> Option<u32>
         requires day_plan_from { 1 ≤ day_plan }
         requires day_plan_to { day_plan ≤ 16 }
         requires event_from { 1 ≤ event }
@@ -57,13 +51,11 @@ impl Plan {
         }
         match last {
             None => Some(event),
-            Some(last) => Some(
-                if self.time_of(day_plan, last) < self.time_of(day_plan, event) {
-                    event
-                } else {
-                    last
-                },
-            ),
+            Some(last) => Some(if self.time_of(day_plan, last) < self.time_of(day_plan, event) {
+                event
+            } else {
+                last
+            }),
         }
     }
 
