@@ -15,7 +15,7 @@ import re
 from collections.abc import Iterator
 from typing import Any
 
-from tools.reference.reference_options import OF_VERSION_3, Limits, Options, Pattern, Plan, State, with_options
+from tools.reference.reference_options import OF_VERSION_3, Limits, Options, Pattern, Plan, State, kept, with_options
 
 DAY, MINUTE = 864_000, 600
 YEARS = range(2000, 2100)
@@ -97,6 +97,7 @@ def has_date(plan: Plan, entry: int, day: int) -> bool:
     return has(dates[entry] | dates[32 + entry] << 16, day)
 
 
+@kept
 def days_a_year(plan: Plan, entry: int) -> int:
     """Of the days of a leap year how many an entry names by month and day of the month, times how many of the seven
     weekdays it names: seven times its days of a year, on the average."""
@@ -120,20 +121,22 @@ def events_of(plan: Plan, number: int) -> list[tuple[int, int]]:
     return sorted(it for it in events if it[1])
 
 
-def action_at(plan: Plan, moment: int) -> int:
-    """The action in force at a moment: that of the latest event at or before it, of this day or of one of the 365
-    before; 0 for none."""
-    today, now = divmod(moment, DAY)
+@kept
+def action_at(plan: Plan, minutes: int) -> int:
+    """The action in force so many minutes after the first midnight: that of the latest event at or before them, of this
+    day or of one of the 365 before; 0 for none."""
+    today, now = divmod(minutes, DAY // MINUTE)
     for back in range(366):
         date = datetime.date.fromordinal(today + 1 - back)
         number = day_plan(plan, date)
         events = events_of(plan, number) if number else []
-        past = [action for minute, action in events if back or MINUTE * minute <= now]
+        past = [action for minute, action in events if back or minute <= now]
         if past:
             return past[-1]
     return 0
 
 
+@kept
 def has_schedule(plan: Plan) -> bool:
     """Whether an entry of the schedule names a day plan."""
     return any(plan["timeBaseScheduleDayPlan"])
@@ -143,7 +146,7 @@ def in_force(state: State) -> int | None:
     """The action in force as the next tick begins: none without a clock or without a schedule."""
     if state.origin is None or not has_schedule(state.plan):
         return None
-    return action_at(state.plan, state.origin + state.now)
+    return action_at(state.plan, (state.origin + state.now) // MINUTE)
 
 
 def pattern_of(plan: Plan, action: int) -> int:

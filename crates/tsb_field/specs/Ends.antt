@@ -4,6 +4,7 @@
 -- and `tells`.
 use Rattle.std.specs.Prelude.{◌≡◌, ◌⊎◌, ℕ, Bool, not, true, false, List, [], IsSome, Option, Some, None, Result, Ok, Err, Vec, option_map, unwrap_or, codes}
 use Rattle.std.specs.Io.KnownBytes.{Consumes, IsAtEnd}
+use Rattle.tsb_review_text.specs.Week.{week_text}
 use Rattle.tsb_program.specs.Read.{HasLog, HasPlan, RefusesLog, RefusesPlanAt}
 use Rattle.tsb_program.specs.Failures.{Fails}
 use Rattle.tsb_program.specs.Lines.{Wrote}
@@ -53,7 +54,7 @@ use Rattle.tsb_program.specs.Runs.{TellsWords, after_fault}
 use Rattle.tsb_field.specs.Lines.{TellsLate, usage_for}
 use Rattle.tsb_field.specs.GreenEnds.{HasEnds, NoEnds}
 use Rattle.tsb_field.specs.LogEnds.{LoggedOn}
-use Rattle.tsb_field.specs.ReviewEnds.{Reviewed}
+use Rattle.tsb_field.specs.ReviewEnds.{Answered, Reviewed}
 
 -- ## What words name
 
@@ -185,7 +186,7 @@ RecordedOn status from device options plan rows files before after =
 -- how `record` ended on the files of a plan and a log, of these names: after a run, or with nothing read and nothing written
 abbrev pub Recorded : ℕ → Moment → List ℕ → RecordOptions → (plan rows : List ℕ) → (List ℕ → Option (List ℕ)) → (before after : Devices) → Type 0
 Recorded status from device options plan rows files before after =
-    ((given : Setup) × HasPlan (files plan) given.plan × HasLog (files rows) given.log × RanSo status from device options given before after)
+    ((given : Setup) × HasPlan (files plan) given.plan × HasLog (files rows) given.log × (given.acts ≡ true) × RanSo status from device options given before after)
     ⊎ OnlyTells (NoRun plan rows files status) before after
 
 -- ## `diagram`
@@ -228,6 +229,14 @@ Pictured status form source files path before after =
     OnlyTells (Stops files path status) before after
     ⊎ ((rows : List LogRow) × NamesLog files path rows × PicturedBeside source form.from status form rows files before after)
 
+-- what the schedule of the plan in this file runs in the week from a moment on is written, with 0; or the fault of the file
+-- or of the plan is told
+abbrev pub Scheduled : ℕ → List ℕ → ℕ → Option (List ℕ) → (old new told tells : Seen) → Type 0
+Scheduled status path week file old new told tells =
+    ((plan : Plan) × HasPlan file plan × Answered status 0 (week_text plan week) old new told tells)
+    ⊎ (((fault : PlanError) × (clue : Option PlanClue) × RefusesPlanAt file fault clue × (new ≡ old) × RefusesAt fault clue status told tells)
+    ⊎ ((new ≡ old) × FailsToReadFile path status told tells))
+
 -- ## What is done
 
 -- what was done for a wish, where files has the known bytes of each path
@@ -238,6 +247,7 @@ DidWish (recording from device plan file manner) status files before after =
 DidWish (events from device path) status files before after = Told status from device files path before after
 DidWish (diagram path title seconds from told_by) status files before after =
     Pictured status (form_of title seconds from) told_by files path before after
+DidWish (weekly plan week) status files before after = ReadsNothing (Scheduled status plan week (files plan)) before after
 DidWish (reviewing plan) status files before after = ReadsNothing (Reviewed status plan (files plan)) before after
 
 -- what was done for what the words ask, where this right word is near a bad one, or this is wrong with them

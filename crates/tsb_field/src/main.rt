@@ -14,6 +14,7 @@ mod record_run;
 mod report;
 mod review_run;
 mod run;
+mod schedule_run;
 mod twice;
 
 use crate::end::USAGE;

@@ -14,6 +14,7 @@ use crate::events_run::write_events;
 use crate::outputs_run::run_log;
 use crate::record_run::write_record;
 use crate::review_run::review_plan;
+use crate::schedule_run::write_schedule;
 use std::alloc::Global;
 use std::convert::AsStr;
 use std::io::{Read, Write};
@@ -66,6 +67,7 @@ fn run_asked<S: AsStr, F: Files, R: Read, W: Write, E: Write>(
         }
         Ok(Asked::Diagram(asked)) => write_diagram(alloc, &asked, files, streams),
         Ok(Asked::Review { plan }) => review_plan(alloc, plan, files, streams),
+        Ok(Asked::Schedule { plan, week }) => write_schedule(alloc, plan, week, files, streams),
         Err(fault) => tell_words(words, fault, streams),
     }
 }

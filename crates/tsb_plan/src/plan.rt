@@ -9,7 +9,7 @@ pub mod acting;
 mod built_in;
 mod cells;
 mod detectors;
-mod holding;
+pub mod holding;
 mod overlaps;
 mod patterns;
 mod phases;

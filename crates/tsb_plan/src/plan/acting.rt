@@ -2,8 +2,9 @@
 #![tactic(auto, unfolding(crate::specs::PlanOf::plan_of))]
 
 ghost use Rattle.std.specs.Prelude.{◌≡◌, ◌≤◌, IfSome, None};
-ghost use Rattle.tsb_types.specs.Lists.{run_from};
-ghost use Rattle.tsb_plan.specs.Acting.{action_before, action_on, has_come, in_force, later_event, latest, searched};
+ghost use Rattle.tsb_types.specs.Lists.{or_number, run_from};
+ghost use Rattle.tsb_plan.specs.Holding.{holding};
+ghost use Rattle.tsb_plan.specs.Acting.{action_before, action_on, day_at, has_come, in_force, later_event, latest, searched};
 ghost use Rattle.tsb_plan.specs.PlanOf.{plan_of};
 
 use crate::plan::Plan;
@@ -101,6 +102,16 @@ impl Plan {
             }
         }
         None
+    }
+
+    /// The entry that holds of the day of a moment, 0 where none does.
+    pub fn holding_at(&self, moment: u64) -> u32
+        requires moment { moment ≤ 40000000000 }
+        ensures value { result ≡ or_number (holding (plan_of self.now) (day_at moment)) 0 }
+        ensures within { result ≤ 32 }
+    {
+        let day = (moment / u64::from(DAY)) as u32 + DAYS_EARLIER;
+        self.holding(day).unwrap_or(0)
     }
 
     /// The action in force at a moment, in tenths of a second from 1999-12-24 00:00: that of the latest event at or

@@ -31,7 +31,7 @@ fn weekday_of(day: u32) -> u32
 }
 
 /// How many days a month, 1 to 12, of a leap year has.
-fn length_of(month: u32) -> u32
+pub fn length_of(month: u32) -> u32
     requires from { 1 ≤ month }
     requires to { month ≤ 12 }
     ensures value { result ≡ length_of month }
