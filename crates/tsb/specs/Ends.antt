@@ -78,7 +78,7 @@ Stops status plan log files told tells =
 -- answered
 abbrev pub Ran : ℕ → (plan log : List ℕ) → (List ℕ → Option (List ℕ)) → (before after : Devices) → Type 0
 Ran status plan log files before after =
-    ((given : Setup) × HasPlan (files plan) given.plan × HasLog (files log) given.log × Talked status given before after)
+    ((given : Setup) × HasPlan (files plan) given.plan × HasLog (files log) given.log × (given.acts ≡ true) × Talked status given before after)
     ⊎ OnlyTells (Stops status plan log files) before after
 
 -- how the built-in plan of two phases was run with an empty log
