@@ -27,7 +27,7 @@ def test_objects_are_those_of_the_source(
     monkeypatch.chdir(top)
     monkeypatch.syspath_prepend(str(top))
     source = importlib.import_module("tools.pages.manual_table").objects()
-    assert set(source) == set(OBJECTS) and len(OBJECTS) == 71
+    assert set(source) == set(OBJECTS) and len(OBJECTS) == 79
     for name, (_, _, values, unit, structural) in source.items():
         found = OBJECTS[name]
         assert found.unit == unit and found.structural == (structural == "S")

@@ -108,9 +108,9 @@ def a_schedule(rng, plan, minute):
     plan["timebaseAscPattern"] = {"1": 1, "2": 2, "3": FREE, "4": rng.choice([1, 2, FREE])}
 
 
-def an_edit(rng, minute):
-    """An edit of a schedule."""
-    place = rng.randint(1, 48)
+def an_edit(rng, plan, minute):
+    """An edit of a schedule, often of an event that is used."""
+    place = rng.choice([rng.randint(1, 48), *map(int, plan["dayPlanActionNumber"])])
     return rng.choice([("dayPlanHour", place, minute // 60), ("dayPlanMinute", place, minute % 60),
                        ("dayPlanActionNumber", place, rng.randint(0, 5)), ("timebaseAscPattern", rng.randint(1, 5), rng.choice([0, 1, 2, 3, 16, FREE])),
                        ("timeBaseScheduleDayPlan", rng.randint(1, 6), rng.randint(0, 4)),
@@ -127,8 +127,8 @@ def schedules(rng, plan, table):
     found += [f"step {before + rng.choice([-1, 0, 1, 2])}", "show"]
     found += rng.choice([["undo", "show", "step 3"], [f"seek {max(before - 2, 0)}", "step 4"], ["pattern 2", "step 2"],
                          ["back 1", "step 2"], [a_moment(rng), "step 2"], ["undo", "undo", "undo", "step 5"]])
-    if rng.random() < 0.6:
-        found += commit(rng.randint(1, 4), [an_edit(rng, minute) for _ in range(rng.randint(1, 3))]) + ["show", "step 3"]
+    for _ in range(rng.choice([0, 1, 1, 3])):
+        found += commit(rng.randint(1, 4), [an_edit(rng, plan, minute) for _ in range(rng.randint(1, 3))]) + ["show", "step 3"]
     return [*found, f"step {rng.randint(1, 700)}", "show", watched(rng, plan)]
 
 

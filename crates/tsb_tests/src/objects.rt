@@ -74,7 +74,7 @@ fn have_ranges(wanted: &[Value]) -> bool {
 
 #[test]
 fn objects_have_their_ranges(rt: HostRuntime) {
-    assert!(rt; have_ranges(&RANGES) && Object::ALL.len() == 71);
+    assert!(rt; have_ranges(&RANGES) && Object::ALL.len() == 79);
     laws::cells_are_told_apart();
     laws::values_are_told_apart();
 }
