@@ -117,6 +117,14 @@ def an_edit(rng, plan, minute):
                        ("timeBaseScheduleDay", rng.randint(1, 6), a_list(rng, 7))])
 
 
+def edits(rng, plan, minute):
+    """Edits of a schedule: one to three at random, or another action for each event, so that another comes into force."""
+    if rng.random() < 0.3:
+        return [("dayPlanActionNumber", int(place), action % 4 + 1)
+                for place, action in plan["dayPlanActionNumber"].items()]
+    return [an_edit(rng, plan, minute) for _ in range(rng.randint(1, 3))]
+
+
 def schedules(rng, plan, table):
     """A schedule over a change of the action in force: patterns of the operator, commits, and the way back over it."""
     corrected(rng, plan)
@@ -128,7 +136,7 @@ def schedules(rng, plan, table):
     found += rng.choice([["undo", "show", "step 3"], [f"seek {max(before - 2, 0)}", "step 4"], ["pattern 2", "step 2"],
                          ["back 1", "step 2"], [a_moment(rng), "step 2"], ["undo", "undo", "undo", "step 5"]])
     for _ in range(rng.choice([0, 1, 1, 3])):
-        found += commit(rng.randint(1, 4), [an_edit(rng, plan, minute) for _ in range(rng.randint(1, 3))]) + ["show", "step 3"]
+        found += commit(rng.randint(1, 4), edits(rng, plan, minute)) + ["show", "step 3"]
     return [*found, f"step {rng.randint(1, 700)}", "show", watched(rng, plan)]
 
 

@@ -51,6 +51,14 @@ const RANGES: [Value; 26] = [
     (Object::OverlapAcrossRings, 4, 1),
     (Object::PreemptChoosesAnew, 4, 1),
     (Object::CoordReference, 1, 5),
+    (Object::TimeBaseScheduleMonth, 32, 8190),
+    (Object::TimeBaseScheduleDay, 32, 254),
+    (Object::TimeBaseScheduleDate, 64, 65_535),
+    (Object::TimeBaseScheduleDayPlan, 32, 16),
+    (Object::DayPlanHour, 256, 23),
+    (Object::DayPlanMinute, 256, 59),
+    (Object::DayPlanActionNumber, 256, 32),
+    (Object::TimebaseAscPattern, 32, 254),
 ];
 
 /// Whether the object has so many indices and this greatest value, said in both ways.
