@@ -24,7 +24,7 @@ fn id(object: Object, index: u32) -> ObjectId {
 }
 
 /// Objects, each with how many indices it has and its greatest value.
-const RANGES: [Value; 26] = [
+const RANGES: [Value; 34] = [
     (Object::PhaseEnabled, 16, 1),
     (Object::PhaseSide, 16, 4),
     (Object::PhaseConcurrency, 16, 65_535),

@@ -108,8 +108,8 @@ fn nothing_is_searched_beyond_a_year(rt: HostRuntime) {
         (Object::TimeBaseScheduleDayPlan, 2, 0),
     ];
     assert!(rt; with_values(&mut plan, &values));
-    // 2000-12-31 is 365 days after 2000-01-01, whose last event is in force then, and each year has one.
-    assert!(rt; plan.in_force(moment(365, 23, 59)) == 2 && plan.in_force(moment(366, 6, 59)) == 2);
+    // 2000-12-31 is 365 days after 2000-01-01, whose last event is in force then. The day after it is beyond.
+    assert!(rt; plan.in_force(moment(365, 23, 59)) == 2 && plan.in_force(moment(366, 6, 59)) == 0);
     assert!(rt; plan.in_force(moment(366, 7, 0)) == 1 && plan.has_schedule());
     assert!(rt; with_values(&mut plan, &[(Object::TimeBaseScheduleDayPlan, 1, 0)]));
     assert!(rt; plan.in_force(moment(366, 7, 0)) == 0 && !plan.has_schedule());
@@ -146,7 +146,7 @@ fn schedules_meet_their_rules(rt: HostRuntime) {
     assert!(rt; broken(&[(Object::TimeBaseScheduleDayPlan, 32, 16)]) == Err(Rule::K25));
     assert!(rt; broken(&[(Object::DayPlanActionNumber, 256, 32)]) == Err(Rule::K26));
     assert!(rt; broken(&[(Object::TimebaseAscPattern, 32, 17)]) == Err(Rule::K27));
-    assert!(rt; broken(&[(Object::TimebaseAscPattern, 32, 1)]) == Err(Rule::K27));
+    assert!(rt; broken(&[(Object::TimebaseAscPattern, 32, 16)]) == Err(Rule::K27));
 }
 
 #[test]
