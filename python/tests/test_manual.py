@@ -50,7 +50,7 @@ def test_each_refusal_has_its_cure(top: Path) -> None:
 def test_each_rule_has_its_cure(top: Path) -> None:
     """The rules of the manual's chapter 4."""
     text = (top / "docs/use/MANUAL.md").read_text()
-    assert list(RULES) == [f"K{it}" for it in range(1, 24)]
+    assert list(RULES) == [f"K{it}" for it in range(1, 28)]
     for name in RULES:
         fault = PlanFault(f"plan: rule {name}")
         assert fault.rule is not None

@@ -19,9 +19,7 @@ use crate::schedules::{open_date, open_month, open_weekday, pattern_at};
 use crate::service::{apart_from, rival_of, rivalled};
 use crate::splits::{green_of_split, left_short, longest_permissive};
 use tsb_plan::Plan;
-use tsb_types::{
-    DayEvent, DayPlan, Detector, Overlap, Pattern, Phase, Preempt, Ring, Side,
-};
+use tsb_types::{DayEvent, DayPlan, Detector, Overlap, Pattern, Phase, Preempt, Ring, Side};
 
 /// The numbers that the line of a finding shows: those of its place, and times, phases or patterns. What an advice does
 /// not have is 0.
@@ -160,7 +158,12 @@ fn of_event(plan: &Plan, day_plan: DayPlan, event: DayEvent) -> Numbers
     ensures { result ≡ four day_plan event (pattern_at (plan_of plan.now) day_plan event) 0 }
 {
     let pattern = pattern_at(plan, day_plan, event);
-    four(u32::from(day_plan.number()), u32::from(event.number()), pattern, 0)
+    four(
+        u32::from(day_plan.number()),
+        u32::from(event.number()),
+        pattern,
+        0,
+    )
 }
 
 /// Of a phase: its number, and then times or phases.

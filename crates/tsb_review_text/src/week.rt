@@ -85,7 +85,15 @@ fn row(plan: &Plan, moment: u64) -> ShortLine<ROW>
     push_pattern(&mut line, plan.selected_by(action));
     let entry = plan.holding_at(moment);
     push_number(&mut line, b"     ", entry);
-    push_number(&mut line, b"        ", if entry == 0 { 0 } else { plan.day_plan_of(entry) });
+    push_number(
+        &mut line,
+        b"        ",
+        if entry == 0 {
+            0
+        } else {
+            plan.day_plan_of(entry)
+        },
+    );
     line.push(b"\n");
     line
 }

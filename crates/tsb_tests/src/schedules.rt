@@ -66,7 +66,9 @@ fn events_come_at_their_minute(rt: HostRuntime) {
     let plan = weekly();
     // Saturday 2000-01-01: the action of the day before, and those of the day.
     assert!(rt; plan.in_force(moment(0, 6, 59)) == 2 && plan.in_force(moment(0, 7, 0)) == 1);
-    assert!(rt; plan.in_force(moment(0, 7, 0) - 1) == 2 && plan.in_force(moment(0, 7, 0) + 599) == 1);
+    assert!(rt;
+        plan.in_force(moment(0, 7, 0) - 1) == 2 && plan.in_force(moment(0, 7, 0) + 599) == 1
+    );
     assert!(rt; plan.in_force(moment(0, 9, 29)) == 1 && plan.in_force(moment(0, 9, 30)) == 2);
 }
 
