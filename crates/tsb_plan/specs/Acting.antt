@@ -55,10 +55,11 @@ searched = 365
 abbrev pub days_earlier : ℕ
 days_earlier = 1453
 
--- the day of a moment, and the minute of that day
+-- the day of a moment
 abbrev pub day_at : ℕ → ℕ
 day_at m = m / DAY + days_earlier
 
+-- the minute of that day
 abbrev pub minute_at : ℕ → ℕ
 minute_at m = m % DAY / 600
 

@@ -38,6 +38,7 @@ revert_of plan (Some p) = red_revert plan p
 abbrev pub open_in : Plan → ℕ → ℕ → Numbers
 open_in plan m d = four m d (number_of (open_weekday plan m d)) 0
 
+-- the first such month, its first such day, and the first such weekday
 abbrev pub open_numbers : Plan → Numbers
 open_numbers plan = open_in plan (number_of (open_month plan)) (number_of (open_date plan (number_of (open_month plan))))
 

@@ -53,10 +53,11 @@ number_text n = if n == 0 then codes " -" else (if nat_lt n 10 then 32 ∷ digit
 abbrev pub pattern_text : ℕ → List ℕ
 pattern_text n = if n == 0 then codes "     free" else codes "       " ++ number_text n
 
--- the entry that holds of the day of a moment, 0 for none, and its day plan
+-- the entry that holds of the day of a moment, 0 for none
 abbrev pub entry_at : Plan → ℕ → ℕ
 entry_at plan m = or_number (holding plan (day_at m)) 0
 
+-- its day plan, 0 where there is none
 abbrev pub day_plan_at : Plan → ℕ → ℕ
 day_plan_at plan e = if e == 0 then 0 else day_plan_of plan e
 

@@ -213,11 +213,12 @@ review_with (Some plan) = Some (reviewing plan)
 abbrev pub review_in : List Row → Option Wish
 review_in rows = review_with (first_of (codes "PLAN") rows)
 
--- what runs in a week, where a plan is named and a date that there is
+-- what runs in a week from this moment on, where there is one
 abbrev pub weekly_at : Text → Option ℕ → Option Wish
 weekly_at plan None = None
 weekly_at plan (Some week) = Some (weekly plan week)
 
+-- the same, where a plan is named and a date that there is
 abbrev pub schedule_with : Option Text → Option Text → Option Wish
 schedule_with (Some plan) (Some date) = weekly_at plan (clock_of date midnight)
 schedule_with plan date = None
