@@ -166,8 +166,10 @@ def test_the_way_back(quad: Path) -> None:
          " number; a second has 10 ticks"),
         (lambda bench: bench.back(-3), "back -3: give a number of ticks, 0 or more; a"
          " second has 10 ticks"),
-        (lambda bench: bench.seek("7:42"), "seek '7:42': give a tick, counted from"
+        (lambda bench: bench.seek(7.5), "seek 7.5: give a tick, counted from"
          " power-up, as a whole number; a second has 10 ticks"),
+        (lambda bench: bench.step("7:42"), "step '7:42': give a number of ticks, as a"
+         " whole number; a second has 10 ticks"),
         (lambda bench: bench.tick(vehicles=4), "4: give the numbers of inputs in a list,"
          " as [4], or a digit for each"),
         (lambda bench: bench.tick(preempts=["a"]), "['a']: give the numbers of inputs in"
@@ -351,6 +353,8 @@ def test_the_status(quad: Path) -> None:
         assert status.rings[0].ring_status == "minimumGreen"
         assert status.rings[0].initial_left == 50 and status.rings[0].phase == 2
         assert status.waits[4].cause == "barrier" and status.waits[4].of == 2
+        said = "phase 4 waits for the barrier, which phase 2 keeps"
+        assert str(status.waits[4]) == said
         assert status.preempt_state == ("notActive",) * 4
         assert status.local_free_status == "commandFree" and status.desk.owner is None
         told = json.loads(line)

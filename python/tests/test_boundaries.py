@@ -16,7 +16,7 @@ from tsb.cycles import _told
 from tsb.report.differences import Difference, differences, of_counts, of_means
 from tsb.report.numbers import Numbers, period_of
 from tsb.report.page import _facts
-from tsb.report.runs import Run, moment, of_plan, of_rows, with_inputs_of
+from tsb.report.runs import Run, Session, moment, of_plan, of_rows, with_inputs_of
 from tsb.report.sections import _lengths
 from tsb.report.sources import _rows
 from tsb.spread import percentile
@@ -240,14 +240,15 @@ def in_pattern(end: int, offset: int = 0) -> pd.DataFrame:
 
 def test_the_last_cycle_of_a_pattern() -> None:
     """It is whole where the pattern ends at its local zero, and not a tick before."""
-    assert rows(measures.cycles(in_pattern(900)))[-1:] == [(600, 900, 1, 30.0)]
-    assert rows(measures.cycles(in_pattern(899)))[-1:] == [(300, 600, 1, 30.0)]
+    assert rows(measures.cycles(in_pattern(900), 0))[-1:] == [(600, 900, 1, 30.0)]
+    assert rows(measures.cycles(in_pattern(899), 0))[-1:] == [(300, 600, 1, 30.0)]
     # and the first where it begins at it
     events = table((300, 131, 1), (300, 132, 30), (300, 133, 0), (900, 7, 2))
-    assert rows(measures.cycles(events)) == [(300, 600, 1, 30.0), (600, 900, 1, 30.0)]
+    both = [(300, 600, 1, 30.0), (600, 900, 1, 30.0)]
+    assert rows(measures.cycles(events, 0)) == both
     events = table((301, 131, 1), (301, 132, 30), (301, 133, 0), (900, 7, 2))
-    assert rows(measures.cycles(events)) == [(600, 900, 1, 30.0)]
-    assert rows(measures.cycles(in_pattern(900, 4))) == [
+    assert rows(measures.cycles(events, 0)) == [(600, 900, 1, 30.0)]
+    assert rows(measures.cycles(in_pattern(900, 4), 0)) == [
         (40, 340, 1, 30.0), (340, 640, 1, 30.0)
     ]  # fmt: skip
 
@@ -267,14 +268,15 @@ def test_what_is_no_pattern() -> None:
     "told, wanted",
     [
         ([(1, 132, 30), (1, 133, 4)], (None, None, None)),
-        ([(1, 131, 1), (1, 133, 4)], (None, None, None)),
+        ([(1, 131, 1), (1, 133, 4)], (1, None, 4)),
         ([(1, 131, 1), (1, 132, 30)], (1, 30, 0)),
     ],
 )
 def test_a_pattern_of_which_a_part_is_not_told(
     told: list[tuple[int, int, int]], wanted: tuple[int | None, ...]
 ) -> None:
-    """Without its number or its cycle it is none; without an offset that is 0."""
+    """Without its number it is none; without a cycle that is not known, and without an
+    offset that is 0."""
     assert rows(measures.patterns(table(*told, (5, 7, 2)))) == [(1, 6, *wanted)]
 
 
@@ -323,7 +325,7 @@ def test_places_in_a_cycle_at_its_ends() -> None:
     """In a pattern from 40 to 700 with local zero at 40, 340, 640."""
     events = table((40, 131, 2), (40, 132, 30), (40, 133, 4), (700, 131, 254), (800, 7, 1))
     ticks = pd.Series([39, 40, 41, 339, 340, 699, 700], index=range(10, 17))
-    found = measures.in_cycle(events, ticks)
+    found = measures.in_cycle(events, ticks, 0)
     assert rows(found.reset_index()) == [
         (10, None), (11, 0.0), (12, 0.1), (13, 29.9), (14, 0.0), (15, 5.9), (16, None)
     ]  # fmt: skip
@@ -505,13 +507,19 @@ def test_a_run_of_a_plan(examples: Path) -> None:
 
     def of(commands: str, ticks: int | None, path: str = "quad.json") -> Run:
         log = Log.of([(10, "0001000000000000 00000000 0000")])
-        return of_plan("x", examples / path, log, START, commands, ticks, ["more"], True)
+        return of_plan("x", examples / path, Session(log, START, commands, ticks), "", ["more"])
 
     run = of("step 500\n", None)
     assert run.ticks == run.events["tick"].max() > 90 and run.plan is not None
     assert (run.name, run.plan.version, run.is_observed) == ("x", 2, False)
     assert run.facts == ["plan quad.json, on the bench from power-up", "more"]
     assert of("step 500\n", 777).ticks == 777
+    # its clock is that of its start, unless it has none: 7:00:10 is 10 s into a cycle of 80 s
+    log, commands = Log(), "step 900\n"
+    for has_clock, zero in ((True, 700), (False, 800)):
+        session = Session(log, "2026-11-22 07:00:10", commands, 900, True, has_clock)
+        told = of_plan("x", examples / "quad.json", session, "pattern 1\n", []).events
+        assert told.query("code == 150 and parameter == 5")["tick"].to_list() == [zero]
     none = of("", None, "first_plan.json")
     assert none.ticks == 0 and none.events.empty
     with pytest.raises(Error, match=r"quad.json: command 2: pattern 9: refused E9 \w+$"):
@@ -665,6 +673,7 @@ def test_actuations_by_parts_of_a_cycle() -> None:
         (100, 82, 4), (200, 131, 2), (200, 132, 20), (200, 82, 2), (399, 82, 2),
         (400, 131, 254), (400, 82, 2), (450, 82, 2),
     )  # fmt: skip
+    of = Numbers(replace(of.run, is_observed=True))
     assert rows(of.folded.reset_index()) == [
         (2, 1, 2, 0, 0), (2, 20, 2, 0, 0), (4, 1, 0, 0, 1)
     ]  # fmt: skip
@@ -691,12 +700,26 @@ def test_what_ran_before_the_events_is_not_known() -> None:
         assert Numbers(run).known_from == 0
         assert Numbers(replace(run, is_observed=True)).known_from == known
     told = "pattern 1 (cycle 30 s, offset 0 s)"
-    for observed, first in ((False, "free operation"), (True, "not known")):
+    unknown = "not known before the export's first pattern (code 131)"
+    for observed, first in ((False, "free operation"), (True, unknown)):
         of = Numbers(replace(bench.run, is_observed=observed))
-        assert dict(_facts(of))["operation"] == f"{first}, {told}"
+        offset = "no offset (code 133)" if observed else "offset 0 s"
+        assert dict(_facts(of))["operation"] == f"{first}, {told.replace('offset 0 s', offset)}"
+    # of a street a length and an offset are known only by their events
+    street = [((5, 131, 3), (9, 1, 2)), ((5, 131, 254), (9, 1, 2)), ((5, 1, 2), (9, 7, 2))]
+    said = [
+        "pattern 3: the export has no cycle (code 132)", "free operation",
+        "not known: the export has no pattern (code 131)",
+    ]  # fmt: skip
+    for told_of, operation in zip(street, said, strict=True):
+        of = Numbers(replace(bench.run, events=table(*told_of), is_observed=True))
+        assert dict(_facts(of))["operation"] == operation
+    three = (*street[0], (5, 132, 30), (5, 133, 7))
+    of = Numbers(replace(bench.run, events=table(*three), is_observed=True))
+    assert dict(_facts(of))["operation"] == "pattern 3 (cycle 30 s, offset 7 s)"
     crossings = [(100, 31, 1), (200, 31, 1), (300, 31, 1), (300, 131, 254), (420, 31, 1)]
-    street = Numbers(replace(bench.run, events=table(*crossings), is_observed=True))
-    lengths = _lengths(street).reset_index()[["pattern", "count", "longest"]]
+    seen = Numbers(replace(bench.run, events=table(*crossings), is_observed=True))
+    lengths = _lengths(seen).reset_index()[["pattern", "count", "longest"]]
     assert rows(lengths) == [("free", 1, 12.0), ("not known", 2, 10.0)]
 
 
@@ -716,6 +739,7 @@ def test_coordinated_phases() -> None:
     plain["vehicleDetectorCallPhase"] = {2: 16, 3: 1, 4: 8}
     cars = [(9, 82, it) for it in (2, 3, 4)]
     run = Run("hand", table(*one, *cars), np.datetime64(START, "ns"), 99, plain)
+    run = replace(run, is_observed=True)
     assert Numbers(run).coordinated == [1, 8, 16]
     assert Numbers(replace(run, plan=None)).coordinated == []
 

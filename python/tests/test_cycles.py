@@ -40,7 +40,7 @@ def test_patterns() -> None:
 def test_cycles_of_patterns() -> None:
     """Local zero of pattern 1 is at 340, 640 and 940, that of pattern 2 at 1000 and
     1300; the cycles that a change cuts are not whole."""
-    found = measures.cycles(PATTERNS)
+    found = measures.cycles(PATTERNS, 0)
     assert rows(found) == [
         (340, 640, 1, 30.0),
         (640, 940, 1, 30.0),
@@ -51,7 +51,7 @@ def test_cycles_of_patterns() -> None:
 def test_places_in_the_cycle() -> None:
     """Seconds since local zero: tick 100 is 6 s after the zero of 40."""
     ticks = pd.Series([99, 100, 339, 340, 999, 1000, 1500])
-    found = measures.in_cycle(PATTERNS, ticks)
+    found = measures.in_cycle(PATTERNS, ticks, 0)
     assert found.isna().to_list() == [True, *[False] * 5, True]
     assert found.dropna().to_list() == [6.0, 29.9, 0.0, 5.9, 0.0]
 
@@ -71,7 +71,7 @@ def test_cycles_by_told_zeros() -> None:
     the cycle and the offset it would be that from 1200 to 1800."""
     assert rows(measures.cycles(table(*CORRECTED))) == [(1291, 1800, 2, 50.9)]
     untold = table(*(it for it in CORRECTED if it[1] != 150))
-    assert rows(measures.cycles(untold)) == [(1200, 1800, 2, 60.0)]
+    assert rows(measures.cycles(untold, 0)) == [(1200, 1800, 2, 60.0)]
 
 
 def test_places_by_told_zeros() -> None:
@@ -84,7 +84,7 @@ def test_places_by_told_zeros() -> None:
     assert found.dropna().to_list() == told
     untold = table(*(it for it in CORRECTED if it[1] != 150))
     by_sums = [0.1, 79.9, 0.0, 5.0, 25.1, 9.0, 9.1, 59.0, 0.0, 19.9]
-    assert measures.in_cycle(untold, ticks).dropna().to_list() == by_sums
+    assert measures.in_cycle(untold, ticks, 0).dropna().to_list() == by_sums
 
 
 def test_places_of_events_in_any_order() -> None:
@@ -111,18 +111,81 @@ def test_a_zero_of_the_pattern_before() -> None:
     after = ((600, 131, 2), (600, 132, 40), (600, 133, 10), (1000, 150, 5))
     found = measures.cycles(table(*before, *after, (600, 150, 2), (900, 150, 1)))
     assert rows(found) == [(300, 600, 1, 30.0), (600, 1000, 2, 40.0)]
-    found = measures.cycles(table(*before, *after))
+    found = measures.cycles(table(*before, *after[:-1], (900, 150, 5)))
     assert rows(found) == [(300, 600, 1, 30.0)]
 
 
 def test_a_counter_that_comes_into_step_before_a_zero() -> None:
-    """From then on its place is by the cycle and the offset of 1 s."""
+    """From then on its place is 21 s of 30 before the zero at 310."""
     events = table(
         (1, 131, 1), (1, 132, 80), (50, 131, 2), (50, 132, 30), (50, 133, 1),
         (50, 150, 4), (100, 150, 1), (310, 150, 5), (400, 1, 2),
     )  # fmt: skip
-    found = measures.in_cycle(events, pd.Series([49, 50, 99, 100, 150, 309, 310]))
+    ticks = pd.Series([49, 50, 99, 100, 150, 309, 310])
+    found = measures.in_cycle(events, ticks, 0)
     assert found.to_list() == [4.9, 5.0, 9.9, 9.0, 14.0, 29.9, 0.0]
+    # (without a zero of pattern 1 its place is not known)
+    found = measures.in_cycle(events, ticks)
+    assert rows(found.to_frame())[:3] == [(None,)] * 3
+    assert found.to_list()[3:] == [9.0, 14.0, 29.9, 0.0]
+
+
+# A street's pattern of 80 s, selected at tick 101 with an offset of 10 s: a controller
+# that counts from midnight to its yield, so that local zero is at 451 and 1251.
+STREET = [(101, 131, 3), (101, 132, 80), (101, 133, 10), (101, 150, 1)]
+ZEROS = [(451, 150, 5), (1251, 150, 5), (1300, 1, 2)]
+
+
+def test_an_offset_says_no_moment() -> None:
+    """A place before the first zero counts back from it, and not from an offset after
+    some tick. Without a zero it is not known, unless the caller knows that tick."""
+    ticks = pd.Series([100, 101, 450, 451, 1250, 1251])
+    told = measures.in_cycle(table(*STREET, *ZEROS), ticks, 0)
+    assert rows(told.to_frame()) == [
+        (None,), (45.0,), (79.9,), (0.0,), (79.9,), (0.0,)
+    ]  # fmt: skip
+    events = table(*STREET, ZEROS[-1])
+    assert measures.in_cycle(events, ticks).isna().all()
+    by_offset = measures.in_cycle(events, ticks, -50).dropna()
+    assert by_offset.to_list() == [5.1, 40.0, 40.1, 40.0, 40.1]
+
+
+def test_cycles_of_a_pattern_without_local_zero() -> None:
+    """They begin at crossings, as in free operation, and have the pattern's number."""
+    crossings = [(200, 31, 1), (600, 31, 2), (990, 31, 1), (1300, 31, 1)]
+    events = table(*STREET, *crossings)
+    assert rows(measures.cycles(events)) == [(200, 990, 3, 79.0), (990, 1300, 3, 31.0)]
+    assert rows(measures.cycles(events, -400)) == [(500, 1300, 3, 80.0)]
+    assert rows(measures.cycles(table(*STREET, *crossings, *ZEROS))) == [
+        (451, 1251, 3, 80.0)
+    ]
+
+
+def test_a_cycle_that_no_event_has() -> None:
+    """A selection has event 132 only where the cycle becomes another. So no event
+    may say the cycle of a pattern that runs, and it is not free operation."""
+    events = table((101, 131, 3), (101, 133, 10), *ZEROS)
+    assert rows(measures.patterns(events)) == [(101, 1301, 3, None, 10)]
+    assert rows(measures.cycles(events)) == [(451, 1251, 3, 80.0)]
+    assert measures.in_cycle(events, pd.Series([101, 500])).isna().all()
+    assert rows(measures.cycles(events[events["code"] != 150], 0)) == []
+
+
+def test_a_pickup_is_not_in_step() -> None:
+    """Code 150 with 6 begins the way into step; what came before it is not known."""
+    events = table(*STREET, (201, 150, 6), (301, 150, 2), (401, 150, 1), *ZEROS)
+    found = measures.in_cycle(events, pd.Series([150, 201, 301, 400, 401, 451]))
+    assert rows(found.to_frame()) == [
+        (None,), (None,), (None,), (None,), (75.0,), (0.0,)
+    ]  # fmt: skip
+
+
+def test_states_of_one_tick() -> None:
+    """The last of them holds from there on. One that comes with local zero says nothing
+    of the cycle before it."""
+    events = table(*STREET, (201, 150, 2), (201, 150, 1), (451, 150, 2), *ZEROS)
+    found = measures.in_cycle(events, pd.Series([200, 201, 450, 451]))
+    assert rows(found.to_frame()) == [(None,), (55.0,), (79.9,), (0.0,)]
 
 
 def test_cycles_of_free_operation() -> None:

@@ -231,7 +231,8 @@ def test_log_of_an_export(examples: Path) -> None:
         UserWarning, match=f"left out: {len(export)} rows of other devices"
     ):
         assert frames.log_of_export(export, START, "8", allow_empty=True) == Log()
-    with pytest.raises(Error, match="no row counts"):
+    # (which word of the program would allow that is not passed on)
+    with pytest.raises(Error, match=r"\nevents: no row counts$"):
         frames.log_of_export(export, START, "8")
 
 

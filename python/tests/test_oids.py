@@ -9,7 +9,7 @@ from pathlib import Path
 import pytest
 from hypothesis import example, given, settings
 from hypothesis import strategies as st
-from tsb import Plan
+from tsb import Error, Plan
 from tsb.__main__ import main
 from tsb.exchange import forms, objects, oids, sides, walk
 from tsb.exchange.forms import Value
@@ -22,7 +22,7 @@ ROOT = ".1.3.6.1.4.1.1206.4.2.1"
 PROFILE = {
     "phaseSide", "phaseVariableInitial", "phasePedestrianRecycle", "unitMax2",
     "overlapAcrossRings", "coordCorrectionLimit", "patternPermissiveTime",
-    "patternLeadLag", "preemptChoosesAnew",
+    "patternLeadLag", "preemptChoosesAnew", "coordReference",
 }  # fmt: skip
 #: Objects of which any value leaves the structure of a plan as it is.
 FREE = sorted(
@@ -337,6 +337,29 @@ def test_files_that_are_no_walk(
     assert (told.out, told.err) == ("", f"{path}: {said}\n") and not out.exists()
 
 
+def test_octets_as_they_are_printed() -> None:
+    """As a text where all of them are letters, blanks or ends of lines, and else in
+    lines of sixteen."""
+    for value, text in (
+        (b" ", 'STRING: " "'), (b"~", 'STRING: "~"'), (b"\t", 'STRING: "\t"'),
+        (b"\r", 'STRING: "\r"'), (b"\x1f", "Hex-STRING: 1F "), (b"\x7f", "Hex-STRING: 7F "),
+        (b"\x08", "Hex-STRING: 08 "), (b"\x0e", "Hex-STRING: 0E "),
+        (bytes(17), f"Hex-STRING: {'00 ' * 16}\n00 "),
+    ):  # fmt: skip
+        assert walk.printed((1, 3), value) == f".1.3 = {text}"
+
+
+def test_oids_at_their_bounds() -> None:
+    """128 numbers, and 2^32 - 1 after the first; and blank lines before them."""
+    for oid in ((1, *[3] * 127), (1, (1 << 32) - 1)):
+        text = f"\n \n{walk.printed(oid, 5)}"
+        (line,) = walk.lines_of(text)
+        assert walk.is_walk(text) and (line.number, line.oid, line.value) == (3, oid, 5)
+    for oid in ((1, *[3] * 128), (1, 1 << 32)):
+        with pytest.raises(Error, match="^walk line 1: it has no OID$"):
+            list(walk.lines_of(walk.printed(oid, 5)))
+
+
 def test_other_ways_to_print_an_oid() -> None:
     """As snmpwalk prints them without -On."""
     for begin in ("iso.3.6.1.4.1.", "SNMPv2-SMI::enterprises.", "1.3.6.1.4.1."):
@@ -462,6 +485,17 @@ def test_numbers_that_stand_for_nothing() -> None:
     order = forms.Order("sequenceData")
     sets, lost = order.read(bytes([1, 0, 2, 77, *[3] * 16]), (1, 1))
     assert [it.number for it in sets] == [1, 2, *[3] * 14] and len(lost) == 3
+    # in the order of their numbers, which is not that of a set of Python
+    other = [f"there is no phase {it} here, so it is left out" for it in (17, 24)]
+    assert order.read(bytes([24, 17, *[3] * 13]), (1, 1)).lost == other
+    assert order.read(bytes([3] * 16), (1, 1)).lost == []
+    phases = forms.Phases("phaseConcurrency")
+    assert phases.read(bytes([24, 8, 17, 1]), (2,)) == (
+        [("phaseConcurrency", 2, 0x81)], other
+    )  # fmt: skip
+    plan = Plan()
+    plan["phaseConcurrency"][2] = {8, 1}
+    assert phases.written(plan, (2,)) == bytes([1, 8])
 
 
 @pytest.mark.parametrize("words", [[], ["a.json", "--mib"]])

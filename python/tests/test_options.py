@@ -5,7 +5,8 @@ import sys
 from pathlib import Path
 
 import pytest
-from tsb.options import Words, nearest
+from tsb.__main__ import COMMANDS
+from tsb.options import Words, called, nearest
 
 
 @pytest.mark.parametrize(
@@ -77,3 +78,64 @@ def test_help_lists_what_there_is(word: str) -> None:
         for it in (whole, [*whole, word])
     )
     assert plain == helped and "commands: python3 -m tsb COMMAND .." in plain
+
+
+#: What a wheel puts on the path, and the help of all commands by the same name.
+CONSOLE = "import sys\nfrom tsb.__main__ import console\nsys.exit(console())\n"
+ALL_HELP = """import contextlib
+from tsb.__main__ import COMMANDS, main
+for it in COMMANDS:
+    with contextlib.suppress(SystemExit):
+        main([it, "--help"])
+"""
+
+
+@pytest.mark.parametrize(
+    ("words", "said"),
+    [
+        ("", "commands: tsb-py COMMAND .."),
+        ("--help", "commands: tsb-py COMMAND .."),
+        ("walk", "there is no command walk; tsb-py lists them"),
+        ("diff a b", "tsb-py diff: a: No such file or directory"),
+        ("report --help", "\n  tsb-py report --plan-a PLAN [--plan-b PLAN"),
+        ("sumo example --help", "usage: tsb-py sumo example "),
+    ],
+)
+def test_an_installed_command_has_its_name(
+    words: str, said: str, tmp_path: Path
+) -> None:
+    (tmp_path / "tsb-py").write_text(CONSOLE)
+    told = printed(tmp_path, *words.split())
+    assert said in told and "python3 -m" not in told
+
+
+def test_the_help_of_all_commands_has_their_name(tmp_path: Path) -> None:
+    (tmp_path / "tsb-py").write_text(ALL_HELP)
+    told = printed(tmp_path)
+    assert told.count("usage:") == len(COMMANDS) and "python3 -m" not in told
+    assert all(f" tsb-py {it} " in told for it in COMMANDS)
+
+
+def printed(folder: Path, *words: str) -> str:
+    """What a script of the name prints, on either stream."""
+    script = [sys.executable, "tsb-py", *words]
+    done = subprocess.run(script, cwd=folder, capture_output=True, text=True)
+    return done.stdout + done.stderr
+
+
+@pytest.mark.parametrize(
+    ("first", "name"),
+    [
+        (["/usr/bin/tsb-py"], "tsb-py"),
+        (["/venv/tsb/__main__.py"], "python3 -m tsb"),
+        (["/tmp/tsb-py/pytest"], "python3 -m tsb"),
+        ([""], "python3 -m tsb"),
+        ([], "python3 -m tsb"),
+    ],
+)
+def test_names_of_commands(
+    first: list[str], name: str, monkeypatch: pytest.MonkeyPatch
+) -> None:
+    """Also where another program imports the package, or none has a name."""
+    monkeypatch.setattr(sys, "argv", first)
+    assert (called(), called("report")) == (name, f"{name} report")

@@ -208,7 +208,11 @@ class Page:
         self.settle()
 
     def go(self, tick: int) -> None:
-        self.fill("go", tick)
+        self.go_by(tick, tick)
+
+    def go_by(self, typed: object, tick: int) -> None:
+        """Goes by what is typed, which leads to this tick."""
+        self.fill("go", typed)
         self.click("go-there")
         self.wait(lambda: self.tick == tick, f"tick {tick}")
         self.settle()
@@ -282,6 +286,32 @@ def test_the_scrubber_goes_all_over_the_run(page: Page) -> None:
     assert page.text("line") == line and page.text("ahead") == ""
     page.find("scrubber").send_keys(Keys.ARROW_LEFT)
     page.wait(lambda: page.tick == 94, "tick 94")
+
+
+def test_a_clock_is_set_and_gone_by(page: Page) -> None:
+    """Times are then those of the clock at which ticks begin, and can be gone to."""
+    assert page.text("clock") == "0:00:00.0"
+    page.fill("go", "7:00:09")
+    page.click("go-there")
+    assert "no clock is set" in page.text("time-said") and page.tick == 0
+    page.fill("clock-to", "7:00")
+    page.click("set-clock")
+    assert "7:00 is no day and time" in page.text("time-said")
+    page.fill("clock-to", "2026-11-22 7:00")
+    page.click("set-clock")
+    assert page.text("time-said") == "clock 2026-11-22 07:00:00: ok"
+    assert page.text("clock") == "2026-11-22 7:00:00.0"
+    assert page.find("begin-time").get_attribute("value") == "2026-11-22 07:00:00.0"
+    for typed, tick in [("7:00:09", 91), ("2026-11-22 7:00:04.5", 46), ("7:01", 601)]:
+        page.go_by(typed, tick)
+    assert page.text("clock") == "2026-11-22 7:01:00.0"
+    assert page.find("scrubber").get_attribute("aria-valuetext") == "tick 601, 7:01:00.0"
+    page.fill("go", "7:61")
+    page.click("go-there")
+    assert page.shows("message") and page.tick == 601
+    page.go(0)
+    page.click("undo")
+    assert page.text("said") == "undone clock" and page.text("clock") == "0:00:00.0"
 
 
 def test_a_change_at_an_earlier_tick(page: Page) -> None:

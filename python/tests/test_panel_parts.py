@@ -12,7 +12,6 @@ from tsb import Log, Plan, programs
 from tsb.lines import Lines
 from tsb.manual import LAST_TICK
 from tsb.panel import keep as kept
-from tsb.panel import words
 from tsb.panel.keep import Keep, NotKept, Source
 from tsb.panel.layout import Lane, Layout, LayoutFault, layout_of
 from tsb.panel.requests import (
@@ -33,8 +32,9 @@ from tsb.panel.requests import (
 )
 from tsb.panel.run import Run
 from tsb.panel.session import Session
+from tsb.panel.state import state_of
 from tsb.rows import ALL_OFF, numbers, row
-from tsb.status import Wait
+from tsb.status import LACKS, Wait
 
 TICKS = 1200
 
@@ -523,13 +523,43 @@ def test_every_state_has_its_words() -> None:
         "flash due clears redRevert across beside omitted preempted next crossing"
         " barrier green conflict turn"
     ).split()
-    told = [words.wait(Wait(4, it, of=2, preempt=1, left=13)) for it in causes]
+    told = [Wait(4, it, of=2, preempt=1, left=13).words for it in causes]
     assert len(set(told)) == len(causes) and not set(told) & set(causes)
     assert told[2] == "phase 2 to clear: 1.3 s left"
-    lacks = [words.wait(Wait(4, "green", 2, lack=it)) for it in words.LACKS]
+    lacks = [Wait(4, "green", 2, lack=it).words for it in LACKS]
+    assert len(set(lacks)) == len(LACKS) and not set(lacks) & set(LACKS)
     assert lacks[0] == "the green of phase 2, which lacks its walk"
-    assert words.wait(Wait(4, "crossing")) == "the rings to cross"
-    assert words.seconds(0) == "0.0 s" and words.seconds(6005) == "600.5 s"
+    assert Wait(4, "crossing").words == "the rings to cross"
+
+
+@pytest.mark.parametrize(
+    ("wait", "sentence"),
+    [
+        (Wait(4, "barrier", 2), "phase 4 waits for the barrier, which phase 2 keeps"),
+        (Wait(4, "redRevert", left=0),
+         "phase 4 waits for its own red revert: 0.0 s left"),
+        (Wait(16, "across", 2, left=6005),
+         "phase 16 waits for phase 2 of the other ring to clear: 600.5 s left"),
+        (Wait(4, "green", 3, lack="initial", left=44),
+         "phase 4 waits for the green of phase 3, which lacks its minimum: 4.4 s left"),
+    ],
+)  # fmt: skip
+def test_a_wait_is_a_sentence(wait: Wait, sentence: str) -> None:
+    """That of the panel, with the phase that waits, by its text."""
+    assert str(wait) == sentence
+
+
+def test_the_panel_has_the_words_of_a_wait(run: Run) -> None:
+    """Those of the status, of each phase that waits."""
+    run.grasp(Hold("vehicle", 4, True))
+    run.grasp(Hold("vehicle", 3, True))
+    to(run, 40)
+    waits = run.bench.status.waits.values()
+    found = state_of(run)["waits"]
+    assert [f"phase {it['phase']} waits for {it['says']}" for it in found] == [
+        str(it) for it in waits
+    ]
+    assert len(found) > 1
 
 
 # Keeping

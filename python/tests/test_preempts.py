@@ -6,9 +6,9 @@ import sys
 from pathlib import Path
 
 import pytest
-from tsb import Bench, Log, Plan, programs
+from tsb import Bench, Log, Plan, preempt, programs
 from tsb.__main__ import main
-from tsb.preempt import Tries, first_stage, sums, tries
+from tsb.preempt import Tries, first_stage, rows, sums, tries
 
 #: What a try of a moment waits for here, at most.
 WITHIN = 300
@@ -107,6 +107,25 @@ def test_a_pattern_and_a_delay(
     assert told[5] == said
 
 
+def test_seconds_within_which_a_green_has_to_come(
+    examples: Path, capsys: pytest.CaptureFixture[str]
+) -> None:
+    """In the pattern more moments are late than in free operation."""
+    files = [str(examples / it) for it in ("main_and_oak.json", "main_and_oak.log")]
+    late = []
+    for pattern in (0, 1):
+        with Bench(files[0], files[1], events=False) as bench:
+            bench.set_pattern(pattern)
+            found = tries(bench, 1, frozenset({4, 7}), 400, 100)
+        late.append(sum(it is None for it in found.waits.values()))
+    words = ["--pattern", "1", "--ticks", "400", "--within", "10"]
+    assert main(["preempt", files[0], "1", files[1], *words]) == 1
+    told = capsys.readouterr().out
+    assert late[0] < late[1]
+    assert f"\n400 moments tried, {400 - late[1]} with the green\n" in told
+    assert f"\nnot within 10 s: {late[1]} moments, as tick 1\n" in told
+
+
 def test_sums_of_a_plan_by_hand() -> None:
     """The greatest of each row; of equal ones the lower phase. Phases without a walk
     have no row, and those of the stage don't have to end."""
@@ -129,6 +148,49 @@ def test_sums_of_a_plan_by_hand() -> None:
     ]  # fmt: skip
     plan["preemptTrackPhase"][1] = {2}
     assert first_stage(plan, 1) == ("track", frozenset({2}))
+    # (a clearance of a phase without a walk is none of a crossing)
+    plan["phaseWalk"] = {4: 7}
+    assert [*sums(plan, 1, frozenset({4}))] == ["conflicting vehicle"]
+
+
+def test_rows_of_a_plan_without_conflicts() -> None:
+    """What was found is no longer than the sum, which is the delay; and FIELD.md says in
+    how many seconds a green has to come without another word."""
+    plan = Plan(3)
+    plan["phaseEnabled"] = {1: 1, 8: 1}
+    plan["preemptDwellPhase"][1] = {1, 8}
+    plan["preemptDelay"][1] = 2
+    first, *others = rows(plan, 1, Tries({77: 20}, []), WITHIN)
+    assert first.endswith("preempt 1: the wait for the green of dwell phases 1 and 8")
+    assert others == [
+        "delay                       2.0 s",
+        "sum by hand                 2.0 s  delay and the longer one",
+        "worst found                 2.0 s  from tick 77",
+        "1 moments tried, 1 with the green",
+    ]
+    assert preempt.WITHIN == 600
+    # a tenth longer, in a plan that has the option already
+    plan["preemptChoosesAnew"][1] = 1
+    *_, last = rows(plan, 1, Tries({77: 21}, []), WITHIN)
+    assert last == "the worst found is longer than the sum by hand"
+
+
+def test_words_are_not_cut(examples: Path, capsys: pytest.CaptureFixture[str]) -> None:
+    """A word that is nearly right is refused, with the right one."""
+    files = [str(examples / it) for it in ("railroad.json", "railroad.log")]
+    with pytest.raises(SystemExit) as ended:
+        main(["preempt", files[0], "1", files[1], "--tick", "5"])
+    assert ended.value.code == 2 and "--ticks" in capsys.readouterr().err
+    for words in (["--ticks", "0"], ["--within", "0"]):
+        with pytest.raises(SystemExit) as ended:
+            main(["preempt", files[0], "1", files[1], *words])
+        assert ended.value.code == 2
+        assert "--ticks and --within are 1 or more" in capsys.readouterr().err
+    with pytest.raises(SystemExit):
+        main(["preempt", files[0], "5", files[1]])
+    assert "invalid choice: 5" in capsys.readouterr().err
+    assert main(["preempt", files[0], "1", files[1], "--ticks", "1"]) == 0
+    assert "\n1 moments tried, 1 with the green\n" in capsys.readouterr().out
 
 
 def test_no_tries() -> None:
@@ -140,7 +202,7 @@ def test_no_tries() -> None:
 @pytest.mark.parametrize(
     ("plan", "number", "log", "said"),
     [
-        ("railroad.json", "2", "railroad.log", "preempt 2 has no track phases and no dwell phases"),
+        ("railroad.json", "4", "railroad.log", "preempt 4 has no track phases and no dwell phases"),
         ("railroad.json", "1", "empty.log", "empty.log: it has no rows: give --ticks"),
         ("two_short_yellow.json", "1", "empty.log", "two_short_yellow.json: plan: rule K8: "),
         ("railroad.json", "1", "cut_short.log", "cut_short.log: log line 1: malformed"),

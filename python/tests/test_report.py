@@ -12,7 +12,9 @@ from pathlib import Path
 import pandas as pd
 import pytest
 
+import tsb
 from tsb import Bench, Log, Plan, frames, measures, programs
+from tsb.diff import following
 from tsb.report.command import main
 from tsb.report.words import PROGRAM
 from tsb.tasks import events_of_record, recorded
@@ -36,6 +38,7 @@ class Page(HTMLParser):
         self.ids: list[str] = []
         self.heads: list[str] = []
         self.sections: list[str] = []
+        self.items: list[str] = []
         self.tables: dict[str, list[list[str]]] = {}
         self._cells: list[list[str]] = []
         self._caption = ""
@@ -81,6 +84,8 @@ class Page(HTMLParser):
             self._caption += data
         elif last in ("h1", "h2"):
             self.heads.append(data)
+        elif last == "li":
+            self.items.append(data)
 
 
 @pytest.fixture(scope="session")
@@ -114,7 +119,7 @@ def made(words: Sequence[object], out: Path) -> Page:
 
 
 ALL = [
-    "unlike", "glance", "terminations", "splits", "cycles", "waits", "walks",
+    "plans", "unlike", "glance", "terminations", "splits", "cycles", "waits", "walks",
     "arrivals", "preempts", "alarms",
 ]  # fmt: skip
 
@@ -129,7 +134,7 @@ def test_a_page_stands_alone(two: Path) -> None:
     assert len(page.ids) == len(set(page.ids)), "a name stands once"
     assert page.sections == ALL
     assert page.tags.count("svg") == page.tags.count("figure") == 9
-    assert page.tags.count("details") == 9 + 1, "behind each chart its numbers"
+    assert page.tags.count("details") == 9 + 2, "behind each chart its numbers"
 
 
 @pytest.fixture(scope="session")
@@ -211,6 +216,74 @@ def test_waits_come_first(two: Path, runs: dict[str, pd.DataFrame]) -> None:
             came = measures.arrivals(events, phases).loc[phase]
             totals.append(waits.mean() * (came["on_yellow"] + came["on_red"]))
         assert _number(row[2]) == round(totals[1] - totals[0])
+
+
+def test_what_the_plans_differ_in_comes_first(two: Path) -> None:
+    """Their values, as lines of `diff` have them, and folded what follows."""
+    page = Page(two.read_text())
+    folders = {"A": EXAMPLES, "B": two.parent}
+    a, b = (Plan.read(folders[it] / f"{name}.json") for it, name in PLANS.items())
+    table = page.tables["plans: "]
+    labels = ["A: main_and_oak, pattern 1", "B: shorter_cycle, pattern 1"]
+    assert table[0] == ["object", "index", *labels]
+    assert table[1] == ["patternCycleTime", "1", "90 (90 s)", "70 (70 s)"]
+    assert table[2] == ["splitTime", "1 (table 1, phase 1)", "15 (15 s)", "10 (10 s)"]
+    lines = [
+        f"{name}.{index}: {was.partition(' ')[0]} -> {now}"
+        for name, index, was, now in table[1:]
+    ]
+    assert lines == list(map(str, a.diff(b)))
+    assert page.items == list(following(a, b))
+    assert "pattern 1, phase 1: split 15.0 s -> 10.0 s" in page.items
+    text = two.read_text()
+    folded = text.index("<summary>What follows from them</summary>")
+    assert text.index('id="plans"') < folded < text.index('id="unlike"')
+
+
+def test_a_change_without_effect(tmp_path: Path) -> None:
+    """No split is used in free operation, so the runs are the same. The page says
+    both: what was changed, and that no number shows it."""
+    other = Plan.read(EXAMPLES / "main_and_oak.json")
+    other["splitTime"][1, 3], other["splitTime"][1, 4] = 20, 20
+    other["phasePassage"][15] = tsb.seconds(2.5)
+    other.write(tmp_path / "longer_lefts.json")
+    page = made(
+        [
+            "--plan-a", EXAMPLES / "main_and_oak.json", "--seconds", 300,
+            "--plan-b", tmp_path / "longer_lefts.json",
+            "--log", EXAMPLES / "hour_of_traffic.log",
+        ],
+        tmp_path / "page.html",
+    )  # fmt: skip
+    assert page.tables["plans: "] == [
+        ["object", "index", "A: main_and_oak", "B: longer_lefts"],
+        ["phasePassage", "15", "0 (0.0 s)", "25 (2.5 s)"],
+        ["splitTime", "3 (table 1, phase 3)", "15 (15 s)", "20 (20 s)"],
+        ["splitTime", "4 (table 1, phase 4)", "25 (25 s)", "20 (20 s)"],
+    ]
+    assert page.items[:2] == [
+        "pattern 1, phase 3: split 15.0 s -> 20.0 s",
+        "pattern 1, phase 4: split 25.0 s -> 20.0 s",
+    ]
+    assert "unlike: " not in page.tables
+    text = (tmp_path / "page.html").read_text()
+    assert "<p>Nothing differs, though the plans do.</p>" in text
+
+
+def test_plans_that_events_are_of(days: Path, tmp_path: Path) -> None:
+    """They are compared where both are named. The fault of one that is refused is
+    shown in place of what follows, and many values are folded."""
+    kept = ["--events-a", days / "quad.csv", "--events-b", days / "quad.csv"]
+    kept += ["--seconds", 60, "--plan-b", EXAMPLES / "two_short_yellow.json"]
+    page = made(kept, tmp_path / "page.html")
+    assert page.sections == ALL[1:]
+    quad = EXAMPLES / "quad.json"
+    page = made([*kept, "--plan-a", quad], tmp_path / "page.html")
+    assert page.sections == ALL and page.items == ["B: quad: plan: rule K8"]
+    found = Plan.read(quad).diff(Plan.read(EXAMPLES / "two_short_yellow.json"))
+    text = (tmp_path / "page.html").read_text()
+    assert f"<summary>{len(found) - 15} more values that differ</summary>" in text
+    assert text.count("Indices are those of") == 1
 
 
 def _number(cell: str) -> int:
@@ -372,7 +445,7 @@ def test_one_run_by_commands(examples: Path, tmp_path: Path) -> None:
         ],
         tmp_path / "page.html",
     )  # fmt: skip
-    assert page.sections == ALL[1:]
+    assert page.sections == ALL[2:]
     services = page.tables[
         "preempts: main_and_oak: services, with seconds from one moment to another"
     ]
@@ -395,7 +468,35 @@ def test_a_street_beside_the_bench(examples: Path, days: Path, tmp_path: Path) -
     )  # fmt: skip
     assert page.tables["glance: "][0] == ["", "A: street", "B: quad"]
     assert page.tables.get("unlike: ") is None
-    assert "Nothing differs." in (tmp_path / "page.html").read_text()
+    assert page.sections == ALL[1:] and page.items == [], "a street's plan is not known"
+    assert "Nothing differs.</p>" in (tmp_path / "page.html").read_text()
+
+
+def test_the_clock_of_a_report(
+    examples: Path, days: Path, tmp_path: Path, capsys: pytest.CaptureFixture[str]
+) -> None:
+    """It is that of `--from`, where there is one, and none with `--no-clock`."""
+    words = ["--plan-a", examples / "quad.json", "--pattern-a", 1, "--seconds", 180]
+    words += ["--log", examples / "empty.log"]
+    what = "plan quad.json, on the bench from power-up; inputs of empty.log"
+    cases: list[tuple[list[str], str]] = [
+        (["--from", START], f"{what}; its clock set to --from"),
+        (["--from", START, "--no-clock"], what), ([], what),
+        (["--from", "1999-12-31 23:00:00", "--no-clock"], what),
+    ]  # fmt: skip
+    for more, said in cases:
+        page = made([*words, *more], tmp_path / "page.html")
+        assert page.tables[": "][1][1] == said
+    late = [*map(str, words), "--from", "2100-01-01 00:00:00", "--out", "x.html"]
+    assert main(late) == 1
+    assert capsys.readouterr().err.endswith(
+        "quad.json: --from: a clock has the years 2000 to 2099 (give --no-clock for"
+        " others)\n"
+    )
+    kept = ["--events-a", str(days / "quad.csv"), "--no-clock", "--out", "x.html"]
+    with pytest.raises(SystemExit):
+        main(kept)
+    assert "leave --no-clock out" in capsys.readouterr().err
 
 
 def test_channels_of_a_street(
@@ -415,8 +516,8 @@ def test_channels_of_a_street(
     came = {it[1]: it[2] for it in table if it[0] == "2"}
     assert came == {"A": "386", "B": "386"}
     left_out = (
-        "left out: 0 rows of other devices, 1 events of channels without an input,"
-        " 0 lines that are no rows"
+        "left out: 0 rows of other devices, 1 events of channels without an input"
+        " (vehicle 30), 0 lines that are no rows"
     )
     assert capsys.readouterr().err == f"{PROGRAM}: {left_out}\n"
     assert left_out in (tmp_path / "page.html").read_text()
@@ -426,7 +527,7 @@ def test_events_without_a_plan(days: Path, tmp_path: Path) -> None:
     """Greens and waits need none; which phase a detector counts for is not known."""
     page = made(["--events-a", days / "quad.csv"], tmp_path / "page.html")
     text = (tmp_path / "page.html").read_text()
-    assert "give it with --plan-a" in text and page.sections == ALL[1:]
+    assert "give it with --plan-a" in text and page.sections == ALL[2:]
 
 
 def test_a_run_in_which_nothing_happens(examples: Path, tmp_path: Path) -> None:
@@ -442,7 +543,9 @@ def test_a_run_in_which_nothing_happens(examples: Path, tmp_path: Path) -> None:
             tmp_path / "page.html",
         )  # fmt: skip
         assert page.tags.count("svg") == 0 and page.sections == ALL
-        assert "No green ended." in (tmp_path / "page.html").read_text()
+        text = (tmp_path / "page.html").read_text()
+        assert "No green ended." in text
+        assert "No value differs: the plans are the same." in text
 
 
 FAULTS = [

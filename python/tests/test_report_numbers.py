@@ -44,6 +44,11 @@ def numbers(
     return Numbers(run, place, of, consecutive)
 
 
+def observed(*events: tuple[int, int, int]) -> Numbers:
+    """The numbers of a street's events, whose offsets count from midnight."""
+    return Numbers(replace(numbers(*events).run, is_observed=True))
+
+
 def rows(found: pd.DataFrame) -> list[tuple[object, ...]]:
     """The rows of a table with its index, and None for what is not known."""
     named = found.reset_index()
@@ -193,7 +198,7 @@ def test_arrivals() -> None:
 
 def test_arrivals_over_the_cycle() -> None:
     """15.5, 6, 9.9 and 19 s behind local zero, in parts of a second: 16, 7, 10, 20."""
-    of = numbers(*PATTERN)
+    of = observed(*PATTERN)
     assert of.arriving["in_cycle_s"].to_list() == [15.5, 6.0, 9.9, 19.0]
     assert rows(of.folded) == [
         (2, 7, 0, 1, 0), (2, 10, 0, 0, 1), (2, 16, 1, 0, 0), (2, 20, 1, 0, 0),
@@ -204,11 +209,27 @@ def test_arrivals_over_the_cycle() -> None:
 def test_greens_over_the_cycle() -> None:
     """Each is cut where a cycle ends; what reaches out of the last whole one is not
     shown, that is from 900 on."""
-    begin, low, end, high = greens_in_cycles(numbers(*PATTERN), 2)
+    begin, low, end, high = greens_in_cycles(observed(*PATTERN), 2)
     assert [*zip(begin, low, end, high, strict=True)] == [
         (250, 150, 300, 200), (300, 0, 350, 50),
         (400, 100, 500, 200), (500, 0, 700, 200), (700, 0, 900, 200),
     ]  # fmt: skip
+
+
+def test_midnight_before_a_run() -> None:
+    """At 7:00:50 a pattern of 20 s, whose offset is 3 s, is 7 s behind its local zero by
+    a street's events. Those of a bench have local zeros, and without one say nothing."""
+    late = replace(observed(*PATTERN).run, start=START + np.timedelta64(50, "s"))
+    told = (1, 131, 1), (1, 132, 20), (1, 133, 3), (1, 150, 1), (10, 82, 2)
+    run = replace(late, events=numbers(*told).run.events)
+    assert Numbers(run).arriving["in_cycle_s"].to_list() == [8.0]
+    assert Numbers(replace(run, is_observed=False)).arriving["in_cycle_s"].isna().all()
+    zero = numbers(*told, (5, 150, 5)).run.events
+    assert Numbers(replace(run, events=zero)).arriving["in_cycle_s"].to_list() == [0.5]
+    # (and of another pattern in events that have local zeros nothing is supposed)
+    later = numbers(*told, (5, 150, 5), (100, 131, 2), (100, 132, 30), (110, 82, 2)).run
+    places = Numbers(replace(run, events=later.events)).arriving["in_cycle_s"]
+    assert places[0] == 0.5 and places[1] is pd.NA
 
 
 def test_no_cycle_of_a_pattern() -> None:

@@ -367,6 +367,9 @@ BANDS = "P2 G from 1 to 50, Y from 51 to 80, R from 81 to 100"
         (Never((GREEN, OVERLAP), ticks(21, None)),
          Missed(21, "in no tick from 21 to 100: P2 G with O1 G",
                 "P2 G with O1 G from 21 to 50")),
+        # (the first of two such stretches)
+        (Never((Shown("P2", "Y", True),), ticks(None, None)),
+         Missed(1, "in no tick from 1 to 100: P2 not Y", "P2 not Y from 1 to 50")),
         (Never((Shown("P2", "R"),), ticks(1, 80)), None),
         (Came(4, 2, ticks(51, 51)), None),
         (Came(4, 2, ticks(52, 89)),

@@ -107,6 +107,15 @@ def test_a_day_of_inputs(day: Day, plan: Path, log: Path) -> None:
     assert by_hand.sum().sum() > 3 and by_hand.index.name == "phase"
     pd.testing.assert_frame_equal(tables["terminations"], by_hand.reset_index())
     assert dict(day.tables([])) == {}
+    # its clock is that of its first tick, unless it has none: 10 s into a cycle of 80 s
+    for begin, no_clock, zero in (
+        ("07:00:10", False, 700), ("2026-11-22 07:00:10", False, 700),
+        ("07:00:10", True, 800), ("00:00:00", False, 800),
+    ):  # fmt: skip
+        own = replace(day, begin=begin, no_clock=no_clock, pattern=1, seconds=90)
+        (it,) = dict(own.tables([told])).values()
+        assert it.query("code == 150 and parameter == 5")["tick"].to_list() == [zero]
+    assert key_of(day, []) != key_of(replace(day, no_clock=True), [])
     # in a pattern the first tick has its event
     (pattern,) = dict(replace(day, pattern=1).tables([told])).values()
     assert [1, 131, 1] in pattern.to_numpy().tolist()
@@ -117,9 +126,11 @@ def test_records_of_each_kind(examples: Path) -> None:
     """Without a word calls of recalls and outputs are in none."""
     plan, log = examples / "main_and_oak.json", Log.read(examples / "hour_of_traffic.log")
     plain = recorded(plan, log, "step 600\n", recalls=False, outputs=False)
-    for words in ({"recalls": True}, {"outputs": True}):
-        assert not recorded(plan, log, "step 600\n", **words).equals(plain)
-        assert not record(plan, log, 60, **words).equals(plain)
+    for recalls in (True, False):
+        said = recorded(plan, log, "step 600\n", recalls=recalls, outputs=not recalls)
+        assert not said.equals(plain)
+        said = record(plan, log, 60, recalls=recalls, outputs=not recalls)
+        assert not said.equals(plain)
     assert recorded(plan, log, "step 600\n").equals(plain)
     assert record(plan, log, 60).equals(plain)
 
@@ -408,7 +419,7 @@ def test_the_traffic_of_a_sweep(traffic: Traffic, tmp_path: Path) -> None:
 ALL = [
     "a.json", "b.json", "--days", "x.csv", "y.csv", "--out", "out", "--measure",
     "splits", "--measure", "waits", "--begin", "07:00:00", "--seconds", "60",
-    "--device", "7", "--pattern", "3", "--sumo", "net.xml", "--routes", "r.xml",
+    "--device", "7", "--pattern", "3", "--no-clock", "--sumo", "net.xml", "--routes", "r.xml",
     "--mapping", "m.json", "--additional", "d.xml", "--seeds", "1", "2",
     "--scheduler", "tcp://x:1", "--workers", "1",
 ]  # fmt: skip
@@ -419,14 +430,14 @@ def test_the_words_of_a_sweep(capsys: pytest.CaptureFixture[str]) -> None:
     assert vars(_words().parse_args(ALL)) == {
         "plans": ["a.json", "b.json"], "days": ["x.csv", "y.csv"], "out": Path("out"),
         "measure": ["splits", "waits"], "begin": "07:00:00", "seconds": 60,
-        "device": "7", "pattern": 3, "sumo": "net.xml", "routes": "r.xml",
+        "device": "7", "pattern": 3, "no_clock": True, "sumo": "net.xml", "routes": "r.xml",
         "mapping": "m.json", "additional": "d.xml", "seeds": [1, 2],
         "scheduler": "tcp://x:1", "workers": 1,
     }  # fmt: skip
     assert vars(_words().parse_args(["a.json", "--out", "o"])) == {
         "plans": ["a.json"], "days": [], "out": Path("o"), "measure": None,
         "begin": "00:00:00", "seconds": 86400, "device": None, "pattern": 0,
-        "sumo": None, "routes": "", "mapping": "", "additional": "", "seeds": [],
+        "no_clock": False, "sumo": None, "routes": "", "mapping": "", "additional": "", "seeds": [],
         "scheduler": None, "workers": None,
     }  # fmt: skip
     for words in (["a.json"], ["--out", "o"], ["a.json", "--out", "o", "--workers", "0"]):

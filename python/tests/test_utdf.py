@@ -223,6 +223,8 @@ def by_hand() -> Plan:
         ("[Phases]\nRECORDNAME,INTID,D1\nBRP,1,111\n", "3", "[Phases] has nodes 1: not 3"),
         ("[Phases]\nRECORDNAME,INTID,D1\nBRP,,111\n", None,
          "UTDF line 3: a row of [phases] without a node, or before RECORDNAME"),
+        ("[Phases]\nBRP,1\n", None,
+         "UTDF line 2: a row of [phases] without a node, or before RECORDNAME"),
         ("[Phases]\n" + "x" * 200_000 + "\n", None,
          "UTDF line 2: field larger than field limit (131072)"),
     ],
@@ -276,6 +278,158 @@ line 17: Reference Phase = 106: there is no phase 6
 """.splitlines()
     assert dict(reading.plan["phaseMinimumGreen"]) == {1: 5}
     assert reading.plan.phases == {1}
+
+
+def test_cells_at_their_bounds() -> None:
+    """The title of a section may end as a section's own line does. A row may have no
+    value, a number nine digits, a phase the number 16 and the side 4. A negative number
+    is rounded up too. A split needs all of its parts, and whole seconds."""
+    text = """\
+[Phases]
+Phasing Data [all]
+RECORDNAME,INTID,D1,D2,D3,D4,D16
+BRP,1,111,121,131,521,411
+MinGreen,1,5,7,,,8
+MaxGreen,1,20.5,20,,,30
+VehExt,1,1000000000,999999999,,,
+Yellow,1,3.5,3.5,,,3
+AllRed,1,0.05,-0.55,,,
+Walk,1
+[Timeplans]
+RECORDNAME,INTID,DATA
+Control Type,1,3
+Cycle Length,1,90
+Offset,1,
+Control Type,7,1
+[Lanes]
+RECORDNAME,INTID,NBT
+Volume,8,90
+"""
+    reading = utdf.plan_of(text, None)
+    assert list(lines_of(reading.remarks))[:-3] == """\
+line 4: BRP D3 = 131: a plan has rings 1 and 2, and sides 1 to 4
+line 4: BRP D4 = 521: a plan has rings 1 and 2, and sides 1 to 4
+line 6: MaxGreen D1 = 20.5: phaseMaximum1 takes whole ones: 21 is given
+line 6: split of D1 = 24.05: a split has whole seconds
+line 6: split of D2 = 22.95: a split has whole seconds
+line 7: VehExt D1 = 1000000000: it is no number
+line 7: VehExt D2 = 999999999: phasePassage: 9999999990 is not in 0 to 255 (tenths of a second)
+line 9: AllRed D1 = 0.05: phaseRedClear takes whole ones: 1 is given
+line 9: AllRed D2 = -0.55: phaseRedClear takes whole ones: -5 is given
+line 9: AllRed D2 = -0.55: phaseRedClear: -5 is not in 0 to 255 (tenths of a second)
+line 16: [timeplans]: it is of another node
+line 19: [lanes]: it is of another node
+""".splitlines()
+    assert dict(reading.plan["phaseSide"]) == {1: 1, 2: 1, 16: 4}
+    assert not dict(reading.plan["splitTime"]) and not dict(reading.plan["splitCoordPhase"])
+
+
+def test_a_file_that_runs_free() -> None:
+    """Its timing plan is named and not taken."""
+    text = "[Phases]\nRECORDNAME,INTID,D1\nBRP,1,111\n[Timeplans]\nRECORDNAME,INTID,DATA\n"
+    reading = utdf.plan_of(f"{text}Control Type,1,1\nCycle Length,1,90\nLock,1,0\n", None)
+    assert list(lines_of(reading.remarks)) == [
+        "line 6: Control Type = 1: the plan runs free: Control Type is not 3",
+        "line 7: Cycle Length = 90: the plan runs free: Control Type is not 3",
+        "line 8: Lock = 0: a plan has no place for it",
+    ]
+    assert not dict(reading.plan["patternCycleTime"])
+
+
+def test_more_movements_than_detectors() -> None:
+    """The sixteenth has its extension. The next is named, as is one whose phase no
+    plan has: neither is said to be given."""
+    names = ["M0", *(f"M{it}" for it in range(1, 18))]
+    lanes = "".join(
+        f"{row},1,{','.join([first, *[value] * 17])}\n"
+        for row, first, value in (
+            ("DetectPhase1", "99", "1"), ("numDetects", "1", "2"), ("DetectExtend1", "1", "1.5")
+        )
+    )  # fmt: skip
+    phases = "[Phases]\nRECORDNAME,INTID,D1\nBRP,1,111\n"
+    head = f"[Lanes]\nRECORDNAME,INTID,{','.join(names)}\n"
+    reading = utdf.plan_of(f"{phases}{head}{lanes}", None)
+    assert dict(reading.plan["vehicleDetectorExtend"]) == dict.fromkeys(range(1, 17), 15)
+    none = "it is of no detector with a phase"
+    assert list(lines_of(reading.remarks)) == [
+        "line 6: DetectPhase1 M0 = 99: vehicleDetectorCallPhase: 99 is not in 0 to 16 (phase, 0 for none)",
+        "line 6: DetectPhase1 M17 = 1: vehicleDetectorCallPhase.17: its indices are 1 to 16",
+        f"line 6: DetectPhase1 = M0 99, M17 1: {none}",
+        f"line 7: numDetects = M0 1, M17 2: {none}",
+        f"line 8: DetectExtend1 = M0 1, M17 1.5: {none}",
+        *(f"vehicleDetectorCallPhase.{it} = 1: given, for M{it}" for it in range(1, 17)),
+    ]
+
+
+def pattern_of(*coordinated: int) -> Plan:
+    """Phases 1 and 8 with a pattern on table 2 and sequence 2."""
+    plan = Plan()
+    plan["phaseEnabled"] = {1: 1, 8: 1}
+    plan["phaseRing"], plan["phaseSide"] = {1: 1, 8: 2}, {1: 1, 8: 1}
+    plan["phaseMaximum1"] = {1: 20, 8: 9}
+    plan["phaseYellowChange"], plan["phaseRedClear"] = {1: 36, 8: 90}, {1: 14, 8: 15}
+    plan["patternCycleTime"][3] = 60
+    plan["patternSplitNumber"][3] = plan["patternSequenceNumber"][3] = 2
+    plan["splitTime"][2, 1], plan["splitTime"][2, 8] = 25, 10
+    for it in coordinated:
+        plan["splitCoordPhase"][2, it] = 1
+    return plan
+
+
+@pytest.mark.parametrize(
+    ("coordinated", "wanted"), [((), "0"), ((8,), "8"), ((1, 8), "108")]
+)
+def test_reference_phases(coordinated: Sequence[int], wanted: str) -> None:
+    """Two, one alone, or none. What a split leaves is no green in phase 8, and just the
+    maximum of phase 1."""
+    text, told = text_of(pattern_of(*coordinated), 3)
+    assert f"\nReference Phase,7,{wanted}\n" in text
+    assert "\nMaxGreen,7,20.0,,,,,,,-0.5\n" in text and "\nVehExt,7,0.0,,,,,,,0.0\n" in text
+    maximums = [it for it in told if it.startswith("phaseMaximum1")]
+    assert maximums == ["phaseMaximum1.8 = 9: MaxGreen is what the split leaves"]
+
+
+def test_what_sections_have_no_place_for() -> None:
+    """Other patterns, tables and sequences, phases that are not enabled, and lists of
+    concurrent phases that no barrier gives; a mode of maximums that is neither 0 nor 1."""
+    plan = pattern_of(1, 8)
+    plan["phaseEnabled"][16] = plan["phaseSide"][16] = plan["phaseRing"][16] = 1
+    plan["phaseConcurrency"] = {1: {8}, 8: {1}, 16: {8}}
+    plan["phaseWalk"] = {2: 7, 16: 7}
+    plan["splitTime"] = {(1, 16): 5, (2, 1): 25, (2, 2): 6, (2, 16): 7, (3, 1): 8}
+    for sequence in (1, 2, 3):
+        plan["sequenceData"][sequence, 1, 1] = plan["sequenceData"][sequence, 2, 16] = 1
+    plan["patternCycleTime"][4] = 70
+    plan["coordMaximumMode"][1] = 1
+    no_place = "these sections have no place for it"
+    told = [it for it in text_of(plan, 3)[1] if "phaseMaximum1" not in it]
+    assert sorted(told[1:]) == sorted([
+        f"phaseWalk.2 = 7: {no_place}",
+        "phaseConcurrency.8 = 1: BRP makes all phases of a barrier and two rings concurrent",
+        f"splitTime.16 = 5: {no_place}", f"splitTime.18 = 6: {no_place}",
+        f"splitTime.33 = 8: {no_place}", f"patternCycleTime.4 = 70: {no_place}",
+        *(f"sequenceData.{it} = 1: {no_place}" for it in (1, 32, 65, 96)),
+    ])  # fmt: skip
+    plan["coordMaximumMode"][1] = 2
+    assert f"coordMaximumMode.1 = 2: {no_place}" in text_of(plan, 3)[1]
+    free = text_of(plan, 0)
+    assert free[0].startswith("[Timeplans]\nTiming Plan Settings\nRECORDNAME,INTID,DATA\nControl Type,7,1\n\n")
+    of = [it for it in free[1] if it.startswith("sequenceData")]
+    assert of == [f"sequenceData.{it} = 1: {no_place}" for it in (33, "64 to .65", 96)]
+
+
+def test_words_of_utdf(examples: Path, capsys: pytest.CaptureFixture[str]) -> None:
+    """Free operation without a pattern, for a plan of version 1 as well. No word is cut."""
+    plan = str(examples / "quad.json")
+    assert main(["utdf", plan]) == 0
+    assert "\nControl Type,1,1\n" in capsys.readouterr().out
+    for words in (["--pattern", "17"], ["--pat", "1"]):
+        with pytest.raises(SystemExit) as ended:
+            main(["utdf", plan, *words])
+        assert ended.value.code == 2
+    capsys.readouterr()
+    assert main(["utdf", plan, "--pattern", "16"]) == 1
+    assert capsys.readouterr().err.endswith("the plan has no pattern 16\n")
 
 
 def test_a_plan_that_breaks_a_rule(

@@ -16,7 +16,7 @@ from typing import TextIO
 
 from tsb import __version__, programs
 from tsb.errors import Error, NoProgram, shown
-from tsb.options import nearest
+from tsb.options import called, nearest
 
 # Modules with a function `main(words)`, which gives the status to end with.
 COMMANDS = (
@@ -58,7 +58,7 @@ def listed() -> Iterator[str]:
             yield f"  {name:9} {programs.find(name)}"
         except NoProgram as missing:
             yield f"  {name:9} {missing}"
-    yield "commands: python3 -m tsb COMMAND .."
+    yield f"commands: {called('COMMAND')} .."
     yield from (f"  {name:9} {said}" for name, said in commands())
 
 
@@ -66,7 +66,7 @@ def unknown(name: str) -> str:
     """What is said of a word that is no command."""
     right = nearest(name, COMMANDS)
     meant = "" if right is None else f", did you mean {right}?"
-    return f"there is no command {shown(name)}{meant}; python3 -m tsb lists them"
+    return f"there is no command {shown(name)}{meant}; {called()} lists them"
 
 
 def forget_folder() -> None:

@@ -5,6 +5,7 @@ import re
 import tempfile
 from collections.abc import Iterable, Iterator
 from contextlib import contextmanager, suppress
+from datetime import datetime, time
 from numbers import Integral
 from os import PathLike, fspath
 from pathlib import Path
@@ -12,6 +13,7 @@ from types import TracebackType
 from typing import Literal, NamedTuple, Self
 
 from tsb import files, programs
+from tsb.clock import YEARS, Moment, words
 from tsb.errors import (
     BadCommand,
     Error,
@@ -29,7 +31,7 @@ from tsb.progress import progress
 from tsb.rows import ALL_OFF, PEDESTRIANS, PREEMPTS, ROW, VEHICLES, Log, On, digits
 from tsb.status import Edits, Status
 from tsb.talk import Talk
-from tsb.values import Index, Value, index_of, number_of, object_of
+from tsb.values import SECOND, TENTH, Index, Value, index_of, number_of, object_of
 
 Watch = Literal[
     "interval", "ped", "call", "output", "alarm", "input", "button", "preempt",
@@ -39,7 +41,9 @@ Watch = Literal[
 # Ticks that are taken at a time, where there are more.
 LONG = 100_000
 # The first words of commands that are inputs and no ticks.
-INPUTS = frozenset("pattern preempt fault reset begin set verify commit abort".split())
+INPUTS = frozenset(
+    "pattern preempt fault reset clock begin set verify commit abort".split()
+)
 
 _EVENT = re.compile(rb"event (\d+) (\d+) (\d+)\n")
 
@@ -230,11 +234,14 @@ class Bench:
         return self._gone_back("back", count)
 
     @whole
-    def seek(self, tick: int) -> Display:
-        """Goes back to a tick; `NoSuchTick` where it lies ahead."""
+    def seek(self, tick: int | Moment) -> Display:
+        """Goes back to a tick, or to that of a time of the clock; `NoSuchTick` where it
+        lies ahead."""
+        if isinstance(tick, datetime | time) or (isinstance(tick, str) and ":" in tick):
+            tick = self.tick_at(tick)
         return self._gone_back("seek", tick)
 
-    def _gone_back(self, word: str, count: int) -> Display:
+    def _gone_back(self, word: str, count: object) -> Display:
         command = f"{word} {_counted(word, count)}"
         answer = self._ask(command)
         if answer == "nothing":
@@ -265,6 +272,45 @@ class Bench:
             _, count = self._marks.pop()
             del self._told[count:]
         return kind
+
+    # The clock
+
+    def set_clock(self, moment: datetime | str) -> None:
+        """Sets the clock, which has no zone: the next tick begins then."""
+        self._do(f"clock {words(moment, dated=True)}")
+
+    @property
+    @whole
+    def time(self) -> datetime | None:
+        """What the clock shows when the next tick begins; None where none is set."""
+        second = self.status.global_time
+        if second is None or (second + SECOND).year not in YEARS:
+            return second
+        # (the status has no tenths; and no tick is before 0)
+        known = second if self._now >= 10 else second + SECOND
+        return known + (self._now - self.tick_at(known)) * TENTH
+
+    @whole
+    def tick_at(self, moment: Moment) -> int:
+        """The first tick at or after a time of the clock, of the present day where no
+        day is named: with it in force, the next tick begins then. `NoSuchTick` where no
+        clock is set."""
+        asked = words(moment)
+        try:
+            answer = self._ask(f"tick {asked}")
+        except BadCommand:
+            raise NoSuchTick(f"{asked}: no clock is set") from None
+        return int(answer.removeprefix("tick "))
+
+    @whole
+    def at(self, moment: Moment) -> Display:
+        """Goes to the tick at a time of the clock, back or on as `step` does: the
+        display there."""
+        tick = self.tick_at(moment)
+        if tick > self._now:
+            self.changes(tick - self._now)
+            return self.show()
+        return self.seek(tick)
 
     # The operator
 
@@ -421,10 +467,10 @@ def _answering(path: str) -> Talk:
     return talk
 
 
-def _counted(what: str, count: int) -> int:
+def _counted(what: str, count: object) -> int:
     """A number of ticks, or of one."""
     is_whole = isinstance(count, Integral) and not isinstance(count, bool)
-    if is_whole and count >= 0:
+    if isinstance(count, Integral) and is_whole and int(count) >= 0:
         return int(count)
     give = "a tick, counted from power-up" if what == "seek" else "a number of ticks"
     number = "as a whole number" if not is_whole else "0 or more"

@@ -26,20 +26,22 @@ from tsb.told import (
 def patterns(events: pd.DataFrame) -> pd.DataFrame:
     """The stretches in which a pattern runs, or none: `begin` and `end` (the first
     tick after it; for the last one, the tick after the last event), `pattern`, `cycle_s` and
-    `offset_s`, NA in free operation. Before the first code 131 operation is free."""
+    `offset_s`, NA in free operation. Before the first code 131 operation is free. A cycle
+    has an event only where it becomes another (132), so before the first it is NA."""
     if not len(events):
         names = ["begin", "end", "pattern", "cycle_s", "offset_s"]
         empty: pd.DataFrame = table_of([], names, [])
         return empty
     first, last = int(events["tick"].min()), int(events["tick"].max())
-    now = {PATTERN: 0, CYCLE: 0, OFFSET: 0}
+    now: dict[int, Any] = {PATTERN: 0, CYCLE: pd.NA, OFFSET: 0}
     rows: list[Row] = [{"begin": first}]
     for tick, moment in by_tick(events, now):
         now.update(moment)
         if tick > rows[-1]["begin"]:
             rows[-1]["end"] = tick
             rows.append({"begin": tick})
-        runs = now[CYCLE] > 0 and 0 < now[PATTERN] < FREE
+        is_long = now[CYCLE] is pd.NA or now[CYCLE] > 0
+        runs = is_long and 0 < now[PATTERN] < FREE
         told = dict(zip(["pattern", "cycle_s", "offset_s"], now.values(), strict=True))
         rows[-1].update(told if runs else dict.fromkeys(told, pd.NA))
     rows[-1]["end"] = last + 1
@@ -48,18 +50,18 @@ def patterns(events: pd.DataFrame) -> pd.DataFrame:
     return found
 
 
-def cycles(events: pd.DataFrame) -> pd.DataFrame:
+def cycles(events: pd.DataFrame, offsets_from: int | None = None) -> pd.DataFrame:
     """Each whole cycle: `begin`, `end` (the next one's begin), `cycle_s`, and the
     `pattern` that runs, NA in free operation.
 
-    Cycles of a pattern begin at local zero (`in_cycle`). In free operation one begins
-    where a barrier is crossed to the side of the lowest number (code 31); where no
-    event has a crossing, with each green of the phase that has the most of them, the
-    lowest of such.
+    Cycles of a pattern begin at local zero (`in_cycle`). In free operation, and where
+    no event says when that is, one begins where a barrier is crossed to the side of the
+    lowest number (code 31); where no event has a crossing, with each green of the phase
+    that has the most of them, the lowest of such.
     """
     free = _free_begins(events)
     rows: list[Row] = []
-    for it, counter in _stretches(events):
+    for it, counter in _stretches(events, offsets_from):
         if counter is None:
             begins = free[(free >= it.begin) & (free <= it.end)]
         else:
@@ -81,20 +83,25 @@ def _free_begins(events: pd.DataFrame) -> Any:
     return np.unique(of.loc[of["parameter"] == first, "tick"].to_numpy(np.int64))
 
 
-def in_cycle(events: pd.DataFrame, ticks: "pd.Series[int]") -> "pd.Series[float]":
+def in_cycle(
+    events: pd.DataFrame, ticks: "pd.Series[int]", offsets_from: int | None = None
+) -> "pd.Series[float]":
     """The place of each tick in the cycle of the pattern that runs then: seconds
-    since local zero, NA in free operation.
+    since local zero, NA in free operation and where it is not known.
 
-    Local zero is where events have it (code 150, parameter 5). Where they have none,
-    and before the first of a pattern that is in step, it is an offset after tick 0, and
-    each cycle later: so the bench counts. A street has tick 0 where its events begin. A counter that comes into step goes on from the last pattern's place.
+    Local zero is where events have it (code 150, parameter 5), and in step a whole
+    number of cycles before the first of a pattern. A counter that comes into step goes
+    on from the last pattern's place. An offset (133) is a length, and no event says from
+    which moment and to which point of the cycle it is counted. So in a pattern without
+    such a local zero a place is NA, or with `offsets_from` it counts from the offset after
+    that tick: 0 for the bench without a clock, and midnight's tick for most streets.
     """
     found = pd.Series(pd.NA, ticks.index, dtype="Float64")
-    for it, counter in _stretches(events):
-        if counter is not None:
+    for it, counter in _stretches(events, offsets_from):
+        if counter is not None and counter.length is not None:
             within = (ticks >= it.begin) & (ticks < it.end)
             since = counter.since_zero(ticks[within].to_numpy(np.int64))
-            found[within] = since / 10
+            found[within] = pd.array(since / 10, "Float64")
     return found
 
 
@@ -111,74 +118,107 @@ class _Told(NamedTuple):
         place = np.searchsorted(self.ticks, ticks, "right")
         return ~np.isin(np.append(0, self.states)[place], NOT_IN_STEP)
 
+    def stays_in_step(self, ticks: Any, until: int) -> Any:
+        """Whether it is in step from each tick up to a later one."""
+        out = self.ticks[np.isin(self.states, NOT_IN_STEP)]
+        since = np.append(-1, out[out < until])[-1]
+        return self.is_in_step(ticks) & (ticks >= since)
+
 
 def _told(events: pd.DataFrame) -> _Told:
     """The local counter in these events."""
     of = events[events["code"] == CYCLE_STATE].sort_values("tick", kind="stable")
-    at_zero, is_state = of["parameter"] == LOCAL_ZERO, of["parameter"] < LOCAL_ZERO
+    at_zero = of["parameter"] == LOCAL_ZERO
     zeros = np.unique(of.loc[at_zero, "tick"].to_numpy(np.int64))
     ticks, states = (
-        of.loc[is_state, it].to_numpy(np.int64) for it in ("tick", "parameter")
+        of.loc[~at_zero, it].to_numpy(np.int64) for it in ("tick", "parameter")
     )
     return _Told(zeros, ticks, states)
 
 
 class _Counter(NamedTuple):
-    """The local counter of a stretch in which a pattern runs. In step it is 0 at the
-    tick `offset`, and each `length` later; as it begins it is as if at `zero`."""
+    """The local counter of a stretch in which a pattern runs. Its `length` is not known
+    where no event has the cycle. As long as it comes into step it goes on as if it was 0
+    at `zero`. In step it is 0 at `base`, and each `length` later, where no event has a
+    local zero. Either may not be known."""
 
     told: _Told
     begin: int
     end: int
-    length: int
-    offset: int
-    zero: int
+    length: int | None
+    zero: int | None
+    base: int | None
 
     def zeros(self) -> Any:
         """The ticks from `begin` up to `end` at which it is 0."""
-        first = self.begin + (self.zero - self.begin) % self.length
-        if not len(self.told.zeros):
-            return np.arange(first, self.end + 1, self.length)
-        own = self._own()
-        return np.append(self.begin, own) if first == self.begin else own
+        place = self.since_zero(np.array([self.begin]))[0]
+        if len(self.told.zeros):
+            own = self._own()
+            return np.append(self.begin, own) if place == 0 else own
+        assert self.length is not None  # (its place is known)
+        first = self.begin + int(-place % self.length)
+        return np.arange(first, self.end + 1, self.length)
+
+    def is_known(self) -> bool:
+        """Whether events have its local zeros, or its place where it begins."""
+        place = self.since_zero(np.array([self.begin]))[0]
+        return len(self.told.zeros) > 0 or not np.isnan(place)
 
     def _own(self) -> Any:
-        """Those of them that events have, after `begin`."""
+        """The local zeros that events have after `begin`."""
         zeros = self.told.zeros
         return zeros[(zeros > self.begin) & (zeros <= self.end)]
 
     def since_zero(self, ticks: Any) -> Any:
-        """How many ticks each of these ticks is after the newest zero before it."""
-        zeros = np.append(self.zero, self._own())
-        place = np.searchsorted(zeros[1:], ticks, "right")
-        since = ticks - zeros[place]
-        is_in_step = self.told.is_in_step(ticks)
-        first = np.where(is_in_step, ticks - self.offset, since) % self.length
-        return np.where(place == 0, first, since)
+        """How many ticks each of these ticks is after the newest zero before it, NaN
+        where that is not known."""
+        own = self._own()
+        place = np.searchsorted(own, ticks, "right")
+        since = ticks - np.append(np.nan, own)[place]
+        return np.where(place == 0, self._before(ticks, own), since)
+
+    def _before(self, ticks: Any, own: Any) -> Any:
+        """The same for ticks before the first of its own zeros."""
+        unknown = np.full(len(ticks), np.nan)
+        if self.length is None:
+            return unknown
+        going = unknown if self.zero is None else (ticks - self.zero) % self.length
+        in_step = unknown if self.base is None else (ticks - self.base) % self.length
+        if len(own):
+            stays = self.told.stays_in_step(ticks, own[0])
+            in_step = np.where(stays, (ticks - own[0]) % self.length, in_step)
+        return np.where(self.told.is_in_step(ticks), in_step, going)
 
 
-def _stretches(events: pd.DataFrame) -> Iterator[tuple[Any, _Counter | None]]:
-    """The stretches of patterns, each with its local counter: none in free operation.
-    One that is not in step goes on from the place of the one before it."""
+def _stretches(
+    events: pd.DataFrame, offsets_from: int | None
+) -> Iterator[tuple[Any, _Counter | None]]:
+    """The stretches of patterns, each with its local counter: none in free operation,
+    and where it is not known. One that is not in step goes on from the place of the one
+    before it."""
     told = _told(events)
     before: _Counter | None = None
     for it in patterns(events).itertuples(index=False):
         counter = None
         if it.pattern is not pd.NA:
-            zero = offset = 10 * it.offset_s
+            length = None if it.cycle_s is pd.NA else 10 * it.cycle_s
+            base = None if offsets_from is None else offsets_from + 10 * it.offset_s
+            zero = base
             if before and not told.is_in_step(it.begin):
-                zero = it.begin - int(before.since_zero(np.array([it.begin]))[0])
-            length = 10 * it.cycle_s
-            counter = _Counter(told, it.begin, it.end, length, offset, zero)
-        yield it, counter
+                place = before.since_zero(np.array([it.begin]))[0]
+                zero = None if np.isnan(place) else it.begin - int(place)
+            counter = _Counter(told, it.begin, it.end, length, zero, base)
         before = counter
+        yield it, counter if counter and counter.is_known() else None
 
 
-def greens_a_cycle(events: pd.DataFrame) -> pd.DataFrame:
+def greens_a_cycle(
+    events: pd.DataFrame, offsets_from: int | None = None
+) -> pd.DataFrame:
     """How often each phase is green in a cycle: a row for a phase. It has how many
     whole `cycles` there are, the `greens` that begin in them, and `a_cycle`. Then come
     how many cycles have none (`without`) and more than one (`with_more`)."""
-    whole = cycles(events)
+    whole = cycles(events, offsets_from)
     begins, ends = (whole[it].to_numpy(np.int64) for it in ("begin", "end"))
     rows: list[Row] = []
     begun = events[events["code"] == GREEN]

@@ -11,12 +11,12 @@ from pathlib import Path
 
 from tsb.errors import Error, shown
 from tsb.manual import NEWEST, OBJECTS, Object
-from tsb.options import Words
+from tsb.options import Words, called
 from tsb.patterns import Timing, timings_of
 from tsb.plan import Plan
 from tsb.values import parts_of, phases_of, time_of, unit_of
 
-PROGRAM = "python3 -m tsb diff"
+PROGRAM = called("diff")
 ALIKE, DIFFER, FAULT = 0, 1, 2  # statuses, as those of diff
 NONE = "none"  # of a time that a pattern has no more, or not yet
 
@@ -38,13 +38,19 @@ class Change:
     after: int
 
     def __str__(self) -> str:
-        what = OBJECTS[self.name]
-        place = place_of(what, self.index)
-        said = said_of(what, self.after)
-        return (
-            f"{self.name}.{self.index}{f' ({place})' if place else ''}:"
-            f" {self.before} -> {self.after}{f' ({said})' if said else ''}"
-        )
+        after = self.with_said(self.after)
+        return f"{self.name}.{self.place}: {self.before} -> {after}"
+
+    @property
+    def place(self) -> str:
+        """The index, with its parts where it has several: `3 (table 1, phase 3)`."""
+        parts = place_of(OBJECTS[self.name], self.index)
+        return f"{self.index} ({parts})" if parts else f"{self.index}"
+
+    def with_said(self, number: int) -> str:
+        """A value of the object, with the time or the list that it is: `25 (2.5 s)`."""
+        said = said_of(OBJECTS[self.name], number)
+        return f"{number} ({said})" if said else f"{number}"
 
     @classmethod
     def of(cls, line: str) -> "Change":
@@ -160,22 +166,26 @@ def _time(tenths: int | None) -> str:
 
 
 def lines_of(a: Plan, b: Plan, names: tuple[str, str]) -> Iterator[str]:
-    """The lines of the command: the changes, and beyond a blank line what follows. A
-    plan that `tsb check` refuses has no patterns that run: its fault is in place of
-    what follows."""
+    """The lines of the command: the changes, and beyond a blank line what follows."""
     found = changes(a, b)
     yield from map(str, found)
     if not found:
         return
+    further = further_of(a, b, names)
+    if further:
+        yield ""
+        yield from further
+
+
+def further_of(a: Plan, b: Plan, names: tuple[str, str]) -> list[str]:
+    """What follows from the changes of two plans of these names. One that `tsb check`
+    refuses has no patterns that run: its fault is in place of what follows."""
     refused = [
         f"{shown(name)}: {fault.line}"
         for name, plan in zip(names, (a, b), strict=True)
         if (fault := plan.fault())
     ]
-    further = refused or list(following(a, b))
-    if further:
-        yield ""
-        yield from further
+    return refused or list(following(a, b))
 
 
 def main(words: Sequence[str]) -> int:

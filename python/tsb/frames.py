@@ -303,7 +303,7 @@ def log_of_export(
     empty. Where the events are those of detector outputs, `as_outputs` is the file of
     the session's plan: a warning tells each detector whose delay or extension acts
     twice. So does one of rows of several devices, where none is named."""
-    words = ["log", f"--from={_spelled(moment(start))}"]
+    words = ["log", f"--from={spelled(moment(start))}"]
     words += ["--allow-empty"] if allow_empty else []
     words += [] if device is None else [f"--device={device}"]
     words += [] if as_outputs is None else [f"--as-outputs={fspath(as_outputs)}"]
@@ -323,11 +323,13 @@ def log_of_export(
 def _refused(words: list[str], died: ProgramDied) -> str:
     """What `tsb_field log` says of an export, or of these words."""
     if died.status != BAD_WORDS:
-        return died.stderr.strip()
+        # (that is a word of the program, and none of Python's commands)
+        allowed = " (give --allow-empty where that is right)"
+        return died.stderr.strip().removesuffix(allowed)
     return f"{' '.join(words)}: docs/use/FIELD.md has the ranges of these words"
 
 
-def _spelled(time: np.datetime64) -> str:
+def spelled(time: np.datetime64) -> str:
     """A moment as the programs read it."""
     text = str(np.datetime_as_string(time, unit="ns")).replace("T", " ")
     return text.rstrip("0").rstrip(".")

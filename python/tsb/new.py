@@ -12,11 +12,11 @@ from pathlib import Path
 from typing import NoReturn
 
 from tsb import programs
-from tsb.options import Words
+from tsb.options import Words, called
 from tsb.plan import OK, Plan
 from tsb.values import seconds
 
-PROGRAM = "python3 -m tsb new"
+PROGRAM = called("new")
 PHASES = range(1, 9)
 RINGS = SIDES = (1, 2)
 YELLOW, RED_REVERT = seconds(4.0), seconds(2.0)

@@ -1,13 +1,25 @@
-"""The words of a command, where a wrong one is answered with the nearest right one."""
+"""The words of a command, where a wrong one is answered with the nearest right one, and
+how the command is called."""
 
 import argparse
 import difflib
 import sys
 from collections.abc import Iterable, Iterator, Sequence
+from pathlib import Path
 from typing import Any, NoReturn
+
+#: How commands are called: by that of an installed package, or by its module.
+INSTALLED, MODULE = "tsb-py", "python3 -m tsb"
 
 #: How alike two words are that are near one another: 1 where they are the same.
 NEAR = 0.65
+
+
+def called(command: str = "") -> str:
+    """A command as who runs this program calls it: `tsb-py report` by the command of an
+    installed package, and else `python3 -m tsb report`."""
+    is_installed = Path(*sys.argv[:1]).name == INSTALLED
+    return f"{INSTALLED if is_installed else MODULE} {command}".rstrip()
 
 
 def nearest(word: str, known: Iterable[str]) -> str | None:

@@ -13,13 +13,13 @@ from pathlib import Path
 from tsb.bench import Bench
 from tsb.errors import Error, LogFault, PlanFault
 from tsb.lines import Display
-from tsb.options import Words
+from tsb.options import Words, called
 from tsb.plan import Plan
 from tsb.programs import marked
 from tsb.progress import progress
 from tsb.rows import PREEMPTS, Log
 
-PROGRAM = "python3 -m tsb preempt"
+PROGRAM = called("preempt")
 PIECE = 100  # ticks that pass between two looks at the heads
 WITHIN = 600  # seconds in which a green has to come, without --within
 
@@ -123,7 +123,7 @@ def _clearance(plan: Plan, phase: int) -> tuple[tuple[str, int], ...]:
 
 def sums(plan: Plan, number: int, phases: frozenset[int]) -> dict[str, Sum]:
     """The rows of a worksheet for phases that conflict: the greatest of each."""
-    others = sorted(plan.phases - phases)
+    others = plan.phases - phases
     rows = {
         "conflicting vehicle": [vehicle(plan, number, it) for it in others],
         "conflicting pedestrian": [

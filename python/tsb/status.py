@@ -8,9 +8,12 @@ import json
 import re
 from collections.abc import Mapping
 from dataclasses import dataclass, fields
+from datetime import datetime, timedelta
 from typing import Any, Self
 
 Numbers = frozenset[int]
+# What globalTime counts seconds from.
+EPOCH = datetime(1970, 1, 1)
 
 
 class _Told:
@@ -85,12 +88,23 @@ class RingStatus(_Told):
     force_off_in: int | None
 
 
+#: What a green lacks, by its name in the line.
+LACKS = {
+    "walk": "its walk",
+    "clearance": "its pedestrian clearance",
+    "initial": "its minimum",
+    "gap": "its gap",
+    "forceOff": "its force-off",
+}
+
+
 @dataclass(frozen=True)
 class Wait:
     """What a phase waits for that is called or in service and not green.
 
     `cause` is `for` of the line, as `barrier`; `of` is the phase that it waits for,
-    `lack` what that green lacks, `left` what is left of a time.
+    `lack` what that green lacks, `left` what is left of a time. Its text is the
+    sentence of the front panel.
     """
 
     phase: int
@@ -100,12 +114,52 @@ class Wait:
     lack: str | None = None
     left: int | None = None
 
+    def __str__(self) -> str:
+        return f"phase {self.phase} waits for {self.words}"
+
     @property
     def words(self) -> str:
-        """What it waits for, as the front panel says it."""
-        from tsb.panel.words import wait
+        """What it waits for, as a person says it."""
+        of = None if self.of is None else f"phase {self.of}"
+        match self.cause:
+            case "flash":
+                return "the flash: a reset ends it"
+            case "due":
+                return "nothing more: it starts in the next tick"
+            case "clears":
+                return self._with_left(f"{of} to clear")
+            case "redRevert":
+                return self._with_left("its own red revert")
+            case "across":
+                return self._with_left(f"{of} of the other ring to clear")
+            case "beside":
+                return self._with_left(f"the red revert of {of}, which starts with it")
+            case "omitted":
+                return "the pattern, which omits it"
+            case "preempted":
+                return f"preempt {self.preempt}, which keeps it out"
+            case "next":
+                return f"{of}, to which its ring is committed"
+            case "crossing":
+                until = f", until {of} has cleared" if of else ""
+                return f"the rings to cross{until}"
+            case "barrier":
+                return f"the barrier, which {of} keeps" if of else "the barrier"
+            case "green":
+                lack = LACKS.get(self.lack or "", "")
+                text = f"the green of {of}, which lacks {lack}" if lack else f"{of}"
+                return self._with_left(text)
+            case "conflict":
+                return f"{of}, which is not concurrent with it"
+            case "turn":
+                return "its turn"
+        return self.cause
 
-        return wait(self)
+    def _with_left(self, text: str) -> str:
+        """A text with what is left of the time, as `3.0 s`."""
+        if self.left is None:
+            return text
+        return f"{text}: {self.left // 10}.{self.left % 10} s left"
 
 
 @dataclass(frozen=True)
@@ -160,6 +214,8 @@ class Status:
     desk: Desk
     rings: tuple[RingStatus, ...]
     waits: Mapping[int, Wait]
+    #: The second that the clock shows when the next tick begins; None without a clock.
+    global_time: datetime | None = None
 
     @classmethod
     def of_line(cls, line: str) -> "Status":
@@ -182,4 +238,9 @@ class Status:
             desk=Desk(**told["desk"]),
             rings=tuple(RingStatus.of(it) for it in told["rings"]),
             waits={it["phase"]: Wait(**it) for it in waits},
+            global_time=_moment(told.get("globalTime")),
         )
+
+
+def _moment(seconds: int | None) -> datetime | None:
+    return None if seconds is None else EPOCH + timedelta(seconds=seconds)

@@ -26,7 +26,7 @@ import pandas as pd
 from tsb import kept
 from tsb.errors import Error
 from tsb.measures import MEASURES
-from tsb.options import Words
+from tsb.options import Words, called
 from tsb.processes import RETRIES, Processes, local
 from tsb.progress import progress
 from tsb.tasks import (
@@ -69,14 +69,15 @@ def sweep(
     seconds: int = 86400,
     device: str | None = None,
     pattern: int = 0,
+    no_clock: bool = False,
     traffic: Traffic | None = None,
     seeds: Iterable[int] = (),
 ) -> pd.DataFrame:
     """Runs each plan on each log, or on `traffic` with each of `seeds`: a table of all
     measures.
 
-    `logs` are files of days or of inputs, and `begin`, `seconds`, `device`, `pattern`
-    what `Day` says of them. The table has the columns `plan`, `day`, `measure` and
+    `logs` are files of days or of inputs, and `begin`, `seconds`, `device`, `pattern`,
+    `no_clock` what `Day` says of them. The table has the columns `plan`, `day`, `measure` and
     those of the measures, empty where a measure has no such column. `client` is Dask's,
     or what `local` gives; without one, processes of this machine do the runs. Results
     are kept in the folder `out`, and taken from there. Files are read and written by
@@ -86,7 +87,7 @@ def sweep(
     """
     tasks = tasks_of(
         plans, logs, begin=begin, seconds=seconds, device=device,
-        pattern=pattern, traffic=traffic, seeds=seeds,
+        pattern=pattern, no_clock=no_clock, traffic=traffic, seeds=seeds,
     )  # fmt: skip
     with _kept(out) as folder:
         found = Runs(tasks, measures, folder)
@@ -111,11 +112,12 @@ def tasks_of(
     pattern: int,
     traffic: Traffic | None,
     seeds: Iterable[int],
+    no_clock: bool = False,
 ) -> list[Task]:
     """The runs of a sweep."""
     files = [_path(it) for it in plans]
     tasks: list[Task] = [
-        Day(plan, _path(log), begin, seconds, device, pattern)
+        Day(plan, _path(log), begin, seconds, device, pattern, no_clock)
         for plan, log in itertools.product(files, list(logs))
     ]
     if traffic is not None:
@@ -265,7 +267,8 @@ def main(words: Sequence[str]) -> int:
     traffic = _traffic(given)
     tasks = tasks_of(
         given.plans, given.days, begin=given.begin, seconds=given.seconds,
-        device=given.device, pattern=given.pattern, traffic=traffic, seeds=given.seeds,
+        device=given.device, pattern=given.pattern, no_clock=given.no_clock,
+        traffic=traffic, seeds=given.seeds,
     )  # fmt: skip
     if not tasks:
         raise Error("there is nothing to run: name --days, or --sumo and --seeds")
@@ -331,7 +334,7 @@ def _traffic(given: argparse.Namespace) -> Traffic | None:
 
 def _words() -> argparse.ArgumentParser:
     words = Words(
-        prog="python3 -m tsb sweep",
+        prog=called("sweep"),
         description="Runs each plan on each day, or on SUMO's traffic with each seed.",
     )
     words.add_argument("plans", nargs="+")
@@ -340,7 +343,12 @@ def _words() -> argparse.ArgumentParser:
     )
     words.add_argument("--out", type=Path, required=True, metavar="FOLDER")
     words.add_argument("--measure", action="append", choices=[*MEASURES, TRIPS])
-    words.add_argument("--begin", default="00:00:00", help="when tick 1 begins")
+    words.add_argument(
+        "--begin", default="00:00:00", help="when tick 1 begins; the clock is set to it"
+    )
+    words.add_argument(
+        "--no-clock", action="store_true", help="offsets count from tick 0, not midnight"
+    )
     words.add_argument("--seconds", type=int, default=86400)
     words.add_argument("--device", help="of event logs, the controller")
     words.add_argument("--pattern", type=int, default=0)

@@ -18,7 +18,14 @@ import pandas as pd
 from tsb import kept, programs
 from tsb.errors import Error, PlanFault, ProgramDied
 from tsb.files import word
-from tsb.frames import events_of_export, gap_told, log_of_export, moment, read_export
+from tsb.frames import (
+    events_of_export,
+    gap_told,
+    log_of_export,
+    moment,
+    read_export,
+    spelled,
+)
 from tsb.measures import MEASURES
 from tsb.plan import Plan
 from tsb.rows import Log
@@ -39,9 +46,11 @@ class Day:
     """A run of a plan on a day: an event log of a street's controller (CSV, or Parquet
     where pyarrow is there), or a log of inputs (`.log`).
 
-    `begin` is the time at which tick 1 begins; without a date, the day is the file's
-    name, as `2026-11-22.csv`. A log of inputs begins with its tick 1. The run takes
-    `seconds`, in `pattern` (0 is free), on the rows of `device`, or of all.
+    `begin` is the time at which tick 1 begins, to which the clock of the run is set,
+    unless it has `no_clock`; without a date, the day is the file's name, as
+    `2026-11-22.csv`, and that of a log of inputs need have none. A log of inputs begins
+    with its tick 1. The run takes `seconds`, in `pattern` (0 is free), on the rows of
+    `device`, or of all.
     """
 
     plan: str
@@ -50,6 +59,7 @@ class Day:
     seconds: int
     device: str | None
     pattern: int
+    no_clock: bool = False
 
     @property
     def reads(self) -> list[str]:
@@ -64,15 +74,20 @@ class Day:
     @property
     def asked(self) -> list[object]:
         """What is asked beside the files."""
-        return [self.begin, self.seconds, self.device, self.pattern]
+        return [self.begin, self.seconds, self.device, self.pattern, self.no_clock]
 
     def tables(self, measures: Sequence[Measure]) -> Iterator[tuple[str, pd.DataFrame]]:
         """The table of each measure."""
-        log = self._log()
-        return _measured(self.plan, log, self.seconds, self.pattern, measures)
+        log, begin = self._log(), None if self.no_clock else self._start()
+        return _measured(self.plan, log, self.seconds, self.pattern, measures, begin)
+
+    @property
+    def _is_log(self) -> bool:
+        """Whether it is a log of inputs."""
+        return Path(self.source).suffix == ".log"
 
     def _log(self) -> Log:
-        if Path(self.source).suffix == ".log":
+        if self._is_log:
             return Log.read(self.source)
         changed = Path(self.source).stat().st_mtime_ns
         log, notes = _log_of_day(self.source, changed, self._start(), self.device)
@@ -83,9 +98,10 @@ class Day:
     def _start(self) -> str:
         start = self.begin
         if not DATE.match(start):
-            if not DATE.fullmatch(self.name):
+            day = self.name if DATE.fullmatch(self.name) else None
+            if day is None and not self._is_log:
                 raise Error(f"{self.source}: name it by its day, or begin with a date")
-            start = f"{self.name} {start}"
+            start = f"{day or POWER_UP[:10]} {start}"
         return str(moment(start, "--begin"))
 
 
@@ -176,20 +192,27 @@ class Seed:
                 table = summary(read_trips(trips))
                 yield TRIPS, table.rename_axis("kind").reset_index()
         others = [it for it in measures if it != TRIPS]
-        yield from _measured(self.plan, log, self.seconds, self.pattern, others)
+        # (the benches of a loop have no clock)
+        yield from _measured(self.plan, log, self.seconds, self.pattern, others, None)
 
 
 Task = Day | Seed
 
 
 def _measured(
-    plan: str, log: Log, seconds: int, pattern: int, measures: Sequence[Measure]
+    plan: str,
+    log: Log,
+    seconds: int,
+    pattern: int,
+    measures: Sequence[Measure],
+    begin: str | None,
 ) -> Iterator[tuple[str, pd.DataFrame]]:
-    """The measures of the events of a plan on a log."""
+    """The measures of the events of a plan on a log, with a clock where tick 1 begins
+    at a time."""
     if not measures:
         return
     # (with the calls of recalls, from which waits of phases on recall are)
-    events = record(plan, log, seconds, pattern, recalls=True)
+    events = record(plan, log, seconds, pattern, recalls=True, begin=begin)
     read = Plan.read(plan)
     for it in measures:
         found = (MEASURES[it] if isinstance(it, str) else it)(events, read)
@@ -205,12 +228,13 @@ def record(
     *,
     recalls: bool = False,
     outputs: bool = False,
+    begin: str | None = None,
 ) -> pd.DataFrame:
     """The events of a plan that runs for so long on a log, from power-up on: as
     `recorded` gives them."""
     selected = f"pattern {pattern}\n" if pattern else ""
     commands = f"{selected}step {10 * seconds}\n"
-    return recorded(plan, log, commands, recalls=recalls, outputs=outputs)
+    return recorded(plan, log, commands, recalls=recalls, outputs=outputs, begin=begin)
 
 
 def recorded(
@@ -220,16 +244,21 @@ def recorded(
     *,
     recalls: bool = False,
     outputs: bool = False,
+    begin: str | None = None,
 ) -> pd.DataFrame:
     """The events of a session of a plan on a log, by `tsb_field record`: `tick`,
     `code`, `parameter`. With `recalls` they have the calls of phases on recall, and
     with `outputs` those of detectors after delay and extension, in place of their
-    inputs. `PlanFault` is a plan that is refused, `ProgramDied` a command that is."""
+    inputs. Its clock is set to `begin`, the time at which tick 1 begins; without one it
+    has no clock, and offsets count from tick 0. `PlanFault` is a plan that is refused,
+    `ProgramDied` a command that is, or a `begin` that no clock has."""
+    start = POWER_UP if begin is None else spelled(moment(begin, "begin"))
     with tempfile.TemporaryDirectory() as folder:
         path = Path(folder) / "inputs.log"
         log.write(path)
-        words = ["record", f"--from={POWER_UP}", "--device=1", word(plan), str(path)]
+        words = ["record", f"--from={start}", "--device=1", word(plan), str(path)]
         words += ["--recalls"] * recalls + ["--outputs"] * outputs
+        words += ["--no-clock"] * (begin is None)
         try:
             done = programs.run("tsb_field", words, commands.encode())
         except ProgramDied as died:
@@ -238,7 +267,7 @@ def recorded(
             raise
         if done.stderr:
             raise Error(f"{plan}: {done.stderr.decode().strip()}")
-        return events_of_record(done.stdout)
+        return events_of_record(done.stdout, start)
 
 
 def events_of_record(text: bytes, start: str = POWER_UP) -> pd.DataFrame:

@@ -14,9 +14,9 @@ WALK, CALL, CALL_GOES, PEDESTRIAN_CALL = 21, 43, 44, 45
 DETECTOR_ON, PREEMPT_ON, PREEMPT_OFF = 82, 102, 104
 SERVICE, TRACK, DWELL, EXIT = 105, 106, 107, 111
 BARRIER, PATTERN, CYCLE, OFFSET = 31, 131, 132, 133
-# How the local counter goes: the numbers for "not in step yet" and for "a cycle begins";
-# other numbers up to this one are other states.
-CYCLE_STATE, NOT_IN_STEP, LOCAL_ZERO = 150, (2, 3, 4), 5
+# How the local counter goes: the numbers for "not in step yet", with a street's 6 for the
+# begin of a pickup, and for "a cycle begins"; other numbers are other states.
+CYCLE_STATE, NOT_IN_STEP, LOCAL_ZERO = 150, (2, 3, 4, 6), 5
 FREE = 254  # a pattern's number: free operation, and above it flash
 # An alarm of a detector goes; the bench's own comes, or one of those that a street's
 # controller reports apart: watchdog, open loop, shorted loop, excessive change.

@@ -18,7 +18,7 @@ USAGE = (
     b"usage: tsb_field log --from TIME [--device ID] [--time-form FORM] [--zone OFFSET] [--count] [--allow-empty]\n"
     b"          [--sort] [--sort-within SECONDS] [--as-outputs PLAN]\n"
     b"          [--vehicle CHANNEL=DETECTOR].. [--pedestrian CHANNEL=DETECTOR].. [--preempt CHANNEL=INPUT]..\n"
-    b"    or tsb_field record --from TIME --device ID [--go-on] [--recalls] [--outputs] PLAN LOG\n"
+    b"    or tsb_field record --from TIME --device ID [--go-on] [--recalls] [--outputs] [--no-clock] PLAN LOG\n"
     b"    or tsb_field events --from TIME --device ID [--log LOG]\n"
     b"    or tsb_field diagram [--log LOG] [--title TEXT] [--seconds-per-line N] [--from TIME [--events FILE]]\n"
     b"    or tsb_field review PLAN\n"
@@ -70,8 +70,9 @@ WRONG = [
     (["review"], b"review names one file, PLAN"),
 ]
 
-# What is printed of what was left out.
+# What is printed of what was left out, where no event is of a channel without an input, and where there are such events.
 LEFT = b"left out: %d rows of other devices, %d events of channels without an input, %d lines that are no rows\n"
+LEFT_OF = LEFT.replace(b"an input", b"an input (%b)")
 
 # What is printed where no row counts, where no input has an event from tick 1 on, and of the form of times.
 NO_ROW, NO_EVENT, EMPTY = field_rules.NO_ROW, field_rules.NO_EVENT, "--allow-empty"
@@ -79,7 +80,14 @@ TIMES = b"times: %b, by the first row\n"
 MONTH_FIRST, DAY_FIRST, OF_SECONDS, OF_MILLISECONDS = (
     TIMES % form for form in [b"month-first", b"day-first", b"seconds", b"milliseconds"])
 
+# What is printed where a row that counts has a zone, and none is asked for.
+ZONES = b"times: their zones are passed over (give that of --from, as --zone=-07:00)\n"
+
 # What is printed of a line that ends before the field of a column, and of one of more than 1,000 bytes.
+NO_DEVICE = b"header: no column is the device: name it SignalID, DeviceId, LocationIdentifier or LocationId"
+NO_TIME = b"header: no column is the time: name it Timestamp, DateTime or Time"
+NO_CODE = b"header: no column is the code: name it EventCode, EventId, EventType or Code"
+NO_PARAMETER = b"header: no column is the parameter: name it EventParam, Parameter, Param or EventValue"
 ENDS, LONG = b"%b: the line ends before it", b"over 1000 bytes (is it a text with lines?)"
 GIB = 1 << 30
 
@@ -183,10 +191,7 @@ def wide_runs():
         (MONTH_FIRST, "11-22-2026 07:00:01.0", "11-22-2026 07:00:03"),
         (MONTH_FIRST, " 11/22/2026 07:00:01 ", "11/22/2026 07:00:03  "),
         (DAY_FIRST, "22/11/2026 07:00:01", "22/11/2026 07:00:03"),
-        (DAY_FIRST, "22-11-2026 7:00:01 AM", "22-11-2026 07:00:03 UTC"),
-        (b"", "2026/11/22 07:00:01", "2026-11-22 07:00:03"), (b"", "2026-11-22T07:00:01Z", "2026-11-22T07:00:03.0Z"),
-        (b"", "2026-11-22 07:00:01+01:00", "2026-11-22 07:00:03-0700"),
-        (b"", "2026-11-22 07:00:01.0000000 +00:00", "2026-11-22 07:00:03.0000000 -07"),
+        (DAY_FIRST, "22-11-2026 7:00:01 AM", "22-11-2026 07:00:03"), (b"", "2026/11/22 07:00:01", "2026-11-22 07:00:03"),
         (OF_SECONDS, "1795330801", "1795330803.000"), (OF_MILLISECONDS, "1795330801000", "1795330803000"),
     ]:
         text = f"{HEADER.decode()}7,{first},82,2\n7,{second},81,2\n".encode()
@@ -239,10 +244,7 @@ def separator_runs():
         # Lines that a database draws, and in which it counts its rows; headers that come again.
         drawn = HEADER + b"---,---,---,---\n" + CAR_FIRST + HEADER + CAR_SECOND + b"\n(2 rows affected)\n"
         yield logged(drawn.replace(b",", mark), CAR_LOG, errors=LEFT % (0, 0, 3))
-    for first, second in [
-        (b'"2026-11-22 07:00:01,0"', b'"2026-11-22 07:00:03,000"'), (b"2026-11-22T07:00:01 UTC", b"2026-11-22T07:00:03.0 +05:30"),
-    ]:
-        yield logged(HEADER + b"7,%b,82,2\n7,%b,81,2\n" % (first, second), CAR_LOG)
+    yield logged(HEADER + b'7,"2026-11-22 07:00:01,0",82,2\n7,"2026-11-22 07:00:03,000",81,2\n', CAR_LOG)
     for said in [b"(1 row)", b"(12 rows)", b"(1 row affected)", b"(0 rows affected)"]:
         yield logged(usual + said + b"\n", CAR_LOG, errors=LEFT % (0, 0, 1))
     # One separator a file: by the first row where no header says it.
@@ -253,8 +255,8 @@ def separator_runs():
         yield refused(text, line)
         yield refused(text.split(b"\n", 1)[1], line.replace(b"3", b"2"))
     yield refused(HEADER.replace(b",", b";") + b"7;2026-11-22 07:00:01;82\n", b"events line 2: parameter: the line ends before it\n")
-    yield refused(b"Timestamp;EventCode\n" + CAR, b"events line 1: header: no column is the parameter\n")
-    yield refused(b"Timestamp\tEventParam\n" + CAR, b"events line 1: header: no column is the code\n")
+    yield refused(b"Timestamp;EventCode\n" + CAR, b"events line 1: " + NO_PARAMETER + b"\n")
+    yield refused(b"Timestamp\tEventParam\n" + CAR, b"events line 1: " + NO_CODE + b"\n")
 
 
 # What the exports of tools/programs/exports have to give: the ticks of the log's rows, of which the first has detector
@@ -262,7 +264,7 @@ def separator_runs():
 # its log.
 BOTH, ONE = (33, 41), (33,)
 EXPORT_FORMS = {"a01_udot4": MONTH_FIRST, "a02_ampm": MONTH_FIRST, "a05_epoch": OF_SECONDS, "a06_epochms": OF_MILLISECONDS,
-                "a25_econ": MONTH_FIRST}
+                "a08_v5z": ZONES, "a09_offset": ZONES, "a25_econ": MONTH_FIRST}
 EXPORTS = {
     "a01_udot4": BOTH, "a02_ampm": BOTH, "a05_epoch": BOTH, "a06_epochms": ONE, "a07_v5": BOTH, "a08_v5z": ONE, "a09_offset": ONE,
     "a10_odot": BOTH, "a11_ssms": BOTH, "a12_ctrl3": BOTH, "a13_snake": ONE, "a14_space": ONE, "a15_commaspace": ONE,
@@ -349,7 +351,8 @@ def wire_runs():
     on = [f"07:00:00 {code} {n}" for code, n in [(82, 16), (90, 8), (102, 4)]]
     yield logged(told(*on), row(1, [16], [8], [4]))
     beyond = [f"07:00:00 {code} {n}" for code, n in [(82, 17), (81, 0), (90, 9), (89, 10), (102, 5), (104, 4294967295)]]
-    yield logged(told(*on, *beyond), row(1, [16], [8], [4]), errors=LEFT % (0, 6, 0))
+    these = b"vehicle 17, vehicle 0, pedestrian 9, pedestrian 10, preempt 5, preempt 4294967295"
+    yield logged(told(*on, *beyond), row(1, [16], [8], [4]), errors=LEFT_OF % (0, 6, these, 0))
     yield from (logged(told(*(f"07:00:00 {it}" for it in events)), log, *words) for words, events, log in [
         (["--vehicle", "17=3"], ["82 17"], row(1, [3])),
         (["--vehicle", "0=1", "--vehicle", "4294967295=2"], ["82 0", "82 4294967295"], row(1, [1, 2])),
@@ -361,10 +364,18 @@ def wire_runs():
          row(1, [], [7, 8], [4])),
         (["--preempt", "5=1", "--vehicle", "5=2"], ["90 5", "82 5", "102 5"], row(1, [2], [5], [1])),
     ])
-    yield logged(told("07:00:00 82 18"), b"", "--vehicle=17=3", EMPTY, errors=LEFT % (0, 1, 0))
-    yield refused(told("07:00:00 82 18"), LEFT % (0, 1, 0) + NO_EVENT, b"", "--vehicle=17=3")
+    yield logged(told("07:00:00 82 18"), b"", "--vehicle=17=3", EMPTY, errors=LEFT_OF % (0, 1, b"vehicle 18", 0))
+    yield refused(told("07:00:00 82 18"), LEFT_OF % (0, 1, b"vehicle 18", 0) + NO_EVENT, b"", "--vehicle=17=3")
     both = told("07:00:00 82 20", "07:00:00.1 82 21", "07:00:00.2 81 20", "07:00:00.3 81 21")
     yield logged(both, row(1, [5]) + row(4), "--vehicle", "20=5", "--vehicle", "21=5")
+    # Channels without an input are named as they come, the first eight of them; with --sort in the order of time.
+    ten = [f"07:00:03 {89 + k % 2} {20 + k // 2}" for k in range(20)]
+    named = b", ".join(b"pedestrian %d" % (20 + k) for k in range(8))
+    yield logged(CAR + told(*ten[:16]), CAR_LOG, errors=LEFT_OF % (0, 16, named, 0))
+    yield logged(CAR + told(*ten[:17], *ten[:3]), CAR_LOG, errors=LEFT_OF % (0, 20, named + b", ..", 0))
+    yield logged(CAR + told(*ten), CAR_LOG, errors=LEFT_OF % (0, 20, named + b", ..", 0))
+    late = CAR + told("07:00:05 104 17", "07:00:04 82 17", "07:00:05 81 17")
+    yield logged(late, CAR_LOG, "--sort", errors=LEFT_OF % (0, 3, b"vehicle 17, preempt 17", 0))
     other = b"8,2026-11-22 06:00:00,82,1\n9,2026-11-30 00:00:00,82,1\n"
     yield logged(CAR[:len(CAR) // 2] + other + CAR[len(CAR) // 2:], CAR_LOG, "--device", "7", errors=LEFT % (2, 0, 0))
     yield logged(CAR + other, b"", "--device=10", EMPTY, errors=LEFT % (4, 0, 0))
@@ -378,9 +389,30 @@ def wire_runs():
     yield logged(CAR.replace(b"7,2026", b'"Main, 5th",2026'), CAR_LOG, "--device", "Main, 5th")
     yield logged(CAR.replace(b"7,2026", b",2026"), CAR_LOG)
     yield logged(CAR + b"8,2026-11-22 07:00:03,82,99\n", CAR_LOG, "--device", "7", errors=LEFT % (1, 0, 0))
-    yield logged(CAR + told(f"{BEHIND} 82 17"), CAR_LOG, errors=LEFT % (0, 1, 0))
+    yield logged(CAR + told(f"{BEHIND} 82 17"), CAR_LOG, errors=LEFT_OF % (0, 1, b"vehicle 17", 0))
     # Behind the first line a byte order mark is a part of the device.
     yield logged(CAR + MARK + told("07:00:04 82 1"), CAR_LOG, "--device", "7", errors=LEFT % (1, 0, 0))
+
+
+def zone_runs():
+    """Zones of times, which are passed over where none is asked for: this is printed where a row that counts has one."""
+    for form, first, second in [
+        (DAY_FIRST, b"22-11-2026 7:00:01 AM", b"22-11-2026 07:00:03 UTC"), (b"", b"2026-11-22T07:00:01Z", b"2026-11-22T07:00:03.0Z"),
+        (b"", b"2026-11-22T07:00:01 UTC", b"2026-11-22T07:00:03.0 +05:30"), (b"", b"2026-11-22 07:00:01Z", b"2026-11-22 07:00:03"),
+        (b"", b"2026-11-22 07:00:01+01:00", b"2026-11-22 07:00:03-0700"), (b"", b"2026-11-22 07:00:01", b"2026/11/22 07:00:03-00"),
+        (b"", b"2026-11-22 07:00:01.0000000 +00:00", b"2026-11-22 07:00:03.0000000 -07"),
+        (b"", b"2026-11-22 07:00:01+23:59", b"2026-11-22 07:00:03-23:59"),
+    ]:
+        text = HEADER + b"7,%b,82,2\n7,%b,81,2\n" % (first, second)
+        yield logged(text, CAR_LOG, errors=form + ZONES)
+        yield logged(text, CAR_LOG, "--sort", errors=form + ZONES)
+    # A row counts whatever its code and channel are, and one of another device does not.
+    yield logged(CAR + b"7,2026-11-22 07:00:03Z,1,1\n", CAR_LOG, errors=ZONES)
+    yield logged(CAR + b"7,2026-11-22 07:00:03Z,82,99\n", CAR_LOG, errors=ZONES + LEFT_OF % (0, 1, b"vehicle 99", 0))
+    yield logged(CAR + b"8,2026-11-22 07:00:03Z,82,1\n", CAR_LOG, "--device", "7", errors=LEFT % (1, 0, 0))
+    yield logged(b"7,2026-11-22 06:59:59Z,82,1\n7,2026-11-22 07:00:00Z,81,1\n", b"", EMPTY, errors=ZONES)
+    # A zone that is asked for is not passed over.
+    yield logged(CAR.replace(b":01,", b":01Z,"), CAR_LOG, "--zone=Z")
 
 
 def manner_runs():
@@ -408,7 +440,7 @@ def manner_runs():
     yield logged(CAR, CAR_LOG, "--count", errors=read % (2, b"07:00:01.0", b"07:00:03.0", 1))
     more = told("06:59:59.25 90 2", "07:00:01 82 2", "07:00:01 1 9", "07:00:03 81 2", "07:00:03.000000001 82 99")
     yield logged(more, row(1, [], [2]) + row(11, [2], [2]) + row(31, [], [2]), "--count",
-                 errors=LEFT % (0, 1, 0) + read % (5, b"06:59:59.25", b"07:00:03.000000001", 2))
+                 errors=LEFT_OF % (0, 1, b"vehicle 99", 0) + read % (5, b"06:59:59.25", b"07:00:03.000000001", 2))
     yield logged(b"8,2026-11-22 07:00:00,82,1\n" + CAR, CAR_LOG, "--count", "--device=7",
                  errors=LEFT % (1, 0, 0) + read % (2, b"07:00:01.0", b"07:00:03.0", 1))
     yield refused(HEADER, b"read: 0 rows\n" + NO_ROW, b"", "--count")
@@ -528,7 +560,7 @@ def outputs_runs():
     # It comes last, and only where the log ends well.
     read = b"read: 2 rows from 2026-11-22 07:00:01.0 to 2026-11-22 07:00:03.0, events of 1 channels\n"
     yield logged(CAR, CAR_LOG, "--count", *twice, errors=read + every)
-    yield logged(CAR + told("07:00:04 82 17"), CAR_LOG, *twice, errors=LEFT % (0, 1, 0) + every)
+    yield logged(CAR + told("07:00:04 82 17"), CAR_LOG, *twice, errors=LEFT_OF % (0, 1, b"vehicle 17", 0) + every)
     yield logged(HEADER, b"", *twice, EMPTY, errors=every)
     yield refused(HEADER, NO_ROW, b"", *twice)
     yield refused(CAR + b"x\n", b"events line 3: " + ENDS % b"time" + b"\n", CAR_KNOWN, *twice)
@@ -582,7 +614,7 @@ def line_faults():
         b'"7,2026-11-22 07:00:03,82,2', clock + b',"82"0,2', clock + b',82,2,"', b'"7 ""x""",2026-11-22 07:00:03,82,2',
         b'"""7""",2026-11-22 07:00:03,82,2', clock + b',82,2,"a ""b"" c"', clock + b',82,2,""""',
     ])
-    yield b"SignalID,Timestamp,EventCode", b"header: no column is the parameter"
+    yield b"SignalID,Timestamp,EventCode", NO_PARAMETER
     yield from ((line, LONG) for line in [b"x" * 1001, b"#" + b"x" * 1000, b"\x00" * 1001])
 
 
@@ -591,11 +623,11 @@ def fault_runs():
     for line, why in line_faults():
         yield refused(CAR + b"\n" + line + b"\n", b"events line 4: " + why + b"\n", CAR_KNOWN)
         yield refused(CAR + line, b"events line 3: " + why + b"\n", CAR_KNOWN, "--device", "7")
-    yield refused(b"Timestamp,EventCode,EventParam\n" + CAR, b"events line 1: header: no column is the device\n", b"",
+    yield refused(b"Timestamp,EventCode,EventParam\n" + CAR, b"events line 1: " + NO_DEVICE + b"\n", b"",
                   "--device", "7")
-    yield refused(b"SignalID,Timestamp,EventCode\n" + CAR, b"events line 1: header: no column is the parameter\n")
-    yield refused(b"SignalID,Code,EventId\n" + CAR, b"events line 1: header: no column is the time\n")
-    yield refused(b"SignalID,Timestamp,Kind,Parameter\n" + CAR, b"events line 1: header: no column is the code\n")
+    yield refused(b"SignalID,Timestamp,EventCode\n" + CAR, b"events line 1: " + NO_PARAMETER + b"\n")
+    yield refused(b"SignalID,Code,EventId\n" + CAR, b"events line 1: " + NO_TIME + b"\n")
+    yield refused(b"SignalID,Timestamp,Kind,Parameter\n" + CAR, b"events line 1: " + NO_CODE + b"\n")
     yield refused(HEADER[:-1] + b',"a ""b"""\n' + CAR, b"events line 1: a quote is out of place\n")
     yield refused(HEADER.replace(b",", b"|") + CAR.replace(b",", b"|"), field_rules.NOTHING)
     yield refused(b"a text\nthat is no log\n", field_rules.NOTHING)
@@ -636,7 +668,7 @@ def return_runs():
     yield refused(CAR[:-1] + b"\r", b"events line 2: " + number)
     yield refused(CAR + b"\r", b"events line 3: " + ENDS % b"time" + b"\n", CAR_KNOWN)
     yield refused(CAR + b"  \r", b"events line 3: " + ENDS % b"time" + b"\n", CAR_KNOWN)
-    header = b"events line 1: header: no column is the parameter\n"
+    header = b"events line 1: " + NO_PARAMETER + b"\n"
     yield refused(HEADER[:-1] + b"\r", header)
     yield refused(HEADER.replace(b"\n", b"\r\r\n") + CAR, header)
     yield refused(CAR.replace(b"\n", b"\r\r\n"), b"events line 1: " + number)
@@ -831,7 +863,7 @@ def word_runs():
         ([*EVENTS, "--lgo=car.log"], b"--log"), (["record", *FROM, "--go-no"], b"--go-on"),
         (["diagram", "--seconds-perline", "9"], b"--seconds-per-line"), (["review", "--hel"], b"--help"),
         ([*LOG, "--as-output=quad.json"], b"--as-outputs"), ([*RECORD, "empty.log", "--recall"], b"--recalls"),
-        ([*RECORD, "empty.log", "--output"], b"--outputs"),
+        ([*RECORD, "empty.log", "--output"], b"--outputs"), ([*RECORD, "empty.log", "--no-clok"], b"--no-clock"),
     ]:
         yield Run(words, 2, b"", HINT % right, CAR)
     yield Run(["--version"], 0, VERSION % b"tsb_field", b"", CAR)
@@ -887,7 +919,7 @@ def record_runs():
     yield Run([*RECORD, "one_row.log", "--"], 0, HEADER, b"", b"show\n")
     yield Run(["record", "--device=1001", "quad.json", *FROM, "empty.log"], 0, record(*FIRST), b"", b"step 1\n")
     yield Run(["record", *FROM, "--device=a,b", "quad.json", "empty.log"], 0, HEADER, b"", b"")
-    late = ["record", "--from", "9999-12-31 00:00:00", "--device", "7", "quad.json", "empty.log"]
+    late = ["record", "--no-clock", "--from", "9999-12-31 00:00:00", "--device", "7", "quad.json", "empty.log"]
     yield Run(late, 2, b"", b"events: past the year 9999\n", b"step 1\n")
     yield Run(late, 4, b"", b"command 1: x: bad command\n", b"x\n")
     yield Run([*late, "--go-on"], 2, b"", b"command 1: x: bad command\nevents: past the year 9999\n", b"x\n")
@@ -1018,6 +1050,58 @@ def cycle_runs():
         yield Run(["record", *FROM, "--device", "1001", plan, "empty.log"], 0, record(*FLASHED, *events), b"", FLASHES + commands)
 
 
+def record_from(at, *events):
+    """A record of controller 1001 whose tick 1 begins then."""
+    begin = field_rules.moment(at.encode())
+    return HEADER + b"".join(b"1001,%s,%d,%d\n" % (field_rules.time_text(begin + max(tick - 1, 0) * field_rules.TENTH), code, parameter)
+                             for tick, code, parameter in events)
+
+
+# Moments of `--from`, and where the local counter of `FLASHES` is at tick 0 by the clock. 7:00 is 315 cycles of 80 s
+# after midnight, and the next midnight 1,080. A clock has tenths of a second; what is less is left out.
+CLOCKS = [
+    ("2026-11-22 07:00:00", 0), ("2026-11-22 07:00:10", 100), ("2026-11-22 07:00:10.39", 103),
+    ("2026-11-22T07:00:10.399999999", 103), ("2024-02-29 00:01:19.9", 799), ("2000-01-01 00:00:00", 0),
+    ("2000-01-01 00:00:00.1", 1), ("2099-12-31 23:59:59.9", 799), ("2099-12-31 23:59:59.999999999", 799),
+]
+NO_CLOCKS = ["1999-12-31 23:59:59.999999999", "2100-01-01 00:00:00", "0001-01-01 00:00:00", "9999-12-31 23:59:59"]
+NO_CLOCK = b"--from: a clock has the years 2000 to 2099 (give --no-clock for others)\n"
+
+
+def flashed(ahead):
+    """The events of `FLASHES` and 799 ticks more, from this place of the local counter at tick 0."""
+    yields = (750 - ahead) % 800
+    zero = (800 - ahead) % 800 or 800
+    passed = [(yields, 151, 2), (yields, 151, 6), (zero, 150, 5)]
+    # (a tick comes before the fault after it)
+    return [it for _, it in sorted(enumerate([*FLASHED[:11], *passed, *FLASHED[11:-3]]), key=lambda it: it[1][0])]
+
+
+def clock_runs():
+    """Records with the clock of `--from` and a pattern: what it changes, and what takes it back."""
+    session = FLASHES + b"step 799\n"
+    for at, ahead in CLOCKS:
+        words = ["record", "--from", at, "--device", "1001", "coming_into_step.json", "empty.log"]
+        by_clock, by_ticks = (record_from(at, *flashed(it)) for it in (ahead, 0))
+        yield Run(words, 0, by_clock, b"", session)
+        yield Run([*words, "--no-clock"], 0, by_ticks, b"", session)
+        yield Run(words, 0, by_ticks, b"", b"undo\n" + session)
+        yield Run(words, 0, by_clock, b"", session + b"seek 9\nback 9\nundo\n" + session)
+        yield Run(words, 0, by_ticks, b"", session + b"seek 0\nundo\nundo\n" + session)
+        yield Run(words, 0, by_ticks, b"", b"clock 2026-11-22 07:00:00\n" + session)
+        yield Run(words, 0, by_clock, b"", b"clock 2026-11-22 07:00:00\nundo\n" + session)
+        yield Run(words, 4, b"", b"command 2: clock 07:00: bad command\n", b"\nclock 07:00\nstep 1\n")
+        yield Run([*words, "--go-on"], 0, by_clock, b"command 1: x: bad command\n", b"x\n" + session)
+    for at in NO_CLOCKS:
+        words = ["record", "--from", at, "--device", "1001"]
+        yield Run([*words, "none.json", "none.log"], 2, b"", NO_CLOCK, b"x\n")
+        words += ["--no-clock", "coming_into_step.json", "empty.log"]
+        if at > "9999":
+            yield Run(words, 2, b"", b"events: past the year 9999\n", session)
+        else:
+            yield Run(words, 0, record_from(at, *flashed(0)), b"", session)
+
+
 def plan_faults():
     """Plans that are refused or can't be read, each with the status and the lines that it ends with."""
     yield from ((path, 3, not_read(path)) for path in ["none.json", "folder", TORN])
@@ -1040,6 +1124,7 @@ def record_faults():
         ["record", *FROM, "--device", 'a"b', "quad.json", "empty.log"],
         ["record", "--device", "7", "quad.json", "empty.log"], [*RECORD, *FROM, "empty.log"],
         [*RECORD, "empty.log", "--go-on=1"], [*RECORD, "--go-on", "empty.log", "--go-on"], [*RECORD, "empty.log", "--strict"],
+        [*RECORD, "empty.log", "--no-clock=1"], [*RECORD, "--no-clock", "empty.log", "--no-clock"], [*LOG, "--no-clock"],
     ]:
         yield bad(words, b"step 1\n")
     words = [*RECORD, "empty.log"]

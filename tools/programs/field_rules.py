@@ -32,6 +32,11 @@ NAMES = [
 USUAL = [0, 1, 2, 3]
 MARKS = {b",": b"commas", b";": b"semicolons", b"\t": b"tabs"}
 COLUMNS = [b"device", b"time", b"code", b"parameter"]
+# The names of one word that docs/use/FIELD.md has for them, as a fault lists them.
+LISTED = [
+    b"SignalID, DeviceId, LocationIdentifier or LocationId", b"Timestamp, DateTime or Time", b"EventCode, EventId, EventType or Code",
+    b"EventParam, Parameter, Param or EventValue",
+]
 
 # What is printed of a line that begins so, of which the whole text is no text with lines of events.
 WHOLE_FAULTS = [
@@ -54,6 +59,7 @@ TOO_MANY = b" line %d: over 1000000 rows to sort: give a smaller --sort-within, 
 DEVICES = b"devices: %b in these rows:%b (name one by --device)\n"
 NAMED = 8
 GAPS = b"gaps: %d of a minute or more without a row that counts, the longest from %b to %b\n"
+ZONES = b"times: their zones are passed over (give that of --from, as --zone=-07:00)\n"
 NO_ROW = b"events: no row counts (give --allow-empty where that is right)\n"
 NO_EVENT = b"events: no event of an input from --from on (give --allow-empty where that is right)\n"
 
@@ -232,6 +238,14 @@ def numbered(form, text, zone):
     return moved(seconds * SECOND + int((part or b"").ljust(9, b"0")), own, zone)
 
 
+def says_zone(form, text):
+    """Whether a time in this form has a zone behind its clock."""
+    if form in ("seconds", "milliseconds"):
+        return False
+    *_, half, said = FORM_TIME.fullmatch(text).groups()
+    return bool(said) or (half or b"").lower() == b"utc"
+
+
 def form_of(text):
     """The one form in which a text is a time, or None; and whether its month and its day can't be told apart."""
     is_in = {form: moment_in(form, text) is not None for form in FORM_TIMES}
@@ -283,6 +297,11 @@ def shown(field):
     return b'"' + re.sub(rb'[^ !#-~]', b"?", field[:40]) + b'"'
 
 
+def lacks(place):
+    """What is printed of a header that does not name this column."""
+    return b"header: no column is the %b: name it %b" % (COLUMNS[place], LISTED[place])
+
+
 def why(line, places, mark, form):
     """What is printed of a line that is no row, behind `events line N: ` or, of a text without lines, behind `events: `."""
     for begun, told in WHOLE_FAULTS:
@@ -290,7 +309,7 @@ def why(line, places, mark, form):
             return b": " + told
     found, named = fields(line, mark), names(line)
     if named[1] or named[2]:
-        return b"header: no column is the " + COLUMNS[1 + named[1:].index(False)]
+        return lacks(1 + named[1:].index(False))
     if in_places(line, places, mark) is None:
         other = next((it for it in MARKS if in_places(line, places, it) is not None), None)
         if other:
@@ -388,13 +407,14 @@ def order_fault(count, at, last, place, window=None):
 
 
 class Read:
-    """What was read: the events of inputs, the moments of the rows that count, how many rows are of other devices, how
-    many events are of channels without an input, how many lines are passed over, whether there is a header or a row, and
-    the form of times where the first row says it, and the devices of rows, as they come."""
+    """What was read: the events of inputs, the moments of the rows that count, how many rows are of other devices, the
+    channels of events that have no input, how many lines are passed over, whether there is a header or a row, and
+    the form of times where the first row says it, the devices of rows, as they come, and whether a row that counts has a
+    zone where none is asked for."""
 
     def __init__(self):
-        self.events, self.moments, self.others, self.lost, self.passed = [], [], 0, 0, 0
-        self.is_found, self.form, self.devices = False, None, []
+        self.events, self.moments, self.others, self.lost, self.passed = [], [], 0, [], 0
+        self.is_found, self.form, self.devices, self.is_zoned = False, None, [], False
 
 
 def taken(lines, begin, device, wires, form=None, zone=None, window=None, is_all=True):
@@ -414,7 +434,7 @@ def taken(lines, begin, device, wires, form=None, zone=None, window=None, is_all
                 fault(b": past tick %d" % TICKS)
             events.append((at, kind, channel, on))
         elif kind:
-            read.lost += 1
+            read.lost.append((kind, channel))
 
     for count, line in enumerate(lines, 1):
         if len(line) > 1000:
@@ -427,7 +447,7 @@ def taken(lines, begin, device, wires, form=None, zone=None, window=None, is_all
             if columns(line):
                 places, mark = columns(line)
                 if device is not None and places[0] is None:
-                    fault(b" line %d: header: no column is the device" % count)
+                    fault(b" line %d: %b" % (count, lacks(0)))
                 continue
             if is_preface(line):
                 read.is_found = False
@@ -451,6 +471,8 @@ def taken(lines, begin, device, wires, form=None, zone=None, window=None, is_all
         if not counts:
             read.others += 1
             continue
+        if row is None and zone is None and says_zone(form, in_places(line, places, mark)[1].strip(b" ")):
+            read.is_zoned = True
         if window is None:
             if read.moments and at < read.moments[-1]:
                 fault(order_fault(count, at, read.moments[-1], places[1]))
@@ -477,6 +499,12 @@ def of_devices(devices):
     return DEVICES % (b"%d" % len(devices) if len(devices) <= NAMED else b"9 or more", names)
 
 
+def of_channels(lost):
+    """The first channels of those without an input, in parentheses, where there are any."""
+    found = [f"{kind} {channel}" for kind, channel in dict.fromkeys(lost)]
+    return f" ({', '.join(found[:NAMED] + ['..'] * (len(found) > NAMED))})" if found else ""
+
+
 def counted(read, device):
     """The lines of how much was read, of the gaps in it, and of several devices where none is asked for."""
     if not read.moments:
@@ -499,9 +527,10 @@ def log(text, begin, device=None, mapped=(), form=None, zone=None, is_counted=Fa
     if read.passed and not read.is_found:
         raise Fault(NOTHING, b"")
     told = b"" if read.form in (None, "year-first") else f"times: {read.form}, by the first row\n".encode()
+    told += ZONES if read.is_zoned else b""
     if read.others or read.lost or read.passed:
-        told += f"left out: {read.others} rows of other devices, {read.lost} events of channels without an input, " \
-                f"{read.passed} lines that are no rows\n".encode()
+        told += f"left out: {read.others} rows of other devices, {len(read.lost)} events of channels without an input" \
+                f"{of_channels(read.lost)}, {read.passed} lines that are no rows\n".encode()
     told += counted(read, device) if is_counted else b""
     is_heard = may_be_empty or any(at >= begin for at, *_ in read.events)
     told += b"" if is_heard else NO_EVENT if read.moments else NO_ROW

@@ -54,7 +54,7 @@ OPTIONS: dict[str, dict[str, Taken]] = {
         "--count": FLAG, "--allow-empty": FLAG, "--sort": FLAG, "--sort-within": seconds(3600), "--vehicle": wire(DETECTOR, 16),
         "--pedestrian": wire(DETECTOR, 8), "--preempt": wire("CHANNEL=INPUT, with an input", 4),
     },
-    "record": {"--from": TIME, "--device": DEVICE, "--go-on": FLAG, "--recalls": FLAG, "--outputs": FLAG},
+    "record": {"--from": TIME, "--device": DEVICE, "--go-on": FLAG, "--recalls": FLAG, "--outputs": FLAG, "--no-clock": FLAG},
     "events": {"--from": TIME, "--device": DEVICE, "--log": TEXT},
     "diagram": {"--from": TIME, "--log": TEXT, "--title": TEXT, "--seconds-per-line": seconds(86400), "--events": TEXT},
     "review": {},

@@ -68,7 +68,7 @@ def events(live: pathlib.Path, field: pathlib.Path) -> list[str]:
             plan, lines = plan_of(name), lines_at_random(rng, 60, goes_back=False)
             _, answers, _ = ran_on(live, [], [plan], text_of(["events on", *lines]))
             log, commands = saved_of(live, plan, lines)
-            words = ["record", f"--from={FROM}", f"--device={DEVICE}"]
+            words = ["record", "--no-clock", f"--from={FROM}", f"--device={DEVICE}"]
             _, record, errors = ran_on(field, words, [plan, log], commands)
             # (in a record tick 0 has the time of tick 1)
             found = [(max(tick, 1), *more) for tick, *more in told(answers)]

@@ -172,11 +172,56 @@ def first_status(live: pathlib.Path) -> list[str]:
     return [] if found == [1, 7, 6] else [f"status: its ticks are {found}"]
 
 
+# --- goto and tick ---
+
+BAD, NO_TICK = "bad command", "refused E11 TickLimit"
+ANSWERS = ("bad ", "refused ", "tick ")
+UNREAD = ["24:00:00", "7:00:00", "07:00", "07:60:00", "07:00:60", "07:00:00.", "07:00:00.11", "07:00:00 1", "2026-11-22", "",
+          "2026-02-29 00:00:00", "1999-12-31 00:00:00", "2026-11-22 07:00:00 1"]
+EVENING, MORNING = "clock 2026-11-22 23:59:59.8", "clock 2026-11-22 07:00:00"
+# Lines, and the answer to each, or else another line that has the same answer where no times are read.
+CLOCKED = [
+    ("goto 07:00:00", BAD), ("tick 07:00:00", BAD), ("tick 2026-11-22 07:00:00", BAD),
+    # (tick 0 is two tenths before midnight)
+    (EVENING, EVENING), ("tick 23:59:59.8", "tick 0000000"), ("tick 23:59:59.9", "tick 0000001"),
+    ("tick 23:00:00", "tick 0000000"), ("tick 00:00:00", "tick 0000000"), ("tick 2026-11-23 00:00:00", "tick 0000002"),
+    ("goto 23:59:59.8", "show"), ("goto 2026-11-23 00:00:00.1", "step 3"),
+    # (from here on a time alone is one of the next day)
+    ("tick 23:59:59.9", "tick 0864001"), ("tick 00:00:10", "tick 0000102"), ("goto 00:00:10", "step 99"),
+    ("goto 00:00:10", "show"), ("goto 00:00:00", "seek 2"), ("show", "show"), ("undo", "undo"), ("undo", "undo"),
+    # (and from here on one of the first)
+    ("tick 00:00:00", "tick 0000000"), ("goto 2026-11-20 00:00:00", "seek 0"),
+    ("tick 2026-11-29 22:39:59.8", "tick 6000000"), ("tick 2026-11-29 22:39:59.9", NO_TICK),
+    ("goto 2026-11-29 22:39:59.9", NO_TICK), ("goto 2099-12-31 23:59:59.9", NO_TICK),
+    *[(f"{word} {it}", BAD) for word in ("goto", "tick") for it in UNREAD],
+    ("undo", "undo"), ("goto 23:59:59.8", BAD), ("step 5", "step 5"), (MORNING, MORNING),
+    ("tick 06:59:59.5", "tick 0000000"), ("step 2", "step 2"), ("tick 07:00:00", "tick 0000005"), ("goto 07:00:00", "seek 5"),
+    # (the way back may lead to where no clock is set)
+    ("goto 06:59:59.7", "seek 2"), ("tick 07:00:00", BAD),
+]
+
+
+def clocked(live: pathlib.Path) -> list[str]:
+    """`goto` and `tick`, beside ticks that were worked by hand."""
+    asked, plain = [line for line, _ in CLOCKED], [line for _, line in CLOCKED if not line.startswith(ANSWERS)]
+    first, second = (ran([live, EXAMPLES / "main_and_oak.json"], text_of(lines)) for lines in (asked, plain))
+    lines = iter(second[1].decode().splitlines())
+    wanted: list[str] = []
+    for _, line in CLOCKED:
+        count = int(line.split(" ")[1]) if line.startswith("step") else 1
+        wanted += [line] if line.startswith(ANSWERS) else [next(lines) for _ in range(count)]
+    found = first[1].decode().splitlines()
+    if (first[0], first[2], found) == (0, b"", wanted):
+        return []
+    pairs = ((one, other) for one, other in zip([*found, None], [*wanted, None]) if one != other)
+    return [f"goto: {first[0]} {first[2]!r}, {next(pairs, (found, wanted))}"]
+
+
 # --- help ---
 
 # What each of its lines begins with: a row, the commands of docs/use/MANUAL.md, chapter 6, and those of docs/use/LIVE.md.
-HELPED = ["ROW", "step", "changes", "back", "seek", "undo", "show", "status", "plan", "edits", "when", "when", "begin", "set", "verify",
-          "commit", "abort", "pattern", "preempt", "fault", "reset", "events", "echo", "save", "help", "quit"]
+HELPED = ["ROW", "step", "changes", "back", "seek", "goto", "tick", "undo", "show", "status", "plan", "edits", "when", "when", "begin",
+          "set", "verify", "commit", "abort", "pattern", "preempt", "fault", "reset", "clock", "events", "echo", "save", "help", "quit"]
 
 
 def helped(live: pathlib.Path) -> list[str]:
@@ -184,7 +229,7 @@ def helped(live: pathlib.Path) -> list[str]:
     ended = ran([live, "--strict", EXAMPLES / "two.json"], b"step 3\necho on\nhelp\nshow\nhelp me\n")
     first, ok, asked, *lines, last, bad, answer = ended[1].decode().splitlines()[2:]
     names = [line.split(" ")[0] for line in lines]
-    told = [line for line in lines if not re.fullmatch(r"[A-Za-z][A-Za-z0-9 ]{25}\S.*", line)]
+    told = [line for line in lines if not re.fullmatch(r"[A-Za-z][A-Za-z0-9 :-]{25}\S.*", line)]
     right = (ok, asked, last, bad, answer) == ("ok", "> help", first, "> help me", "bad command")
     if (ended[0], names, told) == (4, HELPED, []) and right and set(COMMANDS) < set(names):
         return []

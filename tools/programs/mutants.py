@@ -76,6 +76,15 @@ TESTS = {
     "sumo.nema": ["tests/test_nema.py", f"{PARTS[0]}::test_the_offset_of_a_program_of_type_nema", *(f"tests/test_sumo.py::{it}" for it in (
         "test_cycles_of_programs_of_type_nema", "test_phases_of_nema_in_no_ring",
         "test_a_program_of_type_nema_is_read_back"))],
+    "exchange.walk": [f"tests/test_oids.py::{it}" for it in (
+        "test_lines_by_hand", "test_octets_as_they_are_printed", "test_oids_at_their_bounds",
+        "test_a_walk_of_a_street", "test_files_that_are_no_walk", "test_other_ways_to_print_an_oid",
+        "test_a_walk_that_is_too_long", "test_a_line_is_read_as_it_is_printed")],
+    "exchange.forms": [f"tests/test_oids.py::{it}" for it in (
+        "test_lines_by_hand", "test_options_by_hand", "test_what_a_walk_has_no_place_for", "test_a_walk_of_a_street",
+        "test_what_forms_read_back", "test_numbers_that_stand_for_nothing", "test_examples_out_and_in")],
+    "exchange.utdf": ["tests/test_utdf.py"],
+    "preempt": ["tests/test_preempts.py"],
     "exchange.remarks": [f"tests/test_oids.py::{it}" for it in (
         "test_remarks_that_follow_one_another", "test_what_a_walk_has_no_place_for", "test_a_walk_of_a_street")],
     "exchange.sides": ["tests/test_oids.py::test_sides_by_hand", "tests/test_oids.py::test_examples_out_and_in"],
@@ -84,7 +93,7 @@ TESTS = {
     **{f"scenario.{it}": SCENARIOS for it in ("times", "words", "text", "expect", "play")},
 }
 # The modules whose tests start no processes of a sweep, and few programs: `quick` for all of them.
-QUICK = [it for it in TESTS if it not in ("tasks", "sweep") and not it.startswith("scenario.")]
+QUICK = [it for it in TESTS if it not in ("tasks", "sweep", "preempt") and not it.startswith("scenario.")]
 # Mutants that are the same program: why.
 SORTED = "two columns are sorted stably whatever the kind is"
 NAMED = "columns are taken by name"
@@ -103,6 +112,7 @@ EQUAL = {
     "measures counted: all_of > 0 -> all_of >= 0": "0 of 0 is not known either way",
     "cycles _stretches: False -> True": NAMED,
     "cycles is_in_step: 0 -> 1": "in step is the state before the first, by either number",
+    "cycles stays_in_step: 1 -> 2": "no tick is below 0",
     "cycles greens_a_cycle: False -> True": "without cycles no place is 0 or more",
     "measures _ask: for code, number in moment if code in ASKS -> for code, number in moment":
         "other codes turn nothing on or off",
@@ -124,6 +134,15 @@ EQUAL = {
     "forms _clocked: 1000 -> 1001": "a table has no moment before 1677",
     "forms _clocked: 0 -> 1 (3)": ANYWAY,
     "forms _since_1970: 0 -> 1 (4)": ANYWAY,
+    "exchange.walk lines_of: 0 -> 1": ANYWAY,
+    "exchange.walk lines_of: 0 -> 1 (2)": ANYWAY,
+    "exchange.utdf _time: units > 0 -> units >= 0": "0 is a whole number",
+    "exchange.utdf _tell_other: sorted(lines) -> list(lines)": LATER,
+    "exchange.utdf _tell_row: sorted({it.line for it in record.values()}) -> list({it.line for it in record.values()})":
+        "a row has one line",
+    "preempt : 100 -> 101": PIECES,
+    "preempt main: False -> True": "a bench that keeps events answers the same",
+    "preempt tries: last - bench.now -> last + bench.now": "a bench begins at tick 0, and each moment is sought",
     "exchange.sides _groups: sorted(rings) -> list(rings)": LATER,
     "exchange.sides _joined: any(((a, b) in before and (b, a) in before for a in it for b in gro.. -> all(((a, b) in "
     "before and (b, a) in before for a in it for b in gro..": "pairs are of all phases of two groups",

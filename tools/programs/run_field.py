@@ -438,7 +438,9 @@ def four_minutes(program, bench):
     commands = (EXAMPLES / "four_minutes.commands").read_bytes()
     lines = subprocess.run([bench, "run", plan, hours], input=commands, capture_output=True).stdout
     from_ = ["--from", "2026-11-22 07:40:00"]
-    status, events, errors = answer(program, ["record", *from_, "--device=1001", str(plan), str(hours)], commands)
+    # (the session sets no clock)
+    words = ["record", *from_, "--no-clock", "--device=1001", str(plan), str(hours)]
+    status, events, errors = answer(program, words, commands)
     yield from difference("events of four minutes", (status, errors), (0, b""))
     with tempfile.NamedTemporaryFile(suffix=".csv") as told:
         told.write(events)
@@ -494,9 +496,9 @@ def worked_runs():
     """All worked runs."""
     return [
         *field_cases.form_runs(), *field_cases.wide_runs(), *field_cases.separator_runs(), *field_cases.export_runs(),
-        *field_cases.moment_runs(), *field_cases.wire_runs(), *field_cases.manner_runs(), *field_cases.sort_runs(), *field_cases.outputs_runs(),
+        *field_cases.moment_runs(), *field_cases.wire_runs(), *field_cases.zone_runs(), *field_cases.manner_runs(), *field_cases.sort_runs(), *field_cases.outputs_runs(),
         *field_cases.fault_runs(),
-        *field_cases.event_runs(), *field_cases.record_runs(), *field_cases.form_of_record_runs(), *field_cases.cycle_runs(),
+        *field_cases.event_runs(), *field_cases.record_runs(), *field_cases.form_of_record_runs(), *field_cases.cycle_runs(), *field_cases.clock_runs(),
         *field_cases.record_faults(),
         *field_cases.word_runs(),
         *field_cases.stream_runs(), *review_words.runs(),

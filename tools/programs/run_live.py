@@ -22,6 +22,7 @@ def checks(live: pathlib.Path, tsb: pathlib.Path, field: pathlib.Path) -> dict[s
         "plan": lambda: live_worked.plans(live, tsb),
         "edits": lambda: live_worked.edits(live),
         "status": lambda: live_worked.first_status(live),
+        "goto": lambda: live_worked.clocked(live),
         "help": lambda: live_worked.helped(live),
         "events": lambda: live_told.events(live, field),
         "saved runs": lambda: live_told.saved(live, tsb),

@@ -50,8 +50,8 @@ def is_told(errors: bytes, commands: bytes) -> bool:
 
 
 def ran(program: pathlib.Path, case: stored_cases.Case, *more: str) -> subprocess.CompletedProcess[bytes]:
-    """A record of a session."""
-    return stored_sums.ran([program, "record", "--from", f"{FROM}", "--device", DEVICE, *more], case)
+    """A record of a session, which sets a clock only by its commands."""
+    return stored_sums.ran([program, "record", "--no-clock", "--from", f"{FROM}", "--device", DEVICE, *more], case)
 
 
 def wanted_of(wanted: str) -> list[str]:

@@ -65,6 +65,7 @@ def asked(programs: pathlib.Path, python: pathlib.Path, room: pathlib.Path, more
         check(ran([programs / name, "--version"], room, more) == f"{told} {version}\n", f"{name} --version")
     listed = ran([programs / "tsb-py"], room, more)
     check(all(str(programs / it) in listed for it in proved_programs.RELEASED), f"other programs: {listed}")
+    check("commands: tsb-py COMMAND .." in listed, f"another name of the command: {listed}")
     with subprocess.Popen([programs / "tsb-py", "panel", plan, log], cwd=room, text=True, stdout=subprocess.PIPE,
                           env={**KEPT, "PATH": os.defpath, **more}) as running:
         assert running.stdout is not None

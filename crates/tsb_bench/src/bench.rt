@@ -1,11 +1,12 @@
 //! The whole controller, which can be wound back.
 #![tactic(auto, unfolding(tsb_objects::specs::Checked::checked_plan, tsb_plan::specs::PlanOf::plan_of))]
 
-ghost use Rattle.std.specs.Prelude.{◌≡◌, ◌≢◌, ℕ, ◌+◌, ◌-◌, ◌<◌, ◌≤◌, [], ◌∷◌, drop, length, min, None, Some, Err, option_map, OnOk, OnErr, IfOk, IfErr, MatchResult};
+ghost use Rattle.std.specs.Prelude.{◌≡◌, ◌≢◌, ℕ, ◌+◌, ◌-◌, ◌*◌, ◌<◌, ◌≤◌, [], ◌∷◌, drop, length, min, None, Some, Err, option_map, OnOk, OnErr, IfOk, IfErr, IfSome, MatchResult};
 ghost use Rattle.tsb_history.specs.declared.kinds.Kind.{Kind as KindValue};
 ghost use Rattle.tsb_history.specs.History.{newest_kind, quiet_ticks, record_size};
 ghost use Rattle.tsb_objects.specs.Checked.{checked_plan};
 ghost use Rattle.tsb_plan.specs.PlanOf.{plan_of};
+ghost use Rattle.tsb_types.specs.declared.clock_time.TheConstants.{DAY, LAST_DAY};
 ghost use Rattle.tsb_types.specs.declared.refusal.Refusal.TheVariants.{Memory};
 ghost use Rattle.tsb_heads.specs.Promises.{IsSame};
 ghost use Rattle.tsb_heads.specs.Reading.{heads_of};
@@ -197,6 +198,15 @@ impl Bench {
         ensures { result ≡ local (state_of self.now) }
     {
         self.cabinet.controller.local(self.tick, &self.cabinet.plan)
+    }
+
+    /// The moment of tick number 0 by the clock, in tenths of a second since 1999-12-24 00:00; each tick is a tenth later.
+    /// `None` where no clock is set.
+    pub fn start_moment(&self) -> Option<u64>
+        ensures value { result ≡ (state_of self.now).start_moment }
+        ensures counted { IfSome result (λ m. m < (LAST_DAY + 1) * DAY) }
+    {
+        self.cabinet.controller.start()
     }
 
     /// The preempt in service, with its stage.

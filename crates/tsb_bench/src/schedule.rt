@@ -21,7 +21,7 @@ impl Cabinet {
         ensures value { result ≡ action (all_in tick (rows_of self.now)) }
         ensures to { IfSome result (λ a. a ≤ 32) }
     {
-        let start = self.controller.start_moment()?;
+        let start = self.controller.start()?;
         let plan = self.plan.plan();
         if plan.has_schedule() {
             Some(plan.in_force(start + u64::from(tick)))
@@ -37,7 +37,7 @@ impl Cabinet {
         requires limit { tick ≤ last_tick }
         ensures { result ≡ false → StaysInMinute (all_in tick (rows_of self.now)) }
     {
-        match self.controller.start_moment() {
+        match self.controller.start() {
             None => false,
             Some(start) => (start + u64::from(tick) + 1) % u64::from(MINUTE) == 0,
         }

@@ -4,6 +4,7 @@ use Rattle.std.specs.Prelude.{bytes_eq}
 use Rattle.std.specs.Option.{option_map}
 use Rattle.std.proofs.lemmas.Slice.Eq.{bytes_eq-Decides}
 use Rattle.tsb_lines.specs.Words.{words_of, onto_word, number_of}
+use Rattle.tsb_command_text.specs.clock.ClockText.{clock_of, time_in_word}
 use Rattle.tsb_command_text.specs.Commands.{command_in, command_of_one, command_of_two, command_of_three, command_of_five, on_or_off, watch_of_two}
 use Rattle.tsb_command_text.specs.declared.command.Command.{Command}
 use Rattle.tsb_command_text.specs.declared.command.Command.TheVariants as session
@@ -12,8 +13,9 @@ use Rattle.tsb_log_text.specs.declared.row_input.RowInput.TheVariants.{Vehicle, 
 use Rattle.tsb_log_text.specs.tsb_types.declared.row.Row.{Row}
 use Rattle.tsb_log_text.specs.Rows.{inputs_of}
 use Rattle.tsb_command_text.specs.LiveCommands.{input_of_two, number_to, own_in, own_of_one, own_of_three, own_of_two}
+use Rattle.tsb_command_text.specs.declared.live_command.Aim.TheVariants.{Time, Moment}
 use Rattle.tsb_command_text.specs.declared.live_command.LiveCommand.{LiveCommand}
-use Rattle.tsb_command_text.specs.declared.live_command.LiveCommand.TheVariants.{Session, Changes, Events, Echo, When}
+use Rattle.tsb_command_text.specs.declared.live_command.LiveCommand.TheVariants.{Session, Changes, GoTo, TickAt, Events, Echo, When}
 use Rattle.tsb_command_text.proofs.RowLemmas.{IsNone, first-digit}
 
 -- it is asked live alone
@@ -71,11 +73,17 @@ two-apart : (w x : List ℕ) → AreApart None (own_of_two w x) (command_of_two 
 unfolding own_of_two command_of_two
 two-apart w x = elim (named w (codes "changes")) [
   | inl is ↦ subst (λ (v : List ℕ). AreApart None (own_of_two v x) (command_of_two v x)) (sym is) (mapped Changes (λ n. tt) (number_of x))
-  | inr no-changes ↦ elim (named w (codes "events")) [
-    | inl is ↦ subst (λ (v : List ℕ). AreApart None (own_of_two v x) (command_of_two v x)) (sym is) (mapped Events (λ b. tt) (on_or_off x))
-    | inr no-events ↦ elim (named w (codes "echo")) [
-      | inl is ↦ subst (λ (v : List ℕ). AreApart None (own_of_two v x) (command_of_two v x)) (sym is) (mapped Echo (λ b. tt) (on_or_off x))
-      | inr no-echo ↦ rw (no-changes, no-events, no-echo) tt
+  | inr no-changes ↦ elim (named w (codes "goto")) [
+    | inl is ↦ subst (λ (v : List ℕ). AreApart None (own_of_two v x) (command_of_two v x)) (sym is) (mapped (λ t. GoTo (Time t)) (λ t. tt) (time_in_word x))
+    | inr no-goto ↦ elim (named w (codes "tick")) [
+      | inl is ↦ subst (λ (v : List ℕ). AreApart None (own_of_two v x) (command_of_two v x)) (sym is) (mapped (λ t. TickAt (Time t)) (λ t. tt) (time_in_word x))
+      | inr no-tick ↦ elim (named w (codes "events")) [
+        | inl is ↦ subst (λ (v : List ℕ). AreApart None (own_of_two v x) (command_of_two v x)) (sym is) (mapped Events (λ b. tt) (on_or_off x))
+        | inr no-events ↦ elim (named w (codes "echo")) [
+          | inl is ↦ subst (λ (v : List ℕ). AreApart None (own_of_two v x) (command_of_two v x)) (sym is) (mapped Echo (λ b. tt) (on_or_off x))
+          | inr no-echo ↦ rw (no-changes, no-goto, no-tick, no-events, no-echo) tt
+        ]
+      ]
     ]
   ]
 ]
@@ -100,7 +108,13 @@ three-apart : (w x y : List ℕ) → AreApart None (own_of_three w x y) (command
 unfolding own_of_three command_of_three
 three-apart w x y = elim (named w (codes "when")) [
   | inl is ↦ subst (λ (v : List ℕ). AreApart None (own_of_three v x y) (command_of_three v x y)) (sym is) (watches-apart x y)
-  | inr no-when ↦ rw no-when tt
+  | inr no-when ↦ elim (named w (codes "goto")) [
+    | inl is ↦ subst (λ (v : List ℕ). AreApart None (own_of_three v x y) (command_of_three v x y)) (sym is) (mapped (λ m. GoTo (Moment m)) (λ m. tt) (clock_of x y))
+    | inr no-goto ↦ elim (named w (codes "tick")) [
+      | inl is ↦ subst (λ (v : List ℕ). AreApart None (own_of_three v x y) (command_of_three v x y)) (sym is) (mapped (λ m. TickAt (Moment m)) (λ m. tt) (clock_of x y))
+      | inr no-tick ↦ rw (no-when, no-goto, no-tick) tt
+    ]
+  ]
 ]
 
 words-apart : (ws : List (List ℕ)) → AreApart None (own_in ws) (command_in ws)

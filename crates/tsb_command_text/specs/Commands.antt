@@ -1,7 +1,7 @@
 -- The commands of a session, by the words of a line.
 use Rattle.std.specs.Prelude.{ℕ, nat_lt, Bool, true, false, List, [], ◌∷◌, if◌then◌else◌, length, Option, Some, None, codes, bytes_eq}
 use Rattle.std.specs.Option.{option_map}
-use Rattle.tsb_clock_text.specs.ClockText.{clock_of}
+use Rattle.tsb_command_text.specs.clock.ClockText.{clock_of}
 use Rattle.tsb_lines.specs.Words.{words_of, number_of}
 use Rattle.tsb_plan.specs.Names.{object_named}
 use Rattle.tsb_plan.specs.declared.object.Object.{Object}

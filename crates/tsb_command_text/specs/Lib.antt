@@ -1,3 +1,5 @@
+-- dates and times of day, as a clock is set by them
+pub mod clock
 -- numbers of phases, detectors and stations, and lamps of heads, as commands write them
 pub mod Lamps
 -- objects by the lengths of their names

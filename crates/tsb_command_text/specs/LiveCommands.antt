@@ -4,10 +4,12 @@ use Rattle.std.specs.Option.{option_map, option_or}
 use Rattle.tsb_lines.specs.Words.{number_of}
 use Rattle.tsb_command_text.specs.Commands.{command_in, on_or_off}
 use Rattle.tsb_command_text.specs.Lamps.{from_one_to}
+use Rattle.tsb_command_text.specs.clock.ClockText.{clock_of, time_in_word}
 use Rattle.tsb_log_text.specs.declared.row_input.RowInput.{RowInput}
 use Rattle.tsb_log_text.specs.declared.row_input.RowInput.TheVariants.{Vehicle, Pedestrian, Preempt}
+use Rattle.tsb_command_text.specs.declared.live_command.Aim.TheVariants.{Time, Moment}
 use Rattle.tsb_command_text.specs.declared.live_command.LiveCommand.{LiveCommand}
-use Rattle.tsb_command_text.specs.declared.live_command.LiveCommand.TheVariants.{Session, Status, Changes, Plan, Edits, Events, Echo, Save, Help, When}
+use Rattle.tsb_command_text.specs.declared.live_command.LiveCommand.TheVariants.{Session, Status, Changes, GoTo, TickAt, Plan, Edits, Events, Echo, Save, Help, When}
 
 -- of the commands that are asked live alone that of one word
 unfoldable pub own_of_one : List ℕ → Option LiveCommand
@@ -22,6 +24,8 @@ own_of_one w =
 unfoldable pub own_of_two : List ℕ → List ℕ → Option LiveCommand
 own_of_two w x =
     if bytes_eq w (codes "changes") then option_map Changes (number_of x) else
+    if bytes_eq w (codes "goto") then option_map (λ t. GoTo (Time t)) (time_in_word x) else
+    if bytes_eq w (codes "tick") then option_map (λ t. TickAt (Time t)) (time_in_word x) else
     if bytes_eq w (codes "events") then option_map Events (on_or_off x) else
     if bytes_eq w (codes "echo") then option_map Echo (on_or_off x) else None
 
@@ -38,7 +42,10 @@ input_of_two w n =
 
 -- of three
 unfoldable pub own_of_three : List ℕ → List ℕ → List ℕ → Option LiveCommand
-own_of_three w x y = if bytes_eq w (codes "when") then option_map When (input_of_two x y) else None
+own_of_three w x y =
+    if bytes_eq w (codes "when") then option_map When (input_of_two x y) else
+    if bytes_eq w (codes "goto") then option_map (λ m. GoTo (Moment m)) (clock_of x y) else
+    if bytes_eq w (codes "tick") then option_map (λ m. TickAt (Moment m)) (clock_of x y) else None
 
 -- of these words
 abbrev pub own_in : List (List ℕ) → Option LiveCommand

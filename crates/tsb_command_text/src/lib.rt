@@ -4,6 +4,7 @@
 //! case matters. All of it is "profile": this project's own choice.
 #![tactic(auto)]
 
+pub mod clock;
 pub mod command;
 mod lamps;
 pub mod laws;
@@ -14,6 +15,6 @@ mod objects;
 mod read;
 
 pub use command::{Command, Reading};
-pub use live_command::{LiveCommand, LiveReading};
+pub use live_command::{Aim, LiveCommand, LiveReading};
 pub use live_read::live_reading_of;
 pub use read::{LINE, read_command, reading_of, turned_on};

@@ -2,7 +2,16 @@
 
 use crate::Command;
 use tsb_log_text::RowInput;
-use tsb_types::Row;
+use tsb_types::{ClockTime, Row};
+
+/// The moment of the clock that `goto` and `tick` name.
+#[derive(Clone, Copy)]
+pub enum Aim {
+    /// A time of the day that the clock has, in tenths of a second since midnight.
+    Time(u32),
+    /// A time of a day that is named.
+    Moment(ClockTime),
+}
 
 /// What a live session does on command, beside a tick with inputs of its own.
 #[derive(Clone, Copy)]
@@ -13,6 +22,11 @@ pub enum LiveCommand {
     Status,
     /// `changes N`: takes this many ticks, as `step N`, and prints of their lines those that differ.
     Changes(u32),
+    /// `goto HH:MM:SS[.d]` and `goto YYYY-MM-DD HH:MM:SS[.d]`: takes ticks up to this moment of the clock, or goes back to
+    /// it.
+    GoTo(Aim),
+    /// `tick HH:MM:SS[.d]` and `tick YYYY-MM-DD HH:MM:SS[.d]`: prints the first tick at or after this moment of the clock.
+    TickAt(Aim),
     /// `plan`: prints the plan in effect.
     Plan,
     /// `edits`: prints the edits at the desk.

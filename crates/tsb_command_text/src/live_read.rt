@@ -4,7 +4,8 @@ ghost use Rattle.tsb_lines.specs.Words.{words_of};
 ghost use Rattle.tsb_command_text.specs.LiveCommands.{live_command_in, input_of_two, number_to, own_in, own_of_one, own_of_three, own_of_two};
 ghost use Rattle.tsb_command_text.specs.LiveReadings.{live_reading};
 
-use crate::live_command::{LiveCommand, LiveReading};
+use crate::clock::{read_clock, read_time};
+use crate::live_command::{Aim, LiveCommand, LiveReading};
 use crate::{LINE, read_command, turned_on};
 use tsb_lines::{is_skipped, next_word, number};
 use tsb_log_text::{RowInput, inputs_of};
@@ -87,6 +88,12 @@ fn own_of_two(name: &[u8], word: &[u8]) -> Option<LiveCommand>
     if name == b"changes".as_slice() {
         return Some(LiveCommand::Changes(number(word)?));
     }
+    if name == b"goto".as_slice() {
+        return Some(LiveCommand::GoTo(Aim::Time(read_time(word)?)));
+    }
+    if name == b"tick".as_slice() {
+        return Some(LiveCommand::TickAt(Aim::Time(read_time(word)?)));
+    }
     if name == b"events".as_slice() {
         return Some(LiveCommand::Events(turned_on(word)?));
     }
@@ -102,6 +109,12 @@ fn own_of_three(name: &[u8], first: &[u8], second: &[u8]) -> Option<LiveCommand>
 {
     if name == b"when".as_slice() {
         return Some(LiveCommand::When(input_of_two(first, second)?));
+    }
+    if name == b"goto".as_slice() {
+        return Some(LiveCommand::GoTo(Aim::Moment(read_clock(first, second)?)));
+    }
+    if name == b"tick".as_slice() {
+        return Some(LiveCommand::TickAt(Aim::Moment(read_clock(first, second)?)));
     }
     None
 }

@@ -4,11 +4,11 @@ ghost use Rattle.tsb_command_text.specs.Commands.{command_in, command_of, comman
 ghost use Rattle.tsb_command_text.specs.Readings.{reading};
 ghost use Rattle.tsb_lines.specs.Words.{words_of};
 
+use crate::clock::read_clock;
 use crate::command::{Command, Reading};
 use crate::lamps::{detector, lamp, phase, station};
 use crate::names::is;
 use crate::objects::object;
-use tsb_clock_text::read_clock;
 use tsb_lines::{is_skipped, next_word, number};
 use tsb_plan::ObjectId;
 use tsb_types::Watch;

@@ -55,7 +55,7 @@ use Rattle.tsb_heads.specs.Laws as heads_laws
 use Rattle.tsb_heads.specs.Overlaps.{lasts, some_lasts}
 use Rattle.tsb_heads.specs.Reading.{commitment_of}
 use Rattle.tsb_heads.proofs.OwnLemmas.{some_lasts-same}
-use Rattle.tsb_coord.specs.Cells.{pattern_in, correction_in}
+use Rattle.tsb_coord.specs.Cells.{pattern_in, correction_in, start_in}
 use Rattle.tsb_coord.specs.Coordinated as coordination
 use Rattle.tsb_coord.specs.Correction.{forces, lets_walk_again}
 use Rattle.tsb_preempt.specs.Cells.{preempts_in}
@@ -488,6 +488,7 @@ module _ (now t : ℕ) (plan : Plan) (desk : Desk) (lamp : Option Lamp) (row : R
     desk = desk;
     pattern = pattern_in r.pattern;
     correction = correction_in r.pattern;
+    start_moment = start_in r.pattern;
     detectors = detectors_then i;
     memories = memories_then i;
     phases = phases_then i;

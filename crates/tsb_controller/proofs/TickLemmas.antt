@@ -64,7 +64,7 @@ use Rattle.tsb_heads.specs.Laws as heads_laws
 use Rattle.tsb_heads.specs.Overlaps.{lasts, some_lasts}
 use Rattle.tsb_heads.specs.Reading.{commitment_of, shown_by}
 use Rattle.tsb_heads.proofs.OwnLemmas.{some_lasts-same}
-use Rattle.tsb_coord.specs.Cells.{pattern_in, correction_in}
+use Rattle.tsb_coord.specs.Cells.{pattern_in, correction_in, start_in}
 use Rattle.tsb_coord.specs.Correction.{forces, lets_walk_again}
 use Rattle.tsb_preempt.specs.Cells.{preempts_in}
 use Rattle.tsb_preempt.specs.Laws as preempt_laws
@@ -440,6 +440,7 @@ module _ (now : ℕ) (plan : Plan) (desk : Desk) (lamp : Option Lamp) (row : Row
       desk = desk;
       pattern = pattern_in old.pattern;
       correction = correction_in old.pattern;
+      start_moment = start_in old.pattern;
       detectors = detectors_are i;
       memories = memories_are d new decided settled i;
       phases = phases_are i;

@@ -15,7 +15,7 @@ use Rattle.tsb_phase.specs.Cells.{phase_in}
 use Rattle.tsb_phase.proofs.ToldLemmas as phases
 use Rattle.tsb_ring.specs.Cells.{rings_in}
 use Rattle.tsb_ring.proofs.ToldLemmas as rings
-use Rattle.tsb_coord.specs.Cells.{pattern_in, correction_in}
+use Rattle.tsb_coord.specs.Cells.{pattern_in, correction_in, start_in}
 use Rattle.tsb_coord.proofs.CellLemmas as coord
 use Rattle.tsb_preempt.specs.Cells.{preempts_in}
 use Rattle.tsb_preempt.proofs.ReadLemmas as preempts
@@ -303,6 +303,7 @@ module _ (a : All) (long : AreFull a) where
     desk = desk_in (desk-read i);
     pattern = pattern_in (pattern-read i);
     correction = correction_in (pattern-read i);
+    start_moment = start_in (pattern-read i);
     detectors = detector_in (clock_at now (trip_in (monitor-read i))) (detectors-read i);
     memories = memories_in (calls-read i);
     phases = phase_in (clock_at now (trip_in (monitor-read i))) (phases-read i);

@@ -1,7 +1,6 @@
 //! What the controller says of its state: whether it serves, the preempt in service, the local counter, why a pattern
 //! or a switch would be refused; and layers, lent to those who read what they are in.
-ghost use Rattle.std.specs.Prelude.{◌≡◌, ◌<◌, ◌≤◌, ◌+◌, ◌*◌, ◌||◌, false, is_some, IfSome};
-ghost use Rattle.tsb_step.specs.tsb_types.declared.clock_time.TheConstants.{DAY, LAST_DAY};
+ghost use Rattle.std.specs.Prelude.{◌≡◌, ◌≤◌, ◌<◌, ◌+◌, ◌*◌, ◌||◌, false, is_some, IfSome};
 ghost use Rattle.std.specs.List.{list_any};
 ghost use Rattle.tsb_step.specs.tsb_types.Flow.{interval_of};
 ghost use Rattle.tsb_step.specs.tsb_types.Intervals.{in_service};
@@ -17,6 +16,7 @@ ghost use Rattle.tsb_ring.specs.Cells as rings;
 ghost use Rattle.tsb_coord.specs.Cells as coord;
 ghost use Rattle.tsb_coord.specs.Cells.{start_in};
 ghost use Rattle.tsb_step.specs.Step.{last_tick};
+ghost use Rattle.tsb_step.specs.tsb_types.declared.clock_time.TheConstants.{DAY, LAST_DAY};
 ghost use Rattle.tsb_controller.specs.Promises.{TellsServing, TellsPreempted, TellsStage, TellsLocal};
 
 use crate::controller::Controller;
@@ -91,11 +91,11 @@ impl Controller {
         self.coord.local(now, plan)
     }
 
-    /// The moment of tick number 0, in tenths of a second since 1999-12-24 00:00, or `None` where no clock is set.
-    #[inline(always)]
-    pub fn start_moment(&self) -> Option<u64>
+    /// The moment of tick number 0 by the clock, in tenths of a second since 1999-12-24 00:00, or `None` where no clock is
+    /// set.
+    pub fn start(&self) -> Option<u64>
         requires pattern_by { coord.IsBy (rows_of self.now).pattern }
-        ensures value { result ≡ start_in (rows_of self.now).pattern }
+        ensures value { result ≡ coord.start_in (rows_of self.now).pattern }
         ensures counted { IfSome result (λ m. m < (LAST_DAY + 1) * DAY) }
     {
         self.coord.start()

@@ -7,11 +7,12 @@ use Rattle.std.proofs.lemmas.Nat.{mod-mul-add}
 use Rattle.tsb_objects.specs.tsb_types.declared.clock_time.TheConstants.{DAY, FIRST_MOMENT}
 use Rattle.tsb_objects.specs.tsb_types.declared.limits.TheConstants.{TICKS}
 use Rattle.tsb_objects.specs.tsb_plan.Plan.{Plan}
-use Rattle.tsb_objects.specs.tsb_plan.Parts.{is_used, cycle, offset}
+use Rattle.tsb_objects.specs.tsb_plan.Parts.{is_used, cycle}
 use Rattle.tsb_objects.specs.tsb_plan.Running.{running}
 use Rattle.tsb_objects.specs.tsb_rules.Rules.{first_broken}
 use Rattle.tsb_coord.specs.Clock.{midnight_at, shift, spare}
-use Rattle.tsb_coord.specs.Coordinated.{counter, residue_of_difference, is_pattern}
+use Rattle.tsb_objects.proofs.InstantLemmas.{offset-below}
+use Rattle.tsb_coord.specs.Coordinated.{counter, offset_in_effect, residue_of_difference, is_pattern}
 use Rattle.tsb_coord.specs.Correction.{Correction, shift_in, clocked}
 use Rattle.tsb_coord.specs.Laws.{since_midnight}
 use Rattle.tsb_coord.proofs.LocalLemmas.{same_residue, its_parts}
@@ -54,7 +55,7 @@ counted m o x now t below in_time later =
 pub counts_from_midnight : (plan : Plan) → first_broken plan ≡ None → (n start now t : ℕ) → is_pattern plan n ≡ true → now ≤ TICKS → now ≤ t →
     counter plan n (t + shift (cycle plan n) (midnight_at (Some start) now)) ≡ counter plan n (since_midnight start now t)
 counts_from_midnight plan none n start now t is in_time later =
-    counted (cycle plan n) (offset plan n) ((start + now) % DAY) now t (its_parts plan none n is).below in_time later
+    counted (cycle plan n) (offset_in_effect plan n) ((start + now) % DAY) now t (offset-below plan n (its_parts plan none n is).below) in_time later
 
 pub counts_alike : (plan : Plan) → first_broken plan ≡ None → (n day now t : ℕ) → is_pattern plan n ≡ true → now < DAY → now ≤ t →
     counter plan n (t + shift (cycle plan n) (midnight_at (Some (day * DAY)) now)) ≡ counter plan n t

@@ -11,7 +11,8 @@ use Rattle.tsb_objects.specs.tsb_rules.PatternRules.{split_sum, side_sum, split_
 use Rattle.tsb_objects.specs.tsb_rules.Rules.{first_broken}
 use Rattle.tsb_objects.specs.Instants.{force_off, waiting_point, end_within, counted_to, offset_from, offset_in_effect}
 use Rattle.tsb_coord.specs.Coordinated.{counter, local, local_in, residue_of_difference, end_of, reference, forces_off, recycles, is_pattern}
-use Rattle.tsb_coord.specs.Correction.{Correction, longest_wait, waited, slower, way, ahead_by, ahead_in, within_cycle, steps_twice_in, ahead_with, ahead_from, begun, selected_correction, local_now, forces, lets_walk_again}
+use Rattle.tsb_coord.specs.Clock.{shift}
+use Rattle.tsb_coord.specs.Correction.{Correction, longest_wait, waited, slower, shift_of, shift_in, clocked, way, ahead_by, ahead_in, within_cycle, steps_twice_in, ahead_with, ahead_from, begun, selected_correction, local_now, forces, lets_walk_again}
 use Rattle.tsb_coord.specs.OffsetLaws.{with_offsets, AskAlike}
 use Rattle.tsb_coord.proofs.LocalLemmas.{same_residue, in_range, its_parts, local_now as local_of_used}
 
@@ -65,7 +66,7 @@ module _ (plan : Plan) (offsets : ℕ → ℕ) (number : ℕ)
 
   way_same : (n : ℕ) (c : Correction) → way (with_offsets plan offsets number) n c ≡ way plan n c
   way_same n c =
-      ap₂ (λ (w x : ℕ). residue_of_difference (cycle plan n) w (x + c.ahead)) (waiting_same n) (counter_same n c.since)
+      ap₂ (λ (w x : ℕ). residue_of_difference (cycle plan n) w (x + c.ahead)) (waiting_same n) (counter_same n (c.since + shift_of plan n c))
 
   by_same : (mode : CorrectionMode) (n : ℕ) (c : Correction) (ticks : ℕ) → ahead_by mode (with_offsets plan offsets number) n c ticks ≡ ahead_by mode plan n c ticks
   by_same AtOnce n c ticks = refl
@@ -82,57 +83,72 @@ module _ (plan : Plan) (offsets : ℕ → ℕ) (number : ℕ)
   local_same None t = refl
   local_same (Some n) t = ap Some (counter_same n t)
 
-  counted_same : (runs : Option ℕ) (c : Correction) (t : ℕ) →
-      local_in (with_offsets plan offsets number) (t + ahead_in (with_offsets plan offsets number) runs c t) runs ≡ local_in plan (t + ahead_in plan runs c t) runs
-  counted_same runs c t =
-      ap (λ (k : ℕ). local_in (with_offsets plan offsets number) (t + k) runs) (ahead_same runs c t)
-      ∙ local_same runs (t + ahead_in plan runs c t)
+  shift_same : (runs : Option ℕ) (c : Correction) → shift_in (with_offsets plan offsets number) runs c ≡ shift_in plan runs c
+  shift_same None c = refl
+  shift_same (Some n) c = refl
+
+  -- the local counter in tick t, where the one in step is at x
+  counted_same : (runs : Option ℕ) (c : Correction) (x t : ℕ) →
+      local_in (with_offsets plan offsets number) (x + ahead_in (with_offsets plan offsets number) runs c t) runs ≡ local_in plan (x + ahead_in plan runs c t) runs
+  counted_same runs c x t =
+      ap (λ (k : ℕ). local_in (with_offsets plan offsets number) (x + k) runs) (ahead_same runs c t)
+      ∙ local_same runs (x + ahead_in plan runs c t)
 
   -- a tick before
-  before_same : (runs : Option ℕ) (c : Correction) (t : ℕ) →
-      local_in (with_offsets plan offsets number) (t + ahead_in (with_offsets plan offsets number) runs c t - 1) runs ≡ local_in plan (t + ahead_in plan runs c t - 1) runs
-  before_same runs c t =
-      ap (λ (k : ℕ). local_in (with_offsets plan offsets number) (t + k - 1) runs) (ahead_same runs c t)
-      ∙ local_same runs (t + ahead_in plan runs c t - 1)
+  before_same : (runs : Option ℕ) (c : Correction) (x t : ℕ) →
+      local_in (with_offsets plan offsets number) (x + ahead_in (with_offsets plan offsets number) runs c t - 1) runs ≡ local_in plan (x + ahead_in plan runs c t - 1) runs
+  before_same runs c x t =
+      ap (λ (k : ℕ). local_in (with_offsets plan offsets number) (x + k - 1) runs) (ahead_same runs c t)
+      ∙ local_same runs (x + ahead_in plan runs c t - 1)
 
   twice_same : (runs : Option ℕ) (c : Correction) (t : ℕ) → steps_twice_in (with_offsets plan offsets number) runs c t ≡ steps_twice_in plan runs c t
   twice_same None c t = refl
   twice_same (Some n) c t =
       ap₂ (λ (x y : ℕ). x == (y + 1) % cycle plan n) (ahead_same (Some n) c t) (ahead_same (Some n) c (t - 1))
 
-  forced_same : (runs : Option ℕ) (c : Correction) (t p : ℕ) →
-      (forces_off (with_offsets plan offsets number) runs (local_in (with_offsets plan offsets number) (t + ahead_in (with_offsets plan offsets number) runs c t) runs) p
+  forced_same : (runs : Option ℕ) (c : Correction) (x t p : ℕ) →
+      (forces_off (with_offsets plan offsets number) runs (local_in (with_offsets plan offsets number) (x + ahead_in (with_offsets plan offsets number) runs c t) runs) p
       || (steps_twice_in (with_offsets plan offsets number) runs c t
-      && forces_off (with_offsets plan offsets number) runs (local_in (with_offsets plan offsets number) (t + ahead_in (with_offsets plan offsets number) runs c t - 1) runs) p))
-      ≡ (forces_off plan runs (local_in plan (t + ahead_in plan runs c t) runs) p
-      || (steps_twice_in plan runs c t && forces_off plan runs (local_in plan (t + ahead_in plan runs c t - 1) runs) p))
-  forced_same runs c t p =
-      ap₂ (λ (x y : Bool). x || y)
-      (forces_same runs (local_in (with_offsets plan offsets number) (t + ahead_in (with_offsets plan offsets number) runs c t) runs) p
-      ∙ ap (λ (l : Option ℕ). forces_off plan runs l p) (counted_same runs c t))
-      (ap₂ (λ (x y : Bool). x && y) (twice_same runs c t)
-      (forces_same runs (local_in (with_offsets plan offsets number) (t + ahead_in (with_offsets plan offsets number) runs c t - 1) runs) p
-      ∙ ap (λ (l : Option ℕ). forces_off plan runs l p) (before_same runs c t)))
+      && forces_off (with_offsets plan offsets number) runs (local_in (with_offsets plan offsets number) (x + ahead_in (with_offsets plan offsets number) runs c t - 1) runs) p))
+      ≡ (forces_off plan runs (local_in plan (x + ahead_in plan runs c t) runs) p
+      || (steps_twice_in plan runs c t && forces_off plan runs (local_in plan (x + ahead_in plan runs c t - 1) runs) p))
+  forced_same runs c x t p =
+      ap₂ (λ (a b : Bool). a || b)
+      (forces_same runs (local_in (with_offsets plan offsets number) (x + ahead_in (with_offsets plan offsets number) runs c t) runs) p
+      ∙ ap (λ (l : Option ℕ). forces_off plan runs l p) (counted_same runs c x t))
+      (ap₂ (λ (a b : Bool). a && b) (twice_same runs c t)
+      (forces_same runs (local_in (with_offsets plan offsets number) (x + ahead_in (with_offsets plan offsets number) runs c t - 1) runs) p
+      ∙ ap (λ (l : Option ℕ). forces_off plan runs l p) (before_same runs c x t)))
 
-  walks_same : (runs : Option ℕ) (c : Correction) (t p : ℕ) →
-      ((ahead_in (with_offsets plan offsets number) runs c (t - 1) == 0) && recycles (with_offsets plan offsets number) runs (local_in (with_offsets plan offsets number) t runs) p)
-      ≡ ((ahead_in plan runs c (t - 1) == 0) && recycles plan runs (local_in plan t runs) p)
-  walks_same runs c t p =
-      ap₂ (λ (x y : Bool). x && y) (ap (λ (k : ℕ). k == 0) (ahead_same runs c (t - 1)))
-      (recycles_same runs (local_in (with_offsets plan offsets number) t runs) p ∙ ap (λ (l : Option ℕ). recycles plan runs l p) (local_same runs t))
+  walks_same : (runs : Option ℕ) (c : Correction) (x t p : ℕ) →
+      ((ahead_in (with_offsets plan offsets number) runs c (t - 1) == 0) && recycles (with_offsets plan offsets number) runs (local_in (with_offsets plan offsets number) x runs) p)
+      ≡ ((ahead_in plan runs c (t - 1) == 0) && recycles plan runs (local_in plan x runs) p)
+  walks_same runs c x t p =
+      ap₂ (λ (a b : Bool). a && b) (ap (λ (k : ℕ). k == 0) (ahead_same runs c (t - 1)))
+      (recycles_same runs (local_in (with_offsets plan offsets number) x runs) p ∙ ap (λ (l : Option ℕ). recycles plan runs l p) (local_same runs x))
 
-  begun_same : (selected : Option ℕ) (now : ℕ) (l : Option ℕ) → selected_correction (with_offsets plan offsets number) selected now l ≡ selected_correction plan selected now l
-  begun_same None now l = refl
-  begun_same (Some n) now None = refl
-  begun_same (Some n) now (Some x) =
-      ap (λ (k : ℕ). begun now (ahead_with (correction_mode plan) (residue_of_difference (cycle plan n) (x % cycle plan n) k))) (counter_same n now)
+  begun_same : (selected : Option ℕ) (now midnight : ℕ) (l : Option ℕ) →
+      selected_correction (with_offsets plan offsets number) selected now midnight l ≡ selected_correction plan selected now midnight l
+  begun_same None now midnight l = refl
+  begun_same (Some n) now midnight None = refl
+  begun_same (Some n) now midnight (Some x) =
+      ap (λ (k : ℕ). begun now midnight (ahead_with (correction_mode plan) (residue_of_difference (cycle plan n) (x % cycle plan n) k)))
+      (counter_same n (now + shift (cycle plan n) midnight))
 
   pub ask_alike : AskAlike (with_offsets plan offsets number) plan
   ask_alike = record {
     begun = begun_same;
-    counted = λ selected c t. counted_same (running plan selected) c t;
-    forced = λ selected c t p. forced_same (running plan selected) c t p;
-    walks = λ selected c t p. walks_same (running plan selected) c t p;
+    counted = λ selected c t.
+        ap (λ (s : ℕ). local_in (with_offsets plan offsets number) (t + s + ahead_in (with_offsets plan offsets number) (running plan selected) c t) (running plan selected)) (shift_same (running plan selected) c)
+        ∙ counted_same (running plan selected) c (clocked plan selected c t) t;
+    forced = λ selected c t p.
+        ap (λ (s : ℕ). forces_off (with_offsets plan offsets number) (running plan selected) (local_in (with_offsets plan offsets number) (t + s + ahead_in (with_offsets plan offsets number) (running plan selected) c t) (running plan selected)) p
+        || (steps_twice_in (with_offsets plan offsets number) (running plan selected) c t
+        && forces_off (with_offsets plan offsets number) (running plan selected) (local_in (with_offsets plan offsets number) (t + s + ahead_in (with_offsets plan offsets number) (running plan selected) c t - 1) (running plan selected)) p)) (shift_same (running plan selected) c)
+        ∙ forced_same (running plan selected) c (clocked plan selected c t) t p;
+    walks = λ selected c t p.
+        ap (λ (s : ℕ). (ahead_in (with_offsets plan offsets number) (running plan selected) c (t - 1) == 0) && recycles (with_offsets plan offsets number) (running plan selected) (local_in (with_offsets plan offsets number) (t + s) (running plan selected)) p) (shift_same (running plan selected) c)
+        ∙ walks_same (running plan selected) c (clocked plan selected c t) t p;
     held = λ selected p. refl;
     omitted = λ selected p. refl;
     ordered = λ selected r. refl;

@@ -26,7 +26,8 @@ with_offsets plan offsets number = record plan {
 
 -- in both plans coordination begins, counts and asks alike
 pub record AskAlike (plan other : Plan) : Type 0 where
-  pub begun : (selected : Option ℕ) (now : ℕ) (l : Option ℕ) → selected_correction plan selected now l ≡ selected_correction other selected now l
+  pub begun : (selected : Option ℕ) (now midnight : ℕ) (l : Option ℕ) →
+      selected_correction plan selected now midnight l ≡ selected_correction other selected now midnight l
   pub counted : (selected : Option ℕ) (c : Correction) (t : ℕ) → local_now plan selected c t ≡ local_now other selected c t
   pub forced : (selected : Option ℕ) (c : Correction) (t p : ℕ) → forces plan selected c t p ≡ forces other selected c t p
   pub walks : (selected : Option ℕ) (c : Correction) (t p : ℕ) → lets_walk_again plan selected c t p ≡ lets_walk_again other selected c t p

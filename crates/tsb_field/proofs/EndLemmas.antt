@@ -34,6 +34,7 @@ use Rattle.tsb_text.specs.declared.error.SessionError.{SessionError}
 use Rattle.tsb_text.specs.declared.recording.Outcome.{Outcome}
 use Rattle.tsb_text.specs.declared.recording.RecordOptions.{RecordOptions}
 use Rattle.tsb_text.specs.recording.Ended as recorded
+use Rattle.tsb_text.specs.recording.Leaves.{first_inputs}
 use Rattle.tsb_field_display.specs.Merge.{session_events}
 use Rattle.tsb_field_display.specs.Texts.{IsLog, LogWritten}
 use Rattle.tsb_field_display.specs.declared.events_error.EventsError.{EventsError}
@@ -180,14 +181,14 @@ not-read Is fault failure status rows before after left is so fails =
 
 -- a run ended so, with these options, and then this was written, with no more read
 pub ran-so : (result : Result Outcome SessionError) (status : ℕ) (from : Moment) (device : List ℕ) (options other : RecordOptions) (given : Setup) (before after : Devices) (left mid : Seen)
-    → other ≡ options → after.input ≡ left → recorded.Ended result other.on_fault other.form given before.input.bytes left.bytes before.errors.bytes mid.bytes
+    → other ≡ options → after.input ≡ left → recorded.Ended result other.on_fault other.form given (first_inputs other.clock) before.input.bytes left.bytes before.errors.bytes mid.bytes
     → Blames result left.failed mid.failed mid.flushed → WritesEnd result status from device before.output after.output mid after.errors
     → RanSo status from device options given before after
 ran-so result status from device options other given before after left mid asked same ended blames ends = (
   result,
   mid,
-  subst (λ (s : Seen). recorded.Ended result options.on_fault options.form given before.input.bytes s.bytes before.errors.bytes mid.bytes) (sym same)
-      (subst (λ (o : RecordOptions). recorded.Ended result o.on_fault o.form given before.input.bytes left.bytes before.errors.bytes mid.bytes) asked ended),
+  subst (λ (s : Seen). recorded.Ended result options.on_fault options.form given (first_inputs options.clock) before.input.bytes s.bytes before.errors.bytes mid.bytes) (sym same)
+      (subst (λ (o : RecordOptions). recorded.Ended result o.on_fault o.form given (first_inputs o.clock) before.input.bytes left.bytes before.errors.bytes mid.bytes) asked ended),
   subst (λ (s : Seen). Blames result s.failed mid.failed mid.flushed) (sym same) blames,
   ends,
 )

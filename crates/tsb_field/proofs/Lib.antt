@@ -4,5 +4,7 @@ pub mod EndLemmas
 pub mod ReportLemmas
 -- the lines of detectors
 pub mod TwiceLemmas
+-- clocks of moments, computed
+mod ClockExamples
 
 -- a text of two parts

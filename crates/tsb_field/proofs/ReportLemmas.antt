@@ -17,3 +17,9 @@ pub six-pieces : (t u v w x y z a b c d e f : List ℕ) → t ≡ [] → u ≡ t
     → z ≡ a ++ (b ++ (c ++ (d ++ (e ++ f))))
 six-pieces t u v w x y z a b c d e f empty first second third fourth fifth sixth =
     sixth ∙ (ap (λ (s : List ℕ). s ++ f) fifth ∙ (append_assoc x e f ∙ five-pieces t u v w x (x ++ (e ++ f)) a b c d (e ++ f) empty first second third fourth refl))
+
+pub seven-pieces : (t u v w x y z last a b c d e f g : List ℕ) → t ≡ [] → u ≡ t ++ a → v ≡ u ++ b → w ≡ v ++ c → x ≡ w ++ d → y ≡ x ++ e → z ≡ y ++ f → last ≡ z ++ g
+    → last ≡ a ++ (b ++ (c ++ (d ++ (e ++ (f ++ g)))))
+seven-pieces t u v w x y z last a b c d e f g empty first second third fourth fifth sixth seventh =
+    seventh
+    ∙ (ap (λ (s : List ℕ). s ++ g) sixth ∙ (append_assoc y f g ∙ six-pieces t u v w x y (y ++ (f ++ g)) a b c d e (f ++ g) empty first second third fourth fifth refl))

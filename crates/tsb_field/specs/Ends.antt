@@ -32,6 +32,7 @@ use Rattle.tsb_field_display.specs.Merge.{session_events}
 use Rattle.tsb_field_display.specs.Texts.{IsLog}
 use Rattle.tsb_field_display.specs.Ticks.{AreWritten}
 use Rattle.tsb_text.specs.recording.Ended as recorded
+use Rattle.tsb_text.specs.recording.Leaves.{first_inputs}
 use Rattle.tsb_text.specs.declared.recording.RecordOptions.{RecordOptions}
 use Rattle.tsb_text.specs.declared.recording.Outcome.{Outcome}
 use Rattle.tsb_text.specs.declared.recording.Outcome.TheVariants as outcomes
@@ -51,7 +52,8 @@ use Rattle.tsb_words.specs.declared.field_files.RecordManner.{RecordManner}
 use Rattle.tsb_words.specs.declared.error.WordsError.{WordsError}
 use Rattle.tsb_program.specs.Devices.{Devices, OnlyTells, ReadsNothing}
 use Rattle.tsb_program.specs.Runs.{TellsWords, after_fault}
-use Rattle.tsb_field.specs.Lines.{TellsLate, usage_for}
+use Rattle.tsb_field.specs.Clocks.{clock_of, lacks_clock}
+use Rattle.tsb_field.specs.Lines.{TellsLate, TellsNoClock, usage_for}
 use Rattle.tsb_field.specs.GreenEnds.{HasEnds, NoEnds}
 use Rattle.tsb_field.specs.LogEnds.{LoggedOn}
 use Rattle.tsb_field.specs.ReviewEnds.{Answered, Reviewed}
@@ -155,12 +157,13 @@ WritesMade (Ok text) status old new told tells = Wrote status 0 text.items old n
 WritesMade (Err ends.Memory) status old new told tells = (new ≡ old) × Fails Memory status told tells
 WritesMade (Err ends.Late) status old new told tells = (new ≡ old) × TellsLate status told tells
 
--- what is asked of a record, as words say: it is strict where it does not go on
-abbrev pub options_of : RecordManner → RecordOptions
-options_of manner = record {
+-- what is asked of a record, as words say: it is strict where it does not go on, and its clock is that of tick 1
+abbrev pub options_of : Moment → RecordManner → RecordOptions
+options_of from manner = record {
   on_fault = after_fault (not manner.goes_on);
   form = record { recalls = manner.recalls; outputs = manner.outputs };
   acts = true;
+  clock = clock_of manner.no_clock from;
 }
 
 -- a run ended well; or with nothing written: with 4 because a line ended it, of which no more is told, or by a fault
@@ -174,7 +177,7 @@ WritesEnd (Err fault) status from device old new told tells = (new ≡ old) × T
 abbrev pub RanSo : ℕ → Moment → List ℕ → RecordOptions → Setup → (before after : Devices) → Type 0
 RanSo status from device options given before after =
     (result : Result Outcome SessionError) × (mid : Seen)
-    × recorded.Ended result options.on_fault options.form given before.input.bytes after.input.bytes before.errors.bytes mid.bytes
+    × recorded.Ended result options.on_fault options.form given (first_inputs options.clock) before.input.bytes after.input.bytes before.errors.bytes mid.bytes
     × Blames result after.input.failed mid.failed mid.flushed × WritesEnd result status from device before.output after.output mid after.errors
 
 -- how `record` ended on this plan and the log in the file of this name: after a run, or with nothing read and nothing written
@@ -188,6 +191,12 @@ abbrev pub Recorded : ℕ → Moment → List ℕ → RecordOptions → (plan ro
 Recorded status from device options plan rows files before after =
     ((given : Setup) × HasPlan (files plan) given.plan × HasLog (files rows) given.log × (given.acts ≡ true) × RanSo status from device options given before after)
     ⊎ OnlyTells (NoRun plan rows files status) before after
+
+-- the same, where it may be that no clock can be set to tick 1, and one has to be: nothing is read or written then
+abbrev pub RecordedWith : Bool → ℕ → Moment → List ℕ → RecordOptions → (plan rows : List ℕ) → (List ℕ → Option (List ℕ)) → (before after : Devices) → Type 0
+RecordedWith true status from device options plan rows files before after = OnlyTells (TellsNoClock status) before after
+RecordedWith false status from device options plan rows files before after =
+    Recorded status from device options plan rows files before after
 
 -- ## `diagram`
 
@@ -243,7 +252,7 @@ Scheduled status path week file old new told tells =
 abbrev pub DidWish : Wish → ℕ → (List ℕ → Option (List ℕ)) → (before after : Devices) → Type 0
 DidWish (log wish) status files before after = LoggedOn wish.as_outputs status wish files before after
 DidWish (recording from device plan file manner) status files before after =
-    Recorded status from device (options_of manner) plan file files before after
+    RecordedWith (lacks_clock manner.no_clock from) status from device (options_of from manner) plan file files before after
 DidWish (events from device path) status files before after = Told status from device files path before after
 DidWish (diagram path title seconds from told_by) status files before after =
     Pictured status (form_of title seconds from) told_by files path before after

@@ -10,5 +10,7 @@ pub mod LogEnds
 pub mod ReviewEnds
 -- the ends of greens in the event log of a diagram
 pub mod GreenEnds
+-- the clock that a record begins with
+pub mod Clocks
 -- what the program has done and written for the words that it was given
 pub mod Ends

@@ -5,7 +5,9 @@ use Rattle.tsb_event_text.specs.Times.{moment_of}
 use Rattle.tsb_event_text.specs.Written.{IsWritten}
 use Rattle.tsb_event_text.specs.declared.time_forms.TimeForm.{TimeForm}
 use Rattle.tsb_event_text.specs.declared.time_forms.TimeForm.TheVariants.{YearFirst}
+use Rattle.tsb_field_streams.specs.Channels.{channels_text}
 use Rattle.tsb_field_streams.specs.Devices.{devices_text}
+use Rattle.tsb_field_streams.specs.declared.filter.channels.Channels.{Channels}
 use Rattle.tsb_field_streams.specs.declared.filter.gaps.Gaps.{Gaps}
 use Rattle.tsb_field_streams.specs.declared.filter.LeftOut.{LeftOut}
 use Rattle.tsb_field_streams.specs.declared.filter.Summary.{Summary}
@@ -27,21 +29,33 @@ form_line None (Some YearFirst) = []
 form_line None (Some form) = is_told form
 form_line asked found = []
 
+-- zones of times have a line where a row that counts says its own, and none is asked for: they are passed over
+abbrev pub zones_line : Bool → List ℕ
+zones_line zoned = if zoned then codes "times: their zones are passed over (give that of --from, as --zone=-07:00)\n" else []
+
 -- ## What was left out
 
 -- nothing was left out
 abbrev pub is_nothing : LeftOut → Bool
 is_nothing left_out = left_out.of_other_devices == 0 && (left_out.without_input == 0 && left_out.passed == 0)
 
--- the line of what was left out
-abbrev pub left_out_line : LeftOut → List ℕ
-left_out_line left_out =
+-- how many rows of other devices, and how many events of channels without an input
+abbrev pub left_out_begin : LeftOut → List ℕ
+left_out_begin left_out =
     codes "left out: " ++ (decimal left_out.of_other_devices ++ (codes " rows of other devices, " ++ (decimal left_out.without_input
-    ++ (codes " events of channels without an input, " ++ (decimal left_out.passed ++ codes " lines that are no rows\n")))))
+    ++ codes " events of channels without an input")))
+
+-- how many lines were passed over
+abbrev pub left_out_end : ℕ → List ℕ
+left_out_end lines = codes ", " ++ (decimal lines ++ codes " lines that are no rows\n")
+
+-- the line of what was left out, with the first of these channels
+abbrev pub left_out_line : LeftOut → Channels → List ℕ
+left_out_line left_out channels = left_out_begin left_out ++ (channels_text channels ++ left_out_end left_out.passed)
 
 -- what was left out is told, where it was something
-abbrev pub left_out_text : LeftOut → List ℕ
-left_out_text left_out = if is_nothing left_out then [] else left_out_line left_out
+abbrev pub left_out_text : LeftOut → Channels → List ℕ
+left_out_text left_out channels = if is_nothing left_out then [] else left_out_line left_out channels
 
 -- ## How much was read
 
@@ -119,4 +133,5 @@ IsReport manner summary text =
     (counted : List ℕ) × (gaps : List ℕ) × IsCounted manner.counts summary counted × AreGaps manner.counts summary.gaps gaps
     × (text
     ≡ form_line manner.times summary.times
-    ++ (left_out_text summary.left_out ++ (counted ++ (gaps ++ (devices_text manner.counts summary.devices ++ verdict_line manner summary)))))
+    ++ (zones_line summary.zoned
+    ++ (left_out_text summary.left_out summary.unwired ++ (counted ++ (gaps ++ (devices_text manner.counts summary.devices ++ verdict_line manner summary))))))

@@ -4,7 +4,7 @@ ghost use Rattle.tsb_program.specs.Devices.{OnlyTells, ReadsNothing};
 ghost use Rattle.tsb_program.specs.Runs.{TellsWords};
 ghost use Rattle.tsb_words.specs.Near.{field_near};
 ghost use Rattle.tsb_words.specs.Wrong.{field_wrong};
-ghost use Rattle.tsb_field.specs.Lines.{TellsLate, usage_for};
+ghost use Rattle.tsb_field.specs.Lines.{TellsLate, TellsNoClock, usage_for};
 ghost use Rattle.tsb_field.specs.Ends.{WritesMade, failure_by};
 
 use std::convert::AsStr;
@@ -20,7 +20,7 @@ pub(crate) const USAGE: &[u8] =
     b"usage: tsb_field log --from TIME [--device ID] [--time-form FORM] [--zone OFFSET] [--count] [--allow-empty]
           [--sort] [--sort-within SECONDS] [--as-outputs PLAN]
           [--vehicle CHANNEL=DETECTOR].. [--pedestrian CHANNEL=DETECTOR].. [--preempt CHANNEL=INPUT]..
-    or tsb_field record --from TIME --device ID [--go-on] [--recalls] [--outputs] PLAN LOG
+    or tsb_field record --from TIME --device ID [--go-on] [--recalls] [--outputs] [--no-clock] PLAN LOG
     or tsb_field events --from TIME --device ID [--log LOG]
     or tsb_field diagram [--log LOG] [--title TEXT] [--seconds-per-line N] [--from TIME [--events FILE]]
     or tsb_field review PLAN
@@ -52,6 +52,16 @@ fn tell_late<R: Read, W: Write, E: Write>(streams: &mut Streams<R, W, E>) -> u8
     ensures { OnlyTells (TellsLate result) streams.old streams.new }
 {
     streams.tell(ExitStatus::BadWords, b"events: past the year 9999\n")
+}
+
+/// Says that a clock can't be set to the moment of `--from`, as a fault of the words.
+pub(crate) fn tell_no_clock<R: Read, W: Write, E: Write>(streams: &mut Streams<R, W, E>) -> u8
+    ensures { OnlyTells (TellsNoClock result) streams.old streams.new }
+{
+    streams.tell(
+        ExitStatus::BadWords,
+        b"--from: a clock has the years 2000 to 2099 (give --no-clock for others)\n",
+    )
 }
 
 /// Writes the text that was made of events, or says why there is none, and gives the status that the program ends with.

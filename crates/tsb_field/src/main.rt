@@ -3,6 +3,7 @@
 //! review` says what can be wrong with a plan that runs.
 #![tactic(auto)]
 
+mod clock;
 mod diagram_run;
 mod end;
 mod ends_run;

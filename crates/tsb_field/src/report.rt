@@ -1,13 +1,17 @@
 //! What `log` tells of what it read.
 ghost use Rattle.std.specs.Prelude.{◌≡◌, ◌==◌, ◌++◌, IfOk, OnOk, string_bytes};
 ghost use Rattle.tsb_program.specs.Statuses.{number};
-ghost use Rattle.tsb_field.specs.LogLines.{AreGaps, IsCount, IsCounted, IsGapsLine, IsReport, IsSpan, IsTime, form_line, gaps_begin, gaps_line, is_lost, is_told, left_out_line, left_out_text, span_begin, span_end, span_line, status_of, verdict_line};
+ghost use Rattle.tsb_field.specs.LogLines.{AreGaps, IsCount, IsCounted, IsGapsLine, IsReport, IsSpan, IsTime, form_line, gaps_begin, gaps_line, is_lost, is_told, left_out_begin, left_out_end, left_out_line, left_out_text, span_begin, span_end, span_line, status_of, verdict_line, zones_line};
 
 use std::alloc::{AllocError, Global};
 use tsb_event_text::{Moment, TimeForm, time_form_word, time_text};
-use tsb_field_streams::{Gaps, LeftOut, Summary, append_devices};
+use tsb_field_streams::{Channels, Gaps, LeftOut, Summary, append_channels, append_devices};
 use tsb_program::ExitStatus;
 use tsb_words::field_files::Manner;
+
+/// What is printed where rows say their zones, and none is asked for.
+const ZONES: &[u8] =
+    b"times: their zones are passed over (give that of --from, as --zone=-07:00)\n";
 
 /// What is told where no row counted.
 const NO_ROW: &[u8] = b"events: no row counts (give --allow-empty where that is right)\n";
@@ -42,7 +46,8 @@ pub(crate) fn report(alloc: Global, manner: Manner, summary: Summary) -> Result<
     let gaps = gaps_text(alloc, manner.counts, summary.gaps)?;
     let mut text = Vec::new(alloc);
     append_form(&mut text, manner.times, summary.times)?;
-    append_left_out(alloc, &mut text, summary.left_out)?;
+    text.extend_from_slice(zones_line(summary.zoned))?;
+    append_left_out(alloc, &mut text, summary.left_out, &summary.unwired)?;
     text.extend_from_slice(&counted)?;
     text.extend_from_slice(&gaps)?;
     append_devices(&mut text, manner.counts, &summary.devices)?;
@@ -74,27 +79,60 @@ fn append_form_line(text: &mut Vec<u8>, form: TimeForm) -> Result<(), AllocError
     text.extend_from_slice(b", by the first row\n")
 }
 
+/// The line of zones that are passed over, if any are.
+fn zones_line(zoned: bool) -> &'static [u8]
+    ensures { result.now ≡ zones_line zoned }
+{
+    if zoned { ZONES } else { b"" }
+}
+
 /// Adds what was left out, where something was.
-fn append_left_out(alloc: Global, text: &mut Vec<u8>, left_out: LeftOut) -> Result<(), AllocError>
-    ensures { OnOk result (text.new.items ≡ text.old.items ++ left_out_text left_out) }
+fn append_left_out(
+    alloc: Global,
+    text: &mut Vec<u8>,
+    left_out: LeftOut,
+    channels: &Channels,
+) -> Result<(), AllocError>
+    ensures { OnOk result (text.new.items ≡ text.old.items ++ left_out_text left_out channels.now) }
 {
     if left_out.of_other_devices == 0 && left_out.without_input == 0 && left_out.passed == 0 {
         return Ok(());
     }
-    let line = left_out_line(alloc, left_out)?;
-    text.extend_from_slice(line.as_bytes())
+    append_left_out_line(alloc, text, left_out, channels)
 }
 
-/// The line of what was left out.
-fn left_out_line(alloc: Global, left_out: LeftOut) -> Result<String, AllocError>
-    ensures { IfOk result (λ line. string_bytes line ≡ left_out_line left_out) }
+/// Adds the line of what was left out, with the first of these channels.
+fn append_left_out_line(
+    alloc: Global,
+    text: &mut Vec<u8>,
+    left_out: LeftOut,
+    channels: &Channels,
+) -> Result<(), AllocError>
+    ensures { OnOk result (text.new.items ≡ text.old.items ++ left_out_line left_out channels.now) }
+{
+    let front = left_out_begin(alloc, left_out)?;
+    let end = left_out_end(alloc, left_out.passed)?;
+    text.extend_from_slice(front.as_bytes())?;
+    append_channels(text, channels)?;
+    text.extend_from_slice(end.as_bytes())
+}
+
+/// How many rows of other devices were left out, and how many events of channels without an input.
+fn left_out_begin(alloc: Global, left_out: LeftOut) -> Result<String, AllocError>
+    ensures { IfOk result (λ text. string_bytes text ≡ left_out_begin left_out) }
 {
     let rows = left_out.of_other_devices;
     let events = left_out.without_input;
-    let lines = left_out.passed;
     format!(in alloc;
-        "left out: {rows} rows of other devices, {events} events of channels without an input, {lines} lines that are no rows\n"
+        "left out: {rows} rows of other devices, {events} events of channels without an input"
     )
+}
+
+/// How many lines were passed over.
+fn left_out_end(alloc: Global, lines: u32) -> Result<String, AllocError>
+    ensures { IfOk result (λ text. string_bytes text ≡ left_out_end lines) }
+{
+    format!(in alloc; ", {lines} lines that are no rows\n")
 }
 
 /// How much was read, where it is to be told.

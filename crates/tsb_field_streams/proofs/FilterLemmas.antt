@@ -8,7 +8,9 @@ use Rattle.std.proofs.lemmas.List.{append-nil}
 use Rattle.tsb_log_text.specs.declared.log.LogRow.{LogRow}
 use Rattle.tsb_log_text.specs.tsb_types.declared.limits.TheConstants.{TICKS}
 use Rattle.tsb_event_text.specs.Columns.{usual_of}
-use Rattle.tsb_event_text.specs.Faults.{is_preface}
+use Rattle.tsb_event_text.specs.Faults.{fault_of, is_preface}
+use Rattle.tsb_event_text.specs.Wide.{is_passed, wide_of}
+use Rattle.tsb_event_text.specs.declared.wide.WideRow.{WideRow}
 use Rattle.tsb_event_text.specs.declared.columns.Columns.{Columns}
 use Rattle.tsb_event_text.specs.declared.rows.EventRow.{EventRow}
 use Rattle.tsb_event_text.specs.Rows.{row_of}
@@ -33,7 +35,7 @@ use Rattle.tsb_field_streams.specs.declared.error.FilterError.TheVariants.{TimeO
 use Rattle.tsb_field_streams.specs.declared.filter.Filter.{Filter}
 use Rattle.tsb_field_streams.specs.declared.filter.gaps.Gaps.{Gaps}
 use Rattle.tsb_field_streams.specs.declared.filter.TheConstants.{MOST_ROWS}
-use Rattle.tsb_field_streams.specs.Filtering.{Given, Stand, bound_of, disorder, lateness, most_held, with_count, with_due, with_event, with_first, with_given, with_held, with_in_order, with_formed, with_late, with_noted, with_other_line, with_passed, with_row_line, with_signal, with_some_row, may_be_plain}
+use Rattle.tsb_field_streams.specs.Filtering.{Given, Stand, bound_of, disorder, lateness, most_held, with_count, with_due, with_event, with_first, with_given, with_held, with_in_order, with_formed, with_late, with_noted, with_other_line, with_passed, with_row_line, with_signal, with_some_row, with_wide, with_zone, may_be_plain}
 use Rattle.tsb_field_streams.specs.Standing.{StandsAt, Takes}
 
 pub none_known : (from : ℕ) (wires : List Wire) → length (rows_before from wires []) ≡ 0
@@ -66,11 +68,13 @@ stands_counted g s f moment counted first gaps at le counts begins paused = reco
   wires = at.wires;
   columns = at.columns;
   times = at.times;
+  zoned = at.zoned;
   counted = counts;
   first = begins;
   last = refl;
   gaps = paused;
   devices = at.devices;
+  strays = at.strays;
   used = at.used;
   others = at.others;
   unwired = at.unwired;
@@ -95,11 +99,13 @@ stands_formed g s f form at = record {
   wires = at.wires;
   columns = at.columns;
   times = refl;
+  zoned = at.zoned;
   counted = at.counted;
   first = at.first;
   last = at.last;
   gaps = at.gaps;
   devices = at.devices;
+  strays = at.strays;
   used = at.used;
   others = at.others;
   unwired = at.unwired;
@@ -183,6 +189,19 @@ plain-takes g number s text columns row given f plain spelled takes =
         ap (λ (b : Bool). if b then with_some_row g number s columns text (row_of columns g.device text) else with_other_line g number s columns text) plain
         ∙ ap (with_some_row g number s columns text) spelled
 
+-- a row as exports have it, of a device that is noted, and of a zone
+pub wide-takes : (g : Given) (number : ℕ) (s : Stand) (text : List ℕ) (columns : Columns) (row : WideRow) (given : Result KnownRows FilterError) (f : Filter) → is_passed text ≡ false
+    → wide_of columns s.times g.zone g.device text ≡ Some row
+    → Takes g s (with_wide g number (with_zone g (with_noted g s columns text) columns text (Some row)) (fault_of columns s.times text) (Some row)) given f
+    → Takes g s (with_other_line g number s columns text) given f
+wide-takes g number s text columns row given f passed spelled takes =
+    subst (λ (come : Result Stand FilterError). Takes g s come given f) (sym is) takes
+  where
+    is : with_other_line g number s columns text ≡ with_wide g number (with_zone g (with_noted g s columns text) columns text (Some row)) (fault_of columns s.times text) (Some row)
+    is =
+        ap (λ (b : Bool). if b then with_passed s else with_wide g number (with_zone g (with_noted g s columns text) columns text (wide_of columns s.times g.zone g.device text)) (fault_of columns s.times text) (wide_of columns s.times g.zone g.device text)) passed
+        ∙ ap (λ (found : Option WideRow). with_wide g number (with_zone g (with_noted g s columns text) columns text found) (fault_of columns s.times text) found) spelled
+
 -- the first row, with its columns in the usual places
 pub first-takes : (g : Given) (number : ℕ) (s : Stand) (text : List ℕ) (columns : Columns) (given : Result KnownRows FilterError) (f : Filter) → is_preface text ≡ false → columns ≡ usual_of text
     → Takes g s (with_row_line g number (record s { columns = Some columns }) columns text) given f → Takes g s (with_first g number s text None) given f
@@ -202,11 +221,13 @@ stands_given g s f held rows at is most = record {
   wires = at.wires;
   columns = at.columns;
   times = at.times;
+  zoned = at.zoned;
   counted = at.counted;
   first = at.first;
   last = at.last;
   gaps = at.gaps;
   devices = at.devices;
+  strays = at.strays;
   used = at.used;
   others = at.others;
   unwired = at.unwired;
@@ -230,11 +251,13 @@ stands_held g s f held row latest at is most later = record {
   wires = at.wires;
   columns = at.columns;
   times = at.times;
+  zoned = at.zoned;
   counted = at.counted;
   first = at.first;
   last = at.last;
   gaps = at.gaps;
   devices = at.devices;
+  strays = at.strays;
   used = at.used;
   others = at.others;
   unwired = at.unwired;

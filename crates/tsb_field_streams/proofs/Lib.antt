@@ -12,6 +12,10 @@ pub mod GoingLemmas
 pub mod BlameLemmas
 -- the names of devices
 pub mod DeviceLemmas
+-- the names of channels
+pub mod ChannelLemmas
+-- zones that rows say
+pub mod ZoneLemmas
 -- room in the line of a fault
 pub mod RoomLemmas
 -- rows that are sorted within a window

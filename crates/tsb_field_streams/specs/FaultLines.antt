@@ -66,9 +66,20 @@ separator_name Tab = codes "tabs"
 abbrev pub parted_text : Separator → Separator → List ℕ
 parted_text all own = separator_name own ++ (codes " part its fields, and " ++ (separator_name all ++ codes " those above: one separator a file"))
 
+-- the names of one word that a header may give a column
+abbrev pub names_taken : Column → List ℕ
+names_taken Device = codes "SignalID, DeviceId, LocationIdentifier or LocationId"
+names_taken Time = codes "Timestamp, DateTime or Time"
+names_taken Code = codes "EventCode, EventId, EventType or Code"
+names_taken Parameter = codes "EventParam, Parameter, Param or EventValue"
+
+-- a header that does not name this column, and which names it may have
+abbrev pub lacks_text : Column → List ℕ
+lacks_text column = codes "header: no column is the " ++ (column_name column ++ (codes ": name it " ++ names_taken column))
+
 -- what is wrong with a line of a text
 abbrev pub why_text : RowFault → List ℕ
-why_text (Lacks column) = codes "header: no column is the " ++ column_name column
+why_text (Lacks column) = lacks_text column
 why_text (Missing column) = column_name column ++ codes ": the line ends before it"
 why_text (NoDay time) = field_text Time time ++ codes " has no day (was it opened in a spreadsheet?)"
 why_text (NoSeconds time) = field_text Time time ++ codes " has no seconds (was it opened in a spreadsheet?)"

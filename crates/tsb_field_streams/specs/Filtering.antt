@@ -1,6 +1,6 @@
 -- What lines of events come to, one after another: the events of inputs that they tell, what they leave out, or the first
 -- fault.
-use Rattle.std.specs.Prelude.{ℕ, zero, suc, ◌+◌, ◌-◌, ◌*◌, ◌==◌, ◌&&◌, min, max, nat_le, filter, nat_lt, not, position, replicate, set, Bool, true, false, List, [], ◌∷◌, ◌++◌, length, if◌then◌else◌, Option, Some, None, Result, Ok, Err}
+use Rattle.std.specs.Prelude.{ℕ, zero, suc, ◌+◌, ◌-◌, ◌*◌, ◌==◌, ◌&&◌, ◌||◌, min, max, nat_le, filter, nat_lt, not, position, replicate, set, Bool, true, false, List, [], ◌∷◌, ◌++◌, length, if◌then◌else◌, Option, Some, None, Result, Ok, Err}
 use Rattle.tsb_log_text.specs.tsb_types.declared.limits.TheConstants.{TICKS}
 use Rattle.tsb_lines.specs.Lines.{is_skipped}
 use Rattle.tsb_event_text.specs.declared.columns.Columns.{Columns}
@@ -11,7 +11,7 @@ use Rattle.tsb_event_text.specs.declared.faults.RowFault.{RowFault}
 use Rattle.tsb_event_text.specs.declared.faults.RowFault.TheVariants.{Lacks}
 use Rattle.tsb_event_text.specs.declared.columns.Column.TheVariants.{Device}
 use Rattle.tsb_event_text.specs.declared.time_forms.TimeForm.{TimeForm}
-use Rattle.tsb_event_text.specs.declared.time_forms.TimeForm.TheVariants.{YearFirst}
+use Rattle.tsb_event_text.specs.declared.time_forms.TimeForm.TheVariants.{YearFirst, Seconds, Milliseconds}
 use Rattle.tsb_event_text.specs.declared.wide.WideRow.{WideRow}
 use Rattle.tsb_event_text.specs.declared.zones.Zone.{Zone}
 use Rattle.tsb_event_text.specs.Faults.{fault_of, is_preface}
@@ -29,12 +29,17 @@ use Rattle.tsb_field_streams.specs.Order.{first_before, first_of, placed, rest_b
 use Rattle.tsb_field_streams.specs.declared.error.Disorder.{Disorder}
 use Rattle.tsb_field_streams.specs.declared.error.FilterError.{FilterError}
 use Rattle.tsb_field_streams.specs.declared.error.FilterError.TheVariants.{LongLine, Malformed, TimeOrder, TooManyRows, PastEnd, LogTooLarge}
+use Rattle.tsb_field_streams.specs.declared.filter.channels.Channel.{Channel}
+use Rattle.tsb_field_streams.specs.declared.filter.channels.Channels.{Channels}
 use Rattle.tsb_field_streams.specs.declared.filter.devices.Devices.{Devices}
 use Rattle.tsb_field_streams.specs.declared.filter.gaps.Gaps.{Gaps}
 use Rattle.tsb_field_streams.specs.declared.filter.Summary.{Summary}
 use Rattle.tsb_field_streams.specs.declared.filter.TheConstants.{LINE, MOST_ROWS}
 use Rattle.tsb_field_streams.specs.declared.filter.gaps.TheConstants.{GAP}
 use Rattle.tsb_field_streams.specs.declared.filter.late.TheConstants.{MOST_HELD}
+use Rattle.tsb_field_streams.specs.declared.filter.zones.TheConstants.{ELSEWHERE}
+use Rattle.tsb_field_streams.specs.Channels.{with_channel}
+use Rattle.tsb_field_streams.specs.declared.filter.channels.TheConstants.{NO_CHANNELS}
 use Rattle.tsb_field_streams.specs.Devices.{with_some_device}
 use Rattle.tsb_field_streams.specs.declared.filter.devices.TheConstants.{NO_DEVICES}
 
@@ -49,14 +54,15 @@ pub record Given : Type 0 where
   pub window : Option ℕ
   pub wires : List Wire
 
--- what is known after some lines: where the columns stand, the form of times, how many rows counted, the moments of the
+-- what is known after some lines: where the columns stand, the form of times, whether a row that counts said its zone where none is asked for, how many rows counted, the moments of the
 -- first and the last of them, the gaps between them, the devices of rows where none is asked for, for each wire whether it is the first of its channel and had an event,
--- how many rows were of other devices, how many events had no wire and how many lines were passed over, and the events of inputs. Where rows are
+-- how many rows were of other devices, how many events had no wire, the first channels of these, and how many lines were passed over, and the events of inputs. Where rows are
 -- sorted, all this is told of those that were taken: others are held, in the order of time, and the latest row was of this
 -- moment
 pub record Stand : Type 0 where
   pub columns : Option Columns
   pub times : Option TimeForm
+  pub zoned : Bool
   pub counted : ℕ
   pub first : ℕ
   pub last : ℕ
@@ -65,6 +71,7 @@ pub record Stand : Type 0 where
   pub used : List Bool
   pub others : ℕ
   pub unwired : ℕ
+  pub strays : Channels
   pub passed : ℕ
   pub events : List InputEvent
   pub held : List EventRow
@@ -75,6 +82,7 @@ abbrev pub start : Given → Stand
 start g = record {
   columns = None;
   times = g.times;
+  zoned = false;
   counted = 0;
   first = 0;
   last = 0;
@@ -83,6 +91,7 @@ start g = record {
   used = replicate (length g.wires) false;
   others = 0;
   unwired = 0;
+  strays = NO_CHANNELS;
   passed = 0;
   events = [];
   held = [];
@@ -110,9 +119,13 @@ wire_place wires kind channel = position (leads_from kind channel) wires
 abbrev pub with_used : Stand → ℕ → Stand
 with_used s place = record s { used = if nat_lt place (length s.used) then set s.used place true else s.used }
 
+-- an event of a channel from which no wire leads is counted
+abbrev pub with_unwired : Stand → Channel → Stand
+with_unwired s channel = record s { unwired = one_more s.unwired; strays = with_channel s.strays channel }
+
 -- an event of an input, where a wire leads from its channel; else it is counted
 abbrev pub with_wire : Given → Stand → EventRow → Signal → Option ℕ → Result Stand FilterError
-with_wire g s row signal None = Ok (record s { unwired = one_more s.unwired })
+with_wire g s row signal None = Ok (with_unwired s (record { kind = signal.kind; number = row.parameter }))
 with_wire g s row signal (Some place) =
     with_event g (with_used s place) (record { nanos = row.moment.nanos; kind = signal.kind; channel = row.parameter; on = signal.on })
 
@@ -245,6 +258,31 @@ parameter_of row = parameter_or (row.ours && is_there (signal_of row.code)) row.
 abbrev pub with_noted : Given → Stand → Columns → List ℕ → Stand
 with_noted g s columns text = record s { devices = with_some_device g.device s.devices columns text }
 
+-- no zone is asked for
+abbrev pub is_unasked : Option Zone → Bool
+is_unasked None = true
+is_unasked (Some zone) = false
+
+-- times of this form have a clock, which a zone may follow
+abbrev pub is_of_clock : TimeForm → Bool
+is_of_clock Seconds = false
+is_of_clock Milliseconds = false
+is_of_clock form = true
+
+-- a row says its zone: by the clock of a zone that no row can say it has another moment
+abbrev pub says_zone : WideRow → Option WideRow → Bool
+says_zone row None = false
+says_zone row (Some other) = is_of_clock row.form && not (other.moment.nanos == row.moment.nanos)
+
+-- the row on this line counts and says its zone, where none is asked for
+abbrev pub is_zoned : Given → Stand → Columns → List ℕ → WideRow → Bool
+is_zoned g s columns text row = row.ours && (is_unasked g.zone && says_zone row (wide_of columns s.times (Some ELSEWHERE) g.device text))
+
+-- whether a row says its zone is known, where this line spells one
+abbrev pub with_zone : Given → Stand → Columns → List ℕ → Option WideRow → Stand
+with_zone g s columns text None = s
+with_zone g s columns text (Some row) = record s { zoned = s.zoned || is_zoned g s columns text row }
+
 -- a row as exports have it, with this parameter
 abbrev pub with_parameter : Given → ℕ → Stand → RowFault → WideRow → Option ℕ → Result Stand FilterError
 with_parameter g number s why row None = Err (Malformed number why)
@@ -260,7 +298,7 @@ with_wide g number s why (Some row) = with_parameter g number s why row (paramet
 abbrev pub with_other_line : Given → ℕ → Stand → Columns → List ℕ → Result Stand FilterError
 with_other_line g number s columns text =
     if is_passed text then with_passed s
-    else with_wide g number (with_noted g s columns text) (fault_of columns s.times text) (wide_of columns s.times g.zone g.device text)
+    else with_wide g number (with_zone g (with_noted g s columns text) columns text (wide_of columns s.times g.zone g.device text)) (fault_of columns s.times text) (wide_of columns s.times g.zone g.device text)
 
 -- a plain row, where a line spells one
 abbrev pub with_some_row : Given → ℕ → Stand → Columns → List ℕ → Option EventRow → Result Stand FilterError
@@ -327,17 +365,19 @@ how_many flags = length (filter (λ flag. flag) flags)
 abbrev pub is_heard : ℕ → List InputEvent → Bool
 is_heard from events = nat_lt 0 (last_tick from events)
 
--- what was read by some lines: what was left out, the form of times, the rows that counted with the moments of the first and
--- the last of them and the gaps between them, the devices of rows, how many channels that lead to an input had an event, and whether an input had one from tick 1 on
+-- what was read by some lines: what was left out, the form of times, whether they said zones where none is asked for, the rows that counted with the moments of the first and
+-- the last of them and the gaps between them, the devices of rows, the first channels without an input that had an event, how many channels that lead to an input had one, and whether an input had one from tick 1 on
 abbrev pub summary_at : Given → Stand → Summary
 summary_at g s = record {
   left_out = record { of_other_devices = s.others; without_input = s.unwired; passed = s.passed; found = is_there s.columns };
   times = s.times;
+  zoned = s.zoned;
   rows = s.counted;
   first = s.first;
   last = s.last;
   gaps = s.gaps;
   devices = s.devices;
+  unwired = s.strays;
   channels = how_many s.used;
   heard = is_heard g.from s.events;
 }

@@ -1,5 +1,7 @@
 -- which devices rows are of, and the line that names them
 pub mod Devices
+-- which channels lead to no input, and how they are named
+pub mod Channels
 -- what lines of events come to, one after another
 pub mod Filtering
 -- how far a filter has come
@@ -14,6 +16,8 @@ pub mod Blame
 pub mod Clocks
 -- what holds of rows that are sorted within a window
 pub mod SortLaws
+-- what holds of rows that say their zones
+pub mod ZoneLaws
 -- the line that tells what ended a filter
 pub mod FaultLines
 -- rows in the order of time

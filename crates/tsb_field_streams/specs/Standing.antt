@@ -44,11 +44,13 @@ pub record StandsAt (g : Given) (s : Stand) (f : Filter) : Type 0 where
   pub wires : g.wires ≡ f.wires.now
   pub columns : f.columns ≡ s.columns
   pub times : f.times ≡ s.times
+  pub zoned : f.zoned ≡ s.zoned
   pub counted : f.counted ≡ s.counted
   pub first : f.first ≡ s.first
   pub last : f.last ≡ s.last
   pub gaps : f.gaps ≡ s.gaps
   pub devices : f.devices ≡ s.devices
+  pub strays : f.unwired ≡ s.strays
   pub used : f.used.items ≡ s.used
   pub others : f.left_out.of_other_devices ≡ s.others
   pub unwired : f.left_out.without_input ≡ s.unwired

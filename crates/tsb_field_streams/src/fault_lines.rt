@@ -1,7 +1,7 @@
 //! The line that tells what ended a filter, part by part. It takes no memory.
 ghost use Rattle.std.specs.Prelude.{◌≡◌, ◌≤◌, ◌++◌, Some, codes, decimal, length};
 ghost use Rattle.tsb_event_text.specs.TimeForms.{time_form_word};
-ghost use Rattle.tsb_field_streams.specs.FaultLines.{column_name, cure_text, day_between, disorder_text, example, field_text, filter_fault, late_text, line_number, no_time_text, other_form_text, parted_text, row_fault_text, safe, separator_name, shown_text, sort_text, why_text};
+ghost use Rattle.tsb_field_streams.specs.FaultLines.{column_name, cure_text, day_between, disorder_text, example, field_text, filter_fault, lacks_text, late_text, line_number, names_taken, no_time_text, other_form_text, parted_text, row_fault_text, safe, separator_name, shown_text, sort_text, why_text};
 ghost use Rattle.tsb_lines.specs.ShortLines.{AddsShort};
 ghost use Rattle.tsb_field_streams.specs.declared.fault_lines.TheConstants.{LONGEST};
 
@@ -228,12 +228,14 @@ fn push_why(line: &mut FaultLine, why: RowFault)
     }
 }
 
-/// Adds that no column of a header is this one.
+/// Adds that no column of a header is this one, and which names it may have.
 fn push_lacks(line: &mut FaultLine, column: Column)
-    ensures { AddsShort LONGEST 180 line.old (codes "header: no column is the " ++ column_name column) line.new }
+    ensures { AddsShort LONGEST 180 line.old (lacks_text column) line.new }
 {
     line.push(b"header: no column is the ");
     line.push(column_name(column));
+    line.push(b": name it ");
+    line.push(names_taken(column));
 }
 
 /// Adds that a line ends before this column.
@@ -348,6 +350,19 @@ fn example(form: TimeForm) -> &'static [u8]
         TimeForm::DayFirst => b"22/11/2026 07:00:00.1",
         TimeForm::Seconds => b"1795330800.1",
         TimeForm::Milliseconds => b"1795330800100",
+    }
+}
+
+/// The names of one word that a header may give a column.
+fn names_taken(column: Column) -> &'static [u8]
+    ensures text { result.now ≡ names_taken column }
+    ensures short { length result.now ≤ 60 }
+{
+    match column {
+        Column::Device => b"SignalID, DeviceId, LocationIdentifier or LocationId",
+        Column::Time => b"Timestamp, DateTime or Time",
+        Column::Code => b"EventCode, EventId, EventType or Code",
+        Column::Parameter => b"EventParam, Parameter, Param or EventValue",
     }
 }
 

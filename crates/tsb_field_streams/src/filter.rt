@@ -11,13 +11,17 @@ ghost use Rattle.tsb_field_streams.specs.Filtering.{Given, Stand, how_many, may_
 ghost use Rattle.tsb_field_streams.specs.Blame.{IsOfText};
 ghost use Rattle.tsb_field_streams.specs.declared.error.FilterError.TheVariants.{LogTooLarge};
 
+mod channels;
 mod devices;
 mod events;
 mod gaps;
 mod late;
+mod zones;
 
 use crate::Held;
 use crate::error::{Disorder, FilterError};
+pub use channels::{Channel, Channels, append_channels};
+use channels::{NO_CHANNELS, with_channel};
 pub use devices::{Devices, MOST_NAMED, append_devices};
 use devices::{NO_DEVICES, with_device};
 pub use gaps::Gaps;
@@ -70,6 +74,8 @@ pub struct Summary {
     pub left_out: LeftOut,
     /// The form of times: that which was asked for, or that of the first row. `None` where there was neither.
     pub times: Option<TimeForm>,
+    /// Whether a row that counted said its zone, where none was asked for.
+    pub zoned: bool,
     /// How many rows counted, whatever their codes.
     pub rows: u32,
     /// The moment of the first row that counted, in nanoseconds as a `Moment` counts them; 0 where none did.
@@ -80,6 +86,8 @@ pub struct Summary {
     pub gaps: Gaps,
     /// The devices of rows; none where one was asked for.
     pub devices: Devices,
+    /// The first channels that had an event and lead to no input.
+    pub unwired: Channels,
     /// How many channels that lead to an input had an event, also before tick 1.
     pub channels: usize,
     /// Whether an input had an event from the moment on at which tick 1 begins.
@@ -98,6 +106,8 @@ pub struct Filter<'a> {
     columns: Option<Columns>,
     /// The form of times: that which is asked for, or else known from the first row.
     times: Option<TimeForm>,
+    /// Whether a row that counts said its zone, where none is asked for.
+    zoned: bool,
     /// How many rows counted.
     counted: u32,
     /// The moment of the first row that counted, in nanoseconds, and 0 before any.
@@ -107,6 +117,8 @@ pub struct Filter<'a> {
     gaps: Gaps,
     /// The devices of rows; none where one is asked for.
     devices: Devices,
+    /// The first channels that had an event and lead to no input.
+    unwired: Channels,
     /// For each wire whether it is the first of its channel and had an event.
     used: Vec<bool>,
     /// How many rows of the log are known.
@@ -149,11 +161,13 @@ impl<'a> Filter<'a> {
             wires,
             columns: None,
             times: reading.times,
+            zoned: false,
             counted: 0,
             first: 0,
             last: 0,
             gaps: NO_GAPS,
             devices: NO_DEVICES,
+            unwired: NO_CHANNELS,
             used,
             rows: 0,
             left_out: LeftOut {
@@ -309,6 +323,7 @@ impl<'a> Filter<'a> {
         match wide_row(text, columns, times, self.reading.zone, self.device) {
             Some(row) => {
                 self.note_device(columns, text);
+                self.note_zone(columns, text, row);
                 self.take_wide(number, columns, text, row)
             }
             None => Err(FilterError::Malformed(number, row_fault(text, columns, times))),
@@ -442,11 +457,13 @@ impl<'a> Filter<'a> {
         Summary {
             left_out: self.left_out,
             times: self.times,
+            zoned: self.zoned,
             rows: self.counted,
             first: self.first,
             last: self.last,
             gaps: self.gaps,
             devices: self.devices,
+            unwired: self.unwired,
             channels: how_many(self.used.as_slice()),
             heard: self.street.has_begun(),
         }

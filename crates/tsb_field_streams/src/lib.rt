@@ -10,14 +10,16 @@ mod laws;
 mod order_laws;
 mod rows;
 mod stream;
+mod zone_laws;
 
 pub use error::{Disorder, FilterError};
 pub use fault_lines::{FaultLine, LONGEST};
 pub use filter::{
-    Devices, Filter, Gaps, LINE, LeftOut, MOST_HELD, MOST_NAMED, MOST_ROWS, RowOptions, Summary,
-    append_devices,
+    Channel, Channels, Devices, Filter, Gaps, LINE, LeftOut, MOST_HELD, MOST_NAMED, MOST_ROWS,
+    RowOptions, Summary, append_channels, append_devices,
 };
 pub use held::Held;
 pub use laws::late_rows_tell_what_sorted_rows_tell;
 pub use order_laws::sorted_rows_are_in_order;
 pub use stream::{EVENTS, log};
+pub use zone_laws::zones_are_seen;

@@ -4,7 +4,8 @@ use std::alloc::{AllocError, Global};
 use tsb_event_text::{Column, Moment, RowFault, SHOWN, ShownField, TimeForm, read_moment};
 use tsb_field_log::{InputKind, KnownRows, Street, Wire, wires};
 use tsb_field_streams::{
-    Devices, Disorder, Filter, FilterError, Gaps, Held, LeftOut, MOST_NAMED, RowOptions, Summary,
+    Channel, Channels, Devices, Disorder, Filter, FilterError, Gaps, Held, LeftOut, MOST_NAMED,
+    RowOptions, Summary,
 };
 use tsb_log_text::row_line;
 
@@ -263,6 +264,7 @@ fn of_rows(times: Option<TimeForm>, rows: u32, first: u128, last: u128) -> Summa
             found: true,
         },
         times,
+        zoned: false,
         rows,
         first: begin().nanos + first * 1_000_000_000,
         last: begin().nanos + last * 1_000_000_000,
@@ -272,6 +274,7 @@ fn of_rows(times: Option<TimeForm>, rows: u32, first: u128, last: u128) -> Summa
             end: 0,
         },
         devices: devices(b"7"),
+        unwired: channels(&[]),
         channels: 0,
         heard: false,
     }
@@ -292,6 +295,36 @@ fn devices(of: &[u8]) -> Devices {
         count: of.len().min(MOST_NAMED),
         more: of.len() > MOST_NAMED,
     }
+}
+
+/// Channels of vehicle detectors, in this order.
+fn channels(of: &[u32]) -> Channels {
+    let mut first = [Channel {
+        kind: InputKind::Vehicle,
+        number: 0,
+    }; MOST_NAMED];
+    for k in 0..of.len().min(MOST_NAMED) {
+        first[k].number = of[k];
+    }
+    Channels {
+        first,
+        count: of.len().min(MOST_NAMED),
+        more: of.len() > MOST_NAMED,
+    }
+}
+
+/// Whether channels without an input are named once each, as they come.
+fn channels_are_named(alloc: Global) -> bool {
+    let rows = [
+        b"7,2026-11-22 07:00:01,82,40".as_slice(),
+        b"7,2026-11-22 07:00:01,81,17",
+        b"7,2026-11-22 07:00:01,81,40",
+        b"7,2026-11-22 07:00:01,1,50",
+    ];
+    let mut wanted = of_rows(Some(TimeForm::YearFirst), 4, 1, 1);
+    wanted.left_out.without_input = 3;
+    wanted.unwired = channels(&[40, 17]);
+    reads(alloc, &rows, wanted)
 }
 
 /// Whether devices are named once each, as they come, and no more than there is room for.
@@ -332,6 +365,22 @@ fn rows_and_channels_count(alloc: Global) -> bool {
     reads(alloc, &rows, wanted)
 }
 
+/// Whether a zone is known of a row that counts, by its time's form, and of no other row.
+fn zones_are_known(alloc: Global) -> bool {
+    let first = b"7,2026-11-22 07:00:01,1,2".as_slice();
+    let year = Some(TimeForm::YearFirst);
+    let mut said = of_rows(year, 2, 1, 1);
+    said.zoned = true;
+    let seconds = of_rows(Some(TimeForm::Seconds), 1, 1, 1);
+    reads(alloc, &[first, b"7,2026-11-22 07:00:01-23:59,1,2"], said)
+        && reads(
+            alloc,
+            &[first, b"7,2026/11/22 07:00:01,1,2"],
+            of_rows(year, 2, 1, 1),
+        )
+        && reads(alloc, &[b"7,1795330801,1,2"], seconds)
+}
+
 /// Whether a minute between rows is a gap, and of two as long the first is the longest.
 fn gaps_have_a_minute(alloc: Global) -> bool {
     let rows = [
@@ -368,6 +417,7 @@ fn tick_1_begins_what_is_heard(alloc: Global) -> bool {
 fn what_was_read_is_counted(rt: HostRuntime) {
     assert!(rt; rows_and_channels_count(rt.alloc()) && gaps_have_a_minute(rt.alloc()));
     assert!(rt; tick_1_begins_what_is_heard(rt.alloc()) && devices_are_named(rt.alloc()));
+    assert!(rt; zones_are_known(rt.alloc()) && channels_are_named(rt.alloc()));
     let mut nothing = of_rows(None, 0, 0, 0);
     nothing.first = 0;
     nothing.last = 0;

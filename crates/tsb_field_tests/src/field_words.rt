@@ -153,6 +153,7 @@ const USUAL: RecordManner = RecordManner {
     goes_on: false,
     recalls: false,
     outputs: false,
+    no_clock: false,
 };
 
 #[test]
@@ -206,9 +207,29 @@ fn record_words_of_a_form(rt: HostRuntime) {
     let time = b"2026-11-22 07:00:00".as_slice();
     let files = ("a.json", "a.log");
     let wanted = RecordManner {
-        goes_on: false,
         recalls: true,
         outputs: true,
+        ..USUAL
+    };
+    assert!(rt; ask_for_record(rt.alloc(), &words, time, "1001", files, wanted));
+}
+
+#[test]
+fn record_words_without_a_clock(rt: HostRuntime) {
+    let words = [
+        "tsb_field",
+        "record",
+        "--no-clock",
+        FROM,
+        "--device=1001",
+        "a.json",
+        "a.log",
+    ];
+    let time = b"2026-11-22 07:00:00".as_slice();
+    let files = ("a.json", "a.log");
+    let wanted = RecordManner {
+        no_clock: true,
+        ..USUAL
     };
     assert!(rt; ask_for_record(rt.alloc(), &words, time, "1001", files, wanted));
 }
@@ -283,7 +304,7 @@ fn review_words(rt: HostRuntime) {
 const FROM: &str = "--from=2026-11-22T07:00:00";
 
 /// Words that ask for nothing.
-const BAD: [&[&str]; 30] = [
+const BAD: [&[&str]; 32] = [
     &["tsb_field"],
     &["tsb_field", "help"],
     &["tsb_field", "log"],
@@ -330,6 +351,8 @@ const BAD: [&[&str]; 30] = [
         "a.log",
     ],
     &["tsb_field", "events", FROM, "--device=1", "--go-on"],
+    &["tsb_field", "events", FROM, "--device=1", "--no-clock"],
+    &["tsb_field", "log", FROM, "--no-clock"],
     &["tsb_field", "events", FROM],
     &["tsb_field", "events", FROM, "--device=a\"b"],
     &["tsb_field", "events", "--device=1"],

@@ -130,7 +130,7 @@ fn times() -> [(RowFault, &'static str); 6] {
 }
 
 /// The other causes.
-fn causes() -> [(RowFault, &'static str); 9] {
+fn causes() -> [(RowFault, &'static str); 12] {
     [
         (
             RowFault::NoNumber(Column::Code, shown(b"82.5")),
@@ -147,7 +147,19 @@ fn causes() -> [(RowFault, &'static str); 9] {
         (RowFault::Quote, "events line 2: a quote is out of place"),
         (
             RowFault::Lacks(Column::Device),
-            "events line 2: header: no column is the device",
+            "events line 2: header: no column is the device: name it SignalID, DeviceId, LocationIdentifier or LocationId",
+        ),
+        (
+            RowFault::Lacks(Column::Time),
+            "events line 2: header: no column is the time: name it Timestamp, DateTime or Time",
+        ),
+        (
+            RowFault::Lacks(Column::Code),
+            "events line 2: header: no column is the code: name it EventCode, EventId, EventType or Code",
+        ),
+        (
+            RowFault::Lacks(Column::Parameter),
+            "events line 2: header: no column is the parameter: name it EventParam, Parameter, Param or EventValue",
         ),
         (
             RowFault::Utf16,

@@ -17,4 +17,6 @@ pub mod PlainRunLemmas
 pub mod ReadLemmas
 pub mod ReadRunLemmas
 pub mod AloneLemmas
+pub mod OffsetTickLemmas
+pub mod OffsetRunLemmas
 pub mod Examples

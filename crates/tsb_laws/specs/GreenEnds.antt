@@ -13,7 +13,7 @@ use Rattle.tsb_step.specs.tsb_calls.Memories.{has_output}
 use Rattle.tsb_step.specs.tsb_phase.Phase.{held_of}
 use Rattle.tsb_step.specs.tsb_phase.Green.{gap, initial, reduction_timer, acting_maximum}
 use Rattle.tsb_step.specs.declared.inputs.Input.{Input}
-use Rattle.tsb_step.specs.declared.inputs.Input.TheVariants.{Tick, Pattern, Clock}
+use Rattle.tsb_step.specs.declared.inputs.Input.TheVariants.{Tick, Pattern}
 use Rattle.tsb_step.specs.State.{State, interval}
 use Rattle.tsb_step.specs.Tick.{service, must_end, runs, hold, forced, calls_given, conflict, phases_given, phase_read}
 use Rattle.tsb_step.specs.Step.{kind_of}
@@ -113,7 +113,6 @@ pub record HasFloated (plan : Plan) (p : ℕ) (is : List Input) : Type 0 where
 abbrev pub keeps_force_off : ℕ → State → Input → Bool
 keeps_force_off p s (Tick row) = is_some (runs s) && (is_none (service s row) && conflict s row p)
 keeps_force_off p s (Pattern n) = false
-keeps_force_off p s (Clock m) = false
 keeps_force_off p s i = true
 
 -- p is forced off in this tick, and was Green before it: by the cycle, at its instant, late or in its permissive time,

@@ -96,3 +96,5 @@ pub mod PlainStep
 pub mod WithoutOptions
 -- that the correction limit changes no run while the correction mode is 0
 pub mod CorrectionLimits
+-- that offsets change no run where local 0 comes at the same time
+pub mod ConvertedOffsets

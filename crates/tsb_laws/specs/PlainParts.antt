@@ -1,10 +1,10 @@
 -- What layers say in a controller that has no options: each definition of theirs that reads an option, written anew
 -- without one. An option is an object that version 1 of plan texts does not have: phaseDynamicMaxLimit,
 -- phaseDynamicMaxStep, overlapType, overlapModifierPhases, coordForceMode, coordMaximumMode, patternPermissiveTime,
--- patternLeadLag, phasePedestrianRecycle, coordCorrectionMode, coordCorrectionLimit, overlapAcrossRings and
--- preemptChoosesAnew. Nothing here reads one. What reads none of them is the layers' own. Each definition has the name
--- of the one that it is in place of.
-use Rattle.std.specs.Prelude.{ℕ, ◌==◌, Bool, false, not, ◌&&◌, ◌||◌, if◌then◌else◌, min, Option, Some, None, is_some, is_none}
+-- patternLeadLag, phasePedestrianRecycle, coordCorrectionMode, coordCorrectionLimit, overlapAcrossRings,
+-- preemptChoosesAnew and coordReference. Nothing here reads one. What reads none of them is the layers' own. Each
+-- definition has the name of the one that it is in place of.
+use Rattle.std.specs.Prelude.{ℕ, ◌+◌, ◌-◌, ◌%◌, ◌==◌, Bool, false, not, ◌&&◌, ◌||◌, if◌then◌else◌, min, Option, Some, None, is_some, is_none}
 use Rattle.tsb_step.specs.tsb_cells.declared.timer.Timer.{Timer}
 use Rattle.tsb_step.specs.tsb_cells.declared.timer.Timer.TheVariants.{Off}
 use Rattle.tsb_step.specs.tsb_cells.Timer.{has_reached}
@@ -15,8 +15,9 @@ use Rattle.tsb_step.specs.tsb_types.declared.lamp.Aspect.TheVariants.{Dark, Red,
 use Rattle.tsb_step.specs.tsb_types.Flow.{gives_walk}
 use Rattle.tsb_step.specs.tsb_types.Intervals.{is_green, is_yellow, is_red_clear, is_dont_walk}
 use Rattle.tsb_step.specs.tsb_plan.declared.object.Object.TheVariants.{OverlapIncludedPhases}
-use Rattle.tsb_step.specs.tsb_plan.Parts.{split_of, sequence_of, preempt_minimum_green, is_included}
+use Rattle.tsb_step.specs.tsb_plan.Parts.{cycle, offset, split_of, sequence_of, preempt_minimum_green, is_included}
 use Rattle.tsb_step.specs.tsb_plan.Plan.{Plan, maximum}
+use Rattle.tsb_step.specs.tsb_plan.Running.{running}
 use Rattle.tsb_step.specs.tsb_rules.declared.rules.Rule.{Rule}
 use Rattle.tsb_step.specs.tsb_rules.declared.rules.Rule.TheVariants.{K14, K15, K16, K17, K18, K19, K20}
 use Rattle.tsb_step.specs.tsb_rules.PatternRules.{some_and, each_pattern, patterns_are_whole, splits_hold_phases, splits_fill_cycles, coordinated_agree}
@@ -55,6 +56,21 @@ broken_by_parts plan =
 -- and of permissive times
 unfoldable pub first_broken : Plan → Option Rule
 first_broken plan = or_rule (broken_by_rings plan) (or_rule (broken_by_phases plan) (broken_by_parts plan))
+
+-- ## The local counter
+
+-- that of pattern n: t less the offset, within the cycle
+abbrev pub counter : Plan → ℕ → ℕ → ℕ
+counter plan n t = (t + cycle plan n - offset plan n) % cycle plan n
+
+-- that of the pattern that runs; none in free operation
+abbrev pub local_in : Plan → ℕ → Option ℕ → Option ℕ
+local_in plan t None = None
+local_in plan t (Some n) = Some (counter plan n t)
+
+-- at tick t, of the pattern that is selected; none where that is not used
+abbrev pub local : Plan → ℕ → Option ℕ → Option ℕ
+local plan t selected = local_in plan t (running plan selected)
 
 -- ## When a green may end
 

@@ -5,12 +5,13 @@
 -- State, inputs, desk and refusals are those of the controller. What the state has of options is as it was at power-up,
 -- and nothing here reads it: how the local counter comes into step, and the running maximum and the last ending of each
 -- phase. Nor does anything here read `recycle` and `walks`, which phase timing and calls are given.
-use Rattle.std.specs.Prelude.{ℕ, ◌+◌, Bool, false, if◌then◌else◌, List, [], ◌∷◌, Option, is_some, option_map}
+use Rattle.std.specs.Prelude.{ℕ, ◌+◌, Bool, false, if◌then◌else◌, List, [], ◌∷◌, Option, Some, is_some, option_map}
 use Rattle.tsb_step.specs.tsb_types.declared.lamp.Lamp.{Lamp}
 use Rattle.tsb_step.specs.tsb_types.declared.flow.Moves.{Moves}
 use Rattle.tsb_step.specs.tsb_types.declared.row.Row.{Row}
 use Rattle.tsb_step.specs.tsb_types.Clip.{clipped, within}
 use Rattle.tsb_step.specs.tsb_plan.Plan.{Plan}
+use Rattle.tsb_step.specs.tsb_plan.Running.{running}
 use Rattle.tsb_step.specs.tsb_rules.declared.rules.Rule.{Rule}
 use Rattle.tsb_step.specs.tsb_calls.Memories as calls
 use Rattle.tsb_step.specs.tsb_calls.Settled as settled
@@ -21,8 +22,10 @@ use Rattle.tsb_step.specs.tsb_ring.Rings as rings
 use Rattle.tsb_step.specs.tsb_ring.Rings.{number}
 use Rattle.tsb_step.specs.tsb_ring.Moves as ring_moves
 use Rattle.tsb_step.specs.tsb_ring.Next as rings_next
+use Rattle.tsb_step.specs.tsb_coord.Clock.{midnight_at, start_of}
 use Rattle.tsb_step.specs.tsb_coord.Coordinated as coordination
-use Rattle.tsb_step.specs.tsb_coord.Correction.{in_step}
+use Rattle.tsb_step.specs.tsb_coord.Coordinated.{agree, force_off}
+use Rattle.tsb_step.specs.tsb_coord.Correction.{clocked}
 use Rattle.tsb_step.specs.tsb_preempt.Preempts as preempts
 use Rattle.tsb_step.specs.tsb_heads.Heads.{Heads}
 use Rattle.tsb_step.specs.tsb_heads.Displays.{flashing, laid_over}
@@ -30,18 +33,23 @@ use Rattle.tsb_step.specs.tsb_heads.Monitoring as monitor
 use Rattle.tsb_step.specs.tsb_transact.Calls as desk
 use Rattle.tsb_step.specs.tsb_transact.Desk.{Desk, with_edits}
 use Rattle.tsb_step.specs.declared.inputs.Input.{Input}
-use Rattle.tsb_step.specs.declared.inputs.Input.TheVariants.{Tick, Pattern, Switch, Fault, Reset, Begin, Set, Verify, Commit, Abort}
+use Rattle.tsb_step.specs.declared.inputs.Input.TheVariants.{Tick, Pattern, Switch, Fault, Reset, Begin, Set, Verify, Commit, Abort, Clock}
 use Rattle.tsb_step.specs.State.{State, start, interval}
 use Rattle.tsb_step.specs.Signs.{shown}
 use Rattle.tsb_step.specs.Step.{with_switch, reset, with_desk, committed}
 use Rattle.tsb_step.specs.Tick as tick
+use Rattle.tsb_laws.specs.Options.{in_step_with}
 use Rattle.tsb_laws.specs.PlainParts as plain
 
 -- ## A tick
 
+-- the local counter in tick t, of the state's pattern
+abbrev pub local_at : State → ℕ → Option ℕ
+local_at s t = plain.local s.plan (clocked s.plan s.pattern s.correction t) s.pattern
+
 -- the phase is forced off in this tick: the local counter, which is in step, is at its force-off instant
 abbrev pub forced : State → ℕ → Bool
-forced s p = coordination.is_at_force_off s.plan (s.now + 1) s.pattern p
+forced s p = agree (local_at s (s.now + 1)) (force_off s.plan (running s.plan s.pattern) p)
 
 -- what phase timing is given
 unfoldable pub phases_given : State → Row → phase.Given
@@ -110,6 +118,7 @@ next s row = record {
   desk = s.desk;
   pattern = s.pattern;
   correction = s.correction;
+  start_moment = s.start_moment;
   detectors = tick.new_detectors s row;
   memories = plain.memories_after s.plan (tick.calls_given s row) (done s row) s.memories;
   phases = λ p. plain.next s.plan (phases_given s row) (moved s row) p (s.phases p);
@@ -131,7 +140,7 @@ field s = laid_over s.lamp (plain.ordered s.plan (shown s))
 
 -- the local counter of the pattern that runs
 abbrev pub local : State → Option ℕ
-local s = coordination.local s.plan s.now s.pattern
+local s = local_at s s.now
 
 -- the monitor compares the fields before and after
 unfoldable pub watched : State → State → State
@@ -148,7 +157,18 @@ ticked row s = if is_some s.trip then record s { now = s.now + 1 } else watched 
 
 -- a selected pattern takes every forced latch back, and its local counter is in step
 abbrev pub with_pattern : ℕ → State → State
-with_pattern n s = record s { pattern = coordination.selects n; correction = in_step; phases = λ p. unforced (s.phases p) }
+with_pattern n s = record s {
+  pattern = coordination.selects n;
+  correction = in_step_with (coordination.selects n) (midnight_at s.start_moment s.now);
+  phases = λ p. unforced (s.phases p);
+}
+
+-- the local counter is in step with the midnight at or before the moment that the clock is set to
+abbrev pub with_clock : ℕ → State → State
+with_clock m s = record s {
+  correction = in_step_with s.pattern (midnight_at (Some (start_of m s.now)) s.now);
+  start_moment = Some (start_of m s.now);
+}
 
 -- the lamp that a fault lights, or none
 abbrev pub with_lamp : Option Lamp → State → State
@@ -170,6 +190,7 @@ step s (Set station id v) = with_desk (desk.with_set id v s.desk) s
 step s (Verify station) = with_desk (desk.after_check (found s.plan s.desk) s.desk) s
 step s (Commit station) = committed s
 step s (Abort station) = with_desk desk.after_abort s
+step s (Clock m) = with_clock m s
 
 -- ## Runs
 

@@ -2,7 +2,7 @@
 -- options, which PlainStep has. The laws here are the contract of a function in src/options.rt, and proved there.
 use Rattle.std.specs.Prelude.{◌≡◌, ℕ, Bool, true, false, not, ◌&&◌, List, [], ◌∷◌}
 use Rattle.tsb_step.specs.tsb_plan.declared.object.Object.{Object}
-use Rattle.tsb_step.specs.tsb_plan.declared.object.Object.TheVariants.{PhaseDynamicMaxLimit, PhaseDynamicMaxStep, OverlapType, OverlapModifierPhases, CoordForceMode, CoordMaximumMode, PatternPermissiveTime, PatternLeadLag, PhasePedestrianRecycle, CoordCorrectionMode, CoordCorrectionLimit, OverlapAcrossRings, PreemptChoosesAnew}
+use Rattle.tsb_step.specs.tsb_plan.declared.object.Object.TheVariants.{PhaseDynamicMaxLimit, PhaseDynamicMaxStep, OverlapType, OverlapModifierPhases, CoordForceMode, CoordMaximumMode, PatternPermissiveTime, PatternLeadLag, PhasePedestrianRecycle, CoordCorrectionMode, CoordCorrectionLimit, OverlapAcrossRings, PreemptChoosesAnew, CoordReference}
 use Rattle.tsb_step.specs.tsb_plan.declared.version.Version.{Version}
 use Rattle.tsb_step.specs.tsb_plan.declared.version.Version.TheVariants.{One, Two, Three}
 use Rattle.tsb_step.specs.tsb_plan.Objects.{is_structural, since}
@@ -31,6 +31,7 @@ is_option PhasePedestrianRecycle = true
 is_option CoordCorrectionMode = true
 is_option OverlapAcrossRings = true
 is_option PreemptChoosesAnew = true
+is_option CoordReference = true
 is_option o = false
 
 -- with the two that are read by one of these alone, and so need not be 0: the step by the limit of the dynamic maximum,

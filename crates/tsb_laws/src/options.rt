@@ -1,5 +1,7 @@
 //! Options at 0 over runs: such a run is that of a controller without options, and what only an option reads does not
-//! matter while it is 0. Each law is the contract of a function that does nothing.
+//! matter while it is 0. And offsets show nothing but by when local 0 comes, whatever they are counted to. Each law is
+//! the contract of a function that does nothing.
+ghost use Rattle.tsb_laws.specs.ConvertedOffsets.{ConvertedOffsetsShowTheSame, OffsetsChangeNoRun, OffsetsShowNothing};
 ghost use Rattle.tsb_laws.specs.CorrectionLimits.{LimitsChangeNoRun, LimitsShowNothing};
 ghost use Rattle.tsb_laws.specs.WithoutOptions.{OptionsAloneRead, OptionsAreAllThatVersion1Lacks, ReadsNoOption, RunsAreThoseWithoutOptions, ShowWhatIsShownWithoutOptions, ShowsNoOption};
 
@@ -19,13 +21,13 @@ ghost use Rattle.tsb_laws.specs.WithoutOptions.{OptionsAloneRead, OptionsAreAllT
 /// Mistake: as of runs.
 /// Witness: `an_off_run` of OffRuns.
 ///
-/// `lists`: The options are the objects that version 1 of plan texts does not have. There are eleven, and two objects
+/// `lists`: The options are the objects that version 1 of plan texts does not have. There are twelve, and two objects
 /// that one of these alone reads: the step of the dynamic maximum and the correction limit.
 ///
 /// Mistake: a list without the modifier phases of overlaps, `without_modifiers` (`is_later`, `would_be_left_out`).
 /// Witness: none is needed, as the law asks for nothing.
 ///
-/// `reads`: The controller without options reads none. Two plans that differ in those thirteen objects alone, whatever
+/// `reads`: The controller without options reads none. Two plans that differ in those fourteen objects alone, whatever
 /// these are, give the same run of it, over inputs of every kind.
 ///
 /// Needs: no edit of the three that are of overlaps. One that changes them is of the structure, and the rings forget what
@@ -37,8 +39,8 @@ ghost use Rattle.tsb_laws.specs.WithoutOptions.{OptionsAloneRead, OptionsAreAllT
 /// `hides`: Nor does it show them. Its display, its field and its local counter are the same in both.
 ///
 /// Needs: as of reads.
-/// Mistake: a local counter that comes into step by the correction mode, `by_correction` (`is_at_12`,
-/// `would_be_at_110`).
+/// Mistake: a local counter that comes into step by the correction mode, from an offset that counts to the begin of
+/// green, `by_correction` (`is_at_12`, `would_be_at_660`).
 /// Witness: `a_read` of ReadRuns.
 ///
 /// `alone`: What an option alone reads does not matter while the options are 0. Two plans whose options are 0, and that
@@ -74,4 +76,36 @@ pub fn options_off_run_as_without()
 pub fn limits_change_no_run()
     ensures runs { LimitsChangeNoRun }
     ensures shows { LimitsShowNothing }
+{}
+
+/// `runs`: What offsets are counted to changes no run where local 0 comes at the same time. Two plans that differ in
+/// `patternOffsetTime` and in `coordReference` alone come to states that differ in these alone, over inputs of every
+/// kind.
+///
+/// Needs: local 0 of each pattern at one time in both, by the plans in effect where a tick comes, a pattern is selected
+/// or the clock is set; and one answer to each check of edits. With a cycle of 50 s an offset of 59 s breaks K17, and
+/// one of 4 s does not (`breaks_k17`, `breaks_k19`).
+/// Mistake: an offset that is counted to local 0, whatever `coordReference` says, `as_it_is` (`is_forced_then`,
+/// `would_not_be_forced`).
+/// Witness: `a_run` of OffsetRuns.
+///
+/// `shows`: Nor does it change what is shown or refused. Display, field, local counter and the refusal of each next
+/// input are the same in both.
+///
+/// Needs: as of runs, and local 0 at one time after the inputs as well.
+/// Mistake: as of runs.
+/// Witness: `a_run` of OffsetRuns.
+///
+/// `converted`: A plan shows what the one with `coordReference` 0 and the converted offsets shows. Display, field and
+/// local counter are the same, over inputs of every kind but a commit.
+///
+/// Needs: an offset of whole seconds at which local 0 comes, in each pattern.
+/// Not said: what a commit makes of both. The edits may change a split or a clearance, and by that the converted
+/// offset; runs speaks of commits too.
+/// Mistake: as of runs.
+/// Witness: `converts` of OffsetRuns.
+pub fn converted_offsets_change_no_run()
+    ensures runs { OffsetsChangeNoRun }
+    ensures shows { OffsetsShowNothing }
+    ensures converted { ConvertedOffsetsShowTheSame }
 {}

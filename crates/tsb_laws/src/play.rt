@@ -21,8 +21,8 @@ use tsb_bench::{Answer, Bench, Checked, Cmd, Input, Lamp, Refusal, play};
 /// to. At each moment a session is where `play` leaves the commands so far.
 ///
 /// Needs: what `play` promises, in its clauses `taken`, `state` and `earlier`.
-/// Not said: laws of two runs (`desks_act_by_plans`, `limits_change_no_run`); laws of any state or of a layer, which
-/// need no run.
+/// Not said: laws of two runs (`desks_act_by_plans`, `limits_change_no_run`, `converted_offsets_change_no_run`); laws
+/// of any state or of a layer, which need no run.
 /// Mistake: an input that is carried out though it was refused, `carried_out` (`breaks_none`, `would_break_K5`).
 /// Witness: `are_right`, `are_taken` of Mistakes, a session with a commit that E7 refuses.
 pub fn plays_keep_the_laws(plan: Checked, commands: &[Cmd], answers: &[Answer], bench: &Bench)

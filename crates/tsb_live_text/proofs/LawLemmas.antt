@@ -1,6 +1,8 @@
 -- Live runs leave what remains of right answers, and are answered as sessions are.
 use Rattle.std.proofs.Common.{zero, suc, ◌≡◌, ◌∙◌, ℕ, ◌+◌, Bool, false, List, [], ◌∷◌, ◌++◌, length, ap, refl, sym, subst, inl, inr}
 use Rattle.std.specs.declared.option.Option.{Option}
+use Rattle.std.specs.declared.result.Result.{Result}
+use Rattle.std.proofs.Common.{Ok, Err}
 use Rattle.tsb_types.specs.declared.refusal.Refusal.{Refusal}
 use Rattle.tsb_types.specs.declared.row.Row.{Row}
 use Rattle.tsb_bench.specs.tsb_machine.declared.commands.Answer.TheVariants.{Took, Refused}
@@ -40,13 +42,14 @@ use Rattle.tsb_command_text.specs.Readings.{reading}
 use Rattle.tsb_command_text.specs.declared.command.Reading.{Reading}
 use Rattle.tsb_command_text.specs.declared.command.Command.TheVariants.{Quit, Show}
 use Rattle.tsb_text.specs.Answers.{Asked, told}
+use Rattle.tsb_live_text.specs.GoTo.{command_to, tick_of}
 use Rattle.tsb_live_text.specs.Live.{quits}
 use Rattle.tsb_text.specs.Stops.{Stopped, flow_after as flow_of, stopped_at}
 use Rattle.tsb_dialog.specs.Heard.{asked}
 use Rattle.tsb_text.specs.declared.faults.OnFault.TheVariants.{GoOn}
 use Rattle.std.specs.Prelude.{codes}
 use Rattle.std.proofs.Common.{Some, None, length}
-use Rattle.tsb_live_text.specs.Live.{AsksLive, Leaves, Live, Obeys, Reads, Says, begun, besides, echo_of, present, setup, with_inputs, with_row, with_stop}
+use Rattle.tsb_live_text.specs.Live.{AsksLive, GoesTo, Leaves, Live, Obeys, Reads, Says, TellsTick, begun, besides, echo_of, present, setup, with_inputs, with_row, with_stop}
 use Rattle.tsb_text.proofs.recording.CommandLemmas.{Leads, one, onto, stay, then}
 
 -- ## What remains
@@ -84,10 +87,21 @@ by-leaves : (s t : Live) (P : List ℕ → Option Refusal → List Input → Typ
     → ((text : List ℕ) (refusal : Option Refusal) (left : List Input) → P text refusal left → Leads s.plan s.inputs left) → Leaves s P text fault t → Goes s t
 by-leaves s t P text fault leads l = goes-to s t (with_inputs l.1 s) l.4 (record { leads = leads text l.0 l.1 l.2; same = refl })
 
+by-goes : (s t : Live) (line : List ℕ) (tick : Result ℕ LineFault) (text : List ℕ) (fault : Option LineFault) → GoesTo s line tick text fault t → Goes s t
+by-goes s t line (Ok tick) text fault a =
+    by-leaves s t _ text fault (λ text refusal left o. by-task (setup s) (besides s line) s.inputs (task_of (command_to (present s).now tick)) text refusal left o) a
+by-goes s t line (Err why) text fault a = goes-to s t s a.2 (quiet s s refl refl)
+
+by-tick : (s t : Live) (line : List ℕ) (tick : Result ℕ LineFault) (text : List ℕ) (fault : Option LineFault) → TellsTick s line tick text fault t → Goes s t
+by-tick s t line (Ok tick) text fault a = goes-to s t s a.2 (quiet s s refl refl)
+by-tick s t line (Err why) text fault a = goes-to s t s a.2 (quiet s s refl refl)
+
 by-asks : (s t : Live) (line : List ℕ) (c : LiveCommand) (text : List ℕ) (fault : Option LineFault) → AsksLive s line c text fault t → Goes s t
 by-asks s t line (live.Session c) text fault a = by-leaves s t _ text fault (λ text refusal left o. by-task (setup s) (besides s line) s.inputs (task_of c) text refusal left o) a
 by-asks s t line (live.Changes n) text fault a = by-leaves s t (Changes s.plan (besides s line) s.row s.inputs (display_line (present s)) false n) text fault
     (λ text refusal left o. by-changes s.plan (besides s line) s.row n s.inputs (display_line (present s)) false text refusal left o) a
+by-asks s t line (live.GoTo aim) text fault a = by-goes s t line (tick_of (present s).start_moment (present s).now aim) text fault a
+by-asks s t line (live.TickAt aim) text fault a = by-tick s t line (tick_of (present s).start_moment (present s).now aim) text fault a
 by-asks s t line live.Status text fault a = goes-to s t s a.2 (quiet s s refl refl)
 by-asks s t line live.Plan text fault (inl a) = goes-to s t s a.2 (quiet s s refl refl)
 by-asks s t line live.Plan text fault (inr a) = goes-to s t s a.2 (quiet s s refl refl)

@@ -19,7 +19,8 @@ use Rattle.tsb_dialog.specs.declared.answers.Flow.{Flow}
 use Rattle.tsb_dialog.specs.Said.{IsCutShort, Said, SaidUntilFault, with_feed}
 use Rattle.tsb_dialog.specs.Says.{Answered}
 use Rattle.tsb_dialog.proofs.SaidLemmas.{said-nothing, until-more}
-use Rattle.tsb_text.specs.Answers.{display_line, refused_line}
+use Rattle.tsb_text.specs.Answers.{display_line, refused_line, when_line}
+use Rattle.tsb_text.specs.Faults.{fault_words}
 use Rattle.tsb_text.specs.declared.course.Mode.{Mode}
 use Rattle.tsb_text.specs.declared.course.Mode.TheVariants.{Plain, Keeping as KeepsInputs, Telling, Recording}
 use Rattle.tsb_text.specs.declared.faults.LineFault.{LineFault}
@@ -33,6 +34,7 @@ use Rattle.tsb_text.proofs.CourseLemmas.{course-begins, follows-state, is-kept, 
 use Rattle.tsb_text.specs.recording.Told.{nothing_told}
 use Rattle.tsb_text.specs.declared.rows.Rows.TheVariants.{Held as HeldRow}
 use Rattle.tsb_text.specs.Rows.{rows_in}
+use Rattle.tsb_command_text.specs.declared.live_command.Aim.{Aim}
 use Rattle.tsb_command_text.specs.declared.live_command.LiveCommand.{LiveCommand}
 use Rattle.tsb_command_text.specs.declared.live_command.LiveCommand.TheVariants as asks
 use Rattle.tsb_command_text.specs.declared.live_command.LiveReading.{LiveReading}
@@ -40,8 +42,9 @@ use Rattle.tsb_command_text.specs.declared.live_command.LiveReading.TheVariants.
 use Rattle.tsb_command_text.specs.LiveReadings.{live_reading}
 use Rattle.tsb_text.specs.Stops.{Stopped, flow_after, stop_in, stopped_at}
 use Rattle.tsb_live_text.specs.Changes.{Changes}
-use Rattle.tsb_live_text.specs.Live.{AsksLive, Leaves, Live, Reads, Says, Tells, besides, echo_of, fault_by, present, begun, quits, setup, with_echo, with_events, with_inputs, with_row, with_stop}
-use Rattle.tsb_live_text.specs.Standing.{Does, StandsLive, TellsMade, TellsOnce, TellsPlan}
+use Rattle.tsb_live_text.specs.GoTo.{command_to, tick_of}
+use Rattle.tsb_live_text.specs.Live.{AsksLive, GoesTo, Leaves, Live, Obeys, Reads, Says, Tells, TellsTick, besides, echo_of, fault_by, present, begun, quits, setup, with_echo, with_events, with_inputs, with_row, with_stop}
+use Rattle.tsb_live_text.specs.Standing.{Does, StandsLive, TellsMade, TellsOnce, TellsPlan, TellsTickOnce}
 use Rattle.tsb_live_text.specs.declared.run.LiveRun.{LiveRun}
 
 -- ## Where a run stands
@@ -245,6 +248,34 @@ pub made-plan : {A E : Type 0} (text_of : A → List ℕ) (made : Result A E) (r
     → IfOk made (λ line. text_of line ≡ plan_text plan) → TellsMade text_of made r echo a b p q → TellsPlan r plan echo a b p q
 made-plan text_of (Ok line) r plan echo a b p q is t = inl (subst (λ (x : List ℕ). TellsOnce r None (echo ++ with_feed x) a b p q) is t)
 made-plan text_of (Err e) r plan echo a b p q is t = inr t
+
+-- ## Times of the clock
+
+-- the first tick at or after a moment
+pub present-tick : (run : LiveRun) (s : Live) (aim : Aim) → StandsLive run s
+    → tick_of (state_of run.course.bench).start_moment run.course.bench.tick aim ≡ tick_of (present s).start_moment (present s).now aim
+present-tick run s aim stands = ap (λ (v : State). tick_of v.start_moment v.now aim) (present-state run s stands)
+
+-- it was said, or what is wrong with the line that asks for it
+does-tick : (tick : Result ℕ LineFault) (r : Result (Option LineFault) WriteError) (new : LiveRun) (s : Live) (line echo : List ℕ) (a b : Option (List ℕ)) (p q : List ℕ)
+    → StandsLive new s → echo ≡ echo_of s.echoes line → TellsTickOnce tick r echo a b p q → Does r new (TellsTick s line tick) a b p q
+does-tick (Ok tick) r new s line echo a b p q stands is t = does-tell r None new s s line echo (when_line (Some tick)) (when_line (Some tick)) a b p q stands is refl t
+does-tick (Err why) r new s line echo a b p q stands is t = does-tell r (Some why) new s s line echo (fault_words why) (fault_words why) a b p q stands is refl t
+
+pub does-tick-at : (tick wanted : Result ℕ LineFault) (r : Result (Option LineFault) WriteError) (new : LiveRun) (s : Live) (line echo : List ℕ) (a b : Option (List ℕ)) (p q : List ℕ)
+    → tick ≡ wanted → StandsLive new s → echo ≡ echo_of s.echoes line → TellsTickOnce tick r echo a b p q → Does r new (TellsTick s line wanted) a b p q
+does-tick-at tick wanted r new s line echo a b p q same stands is t = subst (λ (x : Result ℕ LineFault). Does r new (TellsTick s line x) a b p q) same (does-tick tick r new s line echo a b p q stands is t)
+
+-- a command was carried out that leads to a tick
+pub does-go : (tick : ℕ) (wanted : Result ℕ LineFault) (c : Command) (r : Result (Option LineFault) WriteError) (new : LiveRun) (s : Live) (line : List ℕ) (a b : Option (List ℕ)) (p q : List ℕ)
+    → Ok tick ≡ wanted → c ≡ command_to (present s).now tick → Does r new (Obeys s line c) a b p q → Does r new (GoesTo s line wanted) a b p q
+does-go tick wanted c r new s line a b p q same is d = subst (λ (x : Result ℕ LineFault). Does r new (GoesTo s line x) a b p q) same (subst (λ (x : Command). Does r new (Obeys s line x) a b p q) is d)
+
+-- or it was said what is wrong
+pub does-not-go : (why : LineFault) (wanted : Result ℕ LineFault) (r : Result (Option LineFault) WriteError) (new : LiveRun) (s : Live) (line echo : List ℕ) (a b : Option (List ℕ)) (p q : List ℕ)
+    → Err why ≡ wanted → StandsLive new s → echo ≡ echo_of s.echoes line → TellsOnce r (Some why) (echo ++ with_feed (fault_words why)) a b p q → Does r new (GoesTo s line wanted) a b p q
+does-not-go why wanted r new s line echo a b p q same stands is t =
+    subst (λ (x : Result ℕ LineFault). Does r new (GoesTo s line x) a b p q) same (does-tell r (Some why) new s s line echo (fault_words why) (fault_words why) a b p q stands is refl t)
 
 -- what was read is this
 pub does-read : (r : Result (Option LineFault) WriteError) (s : Live) (new : LiveRun) (line : List ℕ) (asked c : LiveReading) (a b : Option (List ℕ)) (p q : List ℕ) → asked ≡ c

@@ -1,5 +1,7 @@
 -- what `save` answers
 pub mod saved
+-- the ticks that lead to a moment of the clock
+pub mod GoTo
 -- what a live run has come to, and what is answered to each line
 pub mod Live
 -- ticks of which only the changes are told

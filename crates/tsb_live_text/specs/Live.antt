@@ -1,5 +1,5 @@
 -- What a live run has come to, and what it answers to each line.
-use Rattle.std.specs.Prelude.{◌≡◌, ◌⊎◌, ℕ, List, [], ◌++◌, Bool, true, false, take, Option, Some, None, codes, option_map}
+use Rattle.std.specs.Prelude.{◌≡◌, ◌⊎◌, ℕ, List, [], ◌++◌, Bool, true, false, take, Option, Some, None, Result, Ok, Err, codes, option_map}
 use Rattle.tsb_text.specs.kept.Changed.{last_change}
 use Rattle.tsb_log_text.specs.RowInputs.{value_of}
 use Rattle.tsb_text.specs.kept.Kept.{kept_of}
@@ -24,6 +24,7 @@ use Rattle.tsb_command_text.specs.LiveReadings.{live_reading}
 use Rattle.tsb_status_text.specs.EditsLine.{edits_text}
 use Rattle.tsb_status_text.specs.PlanLine.{plan_text}
 use Rattle.tsb_live_text.specs.declared.help.TheConstants.{HELP}
+use Rattle.tsb_live_text.specs.GoTo.{command_to, tick_of}
 use Rattle.tsb_live_text.specs.saved.Saved.{saved_text}
 use Rattle.tsb_status_text.specs.StatusText.{status_text}
 use Rattle.tsb_text.specs.Answers.{Setup, display_line, refused_line, when_line}
@@ -32,6 +33,7 @@ use Rattle.tsb_text.specs.Obeys as session
 use Rattle.tsb_text.specs.Obeys.{Besides}
 use Rattle.tsb_text.specs.Rows.{rows_in}
 use Rattle.tsb_text.specs.Tasks.{task_of}
+use Rattle.tsb_text.specs.Faults.{fault_words}
 use Rattle.tsb_text.specs.declared.faults.LineFault.{LineFault}
 use Rattle.tsb_text.specs.declared.faults.LineFault.TheVariants as faults
 use Rattle.tsb_text.specs.declared.faults.OnFault.{OnFault}
@@ -111,11 +113,23 @@ TellsChanges s line n text fault t = Leaves s (Changes (setup s) (besides s line
 abbrev pub Tells : Live → List ℕ → List ℕ → Option LineFault → List ℕ → Option LineFault → Live → Live → Type 0
 Tells s line answer why text fault left t = (text ≡ echo_of s.echoes line ++ with_feed answer) × (fault ≡ why) × (t ≡ left)
 
+-- the ticks that lead to a tick, or what is wrong with what asks for it
+abbrev pub GoesTo : Live → List ℕ → Result ℕ LineFault → List ℕ → Option LineFault → Live → Type 0
+GoesTo s line (Ok tick) text fault t = Obeys s line (command_to (present s).now tick) text fault t
+GoesTo s line (Err why) text fault t = Tells s line (fault_words why) (Some why) text fault s t
+
+-- the tick
+abbrev pub TellsTick : Live → List ℕ → Result ℕ LineFault → List ℕ → Option LineFault → Live → Type 0
+TellsTick s line (Ok tick) text fault t = Tells s line (when_line (Some tick)) None text fault s t
+TellsTick s line (Err why) text fault t = Tells s line (fault_words why) (Some why) text fault s t
+
 -- a command
 abbrev pub AsksLive : Live → List ℕ → LiveCommand → List ℕ → Option LineFault → Live → Type 0
 AsksLive s line (asks.Session c) text fault t = Obeys s line c text fault t
 AsksLive s line asks.Status text fault t = Tells s line (status_text (status (present s))) None text fault s t
 AsksLive s line (asks.Changes n) text fault t = TellsChanges s line n text fault t
+AsksLive s line (asks.GoTo aim) text fault t = GoesTo s line (tick_of (present s).start_moment (present s).now aim) text fault t
+AsksLive s line (asks.TickAt aim) text fault t = TellsTick s line (tick_of (present s).start_moment (present s).now aim) text fault t
 -- where there is no memory for the line of the plan, that is told
 AsksLive s line asks.Plan text fault t = Tells s line (plan_text (present s).plan) None text fault s t
     ⊎ Tells s line (refused_line Memory) (Some (faults.Refused Memory)) text fault s t

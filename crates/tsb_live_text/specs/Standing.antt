@@ -5,7 +5,8 @@ use Rattle.tsb_types.specs.declared.refusal.Refusal.TheVariants.{Memory}
 use Rattle.tsb_step.specs.tsb_plan.Plan.{Plan}
 use Rattle.tsb_dialog.specs.Said.{IsCutShort, Said, Wrote, with_feed}
 use Rattle.tsb_status_text.specs.PlanLine.{plan_text}
-use Rattle.tsb_text.specs.Answers.{refused_line}
+use Rattle.tsb_text.specs.Answers.{refused_line, when_line}
+use Rattle.tsb_text.specs.Faults.{fault_words}
 use Rattle.tsb_text.specs.declared.faults.LineFault.{LineFault}
 use Rattle.tsb_text.specs.declared.faults.LineFault.TheVariants.{Refused}
 use Rattle.tsb_text.specs.declared.rows.Rows.TheVariants.{Held}
@@ -38,6 +39,11 @@ TellsOnce (Err e) why text old new waited waits = IsCutShort old new waited wait
 abbrev pub TellsMade : {A E : Type 0} → (A → List ℕ) → Result A E → Result (Option LineFault) WriteError → List ℕ → Option (List ℕ) → Option (List ℕ) → List ℕ → List ℕ → Type 0
 TellsMade text_of (Ok line) result echo old new waited waits = TellsOnce result None (echo ++ with_feed (text_of line)) old new waited waits
 TellsMade text_of (Err e) result echo old new waited waits = TellsOnce result (Some (Refused Memory)) (echo ++ with_feed (refused_line Memory)) old new waited waits
+
+-- a tick was said; or what is wrong with the line that asks for it
+abbrev pub TellsTickOnce : Result ℕ LineFault → Result (Option LineFault) WriteError → List ℕ → Option (List ℕ) → Option (List ℕ) → List ℕ → List ℕ → Type 0
+TellsTickOnce (Ok tick) result echo old new waited waits = TellsOnce result None (echo ++ with_feed (when_line (Some tick))) old new waited waits
+TellsTickOnce (Err why) result echo old new waited waits = TellsOnce result (Some why) (echo ++ with_feed (fault_words why)) old new waited waits
 
 -- the line of a plan was said; or that there is no memory for it
 abbrev pub TellsPlan : Result (Option LineFault) WriteError → Plan → List ℕ → Option (List ℕ) → Option (List ℕ) → List ℕ → List ℕ → Type 0

@@ -7,6 +7,8 @@ step N                    N ticks with the row last given
 changes N                 N ticks, of whose lines those that differ are printed
 back N                    N ticks back
 seek T                    back to tick T
+goto HH:MM:SS             on or back to that time of the clock; goto YYYY-MM-DD HH:MM:SS names its day
+tick HH:MM:SS             the tick of that time; tick YYYY-MM-DD HH:MM:SS names its day
 undo                      the newest input is taken back
 show                      the display line
 status                    the status, as JSON
@@ -23,6 +25,7 @@ pattern N                 pattern N is asked for; 0 is free operation
 preempt N on              preempt N is switched on; off switches it off
 fault HEAD ASPECT         a lamp is lit, as by P4 G; fault none ends that
 reset                     the monitor is reset
+clock YYYY-MM-DD HH:MM:SS the next tick begins then
 events on                 inputs print their events; off ends that
 echo on                   answers stand after their command; off ends that
 save                      the input log and the commands that come to this state, as JSON

@@ -4,6 +4,7 @@
 #![tactic(auto)]
 
 mod changes;
+mod go_to;
 mod help;
 pub mod laws;
 mod run;

@@ -9,16 +9,19 @@ ghost use Rattle.tsb_text.specs.Faults.{fault_words};
 ghost use Rattle.tsb_live_text.specs.saved.Saved.{saved_text};
 ghost use Rattle.tsb_live_text.specs.Live.{AsksLive, Live as LiveState, Obeys, Reads, echo_of, fault_by, quits};
 ghost use Rattle.tsb_live_text.specs.LiveEnded.{LiveEnded, ended_with};
-ghost use Rattle.tsb_live_text.specs.Standing.{Does, StandsLive, TellsMade, TellsOnce};
+ghost use Rattle.tsb_bench.specs.Held.{state_of};
+ghost use Rattle.tsb_live_text.specs.GoTo as moments;
+ghost use Rattle.tsb_live_text.specs.Standing.{Does, StandsLive, TellsMade, TellsOnce, TellsTickOnce};
 
 use crate::changes::changes;
+use crate::go_to::{command_to, tick_of};
 use crate::help::HELP;
 use crate::say_saved;
 use arrayvec::ArrayVec;
 use std::alloc::{AllocError, Global};
 use std::io::{Read, Write};
 use tsb_bench::Bench;
-use tsb_command_text::{Command, LiveCommand, LiveReading, live_reading_of};
+use tsb_command_text::{Aim, Command, LiveCommand, LiveReading, live_reading_of};
 use tsb_dialog::{Answers, DialogError, Flow, Pending, Watched, WriteError, converse};
 use tsb_display_text::LineMaker;
 use tsb_objects::{Checked, Refusal};
@@ -158,6 +161,7 @@ impl LiveRun<'_> {
         match command {
             LiveCommand::Session(command) => self.obey(command, line, pending, writer),
             LiveCommand::Changes(ticks) => self.changes(ticks, line, pending, writer),
+            LiveCommand::GoTo(aim) => self.go_to(aim, line, pending, writer),
             LiveCommand::Plan => {
                 let plan = plan_line(self.alloc, self.course.bench().plan());
                 tell_plan(plan, &echo, pending, writer)
@@ -174,6 +178,7 @@ impl LiveRun<'_> {
                 let change = when_line(self.course.kept().last_change(which));
                 tell(&echo, change.as_bytes(), None, pending, writer)
             }
+            LiveCommand::TickAt(aim) => tell_tick(self.tick_of(aim), &echo, pending, writer),
             LiveCommand::Events(on) => {
                 self.course.tell(on);
                 tell(&echo, b"ok", None, pending, writer)
@@ -210,6 +215,39 @@ impl LiveRun<'_> {
             writer,
         )?;
         Ok(fault_by(refusal))
+    }
+
+    /// The first tick at or after a moment of the clock, or what is wrong with a line that asks for it.
+    fn tick_of(&self, aim: Aim) -> Result<u32, LineFault>
+        ensures { result ≡ moments.tick_of (state_of self.now.course.bench).start_moment self.now.course.bench.tick aim }
+    {
+        let bench = self.course.bench();
+        tick_of(bench.start_moment(), bench.now(), aim)
+    }
+
+    /// Takes ticks with the row last given, or goes back, up to a moment of the clock.
+    fn go_to<W: Write>(
+        &mut self,
+        aim: Aim,
+        line: &[u8],
+        pending: &mut Pending,
+        writer: &mut Watched<W>,
+    ) -> Result<Option<LineFault>, WriteError>
+        ensures done { (s : LiveState) → StandsLive self.old s
+            → Does result self.new (AsksLive s line.now (asks.GoTo aim)) (W.contents writer.old.device) (W.contents writer.new.device) pending.old pending.new }
+        ensures strict { self.new.on_fault ≡ self.old.on_fault }
+        ensures blame { writer.old.failed ≡ false → AfterCalls result writer.new.failed }
+    {
+        match self.tick_of(aim) {
+            Ok(tick) => {
+                let command = command_to(self.course.bench().now(), tick);
+                self.obey(command, line, pending, writer)
+            }
+            Err(fault) => {
+                let echo = self.echo(line);
+                tell_fault(&echo, &fault, pending, writer)
+            }
+        }
     }
 
     /// Tells the log and the commands by which `tsb run` comes to the present state.
@@ -249,6 +287,25 @@ fn tell_plan<W: Write>(
             let fault = LineFault::Refused(Refusal::Memory);
             tell_fault(echo, &fault, pending, writer)
         }
+    }
+}
+
+/// Says a tick that was found, behind `echo`, or what is wrong with the line that asks for it.
+fn tell_tick<W: Write>(
+    tick: Result<u32, LineFault>,
+    echo: &[u8],
+    pending: &mut Pending,
+    writer: &mut Watched<W>,
+) -> Result<Option<LineFault>, WriteError>
+    ensures told { TellsTickOnce tick result echo.now (W.contents writer.old.device) (W.contents writer.new.device) pending.old pending.new }
+    ensures blame { writer.old.failed ≡ false → AfterCalls result writer.new.failed }
+{
+    match tick {
+        Ok(tick) => {
+            let line = when_line(Some(tick));
+            tell(echo, line.as_bytes(), None, pending, writer)
+        }
+        Err(fault) => tell_fault(echo, &fault, pending, writer),
     }
 }
 

@@ -7,5 +7,6 @@ pub mod LineLemmas
 pub mod ComeLemmas
 pub mod EndLemmas
 pub mod CommandLemmas
+pub mod ClockLemmas
 pub mod StopLemmas
 pub mod Examples

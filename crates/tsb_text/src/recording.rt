@@ -1,13 +1,20 @@
 //! The commands of a record: they are carried out, and what is refused is told.
-ghost use Rattle.std.specs.Prelude.{◌≡◌, ◌++◌, ℕ, List, OnOk, false, true};
+ghost use Rattle.std.specs.Prelude.{◌≡◌, ◌++◌, ℕ, [], IfErr, List, OnOk, false, true};
 ghost use Rattle.tsb_objects.specs.Checked.{checked_plan};
 ghost use Rattle.tsb_dialog.specs.Blame.{AfterCalls};
 ghost use Rattle.tsb_dialog.specs.Said.{Said, Wrote};
+ghost use Rattle.tsb_log_text.specs.declared.log.LogRow.{LogRow};
+ghost use Rattle.tsb_step.specs.declared.inputs.Input.{Input as InputValue};
+ghost use Rattle.tsb_step.specs.declared.log_form.LogForm.{LogForm as LogFormValue};
+ghost use Rattle.tsb_text.specs.Answers.{Setup};
 ghost use Rattle.tsb_text.specs.Blame.{Blames};
 ghost use Rattle.tsb_text.specs.recording.Ended.{Ended};
 ghost use Rattle.tsb_text.specs.recording.Faults.{fault_text};
-ghost use Rattle.tsb_text.specs.recording.Leaves.{quits};
+ghost use Rattle.tsb_text.specs.recording.Leaves.{first_inputs, quits};
+ghost use Rattle.tsb_text.specs.Obeyed.{Stands};
 ghost use Rattle.tsb_text.specs.Stops.{stop_in};
+ghost use Rattle.tsb_text.specs.declared.course.Mode.TheVariants as modes;
+ghost use Rattle.tsb_text.specs.declared.error.SessionError.TheVariants as errors_of;
 ghost use Rattle.tsb_text.specs.recording.Recording.{IsOutcome};
 
 mod faults;
@@ -29,8 +36,9 @@ use tsb_command_text::{Command, Reading, reading_of};
 use tsb_dialog::{Answers, Flow, Pending, Watched, WriteError, converse};
 use tsb_log_text::Log;
 use tsb_objects::Checked;
+use tsb_step::Input;
 use tsb_step::log_form::LogForm;
-use tsb_types::Event;
+use tsb_types::{ClockTime, Event};
 
 /// What is asked of a record.
 #[derive(Clone, Copy)]
@@ -41,6 +49,8 @@ pub struct RecordOptions {
     pub form: LogForm,
     /// Whether the schedule of the plan acts.
     pub acts: bool,
+    /// The moment at which its tick 1 begins, to which its clock is set before that: none where it has no clock.
+    pub clock: Option<ClockTime>,
 }
 
 /// What came of the commands of a record.
@@ -131,9 +141,53 @@ fn outcome_of(course: Course, stop: Option<Stop>) -> Outcome
     }
 }
 
+/// Sets the clock of a record that begins, where it has one. The error is that there is no memory for it.
+fn set_clock(course: &mut Course, clock: Option<ClockTime>) -> Result<(), SessionError>
+    ensures set { OnOk result ((given : Setup) (log : List LogRow) → Stands given log course.old [] → Stands given log course.new (first_inputs clock)) }
+    ensures memory { IfErr result (λ e. e ≡ errors_of.Memory) }
+    ensures mode { course.new.mode ≡ course.old.mode }
+{
+    match clock {
+        None => Ok(()),
+        Some(time) => match course.take(Input::Clock(time)) {
+            Ok(()) => Ok(()),
+            Err(_) => Err(SessionError::Memory),
+        },
+    }
+}
+
+/// Carries out the commands of a record, where these inputs came before them.
+fn carried_out<R: Read, E: Write>(
+    course: Course,
+    on_fault: OnFault,
+    reader: &mut Watched<R>,
+    errors: &mut Watched<E>,
+) -> Result<Outcome, SessionError>
+    requires reads { reader.old.failed ≡ false }
+    requires writes { errors.old.failed ≡ false }
+    requires flushed { errors.old.flushed ≡ true }
+    ensures ended { (given : Setup) (form : LogFormValue) (first : List InputValue) → Stands given given.log course.entry first → course.entry.mode ≡ modes.Recording form
+        → Ended result on_fault form given first (R.remaining reader.old.device) (R.remaining reader.new.device) (E.contents errors.old.device) (E.contents errors.new.device) }
+    ensures blame { Blames result reader.new.failed errors.new.failed errors.new.flushed }
+{
+    let mut recording = Recording {
+        course,
+        on_fault,
+        stop: None,
+    };
+    match converse(&mut recording, COMMANDS, reader, errors) {
+        Ok(()) => Ok(outcome_of(recording.course, recording.stop)),
+        Err(fault) => {
+            drop(recording);
+            Err(fault_of(fault))
+        }
+    }
+}
+
 /// The record of a run: reads commands as a session of `tsb run` does, carries them out, and gives the events of the
 /// inputs that remain, the oldest first. The bench begins at power-up with the plan, and its ticks take the rows of the
-/// log. A line `quit` ends the commands, and nothing more is read.
+/// log. A line `quit` ends the commands, and nothing more is read. A record with a clock is the record without one whose
+/// first line sets that clock; only the numbers of its lines differ.
 ///
 /// Each line that is no command, or that is refused, is told on `errors` by a line, `command 12: pattern 99: refused E9
 /// NoSuchPattern` or `command 12: patern 1: bad command`: the number is that of its line, from 1, and lines that are
@@ -144,7 +198,8 @@ fn outcome_of(course: Course, stop: Option<Stop>) -> Outcome
 ///
 /// A fault ends the record; what was told until then is a prefix of what is to be told. `Read` comes exactly where a read
 /// has failed, and `Write` exactly where a write or a flush has. `TooLarge` comes where there is a byte after the first 16 MiB, once the whole lines within them were carried out, and `Memory` where there is none for
-/// the bench at power-up: nothing was read then. Where there is none for the events of an input it is refused with E1.
+/// the bench at power-up, or for its clock: nothing was read then. Where there is none for the events of an input it is
+/// refused with E1.
 pub fn record<R: Read, E: Write>(
     alloc: Global,
     plan: Checked,
@@ -156,7 +211,7 @@ pub fn record<R: Read, E: Write>(
     requires reads { reader.old.failed ≡ false }
     requires writes { errors.old.failed ≡ false }
     requires flushed { errors.old.flushed ≡ true }
-    ensures ended { Ended result options.on_fault options.form (record { plan = checked_plan plan; log = log.now; acts = options.acts })
+    ensures ended { Ended result options.on_fault options.form (record { plan = checked_plan plan; log = log.now; acts = options.acts }) (first_inputs options.clock)
         (R.remaining reader.old.device) (R.remaining reader.new.device) (E.contents errors.old.device) (E.contents errors.new.device) }
     ensures blame { Blames result reader.new.failed errors.new.failed errors.new.flushed }
 {
@@ -164,22 +219,12 @@ pub fn record<R: Read, E: Write>(
         return Err(SessionError::Memory);
     };
     let rows = Rows::OfLog { log, place: 0 };
-    let mut recording = Recording {
-        course: Course::new(
-            alloc,
-            bench,
-            rows,
-            Mode::Recording(options.form),
-            options.acts,
-        ),
-        on_fault: options.on_fault,
-        stop: None,
-    };
-    match converse(&mut recording, COMMANDS, reader, errors) {
-        Ok(()) => Ok(outcome_of(recording.course, recording.stop)),
+    let mut begun = Course::new(alloc, bench, rows, Mode::Recording(options.form), options.acts);
+    match set_clock(&mut begun, options.clock) {
+        Ok(()) => carried_out(begun, options.on_fault, reader, errors),
         Err(fault) => {
-            drop(recording);
-            Err(fault_of(fault))
+            drop(begun);
+            Err(fault)
         }
     }
 }

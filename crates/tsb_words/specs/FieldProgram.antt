@@ -51,7 +51,7 @@ source_rules = required_rule (codes "from") ∷ required_rule (codes "device") �
 abbrev pub record_shape : Shape
 record_shape = shape_with (codes "record")
     (file_rule (codes "PLAN") ∷ file_rule (codes "LOG") ∷ flag_rule (codes "go-on") ∷ flag_rule (codes "recalls")
-    ∷ flag_rule (codes "outputs") ∷ source_rules)
+    ∷ flag_rule (codes "outputs") ∷ flag_rule (codes "no-clock") ∷ source_rules)
 
 -- those of `events`
 abbrev pub events_shape : Shape
@@ -169,6 +169,7 @@ record_manner_in rows = record {
   goes_on = is_set (first_of (codes "go-on") rows);
   recalls = is_set (first_of (codes "recalls") rows);
   outputs = is_set (first_of (codes "outputs") rows);
+  no_clock = is_set (first_of (codes "no-clock") rows);
 }
 
 -- what `record` asks for, with these options and files

@@ -66,6 +66,8 @@ pub struct RecordManner {
     pub recalls: bool,
     /// Whether vehicle detectors have events of their outputs, and not of their inputs.
     pub outputs: bool,
+    /// Whether no clock is set to the moment at which tick 1 begins.
+    pub no_clock: bool,
 }
 
 /// What the words of `record` ask for.
@@ -134,7 +136,7 @@ pub enum Asked<'a> {
 /// `log` has `--from TIME`, and may have `--device ID`, `--as-outputs PLAN`, `--time-form FORM`, `--zone OFFSET`, `--count`,
 /// `--allow-empty`, `--sort`, `--sort-within SECONDS` and any number of `--vehicle CHANNEL=DETECTOR`, `--pedestrian
 /// CHANNEL=DETECTOR` and `--preempt CHANNEL=INPUT`; `record` has `--from TIME`, `--device ID`, and the files of a plan and a
-/// log, and may have `--go-on`, `--recalls` and `--outputs`; `events` has `--from TIME` and `--device ID`, and may have `--log LOG`; `diagram` may have
+/// log, and may have `--go-on`, `--recalls`, `--outputs` and `--no-clock`; `events` has `--from TIME` and `--device ID`, and may have `--log LOG`; `diagram` may have
 /// `--log LOG`, `--title TEXT`, `--seconds-per-line N`, and `--from TIME`, and with that `--events FILE`; `review` has the file of a plan; `schedule` has the file
 /// of a plan, and `--week DATE`. Options come in any order, and
 /// `--NAME=VALUE` is `--NAME VALUE`. A value that begins with a hyphen comes after `=`. All else is `Bad`, and so are a
@@ -276,6 +278,7 @@ fn record_manner(options: &ArgMatches<'_>) -> RecordManner
         goes_on: is_set(options.get_str("go-on")),
         recalls: is_set(options.get_str("recalls")),
         outputs: is_set(options.get_str("outputs")),
+        no_clock: is_set(options.get_str("no-clock")),
     }
 }
 

@@ -45,10 +45,11 @@ const LOG: [&str; 13] = [
 ];
 
 /// The options of `record`.
-const RECORD: [&str; 6] = [
+const RECORD: [&str; 7] = [
     "--go-on",
     "--recalls",
     "--outputs",
+    "--no-clock",
     "--from",
     "--device",
     "--help",

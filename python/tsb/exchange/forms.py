@@ -196,7 +196,7 @@ class Options:
         left = value & ~sum(1 << bit for bit in self.bits)
         lost = [
             f"bit {bit} ({self.others.get(bit, 'not known')}) has no object"
-            for bit in range(max(left.bit_length(), 0))
+            for bit in range(left.bit_length())
             if left >> bit & 1
         ]
         return Read(sets, lost)

@@ -22,11 +22,11 @@ from tsb.exchange.remarks import Remark, warn
 from tsb.exchange.sides import sides_of
 from tsb.exchange.walk import Line, dotted, printed
 from tsb.manual import OBJECTS
-from tsb.options import Words
+from tsb.options import Words, called
 from tsb.plan import Plan
 from tsb.values import RINGS, SEQUENCES
 
-PROGRAM = "python3 -m tsb oids"
+PROGRAM = called("oids")
 PROFILE = "NTCIP 1202 v02 has no object for it"
 #: Values that are written as another one: the object, the value, and what is said.
 WRITTEN_AS = {

@@ -12,11 +12,11 @@ from tsb import files
 from tsb.errors import Error, PlanFault, shown
 from tsb.exchange import oids, utdf, walk
 from tsb.exchange.remarks import Remark, lines_of
-from tsb.options import Words
+from tsb.options import Words, called
 from tsb.plan import OK, Plan
 from tsb.sheet import spreadsheet
 
-PROGRAM = "python3 -m tsb plan"
+PROGRAM = called("plan")
 LONGEST = 16 << 20  # bytes of a file
 
 
@@ -62,7 +62,7 @@ def _of_sheet(text: str, given: argparse.Namespace) -> Made:
 READERS = [
     Reader("lines of snmpwalk -On", walk.is_walk, _of_walk),
     Reader("UTDF", utdf.is_utdf, _of_utdf),
-    Reader("tables of python3 -m tsb sheet --csv", spreadsheet.is_sheet, _of_sheet),
+    Reader(f"tables of {called('sheet')} --csv", spreadsheet.is_sheet, _of_sheet),
 ]
 
 

@@ -18,7 +18,7 @@ from tsb.exchange.forms import Value
 from tsb.exchange.objects import ASC, Oid
 from tsb.exchange.plans import Made, written
 from tsb.exchange.walk import Line, dotted, printed
-from tsb.options import Words
+from tsb.options import Words, called
 from tsb.panel.command import port
 from tsb.progress import progress
 
@@ -27,7 +27,7 @@ try:
 except ImportError as missing:  # (the rest of the package goes without it)
     raise Error(f"SNMP needs pysnmp: python/setup.sh ({missing})") from None
 
-PROGRAM = "python3 -m tsb pull"
+PROGRAM = called("pull")
 PORT = 161
 COMMUNITY = b"public"
 TIMEOUT, TRIES = 2.0, 4  # seconds for an answer, and how often it is asked for

@@ -17,7 +17,7 @@ from tsb import files
 from tsb.bench import Bench
 from tsb.errors import Error, LogFault, PlanFault, Refused, shown
 from tsb.exchange.agent import Agent
-from tsb.options import Words
+from tsb.options import Words, called
 from tsb.panel.command import port
 from tsb.programs import marked
 
@@ -26,7 +26,7 @@ try:
 except ImportError as missing:  # (the rest of the package goes without it)
     raise Error(f"SNMP needs pysnmp: python/setup.sh ({missing})") from None
 
-PROGRAM = "python3 -m tsb snmp"
+PROGRAM = called("snmp")
 HOST = "127.0.0.1"
 #: The communities of a controller as it is delivered, by NTCIP 1103.
 DEFAULT = Communities(b"public", b"administrator")

@@ -18,11 +18,11 @@ from typing import NamedTuple
 from tsb.errors import Error, NoSuchObject, OutOfRange, shown
 from tsb.exchange.oids import blank_density
 from tsb.exchange.remarks import Remark, warn
-from tsb.options import Words
+from tsb.options import Words, called
 from tsb.plan import Plan
 from tsb.values import RINGS, object_of
 
-PROGRAM = "python3 -m tsb utdf"
+PROGRAM = called("utdf")
 PHASES, TIMEPLANS, LANES = "phases", "timeplans", "lanes"
 TITLES = {PHASES: "Phasing Data", TIMEPLANS: "Timing Plan Settings"}
 #: The one pattern of a file, with its table of splits and its sequence.
@@ -177,12 +177,15 @@ class Reading:
             return None
         return None if found is None else int(found)
 
-    def _set(self, cell: Cell, said: str, name: str, index: int, value: int) -> None:
-        """Sets a value of the plan; a remark where it has no such value."""
+    def _set(self, cell: Cell, said: str, name: str, index: int, value: int) -> bool:
+        """Sets a value of the plan, and whether it did; a remark where it has no such
+        value."""
         try:
             self.plan[name][index] = value
         except (OutOfRange, NoSuchObject) as fault:
             self._tell(cell.line, said, cell.text, str(fault))
+            return False
+        return True
 
     def _time(self, cell: Cell, said: str, name: str, index: int) -> None:
         """Sets a time that is given in seconds."""
@@ -373,7 +376,7 @@ class Reading:
         """Gives each movement with detectors a vehicle detector, in the order of the
         file's columns."""
         phases, counts = (records.get(it, {}) for it in ("DetectPhase1", "numDetects"))
-        channel = 0
+        name, channel = "vehicleDetectorCallPhase", 0
         used = set()
         for movement, cell in phases.items():
             said = f"DetectPhase1 {movement}"
@@ -381,22 +384,22 @@ class Reading:
             phase = self._whole(cell, said)
             if not phase or count is None or not self._whole(count, "numDetects"):
                 continue
+            if not self._set(cell, said, name, channel + 1, phase):
+                continue
             channel += 1
             used.add(movement)
-            self._set(cell, said, "vehicleDetectorCallPhase", channel, phase)
             why = f"given, for {movement}"
-            name = "vehicleDetectorCallPhase"
             self.remarks.append(Remark(0, name, (channel,), str(phase), why))
             for row, of in DETECTORS.items():
                 more = records.get(row, {}).get(movement)
-                if more is not None and channel <= object_of(of).count:
+                if more is not None:
                     self._time(more, f"{row} {movement}", of, channel)
-        for name, record in records.items():
-            if name in ("DetectPhase1", "numDetects", *DETECTORS):
+        for row, record in records.items():
+            if row in ("DetectPhase1", "numDetects", *DETECTORS):
                 left = {at: it for at, it in record.items() if at not in used}
-                self._tell_row(name, left, "it is of no detector with a phase")
+                self._tell_row(row, left, "it is of no detector with a phase")
             else:
-                self._tell_row(name, record, NO_PLACE)
+                self._tell_row(row, record, NO_PLACE)
 
     def _tell_row(self, name: str, record: Record, why: str) -> None:
         """Names the values of a row, if it has some."""
@@ -467,9 +470,8 @@ class Sections:
         coordinated = [
             it for it in self._phases if plan["splitCoordPhase"][self._table, it]
         ]
-        first, second = (*coordinated, 0, 0)[:2] if len(coordinated) > 1 else (
-            0, *coordinated, 0,
-        )[:2]  # fmt: skip
+        # (each ring has one at most; 0 is no phase, and one alone comes second)
+        first, second = [0, 0, *coordinated][-2:]
         yield "Reference Phase", [str(100 * first + second)]
         offset = plan["patternOffsetTime"][pattern]
         yield "Offset", [f"{offset}.0"]
@@ -552,7 +554,7 @@ class Sections:
         if name == "sequenceData":
             used = plan["patternSequenceNumber"][pattern] if pattern else 1
             return (index - 1) // 32 + 1 == used
-        return name in COVERED and (not name.startswith("phase") or index in plan.phases)
+        return name in COVERED and index in plan.phases
 
 
 def _tenths(value: int) -> str:

@@ -12,14 +12,13 @@ from tsb.errors import Error
 from tsb.exchange.forms import Value
 
 Oid = tuple[int, ...]
-LONGEST = 16 << 20  # bytes of a walk
 DIGITS = 16  # octets in a line of hexadecimal digits
 DEPTH = 128  # numbers of an OID, at most
 LARGEST = (1 << 32) - 1  # of a number in an OID
 END = "End of MIB"  # what snmpwalk -v1 prints last
 
 # What an OID begins with: also as snmpwalk prints it without -On.
-_ROOTS = {".1": (1,), "1": (1,), "iso": (1,)}
+_ROOTS = {"1": (1,), "iso": (1,)}
 _ENTERPRISES = "SNMPv2-SMI::enterprises"
 _BEGUN = re.compile(
     rf"((?:\.?1|iso|{_ENTERPRISES})(?:\.[0-9]{{1,10}})+) = (.*)", re.S

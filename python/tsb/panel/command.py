@@ -10,12 +10,12 @@ from contextlib import suppress
 from pathlib import Path
 
 from tsb.errors import Error, LogFault, PlanFault, shown
-from tsb.options import Words
+from tsb.options import Words, called
 from tsb.panel.keep import Keep, Source
 from tsb.panel.layout import Layout
 from tsb.programs import marked
 
-PROGRAM = "python3 -m tsb panel"
+PROGRAM = called("panel")
 PORTS = 65_535  # the greatest port
 RUNS = Path("panel_runs")  # where runs are kept, if no word says where
 

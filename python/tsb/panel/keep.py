@@ -135,7 +135,8 @@ def events(plan: bytes, saved: Saved, begin: str, device: str) -> bytes:
     """The events of a run, as `tsb_field record` writes them."""
     with tempfile.TemporaryDirectory() as room:
         write(Path(room), plan, saved)
-        words = ["record", f"--from={begin}", f"--device={device}"]
+        # (a clock of the run is among its commands)
+        words = ["record", "--no-clock", f"--from={begin}", f"--device={device}"]
         files = [f"{room}/{PLAN}", f"{room}/{LOG}"]
         return run("tsb_field", [*words, *files], saved.commands.encode()).stdout
 

@@ -103,6 +103,8 @@ def _one_of(names: Any, what: str) -> Any:
 
 
 HEAD = r"([PW]([1-9]|1[0-6])|O[1-4])"
+DAY = r"20\d\d-\d\d-\d\d"
+TIME = r"\d\d:\d\d:\d\d(\.\d)?"
 NAME = r"[A-Za-z0-9][A-Za-z0-9_-]{0,39}"
 A_NAME = "1 to 40 letters, digits, - and _, of which the first is no sign"
 
@@ -162,6 +164,15 @@ class Reset(_Given):
 
 
 @dataclass(frozen=True)
+class Clock(_Given):
+    """Sets the clock: the next tick begins then."""
+
+    FORM = "clock {day} {time}"
+    day: str = _word(DAY, "a day of the years 2000 to 2099, as 2026-11-22")
+    time: str = _word(TIME, "a time of the day, as 07:00:00")
+
+
+@dataclass(frozen=True)
 class Begin(_Given):
     """Opens a transaction of a station."""
 
@@ -204,7 +215,19 @@ class Abort(_Given):
     station: int = _number(1, STATIONS)
 
 
-Given = Pattern | Switch | Lamp | NoLamp | Reset | Begin | Set | Verify | Commit | Abort
+Given = (
+    Pattern
+    | Switch
+    | Lamp
+    | NoLamp
+    | Reset
+    | Clock
+    | Begin
+    | Set
+    | Verify
+    | Commit
+    | Abort
+)
 
 
 # What else a page asks
@@ -227,6 +250,13 @@ class Go:
     """Goes to a tick, back or forward, as far as there is time for."""
 
     tick: int = _number(0, LAST_TICK)
+
+
+@dataclass(frozen=True)
+class Find:
+    """Finds the tick that begins at a time of the clock, to go to it."""
+
+    moment: str = _word(f"({DAY} )?{TIME}", "a time, as 07:42:10, with or without a day")
 
 
 @dataclass(frozen=True)
@@ -298,6 +328,7 @@ Request = (
     | Look
     | Advance
     | Go
+    | Find
     | Undo
     | Drop
     | Hold
@@ -312,7 +343,8 @@ Request = (
 GIVEN: Mapping[str, type[Given]] = {
     it.__name__.lower(): it
     for it in (
-        Pattern, Switch, Lamp, NoLamp, Reset, Begin, Set, Verify, Commit, Abort
+        Pattern, Switch, Lamp, NoLamp, Reset, Clock, Begin, Set, Verify, Commit,
+        Abort,
     )
 }  # fmt: skip
 REQUESTS: Mapping[str, type[Request]] = {
@@ -320,7 +352,7 @@ REQUESTS: Mapping[str, type[Request]] = {
     **{
         it.__name__.lower(): it
         for it in (
-            Look, Advance, Go, Undo, Drop, Hold, Pulse, Free, Mark, Save, Load,
+            Look, Advance, Go, Find, Undo, Drop, Hold, Pulse, Free, Mark, Save, Load,
             Again,
         )
     },
@@ -365,7 +397,7 @@ def _within(number: int, most: int, least: int = 1) -> None:
 def given_of(line: str) -> Given:
     """The input of a command, as `save` writes it; `BadRequest` where it is none."""
     for what in GIVEN.values():
-        found = re.fullmatch(re.sub(r"\{(\w+)\}", r"(?P<\1>\\w+)", what.FORM), line)
+        found = re.fullmatch(re.sub(r"\{(\w+)\}", r"(?P<\1>\\S+)", what.FORM), line)
         if found is not None:
             kinds = {it.name: it.type for it in fields(what)}
             told = {

@@ -11,6 +11,7 @@ from tsb.panel.requests import (
     Advance,
     Again,
     Drop,
+    Find,
     Free,
     Go,
     Hold,
@@ -39,6 +40,7 @@ class Session:
     def __init__(self, source: Source, keep: Keep, layout: Layout | None) -> None:
         self.keep, self.layout, self.run = keep, layout, Run(source)
         self.died: ProgramDied | None = None
+        self._target: int | None = None
         self._state: dict[str, Any] = {}
 
     def close(self) -> None:
@@ -61,7 +63,7 @@ class Session:
             raise
 
     def _do(self, asked: Request) -> str:
-        run = self.run
+        run, self._target = self.run, None
         match asked:
             case Look():
                 return ""
@@ -70,6 +72,10 @@ class Session:
                 return ""
             case Go():
                 run.go(asked.tick)
+                return ""
+            case Find():
+                # (times of the page are those at which ticks begin)
+                self._target = run.bench.tick_at(asked.moment) + 1
                 return ""
             case Undo():
                 return f"undone {run.undo()}"
@@ -134,6 +140,7 @@ class Session:
             "state": self._told_state(),
             "view": None if view is None else self._picture(view, True),
             "overview": whole,
+            "target": self._target,
         }
         if serial != self.run.serial:
             found["plan"] = plan_told(self.run, self.layout)

@@ -1,5 +1,6 @@
 """What a page gets of a bench: its status in words and numbers."""
 
+from datetime import datetime
 from typing import Any
 
 from tsb.manual import OBJECTS, RULES
@@ -20,6 +21,7 @@ def state_of(run: Run) -> dict[str, Any]:
     ahead = tape.end - now
     return {
         "now": now,
+        "clock": _shown(bench.time),
         "end": tape.end,
         "log_end": max(tape.log.ticks, default=0),
         "line": bench.show().line,
@@ -36,6 +38,11 @@ def state_of(run: Run) -> dict[str, Any]:
         **_told(bench.status),
         "desk": _desk(bench.edits, run),
     }
+
+
+def _shown(moment: datetime | None) -> str | None:
+    """What the clock shows when the next tick begins."""
+    return None if moment is None else moment.isoformat(" ", "milliseconds")[:-2]
 
 
 def _told(status: Status) -> dict[str, Any]:
@@ -59,7 +66,7 @@ def _told(status: Status) -> dict[str, Any]:
             for it in status.rings
         ],
         "waits": [
-            {"phase": it.phase, "says": words.wait(it)} for it in status.waits.values()
+            {"phase": it.phase, "says": it.words} for it in status.waits.values()
         ],
         "preempts": [words.PREEMPTS.get(it, it) for it in status.preempt_state],
         "pattern": words.pattern(status),

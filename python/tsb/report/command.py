@@ -23,7 +23,7 @@ def main(words: Sequence[str]) -> int:
         notes = [str(it.message) for it in told if it.category is UserWarning]
         several = len(runs), given.consecutive
         numbers = [Numbers(run, place, *several) for place, run in enumerate(runs)]
-        text = page_of(numbers, given.title, notes)
+        text = page_of(numbers, given.title, notes, given.plan_b is not None)
         files.write(given.out, text.encode(errors="replace"))
     except OSError as fault:
         where = fault.filename or given.out

@@ -1,6 +1,7 @@
 """The numbers of a run: tables of what its events say, each as docs/use/PYTHON.md
 defines it under "What the report's numbers mean"."""
 
+from collections.abc import Iterator
 from dataclasses import dataclass
 from functools import cached_property
 from typing import Any
@@ -8,10 +9,10 @@ from typing import Any
 import numpy as np
 import pandas as pd
 
-from tsb import measures
+from tsb import frames, measures
 from tsb.plan import Plan
 from tsb.report.runs import Run
-from tsb.told import CAUSES, OTHER, PATTERN, WALK
+from tsb.told import CAUSES, CYCLE_STATE, FREE, LOCAL_ZERO, OFFSET, OTHER, PATTERN, WALK
 
 ENDS = [*CAUSES.values(), OTHER]
 SHOWN = ["green", "yellow", "red"]
@@ -21,6 +22,9 @@ MOST_PERIODS = 24
 FOLDS = 20  # parts of a cycle
 PHASES = range(1, 17)
 FIRST_SPLIT, LAST_SPLIT = 134, 149  # codes of the splits of phases 1 to 16
+# What is said where nobody can know whether a pattern ran.
+NO_PATTERN = "not known: the export has no pattern (code 131)"
+NONE_YET = "not known before the export's first pattern (code 131)"
 
 
 def period_of(ticks: int) -> int:
@@ -166,6 +170,42 @@ class Numbers:
             return 0
         return run.ticks + 1 if told.empty else int(told.min())
 
+    def told_at(self, ticks: Any, code: int = PATTERN) -> Any:
+        """The parameter of the last event of a code, as that of a pattern, at each of
+        these ticks. Where none did it is 0, and of a run that was observed it is not known:
+        -1."""
+        of = self.run.events[self.run.events["code"] == code]
+        told = of.sort_values("tick", kind="stable")
+        place = np.searchsorted(told["tick"].to_numpy(np.int64), ticks, "right")
+        return np.append(-self.run.is_observed, told["parameter"])[place]
+
+    def operation(self) -> Iterator[str]:
+        """What ran in each stretch of patterns: of a run that was observed as far as
+        its export has it."""
+        has_some = self.known_from <= self.run.ticks
+        for it in self.patterns.itertuples(index=False):
+            number = int(self.told_at(it.begin))
+            has_offset = self.told_at(it.begin, OFFSET) >= 0
+            offset = f"offset {it.offset_s} s" if has_offset else "no offset (code 133)"
+            if number < 0:
+                yield NONE_YET if has_some else NO_PATTERN
+            elif it.pattern is not pd.NA and it.cycle_s is not pd.NA:
+                yield f"pattern {it.pattern} (cycle {it.cycle_s} s, {offset})"
+            elif 0 < number < FREE:
+                yield f"pattern {number}: the export has no cycle (code 132)"
+            else:
+                yield "free operation"
+
+    @property
+    def _offsets_from(self) -> int | None:
+        """The tick of midnight, from which a street counts its offsets as a rule; None
+        where events have local zeros, as those of a bench do."""
+        events, start = self.run.events, self.run.start
+        is_zero = (events["code"] == CYCLE_STATE) & (events["parameter"] == LOCAL_ZERO)
+        if not self.run.is_observed or is_zero.any():
+            return None
+        return -int((start - start.astype("datetime64[D]")) // frames.TENTH)
+
     @cached_property
     def patterns(self) -> pd.DataFrame:
         """The stretches of patterns (`measures.patterns`)."""
@@ -174,12 +214,12 @@ class Numbers:
     @cached_property
     def cycles(self) -> pd.DataFrame:
         """The whole cycles (`measures.cycles`), a row for each."""
-        return measures.cycles(self.run.events)
+        return measures.cycles(self.run.events, self._offsets_from)
 
     @cached_property
     def a_cycle(self) -> pd.DataFrame:
         """Greens a cycle (`measures.greens_a_cycle`)."""
-        return measures.greens_a_cycle(self.run.events)
+        return measures.greens_a_cycle(self.run.events, self._offsets_from)
 
     @cached_property
     def each_wait(self) -> pd.DataFrame:
@@ -207,7 +247,7 @@ class Numbers:
         """Each actuation (`measures.arriving`), with its place in the cycle:
         `in_cycle_s`, NA in free operation."""
         found = measures.arriving(self.run.events, self.run.phases)
-        place = measures.in_cycle(self.run.events, found["tick"])
+        place = measures.in_cycle(self.run.events, found["tick"], self._offsets_from)
         return found.assign(in_cycle_s=place)
 
     @cached_property

@@ -5,18 +5,22 @@ from collections.abc import Callable, Sequence
 import jinja2
 import pandas as pd
 
+from tsb.diff import Change, further_of
 from tsb.programs import marked
 from tsb.report.cells import NONE, Both, Cell, Form, Table, count, seconds, share
 from tsb.report.differences import Difference, differences
 from tsb.report.numbers import ENDS, Numbers
 from tsb.report.sections import SECTIONS
 
-FIRST = 15  # differences that are shown at once
+FIRST = 15  # differences that are shown at once, of plans and of runs
 LOST = "seconds × actuations"
 
 
-def page_of(both: Both, title: str | None, notes: Sequence[str]) -> str:
-    """The page of one run or two, as a text of HTML that needs nothing else."""
+def page_of(
+    both: Both, title: str | None, notes: Sequence[str], has_plans: bool
+) -> str:
+    """The page of one run or two, as a text of HTML that needs nothing else. It has
+    what the plans of two runs differ in where each `has_plans` of its own."""
     named = " and ".join(it.run.name for it in both)
     loader = jinja2.PackageLoader("tsb.report", "")
     pages = jinja2.Environment(
@@ -25,6 +29,7 @@ def page_of(both: Both, title: str | None, notes: Sequence[str]) -> str:
     found: str = pages.get_template("page.html.j2").render(
         title=marked(title or f"Signal report: {named}"),
         glance=glance(both),
+        changed=changed(*both) if has_plans else None,
         unlike=unlike(*both) if len(both) > 1 else None,
         sections=[make(both) for make in SECTIONS],
         facts=[_facts(it) for it in both],
@@ -37,19 +42,13 @@ def _facts(numbers: Numbers) -> list[tuple[str, str]]:
     """What a run is."""
     run = numbers.run
     begin, end = run.time(1), run.time(run.ticks + 1)
-    stretches = [
-        "not known" if it.begin < numbers.known_from
-        else "free operation" if it.pattern is pd.NA
-        else f"pattern {it.pattern} (cycle {it.cycle_s} s, offset {it.offset_s} s)"
-        for it in numbers.patterns.itertuples(index=False)
-    ]  # fmt: skip
     return [
         ("run", numbers.label),
         ("what", "; ".join(run.facts)),
         ("from", f"{begin:%Y-%m-%d %H:%M:%S.%f}"[:-5]),
         ("to", f"{end:%Y-%m-%d %H:%M:%S.%f}"[:-5]),
         ("events", f"{len(run.events):,}"),
-        ("operation", ", ".join(dict.fromkeys(stretches)) or NONE),
+        ("operation", ", ".join(dict.fromkeys(numbers.operation())) or NONE),
     ]
 
 
@@ -97,6 +96,22 @@ def _ended_by(cause: str) -> Callable[[Numbers], Cell]:
 def _on_green(numbers: Numbers) -> Cell:
     came = numbers.arrivals["arrivals"].sum()
     return share(numbers.arrivals["on_green"].sum() / came if came else pd.NA)
+
+
+def changed(a: Numbers, b: Numbers) -> tuple[Table, Table, Sequence[str]] | None:
+    """The values in which the plans of two runs differ: what comes first, the rest,
+    and what follows from them. None where a plan is not known."""
+    was, now = a.run.plan, b.run.plan
+    if was is None or now is None:
+        return None
+    head = ["object", "index", a.label, b.label]
+    rows = [_changed(it) for it in was.diff(now)]
+    further = further_of(was, now, (a.label, b.label)) if rows else []
+    return Table("", head, rows[:FIRST]), Table("", head, rows[FIRST:]), further
+
+
+def _changed(it: Change) -> Sequence[Cell]:
+    return [it.name, it.place, it.with_said(it.before), it.with_said(it.after)]
 
 
 def unlike(a: Numbers, b: Numbers) -> tuple[Table, Table]:

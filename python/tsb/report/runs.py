@@ -54,21 +54,32 @@ def whole_minutes(tick: int) -> int:
     return -(-tick // MINUTE) * MINUTE
 
 
+@dataclass(frozen=True)
+class Session:
+    """What plans run on: a log, the time at which tick 1 begins, the commands after
+    those of a pattern, and how many ticks they let pass (None where the last event says
+    it). Then whether calls of recalls count, which the events of a street do not have,
+    and whether the clock is set to tick 1."""
+
+    log: Log
+    start: str
+    commands: str
+    ticks: int | None
+    recalls: bool = True
+    has_clock: bool = True
+
+
 def of_plan(
-    name: str,
-    path: Path,
-    log: Log,
-    start: str,
-    commands: str,
-    ticks: int | None,
-    facts: Sequence[str],
-    recalls: bool,
+    name: str, path: Path, session: Session, selected: str, facts: Sequence[str]
 ) -> Run:
-    """The run of a plan on a log: the bench is asked (`tsb_field record`). `ticks` is
-    how many the commands let pass; without it, the last event says it. `recalls` says
-    whether calls of recalls count, which the events of a street do not have."""
+    """The run of a plan in a session, after the command that selects its pattern: the
+    bench is asked (`tsb_field record`)."""
+    begin = session.start if session.has_clock else None
+    commands = selected + session.commands
     try:
-        events = recorded(path, log, commands, recalls=recalls)
+        events = recorded(
+            path, session.log, commands, recalls=session.recalls, begin=begin
+        )
     except ProgramDied as died:
         said = died.stderr.strip() or str(died)
         raise Error(f"{path}: {said.splitlines()[0]}") from None
@@ -78,8 +89,8 @@ def of_plan(
     return Run(
         name,
         events,
-        moment(start),
-        last if ticks is None else ticks,
+        moment(session.start),
+        last if session.ticks is None else session.ticks,
         Plan.read(path).wide(),
         [f"plan {path.name}, on the bench from power-up", *facts],
     )

@@ -24,6 +24,7 @@ from tsb.report.cells import (
     table_of,
 )
 from tsb.report.numbers import ENDS, FOLDS, SHOWN, Numbers, period_of
+from tsb.told import FREE
 
 
 def _section(
@@ -171,8 +172,8 @@ def cycles(both: Both) -> Section:
         "cycles", "Greens a cycle",
         "Below 1 a phase was skipped in some cycles; above, it came again within one."
         " Cycles of a pattern begin at local zero, where events tell it (150 with 5),"
-        " and else by its cycle and offset. Those of free operation begin where the"
-        " barrier is crossed to the first side.",
+        " and else by its cycle and its offset from midnight. Those of free operation"
+        " begin where the barrier is crossed to the first side.",
         any(len(it.cycles) for it in both), "No whole cycle.", made,
     )  # fmt: skip
 
@@ -182,7 +183,9 @@ def _lengths(numbers: Numbers) -> pd.DataFrame:
     cycles = numbers.cycles
     by = cycles["pattern"].astype(object)
     named = by.where(by.notna(), "free").map(str)
-    named = named.mask(cycles["begin"] < numbers.known_from, "not known")
+    told = numbers.told_at(cycles["begin"].astype("int64"))
+    is_free = (told == 0) | (told >= FREE)
+    named = named.mask((told < 0) | (by.isna() & ~is_free), "not known")
     return spread(numbers.cycles["cycle_s"], named)
 
 
@@ -265,7 +268,9 @@ def arrivals(both: Both) -> Section:
         " a loop is one."
     )
     if not any(len(it.folded) for it in both):
-        text += " No pattern ran, so there is no diagram over the cycle."
+        is_known = not any(it.run.is_observed for it in both)
+        ran = "No pattern ran" if is_known else "No pattern is known with its cycle"
+        text += f" {ran}, so there is no diagram over the cycle."
     known = any(it.run.phases for it in both)
     none = "No detector had an actuation." if known else (
         "Which phase a detector counts for only a plan says: give it with --plan-a."

@@ -12,7 +12,15 @@ from tsb.errors import Error
 from tsb.files import read
 from tsb.frames import gap_told, log_of_export, read_export
 from tsb.plan import Plan
-from tsb.report.runs import Run, moment, of_plan, of_rows, whole_minutes, with_inputs_of
+from tsb.report.runs import (
+    Run,
+    Session,
+    moment,
+    of_plan,
+    of_rows,
+    whole_minutes,
+    with_inputs_of,
+)
 from tsb.rows import Log
 from tsb.tasks import POWER_UP
 
@@ -26,14 +34,16 @@ def runs_of(given: argparse.Namespace) -> list[Run]:
     log, rows = _inputs(given)
     commands, ticks = _session(given, log, rows)
     start = given.begin or POWER_UP
+    has_clock = given.begin is not None and not given.no_clock
+    # (beside a street, which gives no calls of recalls, the bench gives none)
+    session = Session(log, start, commands, ticks, not given.street, has_clock)
     facts = [f"inputs of {(given.log or given.export).name}"]
+    facts += ["its clock set to --from"] * has_clock
 
     def run(plan: Path, pattern: int | None) -> Run:
         name = f"{plan.stem}, pattern {pattern}" if pattern else plan.stem
         selected = f"pattern {pattern}\n" if pattern else ""
-        told = selected + commands
-        # (beside a street, which gives no calls of recalls, the bench gives none)
-        return of_plan(name, plan, log, start, told, ticks, facts, not given.street)
+        return of_plan(name, plan, session, selected, facts)
 
     asked = [(given.plan_a, given.pattern_a), (given.plan_b, given.pattern_b)]
     with ThreadPoolExecutor() as both:  # (two processes of the bench)

@@ -4,9 +4,9 @@ import argparse
 from collections.abc import Sequence
 from pathlib import Path
 
-from tsb.options import Words
+from tsb.options import Words, called
 
-PROGRAM = "python3 -m tsb report"
+PROGRAM = called("report")
 USAGE = f"""
   {PROGRAM} --plan-a PLAN [--plan-b PLAN | --street]
       (--log LOG | --export CSV --from TIME) --out HTML
@@ -15,7 +15,7 @@ USAGE = f"""
 # What is said of runs of the bench, and not of events that are there.
 OF_BENCH = (
     "log", "export", "street", "commands", "pattern-a", "pattern-b",
-    "vehicle", "pedestrian", "preempt",
+    "vehicle", "pedestrian", "preempt", "no-clock",
 )  # fmt: skip
 
 
@@ -49,8 +49,13 @@ def _words() -> argparse.ArgumentParser:
         help="the export's own events are the first run, --plan-a the second",
     )  # fmt: skip
     words.add_argument(
-        "--from", dest="begin", metavar="TIME", help="when tick 1 begins"
-    )
+        "--from", dest="begin", metavar="TIME",
+        help="when tick 1 begins; the clocks of plans are set to it",
+    )  # fmt: skip
+    words.add_argument(
+        "--no-clock", action="store_true",
+        help="plans run without a clock: offsets count from tick 0, not from midnight",
+    )  # fmt: skip
     words.add_argument(
         "--seconds", type=_positive, metavar="N", help="how long runs are"
     )

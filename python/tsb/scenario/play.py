@@ -22,6 +22,7 @@ from tsb.errors import (
 )
 from tsb.files import regular
 from tsb.manual import NEWEST
+from tsb.options import called
 from tsb.panel.keep import Source
 from tsb.panel.requests import given_of
 from tsb.plan import Plan
@@ -30,7 +31,7 @@ from tsb.scenario.expect import Came, Played, Stretch, Waits
 from tsb.scenario.text import Command, Laid, Scenario
 from tsb.scenario.times import Times, Value
 
-PROGRAM = "python3 -m tsb test"
+PROGRAM = called("test")
 
 
 @dataclass(frozen=True)
@@ -293,6 +294,5 @@ def _answer(bench: Bench, command: Command) -> str:
 def _looked(miss: Miss, bench: Bench) -> Miss:
     """What the bench shows at the tick of a line that is not met."""
     display = bench.seek(min(miss.tick, bench.now)).line
-    waits = [(phase, it.words) for phase, it in sorted(bench.status.waits.items())]
-    told = tuple(f"phase {phase} waits for {words}" for phase, words in waits)
-    return replace(miss, display=display, waits=told)
+    waits = tuple(str(it) for _, it in sorted(bench.status.waits.items()))
+    return replace(miss, display=display, waits=waits)

@@ -12,12 +12,12 @@ from typing import TypeVar
 
 from tsb import files
 from tsb.errors import Error, NoProgram
-from tsb.options import Words
+from tsb.options import Words, called
 from tsb.plan import LONGEST, Plan
 from tsb.sheet import spreadsheet
 from tsb.sheet.page import page_of
 
-PROGRAM = "python3 -m tsb sheet"
+PROGRAM = called("sheet")
 PDF = ".pdf"
 BROWSERS = ("chromium", "chromium-browser", "google-chrome")
 PATIENCE = 60  # seconds that a browser has for a page
@@ -42,7 +42,7 @@ def _words() -> argparse.ArgumentParser:
         "--csv",
         type=Path,
         metavar="FILE",
-        help="the tables as CSV, which python3 -m tsb plan reads; no file of the name"
+        help=f"the tables as CSV, which {called('plan')} reads; no file of the name"
         " may be there",
     )
     words.add_argument("--title", help="the title of the page")

@@ -9,7 +9,7 @@ from typing import Any
 
 from tsb.errors import Error, shown
 from tsb.files import word
-from tsb.options import Words
+from tsb.options import Words, called
 from tsb.programs import run
 from tsb.progress import progress
 from tsb.rows import Log
@@ -22,7 +22,7 @@ from tsb.sumo.nema import read_nema
 from tsb.sumo.propose import propose, zones
 from tsb.sumo.trips import read_trips, summary
 
-PROGRAM = "python3 -m tsb sumo"
+PROGRAM = called("sumo")
 OTHERS = ("propose", "nema", "example")  # commands beside a run
 SOME = 100  # ticks, after which it is asked whether trips are left
 FROM = "2000-01-01 00:00:00"  # of the events, where no other time is given
@@ -128,7 +128,9 @@ def _events(
     path = _file(out, tls, ".log")
     log.write(path)
     commands = f"pattern {pattern}\n" if pattern else ""
-    words = ["record", f"--from={begin}", f"--device={tls}", word(plan), word(path)]
+    # (the benches of a loop have no clock)
+    words = ["record", "--no-clock", f"--from={begin}", f"--device={tls}"]
+    words += [word(plan), word(path)]
     done = run("tsb_field", words, f"{commands}step {ticks}\n".encode())
     _file(out, tls, ".events.csv").write_bytes(done.stdout)
 

@@ -6,7 +6,8 @@ use Rattle.tsb_log_text.specs.tsb_types.Sets.{set_of_list}
 use Rattle.tsb_log_text.specs.Rows.{inputs_of}
 use Rattle.tsb_command_text.specs.LiveCommands.{own_of_one, own_of_three, own_of_two}
 use Rattle.tsb_command_text.specs.LiveReadings.{live_reading}
-use Rattle.tsb_command_text.specs.declared.live_command.LiveCommand.TheVariants.{Session, Status, Changes, Plan, Edits, Events, Echo, Save, Help}
+use Rattle.tsb_command_text.specs.declared.live_command.Aim.TheVariants.{Time, Moment}
+use Rattle.tsb_command_text.specs.declared.live_command.LiveCommand.TheVariants.{Session, Status, Changes, GoTo, TickAt, Plan, Edits, Events, Echo, Save, Help}
 use Rattle.tsb_command_text.specs.declared.live_command.LiveReading.TheVariants.{Skip, Bad, Tick, Ask}
 
 -- ## Rows
@@ -75,6 +76,20 @@ echo-off : live_reading (codes "echo off") ≡ Ask (Echo false)
 unfolding live_reading inputs_of own_of_two
 echo-off = refl
 
+-- 7:42:10.5 is 277,305 tenths after midnight
+to-a-time : live_reading (codes "goto 07:42:10.5") ≡ Ask (GoTo (Time 277305))
+unfolding live_reading inputs_of own_of_two
+to-a-time = refl
+
+-- 2000-01-01 is day 8
+to-a-moment : live_reading (codes "goto 2000-01-01 00:00:01") ≡ Ask (GoTo (Moment 6912010))
+unfolding live_reading inputs_of own_of_three
+to-a-moment = refl
+
+tick-at : live_reading (codes "tick 00:00:01") ≡ Ask (TickAt (Time 10))
+unfolding live_reading inputs_of own_of_two
+tick-at = refl
+
 -- ## Commands of `tsb run`
 
 step : live_reading (codes "step 600") ≡ Ask (Session (commands.Step 600))
@@ -106,6 +121,10 @@ no-number = refl
 too-many-changes : live_reading (codes "changes 4294967296") ≡ Bad
 unfolding live_reading inputs_of own_of_two command_of_two
 too-many-changes = refl
+
+to-no-time : live_reading (codes "goto 24:00:00") ≡ Bad
+unfolding live_reading inputs_of own_of_two command_of_two
+to-no-time = refl
 
 events-maybe : live_reading (codes "events maybe") ≡ Bad
 unfolding live_reading inputs_of own_of_two command_of_two

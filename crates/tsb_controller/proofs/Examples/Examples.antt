@@ -51,7 +51,7 @@ on_side n = record {
   calls = memories_cells calls.at_power_up;
   phases = phases_cells 49 (λ p. phase.at_power_up);
   rings = rings_cells (record rings.power_up { side = n });
-  pattern = pattern_cells None in_step;
+  pattern = pattern_cells None in_step None;
   preempts = preempts_cells 49 preempts.at_power_up;
 }
 
@@ -105,7 +105,15 @@ can_be n from to = record {
     side = (from, to);
     crossing = tt;
   });
-  pattern = record { full = refl; pattern = omega arith; since = omega arith; ahead = omega arith };
+  pattern = record {
+    full = refl;
+    pattern = omega arith;
+    since = omega arith;
+    ahead = omega arith;
+    midnight = omega arith;
+    day = omega arith;
+    time = omega arith;
+  };
   preempts = preempts-by 49 preempts.at_power_up (record {
     each = λ n from to. record { delay = tt; spent = λ on. absurd cc };
     off = λ n out. record { switch = refl; delay = refl; spent = refl };

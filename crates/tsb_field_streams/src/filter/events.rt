@@ -2,9 +2,9 @@
 ghost use Rattle.std.specs.Prelude.{◌≡◌, IfErr};
 ghost use Rattle.tsb_field_log.specs.Mapping.{leads_from};
 ghost use Rattle.tsb_field_streams.specs.Blame.{IsOfText};
-ghost use Rattle.tsb_field_streams.specs.Filtering.{Given, Stand, wire_place, with_event, with_signal, with_used};
+ghost use Rattle.tsb_field_streams.specs.Filtering.{Given, Stand, wire_place, with_event, with_signal, with_unwired, with_used};
 
-use super::{Filter, NO_ROWS, count_of};
+use super::{Channel, Filter, NO_ROWS, count_of, with_channel};
 use crate::error::FilterError;
 use tsb_event_text::EventRow;
 use tsb_field_log::{InputEvent, InputKind, KnownRows, Signal, Wire};
@@ -31,10 +31,21 @@ impl Filter<'_> {
         match wire_place(self.wires, signal.kind, row.parameter) {
             Some(place) => self.take_wired(place, event),
             None => {
-                self.left_out.without_input = self.left_out.without_input.saturating_add(1);
+                self.count_unwired(Channel {
+                    kind: signal.kind,
+                    number: row.parameter,
+                });
                 Ok(NO_ROWS)
             }
         }
+    }
+
+    /// Counts an event of a channel from which no wire leads.
+    fn count_unwired(&mut self, channel: Channel)
+        ensures stands { (g : Given) (s : Stand) → StandsAt g s self.old → StandsAt g (with_unwired s channel) self.new }
+    {
+        self.left_out.without_input = self.left_out.without_input.saturating_add(1);
+        self.unwired = with_channel(self.unwired, channel);
     }
 
     /// Takes an event on the channel of the wire at this place; it is of the last moment.

@@ -1,5 +1,6 @@
 -- Two answers of a live run to one line are the same, or one of them is that memory ran out.
-use Rattle.std.proofs.Common.{◌≡◌, ◌⊎◌, ℕ, zero, suc, Bool, false, List, [], ◌∷◌, ◌++◌, Option, Some, refl, sym, ap, subst, ◌∙◌, inl, inr}
+use Rattle.std.proofs.Common.{◌≡◌, ◌⊎◌, ℕ, zero, suc, Bool, false, List, [], ◌∷◌, ◌++◌, Option, Some, Ok, Err, refl, sym, ap, subst, ◌∙◌, inl, inr}
+use Rattle.std.specs.declared.result.Result.{Result}
 use Rattle.tsb_dialog.specs.Heard.{Runs}
 use Rattle.tsb_dialog.specs.Said.{with_feed}
 use Rattle.tsb_dialog.specs.declared.answers.Flow.{Flow}
@@ -10,7 +11,8 @@ use Rattle.tsb_command_text.specs.declared.live_command.LiveReading.{LiveReading
 use Rattle.tsb_command_text.specs.declared.live_command.LiveReading.TheVariants.{Skip, Bad, Tick, Ask}
 use Rattle.tsb_live_text.specs.Changes.{Changes, line_after, owed, shows_same, tick_text}
 use Rattle.tsb_text.specs.Stops.{flow_after, stopped_at}
-use Rattle.tsb_live_text.specs.Live.{AsksLive, Leaves, Live, Reads, Says, Tells, besides, fault_by, present, quits, setup, with_inputs, with_row, with_stop}
+use Rattle.tsb_live_text.specs.GoTo.{command_to, tick_of}
+use Rattle.tsb_live_text.specs.Live.{AsksLive, GoesTo, Leaves, Live, Reads, Says, Tells, TellsTick, besides, fault_by, present, quits, setup, with_inputs, with_row, with_stop}
 use Rattle.tsb_step.specs.Play.{Cmd, IsRight, remaining_after}
 use Rattle.tsb_step.specs.Runs.{replay}
 use Rattle.tsb_step.specs.declared.inputs.Input.{Input}
@@ -150,6 +152,14 @@ obeys-one s t u line task text other fault faults a b =
     leaves-one s t u (session.Obeys (setup s) (besides s line) s.inputs task) text other fault faults
     (λ why whys new left x y. task-same (setup s) (besides s line) s.inputs task text other why whys new left x y) a b
 
+goes-one : (s t u : Live) (line : List ℕ) (tick : Result ℕ LineFault) (text other : List ℕ) (fault faults : Option LineFault) → GoesTo s line tick text fault t → GoesTo s line tick other faults u → One text other fault faults t u
+goes-one s t u line (Ok tick) text other fault faults a b = obeys-one s t u line (task_of (command_to (present s).now tick)) text other fault faults a b
+goes-one s t u line (Err why) text other fault faults a b = inl (a.0 ∙ sym b.0, a.1 ∙ sym b.1, a.2 ∙ sym b.2)
+
+tick-one : (s t u : Live) (line : List ℕ) (tick : Result ℕ LineFault) (text other : List ℕ) (fault faults : Option LineFault) → TellsTick s line tick text fault t → TellsTick s line tick other faults u → One text other fault faults t u
+tick-one s t u line (Ok tick) text other fault faults a b = inl (a.0 ∙ sym b.0, a.1 ∙ sym b.1, a.2 ∙ sym b.2)
+tick-one s t u line (Err why) text other fault faults a b = inl (a.0 ∙ sym b.0, a.1 ∙ sym b.1, a.2 ∙ sym b.2)
+
 asks-one : (s t u : Live) (line : List ℕ) (c : LiveCommand) (text other : List ℕ) (fault faults : Option LineFault) → AsksLive s line c text fault t → AsksLive s line c other faults u → One text other fault faults t u
 asks-one s t u line (live.Session c) text other fault faults a b = obeys-one s t u line (task_of c) text other fault faults a b
 asks-one s t u line (live.Changes n) text other fault faults a b =
@@ -158,6 +168,8 @@ asks-one s t u line (live.Changes n) text other fault faults a b =
 asks-one s t u line live.Plan text other fault faults (inl a) (inl b) = inl (a.0 ∙ sym b.0, a.1 ∙ sym b.1, a.2 ∙ sym b.2)
 asks-one s t u line live.Plan text other fault faults (inl a) (inr b) = inr (inr b.1)
 asks-one s t u line live.Plan text other fault faults (inr a) b = inr (inl a.1)
+asks-one s t u line (live.GoTo aim) text other fault faults a b = goes-one s t u line (tick_of (present s).start_moment (present s).now aim) text other fault faults a b
+asks-one s t u line (live.TickAt aim) text other fault faults a b = tick-one s t u line (tick_of (present s).start_moment (present s).now aim) text other fault faults a b
 asks-one s t u line live.Status text other fault faults a b = inl (a.0 ∙ sym b.0, a.1 ∙ sym b.1, a.2 ∙ sym b.2)
 asks-one s t u line live.Edits text other fault faults a b = inl (a.0 ∙ sym b.0, a.1 ∙ sym b.1, a.2 ∙ sym b.2)
 asks-one s t u line (live.Events on) text other fault faults a b = inl (a.0 ∙ sym b.0, a.1 ∙ sym b.1, a.2 ∙ sym b.2)

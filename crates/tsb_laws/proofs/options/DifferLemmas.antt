@@ -74,21 +74,22 @@ values_differ test (e ∷ es) x y d = values_differ test es (with_value x e.0 e.
   value = λ o i h. ap (λ (n : ℕ). if is_same e.0 e.1 o i then e.2 else n) (d.value o i h);
 })
 
-limit_is : (o : Object) → is_limit o ≡ true → o ≡ CoordCorrectionLimit
+pub limit_is : (o : Object) → is_limit o ≡ true → o ≡ CoordCorrectionLimit
 limit_is CoordCorrectionLimit h = refl
 limit_is o h = cc
 
--- of objects among which is no limit, both see the same changes
-pub changes_same : (x : Plan) (v : Object → ℕ → ℕ) (test : Object → Bool) → test CoordCorrectionLimit ≡ false → (edits : List Edit) →
-    changes_some test (with_others is_limit x v) edits ≡ changes_some test x edits
-changes_same x v test out edits = ap (λ (f : Edit → Bool). list_any f edits) (fun_ext (λ e. at e))
+-- of objects among which is none that may differ, both see the same changes
+pub changes_same : (may_differ : Object → Bool) (x : Plan) (v : Object → ℕ → ℕ) (test : Object → Bool) →
+    ((o : Object) → may_differ o ≡ true → test o ≡ false) → (edits : List Edit) →
+    changes_some test (with_others may_differ x v) edits ≡ changes_some test x edits
+changes_same may_differ x v test out edits = ap (λ (f : Edit → Bool). list_any f edits) (fun_ext (λ e. at e))
   where
-    none : (o : Object) (b : Bool) → is_limit o ≡ true → (test o && b) ≡ false
-    none o b k = ap (λ (c : Bool). c && b) (ap test (limit_is o k) ∙ out)
+    none : (o : Object) (b : Bool) → may_differ o ≡ true → (test o && b) ≡ false
+    none o b k = ap (λ (c : Bool). c && b) (out o k)
 
-    at : (e : Edit) → (test e.id.object && changes (with_others is_limit x v) e) ≡ (test e.id.object && changes x e)
-    at e = go (is_limit e.id.object) refl
+    at : (e : Edit) → (test e.id.object && changes (with_others may_differ x v) e) ≡ (test e.id.object && changes x e)
+    at e = go (may_differ e.id.object) refl
       where
-        go : (b : Bool) → is_limit e.id.object ≡ b → (test e.id.object && changes (with_others is_limit x v) e) ≡ (test e.id.object && changes x e)
-        go true k = none e.id.object (changes (with_others is_limit x v) e) k ∙ sym (none e.id.object (changes x e) k)
+        go : (b : Bool) → may_differ e.id.object ≡ b → (test e.id.object && changes (with_others may_differ x v) e) ≡ (test e.id.object && changes x e)
+        go true k = none e.id.object (changes (with_others may_differ x v) e) k ∙ sym (none e.id.object (changes x e) k)
         go false k = ap (λ (b : Bool). test e.id.object && not ((if b then v e.id.object e.id.index else x.value e.id.object e.id.index) == e.value)) k

@@ -1,5 +1,5 @@
 -- A run in which the options are 0 is that of the controller without options. Proves `options_off_run_as_without`.
-use Rattle.std.proofs.Common.{◌≡◌, ℕ, ◌+◌, Bool, true, false, if◌then◌else◌, List, [], ◌∷◌, Option, is_some, option_map, refl, sym, ap, ap₂, subst, ◌∙◌}
+use Rattle.std.proofs.Common.{◌≡◌, ℕ, ◌+◌, Bool, true, false, if◌then◌else◌, List, [], ◌∷◌, Option, Some, is_some, option_map, refl, sym, ap, ap₂, subst, ◌∙◌}
 use Rattle.tsb_step.specs.tsb_types.declared.lamp.Lamp.{Lamp}
 use Rattle.tsb_step.specs.tsb_types.declared.row.Row.{Row}
 use Rattle.tsb_step.specs.tsb_plan.Plan.{Plan}
@@ -10,14 +10,16 @@ use Rattle.tsb_step.specs.tsb_heads.Monitoring as monitor
 use Rattle.tsb_step.specs.tsb_phase.Phase.{Phase, at_power_up}
 use Rattle.tsb_step.specs.tsb_phase.Moves.{unforced}
 use Rattle.tsb_step.specs.tsb_coord.declared.correction.Correction.{Correction}
+use Rattle.tsb_step.specs.tsb_coord.Clock.{midnight_at, start_of}
 use Rattle.tsb_step.specs.tsb_coord.Coordinated.{selects}
+use Rattle.tsb_step.specs.tsb_coord.Correction.{clocked}
 use Rattle.tsb_step.specs.tsb_transact.Calls as desk
 use Rattle.tsb_step.specs.tsb_transact.Desk.{with_edits}
 use Rattle.tsb_step.specs.declared.inputs.Input.{Input}
 use Rattle.tsb_step.specs.declared.inputs.Input.TheVariants as inputs
 use Rattle.tsb_step.specs.State.{State, restarted}
 use Rattle.tsb_step.specs.Signs.{shown, display, field, local, watched}
-use Rattle.tsb_step.specs.Step.{step, ticked, with_pattern, with_lamp, with_desk}
+use Rattle.tsb_step.specs.Step.{step, ticked, with_pattern, with_clock, with_lamp, with_desk}
 use Rattle.tsb_step.specs.Runs.{replay}
 use Rattle.tsb_step.specs.Tick as tick
 use Rattle.tsb_laws.specs.Options.{OptionsOff}
@@ -25,7 +27,7 @@ use Rattle.tsb_laws.specs.PlainStep as plain
 use Rattle.tsb_laws.specs.WithoutOptions.{HasEachAtZero, SetNoOption, ShowsTheSameWithoutOptions}
 use Rattle.tsb_laws.proofs.operation.pattern.OptionsOffLemmas.{options-off}
 use Rattle.tsb_laws.proofs.options.PlainPartLemmas.{IsStill, rules_agree, ordered_agrees}
-use Rattle.tsb_laws.proofs.options.PlainTickLemmas.{AreStill, next_same}
+use Rattle.tsb_laws.proofs.options.PlainTickLemmas.{AreStill, local_agrees, next_same}
 use Rattle.tsb_laws.proofs.options.SilentLemmas.{IsSilent, edits_silent, run_silent}
 
 -- ## What is shown, and the monitor
@@ -64,13 +66,20 @@ lamps_agree s lamp none = go (is_some s.trip)
     go false = watched_agree s (record s { lamp = lamp }) none none
 
 patterns_agree : (s : State) (n : ℕ) → OptionsOff s.plan → with_pattern n s ≡ plain.with_pattern n s
-patterns_agree s n off = ap (λ (c : Correction). record (plain.with_pattern n s) { correction = c }) (off.begun (selects n) s.now (local s))
+patterns_agree s n off =
+    ap (λ (c : Correction). record (plain.with_pattern n s) { correction = c }) (off.begun (selects n) s.now (midnight_at s.start_moment s.now) (local s))
+
+clocks_agree : (s : State) (m : ℕ) → OptionsOff s.plan → with_clock m s ≡ plain.with_clock m s
+clocks_agree s m off =
+    ap (λ (c : Correction). record (plain.with_clock m s) { correction = c })
+    (off.begun s.pattern s.now (midnight_at (Some (start_of m s.now)) s.now) (local s))
 
 step_agrees : (s : State) (i : Input) → HasEachAtZero s.plan → HasEachAtZero (with_edits s.plan s.desk.edits) → AreStill s →
     step s i ≡ plain.step s i
 unfolding step plain.step
 step_agrees s (inputs.Tick row) none edits still = ticks_agree s row none still
 step_agrees s (inputs.Pattern n) none edits still = patterns_agree s n (options-off s.plan none.options)
+step_agrees s (inputs.Clock m) none edits still = clocks_agree s m (options-off s.plan none.options)
 step_agrees s (inputs.Fault lamp) none edits still = lamps_agree s lamp none
 step_agrees s (inputs.Verify station) none edits still =
     ap (λ (r : Option Rule). with_desk (desk.after_check r s.desk) s) (rules_agree (with_edits s.plan s.desk.edits) edits)
@@ -129,6 +138,6 @@ shows_agree plan is none sets =
     record {
       heads = displays_agree s zero;
       lamps = fields_agree s zero;
-      counter = off.counting s.pattern s.correction s.now;
+      counter = off.counting s.pattern s.correction s.now ∙ local_agrees s.plan off (clocked s.plan s.pattern s.correction s.now) s.pattern;
       in_step = off.stepped s.pattern s.correction s.now;
     }

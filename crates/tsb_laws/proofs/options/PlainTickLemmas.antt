@@ -1,5 +1,5 @@
 -- Where the options are 0, a tick is that of the controller without options.
-use Rattle.std.proofs.Common.{◌≡◌, ℕ, ◌+◌, ◌-◌, Bool, true, false, not, ◌&&◌, ◌||◌, if◌then◌else◌, refl, ap, ap₂, ◌∙◌}
+use Rattle.std.proofs.Common.{◌≡◌, ℕ, ◌+◌, ◌-◌, Bool, true, false, not, ◌&&◌, ◌||◌, if◌then◌else◌, Option, Some, None, refl, ap, ap₂, ◌∙◌}
 use Rattle.std.proofs.Math.Path.{fun_ext}
 use Rattle.std.proofs.lemmas.Bool.{and_right}
 use Rattle.tsb_step.specs.tsb_types.declared.flow.Moves.{Moves}
@@ -10,7 +10,10 @@ use Rattle.tsb_step.specs.tsb_types.Intervals.{is_green, is_dont_walk}
 use Rattle.tsb_step.specs.tsb_types.Sets.{is_phase}
 use Rattle.tsb_step.specs.tsb_calls.Memories.{pedestrian_memory}
 use Rattle.tsb_step.specs.tsb_calls.Settled as settled
-use Rattle.tsb_step.specs.tsb_coord.Correction.{is_in_step}
+use Rattle.tsb_step.specs.tsb_plan.Plan.{Plan}
+use Rattle.tsb_step.specs.tsb_plan.Running.{running}
+use Rattle.tsb_step.specs.tsb_coord.Coordinated.{agree, force_off, local, local_in}
+use Rattle.tsb_step.specs.tsb_coord.Correction.{clocked, is_in_step}
 use Rattle.tsb_step.specs.tsb_phase.Phase as phase
 use Rattle.tsb_step.specs.tsb_phase.Next as phase_next
 use Rattle.tsb_step.specs.tsb_phase.Pedestrian as pedestrian
@@ -33,15 +36,28 @@ use Rattle.tsb_laws.proofs.options.PlainPartLemmas.{IsStill, ready_agrees, next_
 abbrev pub AreStill : State → Type 0
 AreStill s = (p : ℕ) → IsStill (s.phases p)
 
+-- ## The local counter
+
+pub local_agrees : (plan : Plan) → OptionsOff plan → (t : ℕ) (selected : Option ℕ) → local plan t selected ≡ parts.local plan t selected
+local_agrees plan off t selected = go (running plan selected)
+  where
+    go : (runs : Option ℕ) → local_in plan t runs ≡ parts.local_in plan t runs
+    go None = refl
+    go (Some n) = ap Some (off.offsets n t)
+
 -- ## What phase timing is given
 
 forced_agrees : (s : State) → OptionsOff s.plan → (p : ℕ) → clipped (tick.forced s) p ≡ clipped (plain.forced s) p
 forced_agrees s off p =
-    ap (λ (b : Bool). is_phase p && b) (off.forcing s.pattern s.correction (s.now + 1) p ∙ off.forced (s.now + 1) s.pattern p)
+    let t : ℕ = clocked s.plan s.pattern s.correction (s.now + 1) in
+    ap (λ (b : Bool). is_phase p && b)
+    (off.forcing s.pattern s.correction (s.now + 1) p
+    ∙ off.forced t s.pattern p
+    ∙ ap (λ (l : Option ℕ). agree l (force_off s.plan (running s.plan s.pattern) p)) (local_agrees s.plan off t s.pattern))
 
 recycle_agrees : (s : State) → OptionsOff s.plan → (p : ℕ) → clipped (tick.recycle s) p ≡ false
 recycle_agrees s off p =
-    ap (λ (b : Bool). is_phase p && (is_in_step s.plan s.pattern s.correction (s.now + 1 - 1) && b)) (off.recycled (s.now + 1) s.pattern p)
+    ap (λ (b : Bool). is_phase p && (is_in_step s.plan s.pattern s.correction (s.now + 1 - 1) && b)) (off.recycled (clocked s.plan s.pattern s.correction (s.now + 1)) s.pattern p)
     ∙ and_right (is_phase p) (is_in_step s.plan s.pattern s.correction (s.now + 1 - 1) && false)
     (and_right (is_in_step s.plan s.pattern s.correction (s.now + 1 - 1)) false refl)
 

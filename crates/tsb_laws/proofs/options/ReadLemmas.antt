@@ -18,7 +18,7 @@ use Rattle.tsb_step.specs.tsb_types.declared.interval.PedestrianInterval.{Pedest
 use Rattle.tsb_step.specs.tsb_plan.Running.{running}
 use Rattle.tsb_step.specs.tsb_calls.Memories as calls
 use Rattle.tsb_step.specs.tsb_calls.Settled as settled
-use Rattle.tsb_step.specs.tsb_coord.Coordinated.{agree, local}
+use Rattle.tsb_step.specs.tsb_coord.Coordinated.{agree}
 use Rattle.tsb_step.specs.tsb_detect.Detector.{Detector}
 use Rattle.tsb_step.specs.tsb_heads.Displays.{flashing, laid_over}
 use Rattle.tsb_step.specs.tsb_heads.Heads.{Heads, Shown}
@@ -125,7 +125,7 @@ watched-same a b v = rw (field-same a v, field-same b v, head.conflict-same b.pl
 module _ (s : State) (row : Row) (v : Object → ℕ → ℕ) where
   forced-same : (p : ℕ) → plain.forced (swapped s v) p ≡ plain.forced s p
   forced-same p =
-      ap (λ (f : Option ℕ → ℕ → Option ℕ). agree (local s.plan (s.now + 1) s.pattern) (f (running s.plan s.pattern) p)) (force_off-same s.plan v)
+      ap (λ (f : Option ℕ → ℕ → Option ℕ). agree (plain.local_at s (s.now + 1)) (f (running s.plan s.pattern) p)) (force_off-same s.plan v)
 
   phases_given-same : plain.phases_given (swapped s v) row ≡ plain.phases_given s row
   unfolding plain.phases_given

@@ -1,5 +1,5 @@
 -- Two plans that differ in the correction limit alone give the same run while the mode is 0.
-use Rattle.std.proofs.Common.{◌≡◌, ℕ, Bool, true, false, if◌then◌else◌, List, [], ◌∷◌, map, Option, is_some, refl, sym, ap, subst, ◌∙◌}
+use Rattle.std.proofs.Common.{◌≡◌, ℕ, Bool, true, false, if◌then◌else◌, List, [], ◌∷◌, map, Option, Some, is_some, refl, sym, ap, subst, ◌∙◌}
 use Rattle.tsb_step.specs.tsb_types.declared.lamp.Lamp.{Lamp}
 use Rattle.tsb_step.specs.tsb_plan.declared.object.Object.{Object}
 use Rattle.tsb_step.specs.tsb_plan.declared.object.Object.TheVariants.{CoordCorrectionLimit, CoordCorrectionMode}
@@ -9,7 +9,9 @@ use Rattle.tsb_step.specs.tsb_plan.Parts.{correction_mode}
 use Rattle.tsb_step.specs.tsb_plan.Plan.{Plan}
 use Rattle.tsb_step.specs.tsb_rules.Rules.{first_broken}
 use Rattle.tsb_step.specs.tsb_coord.declared.correction.Correction.{Correction}
+use Rattle.tsb_step.specs.tsb_coord.Clock.{midnight_at, start_of}
 use Rattle.tsb_step.specs.tsb_coord.Coordinated.{selects}
+use Rattle.tsb_step.specs.tsb_coord.Correction.{clocked}
 use Rattle.tsb_step.specs.tsb_ring.Rings as rings
 use Rattle.tsb_step.specs.tsb_transact.Calls as desk
 use Rattle.tsb_step.specs.tsb_transact.Commit.{changes_some, is_preempt_list}
@@ -18,14 +20,15 @@ use Rattle.tsb_step.specs.declared.inputs.Input.{Input}
 use Rattle.tsb_step.specs.declared.inputs.Input.TheVariants as inputs
 use Rattle.tsb_step.specs.State.{State, restarted}
 use Rattle.tsb_step.specs.Signs.{display, field, local, watched}
-use Rattle.tsb_step.specs.Step.{step, verdict, with_lamp, with_pattern, reset, committed, found}
+use Rattle.tsb_step.specs.Step.{step, verdict, with_lamp, with_pattern, with_clock, reset, committed, found}
 use Rattle.tsb_step.specs.Runs.{replay}
 use Rattle.tsb_step.proofs.tsb_coord.CorrectionLemmas.{in_step_at_once, local_in_step}
 use Rattle.tsb_laws.specs.Differing.{DifferIn, IsSameBut}
 use Rattle.tsb_laws.specs.CorrectionLimits.{is_limit, CorrectsAtOnce, ShowAndRefuseTheSame}
 use Rattle.tsb_laws.proofs.operation.pattern.OptionLemmas.{begins_at_once}
-use Rattle.tsb_laws.proofs.options.DifferLemmas.{with_limit, as_others, from_others, limit_alone, corrects_at_once, values_differ, changes_same}
+use Rattle.tsb_laws.proofs.options.DifferLemmas.{with_limit, as_others, from_others, limit_alone, corrects_at_once, values_differ, limit_is, changes_same}
 use Rattle.tsb_laws.proofs.options.LimitLemmas.{first_broken-same}
+use Rattle.tsb_laws.proofs.options.TickLemmas as ticks
 use Rattle.tsb_laws.proofs.options.TickLemmas.{swapped, display-same, field-same, watched-same, ticked-same}
 
 -- ## As equations
@@ -74,7 +77,7 @@ module _ (s : State) (v : Object → ℕ → ℕ) where
   sees-same : (test : Object → Bool) → test CoordCorrectionLimit ≡ false →
       changes_some test (with_limit s.plan v) s.desk.edits ≡ changes_some test s.plan s.desk.edits
   sees-same test out =
-      ap (λ (q : Plan). changes_some test q s.desk.edits) (sym (limit_alone s.plan v)) ∙ changes_same s.plan v test out s.desk.edits
+      ap (λ (q : Plan). changes_some test q s.desk.edits) (sym (limit_alone s.plan v)) ∙ changes_same is_limit s.plan v test (λ o k. ap test (limit_is o k) ∙ out) s.desk.edits
 
   commits-same : IsSameBut is_limit (committed s) (committed (swapped s v))
   commits-same = record {
@@ -93,8 +96,14 @@ step-same s v (inputs.Tick row) off =
 step-same s v (inputs.Pattern n) off =
     of_swap (with_pattern n s) (with_pattern n (swapped s v)) v
     (ap (λ (c : Correction). record (with_pattern n (swapped s v)) { correction = c })
-    (begins_at_once (with_limit s.plan v) (selects n) s.now (local (swapped s v)) (corrects_at_once (with_limit s.plan v) off)
-    ∙ sym (begins_at_once s.plan (selects n) s.now (local s) (corrects_at_once s.plan off))))
+    (begins_at_once (with_limit s.plan v) (selects n) s.now (midnight_at s.start_moment s.now) (local (swapped s v)) (corrects_at_once (with_limit s.plan v) off)
+    ∙ sym (begins_at_once s.plan (selects n) s.now (midnight_at s.start_moment s.now) (local s) (corrects_at_once s.plan off))))
+step-same s v (inputs.Clock m) off =
+    let midnight : ℕ = midnight_at (Some (start_of m s.now)) s.now in
+    of_swap (with_clock m s) (with_clock m (swapped s v)) v
+    (ap (λ (c : Correction). record (with_clock m (swapped s v)) { correction = c })
+    (begins_at_once (with_limit s.plan v) s.pattern s.now midnight (local (swapped s v)) (corrects_at_once (with_limit s.plan v) off)
+    ∙ sym (begins_at_once s.plan s.pattern s.now midnight (local s) (corrects_at_once s.plan off))))
 step-same s v (inputs.Fault lamp) off = of_swap (with_lamp lamp s) (with_lamp lamp (swapped s v)) v (lamp-same s v lamp)
 step-same s v inputs.Reset off = of_swap (reset s) (reset (swapped s v)) v (reset-same s v)
 step-same s v (inputs.Verify station) off =
@@ -116,6 +125,7 @@ runs_same x y (i ∷ is) d off =
 local-same : (s : State) (v : Object → ℕ → ℕ) → correction_mode s.plan ≡ AtOnce → correction_mode (with_limit s.plan v) ≡ AtOnce → local (swapped s v) ≡ local s
 local-same s v mode other =
     local_in_step (with_limit s.plan v) s.pattern s.correction s.now (in_step_at_once (with_limit s.plan v) s.pattern s.correction s.now other)
+    ∙ ticks.local-same s.plan v (clocked s.plan s.pattern s.correction s.now) s.pattern
     ∙ sym (local_in_step s.plan s.pattern s.correction s.now (in_step_at_once s.plan s.pattern s.correction s.now mode))
 
 refuses-same : (s : State) (v : Object → ℕ → ℕ) (i : Input) → verdict (swapped s v) i ≡ verdict s i

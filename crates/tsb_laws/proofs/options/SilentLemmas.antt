@@ -3,7 +3,7 @@ use Rattle.std.proofs.Common.{◌≡◌, ℕ, ◌==◌, nat_le, Bool, true, fals
 use Rattle.std.proofs.lemmas.Bool.{and_parts}
 use Rattle.tsb_step.specs.tsb_types.declared.lamp.Lamp.{Lamp}
 use Rattle.tsb_step.specs.tsb_plan.declared.object.Object.{Object}
-use Rattle.tsb_step.specs.tsb_plan.declared.object.Object.TheVariants.{PhaseDynamicMaxLimit, OverlapType, OverlapModifierPhases, CoordForceMode, CoordMaximumMode, PatternPermissiveTime, PatternLeadLag, PhasePedestrianRecycle, CoordCorrectionMode, OverlapAcrossRings, PreemptChoosesAnew}
+use Rattle.tsb_step.specs.tsb_plan.declared.object.Object.TheVariants.{PhaseDynamicMaxLimit, OverlapType, OverlapModifierPhases, CoordForceMode, CoordMaximumMode, PatternPermissiveTime, PatternLeadLag, PhasePedestrianRecycle, CoordCorrectionMode, OverlapAcrossRings, PreemptChoosesAnew, CoordReference}
 use Rattle.tsb_step.specs.tsb_plan.Objects.{order}
 use Rattle.tsb_step.specs.tsb_plan.Plan.{Plan, is_same, with_value}
 use Rattle.tsb_step.specs.tsb_transact.declared.edit.Edit.{Edit}
@@ -22,7 +22,7 @@ use Rattle.tsb_laws.proofs.options.EachEditLemmas.{AreEach, each_with}
 -- ## Objects by their places
 
 is_place_of_option : ℕ → Bool
-is_place_of_option n = nat_le 57 n && (nat_le n 69 && (not (n == 58) && not (n == 67)))
+is_place_of_option n = nat_le 57 n && (nat_le n 70 && (not (n == 58) && not (n == 67)))
 
 by_place : (o : Object) → is_option o ≡ is_place_of_option (order o)
 unfolding is_place_of_option
@@ -54,6 +54,7 @@ value_silent plan o i v none sets = record {
     coord_correction_mode = value_stays plan o i v sets CoordCorrectionMode 1 refl none.options.coord_correction_mode;
     overlap_across_rings = λ n. value_stays plan o i v sets OverlapAcrossRings n refl (none.options.overlap_across_rings n);
     preempt_chooses_anew = λ n. value_stays plan o i v sets PreemptChoosesAnew n refl (none.options.preempt_chooses_anew n);
+    coord_reference = value_stays plan o i v sets CoordReference 1 refl none.options.coord_reference;
   };
   phase_dynamic_max_limit = λ p. value_stays plan o i v sets PhaseDynamicMaxLimit p refl (none.phase_dynamic_max_limit p);
   overlap_type = λ n. value_stays plan o i v sets OverlapType n refl (none.overlap_type n);
@@ -125,6 +126,7 @@ step_silent s (inputs.Commit station) silent sets = record {
   edits = tt;
 }
 step_silent s (inputs.Abort station) silent sets = record { plan = silent.plan; edits = tt }
+step_silent s (inputs.Clock m) silent sets = record { plan = silent.plan; edits = silent.edits }
 
 pub run_silent : (plan : Plan) (is : List Input) → HasEachAtZero plan → SetNoOption is → IsSilent (replay plan is)
 run_silent plan [] none sets = record { plan = none; edits = tt }

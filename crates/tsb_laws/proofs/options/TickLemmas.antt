@@ -1,17 +1,22 @@
 -- What a tick finds and makes does not see the correction limit while the mode is 0.
-use Rattle.std.proofs.Common.{◌≡◌, ℕ, ◌+◌, ◌-◌, Bool, true, false, not, ◌&&◌, if◌then◌else◌, Option, option_map, is_some, refl, sym, ap, ap₂, ◌∙◌}
+use Rattle.std.proofs.Common.{◌≡◌, ℕ, ◌+◌, ◌-◌, Bool, true, false, not, ◌&&◌, ◌%◌, if◌then◌else◌, Option, Some, None, option_map, is_some, refl, sym, ap, ap₂, ◌∙◌}
 use Rattle.std.proofs.Math.Path.{fun_ext}
 use Rattle.tsb_step.specs.tsb_types.Clip.{clipped, within}
 use Rattle.tsb_step.specs.tsb_types.declared.flow.Moves.{Moves}
 use Rattle.tsb_step.specs.tsb_types.declared.row.Row.{Row}
 use Rattle.tsb_step.specs.tsb_plan.declared.object.Object.{Object}
 use Rattle.tsb_step.specs.tsb_plan.declared.plan.patterns.CorrectionMode.TheVariants.{AtOnce}
-use Rattle.tsb_step.specs.tsb_plan.Parts.{correction_mode, is_anew}
+use Rattle.tsb_step.specs.tsb_plan.declared.plan.patterns.OffsetReference.{OffsetReference}
+use Rattle.tsb_step.specs.tsb_plan.declared.plan.patterns.OffsetReference.TheVariants.{SplitEnd, FirstGreen, LastGreen, FirstYellow, LastYellow, FirstRed}
+use Rattle.tsb_step.specs.tsb_plan.Parts.{cycle, correction_mode, is_anew, offset_reference}
+use Rattle.tsb_step.specs.tsb_plan.Running.{running}
+use Rattle.tsb_step.specs.tsb_objects.Instants.{counted_to, end_within, offset_from}
 use Rattle.tsb_step.specs.tsb_plan.Plan.{Plan}
 use Rattle.tsb_step.specs.tsb_rules.PatternRules.{split_sum, side_sum, split_end}
 use Rattle.tsb_step.specs.tsb_calls.Memories as calls
 use Rattle.tsb_step.specs.tsb_calls.Settled as settled
-use Rattle.tsb_step.specs.tsb_coord.Coordinated.{asks_force_off, asks_recycle, force_off}
+use Rattle.tsb_step.specs.tsb_coord.Coordinated.{local, local_in, reference, forces_off, recycles, asks_force_off, asks_recycle, force_off, offset_in_effect}
+use Rattle.tsb_step.specs.tsb_coord.Correction.{clocked}
 use Rattle.tsb_step.specs.tsb_detect.Detector.{Detector}
 use Rattle.tsb_step.specs.tsb_heads.Displays.{flashing, laid_over}
 use Rattle.tsb_step.specs.tsb_heads.Heads.{Heads, Shown}
@@ -45,13 +50,44 @@ use Rattle.tsb_laws.proofs.options.RingLemmas as ring
 -- ## Of a plan
 
 module _ (plan : Plan) (v : Object → ℕ → ℕ) where
-  asks-same : (t : ℕ) (selected : Option ℕ) (p : ℕ) → asks_force_off (with_limit plan v) t selected p ≡ asks_force_off plan t selected p
+  -- the offset in effect is the same, whatever it is counted to
+  offset-same : (n : ℕ) → offset_in_effect (with_limit plan v) n ≡ offset_in_effect plan n
+  unfolding split_end side_sum split_sum
+  offset-same n = go (offset_reference plan)
+    where
+      go : (r : OffsetReference) → offset_from plan n (counted_to r (with_limit plan v) n) (end_within (with_limit plan v) n (reference (with_limit plan v) n))
+          ≡ offset_from plan n (counted_to r plan n) (end_within plan n (reference plan n))
+      go SplitEnd = refl
+      go FirstGreen = refl
+      go LastGreen = refl
+      go FirstYellow = refl
+      go LastYellow = refl
+      go FirstRed = refl
+
+  pub local-same : (t : ℕ) (selected : Option ℕ) → local (with_limit plan v) t selected ≡ local plan t selected
+  local-same t selected = go (running plan selected)
+    where
+      go : (runs : Option ℕ) → local_in (with_limit plan v) t runs ≡ local_in plan t runs
+      go None = refl
+      go (Some n) = ap (λ (o : ℕ). Some ((t + cycle plan n - o) % cycle plan n)) (offset-same n)
+
+  forces-same : (runs l : Option ℕ) (p : ℕ) → forces_off (with_limit plan v) runs l p ≡ forces_off plan runs l p
   unfolding force_off split_end side_sum split_sum
-  asks-same t selected p = refl
+  forces-same runs l p = refl
+
+  recycles-same : (runs l : Option ℕ) (p : ℕ) → recycles (with_limit plan v) runs l p ≡ recycles plan runs l p
+  unfolding force_off split_end side_sum split_sum
+  recycles-same runs l p = refl
+
+  asks-same : (t : ℕ) (selected : Option ℕ) (p : ℕ) → asks_force_off (with_limit plan v) t selected p ≡ asks_force_off plan t selected p
+  asks-same t selected p =
+      forces-same (running plan selected) (local (with_limit plan v) t selected) p
+      ∙ ap (λ (l : Option ℕ). forces_off plan (running plan selected) l p) (local-same t selected)
 
   asks_recycle-same : (t : ℕ) (selected : Option ℕ) (p : ℕ) → asks_recycle (with_limit plan v) t selected p ≡ asks_recycle plan t selected p
-  unfolding force_off split_end side_sum split_sum
-  asks_recycle-same t selected p = refl
+  asks_recycle-same t selected p =
+      recycles-same (running plan selected) (local (with_limit plan v) t selected) p
+      ∙ ap (λ (l : Option ℕ). recycles plan (running plan selected) l p) (local-same t selected)
 
   ending-same : (given : phase.Given) (p : ℕ) (w : phase.Phase) → phase_next.ending_now (with_limit plan v) given p w ≡ phase_next.ending_now plan given p w
   ending-same given p w = ap (λ (b : Bool). ending (is_by_gap plan given p b)) (is_gapped-same plan v given p (phase.held_of w))
@@ -122,7 +158,7 @@ module _ (s : State) (row : Row) (v : Object → ℕ → ℕ) (mode : correction
   forced-same : (p : ℕ) → forced (swapped s v) p ≡ forced s p
   forced-same p =
       forces_in_step (with_limit s.plan v) s.pattern s.correction (s.now + 1) p (in_step_at_once (with_limit s.plan v) s.pattern s.correction (s.now + 1 - 1) other)
-      ∙ asks-same s.plan v (s.now + 1) s.pattern p
+      ∙ asks-same s.plan v (clocked s.plan s.pattern s.correction (s.now + 1)) s.pattern p
       ∙ sym (forces_in_step s.plan s.pattern s.correction (s.now + 1) p (in_step_at_once s.plan s.pattern s.correction (s.now + 1 - 1) mode))
 
   recycle-same : (p : ℕ) → recycle (swapped s v) p ≡ recycle s p
@@ -130,7 +166,7 @@ module _ (s : State) (row : Row) (v : Object → ℕ → ℕ) (mode : correction
       ap₂ (λ (a b : Bool). a && b)
       (in_step_at_once (with_limit s.plan v) s.pattern s.correction (s.now + 1 - 1) other
       ∙ sym (in_step_at_once s.plan s.pattern s.correction (s.now + 1 - 1) mode))
-      (asks_recycle-same s.plan v (s.now + 1) s.pattern p)
+      (asks_recycle-same s.plan v (clocked s.plan s.pattern s.correction (s.now + 1)) s.pattern p)
 
   phases_given-same : phases_given (swapped s v) row ≡ phases_given s row
   unfolding phases_given

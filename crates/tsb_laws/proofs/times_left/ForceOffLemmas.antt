@@ -23,7 +23,7 @@ use Rattle.tsb_step.specs.Laws.{IsConsistent}
 use Rattle.tsb_step.specs.Good.{IsGood, IsPatternNumber}
 use Rattle.tsb_step.proofs.GoodLemmas.{good_run}
 use Rattle.tsb_step.proofs.tsb_coord.LocalLemmas.{counter_moves_on}
-use Rattle.tsb_step.proofs.tsb_objects.InstantLemmas.{instant-below}
+use Rattle.tsb_step.proofs.tsb_objects.InstantLemmas.{instant-below, offset-below}
 use Rattle.tsb_step.proofs.tsb_rules.ConsistentLemmas.{whole}
 use Rattle.tsb_laws.specs.TimesLeft.{IsShown, is_at_instant, StaysInStep, ComesThen}
 use Rattle.tsb_laws.proofs.safety.StretchLemmas.{taken_before}
@@ -220,7 +220,7 @@ force_offs_come plan base later r p n j ok taken shown stays clock = record {
     same_counter =
         ap (λ (k : ℕ). counter s.plan it.number k) turned
         ∙ ap₂ (λ (m o : ℕ). (from + j + m - o) % m) (stays.same_cycle it.number it.pattern) (stays.same_offset it.number it.pattern)
-        ∙ counter_moves_on (replay plan base).plan it.number from j parts.below
+        ∙ counter_moves_on (replay plan base).plan it.number from j (offset-below (replay plan base).plan it.number parts.below)
 
     at : is_at_instant p (replay plan (later ++ base)) ≡ ((x + j) % c == it.instant)
     at =

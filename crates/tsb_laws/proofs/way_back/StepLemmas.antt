@@ -67,10 +67,10 @@ pub record IsIn (c : ℕ) (s : State) : Type 0 where
   pub preempts : preempts.IsStateBy c s.preempts
 
 -- how the local counter comes into step, and the clock, in the ranges of their cells
-pub record IsCounting (c : Correction) (start : Option ℕ) : Type 0 where
+pub record IsCounting (c : Correction) (moment : Option ℕ) : Type 0 where
   pub ahead : c.ahead ≤ 2550
   pub midnight : c.midnight < FIRST_MOMENT + DAY
-  pub start : IsStart start
+  pub start : IsStart moment
 
 -- the whole state, with what its clock is
 pub record IsTold (s : State) : Type 0 where

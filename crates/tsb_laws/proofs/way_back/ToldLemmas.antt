@@ -61,7 +61,7 @@ rows-of s = record {
     calls = memories_cells s.memories;
     phases = phases_cells (clock s) s.phases;
     rings = rings_cells s.rings;
-    pattern = pattern_cells s.pattern s.correction;
+    pattern = pattern_cells s.pattern s.correction s.start_moment;
     preempts = preempts_cells (clock s) s.preempts;
   };
   monitor = monitor_cells s.lamp s.trip;
@@ -71,7 +71,7 @@ pub cells-whole : (s : State) → cells_of s ≡ whole (rows-of s)
 unfolding cells_of
 cells-whole s =
     regrouped (plan_cells s.plan) (desk_cells s.desk) (detectors_cells (clock s) s.detectors) (memories_cells s.memories) (phases_cells (clock s) s.phases)
-    (rings_cells s.rings) (pattern_cells s.pattern s.correction) (preempts_cells (clock s) s.preempts) (monitor_cells s.lamp s.trip)
+    (rings_cells s.rings) (pattern_cells s.pattern s.correction s.start_moment) (preempts_cells (clock s) s.preempts) (monitor_cells s.lamp s.trip)
 
 -- ## Rows that the program can hold
 

@@ -39,9 +39,9 @@ use Rattle.tsb_live_text.specs.saved.Saved.{commands_from, input_line, input_tex
 use Rattle.tsb_live_text.specs.saved.Says.{are_plain, is_plain}
 use Rattle.tsb_live_text.proofs.saved.PlainLemmas.{Plain, date-plain, name-plain, number-plain, plain-is, plain-join, time-plain}
 use Rattle.tsb_types.specs.declared.clock_time.TheConstants.{DAY, FIRST_MOMENT, END_OF_DAYS}
-use Rattle.tsb_clock_text.specs.ClockText.{date_of, date_text, time_text}
+use Rattle.tsb_command_text.specs.clock.ClockText.{date_of, date_text, time_text}
 use Rattle.tsb_types.specs.declared.calendar.ClockDate.{ClockDate}
-use Rattle.tsb_clock_text.proofs.ReadLemmas.{clock-read}
+use Rattle.tsb_command_text.proofs.clock.ReadLemmas.{clock-read}
 use Rattle.tsb_lines.specs.Digits.{digit}
 
 -- ## Words
@@ -238,17 +238,11 @@ not-space t unit e = omega (arith, e)
 
 date-word : (d : ClockDate) → IsWord (date_text d)
 date-word d =
-    word-onto (digit d.year 1000) _ (not-space d.year 1000) (word-onto (digit d.year 100) _ (not-space d.year 100)
-    (word-onto (digit d.year 10) _ (not-space d.year 10) (word-onto (digit d.year 1) _ (not-space d.year 1)
-    (word-onto 45 _ (λ e. omega (arith, e)) (word-onto (digit d.month 10) _ (not-space d.month 10) (word-onto (digit d.month 1) _ (not-space d.month 1)
-    (word-onto 45 _ (λ e. omega (arith, e)) (word-onto (digit d.day 10) (digit d.day 1 ∷ []) (not-space d.day 10) (not-space d.day 1)))))))))
+    (not-space d.year 1000, (not-space d.year 100, (not-space d.year 10, (not-space d.year 1, ((λ e. omega (arith, e)), (not-space d.month 10, (not-space d.month 1, ((λ e. omega (arith, e)), (not-space d.day 10, not-space d.day 1)))))))))
 
 time-word : (t : ℕ) → IsWord (time_text t)
 time-word t =
-    word-onto (digit (t / 36000) 10) _ (not-space (t / 36000) 10) (word-onto (digit (t / 36000) 1) _ (not-space (t / 36000) 1)
-    (word-onto 58 _ (λ e. omega (arith, e)) (word-onto (digit (t / 600 % 60) 10) _ (not-space (t / 600 % 60) 10) (word-onto (digit (t / 600 % 60) 1) _ (not-space (t / 600 % 60) 1)
-    (word-onto 58 _ (λ e. omega (arith, e)) (word-onto (digit (t / 10 % 60) 10) _ (not-space (t / 10 % 60) 10) (word-onto (digit (t / 10 % 60) 1) _ (not-space (t / 10 % 60) 1)
-    (word-onto 46 (digit (t % 10) 1 ∷ []) (λ e. omega (arith, e)) (not-space (t % 10) 1)))))))))
+    (not-space (t / 36000) 10, (not-space (t / 36000) 1, ((λ e. omega (arith, e)), (not-space (t / 600 % 60) 10, (not-space (t / 600 % 60) 1, ((λ e. omega (arith, e)), (not-space (t / 10 % 60) 10, (not-space (t / 10 % 60) 1, ((λ e. omega (arith, e)), not-space (t % 10) 1)))))))))
 
 clock-line : (time : ℕ) → FIRST_MOMENT ≤ time → time < END_OF_DAYS → reading (input_line (Clock time)) ≡ Do (commands.Clock time)
 unfolding command_of_three

@@ -25,8 +25,8 @@ use Rattle.tsb_text.specs.declared.kept.Other.{Other}
 use Rattle.tsb_text.specs.kept.Kept.{kept_of}
 use Rattle.tsb_text.proofs.BackLemmas.{no-less}
 use Rattle.tsb_types.specs.declared.clock_time.TheConstants.{FIRST_MOMENT, END_OF_DAYS}
-use Rattle.tsb_clock_text.specs.ClockText.{clock_of}
-use Rattle.tsb_clock_text.proofs.ReadLemmas.{clock-ranged}
+use Rattle.tsb_command_text.specs.clock.ClockText.{clock_of}
+use Rattle.tsb_command_text.proofs.clock.ReadLemmas.{clock-ranged}
 use Rattle.tsb_live_text.specs.saved.Laws.{AreSpelled, IsFault, IsLamp, IsSpelled, IsUpTo, KeptAreSpelled, ReadsAreSpelled, RowsReadAreFit, command_of}
 
 -- what holds of it, if there is any

@@ -6,7 +6,7 @@ use Rattle.json.specs.Json.{Json, string, object, no_members, member}
 use Rattle.json.specs.Print.{print}
 use Rattle.json.specs.Tree.{json_tokens}
 use Rattle.tsb_types.specs.declared.clock_time.TheConstants.{DAY}
-use Rattle.tsb_clock_text.specs.ClockText.{date_of, date_text, time_text}
+use Rattle.tsb_command_text.specs.clock.ClockText.{date_of, date_text, time_text}
 use Rattle.tsb_dialog.specs.Said.{with_feed}
 use Rattle.tsb_log_text.specs.LogText.{log_text}
 use Rattle.tsb_text.specs.tsb_step.tsb_plan.Names.{name_of}

@@ -6,7 +6,7 @@ ghost use Rattle.tsb_text.specs.tsb_step.declared.inputs.Input.TheVariants as in
 
 use arrayvec::ArrayVec;
 use itoa::Buffer;
-use tsb_clock_text::{date_text, time_text};
+use tsb_command_text::clock::{date_text, time_text};
 use tsb_objects::ObjectId;
 use tsb_step::Input;
 use tsb_types::{ClockTime, Lamp, PedestrianColor, SignalColor, Station};

@@ -125,15 +125,15 @@ last-comes w given n is line answer flow new t =
 -- ## All lines
 
 -- where a record begins
-abbrev pub begun : OnFault → LogForm → Setup → Course
-begun w form given = record { given = given; on_fault = w; form = form; end = record { inputs = []; stop = None } }
+abbrev pub begun : OnFault → LogForm → Setup → List Input → Course
+begun w form given first = record { given = given; on_fault = w; form = form; end = record { inputs = first; stop = None } }
 
 -- what whole lines come to is what was told of them, and then what the bytes after come to
-record Continues (w : OnFault) (form : LogForm) (given : Setup) (lines : List (List ℕ)) (text : List ℕ) (now : Course) : Type 0 where
+record Continues (w : OnFault) (form : LogForm) (given : Setup) (first : List Input) (lines : List (List ℕ)) (text : List ℕ) (now : Course) : Type 0 where
   same : now.given ≡ given
   way : now.on_fault ≡ w
   shape : now.form ≡ form
-  on : (end : End) (tail more : List ℕ) → Come w given end (suc (length lines)) now.end.inputs (lines_of tail) more → Come w given end 1 [] (lines_of (fed lines ++ tail)) (text ++ more)
+  on : (end : End) (tail more : List ℕ) → Come w given end (suc (length lines)) now.end.inputs (lines_of tail) more → Come w given end 1 first (lines_of (fed lines ++ tail)) (text ++ more)
 
 -- what is told of a line under what was given at the start
 told-given : (w : OnFault) (given : Setup) (n : ℕ) (line answer : List ℕ) (flow : Flow) (then new : Course) → then.given ≡ given → then.on_fault ≡ w → says then n line answer flow new
@@ -143,9 +143,9 @@ told-given w given n line answer flow then new same way told =
     (subst (λ (g : Setup). TellsLine then.on_fault g then.end.inputs n line answer flow new.end) same told.0)
 
 -- a line more
-continues-line : (w : OnFault) (form : LogForm) (given : Setup) (line : List ℕ) (lines : List (List ℕ)) (before answer : List ℕ) (then now : Course) → HasNoFeed line → Continues w form given lines before then
-    → says then (suc (length lines)) (asked 202 line) answer On now → Continues w form given (line ∷ lines) (before ++ answer) now
-continues-line w form given line lines before answer then now f k told = record {
+continues-line : (w : OnFault) (form : LogForm) (given : Setup) (first : List Input) (line : List ℕ) (lines : List (List ℕ)) (before answer : List ℕ) (then now : Course) → HasNoFeed line → Continues w form given first lines before then
+    → says then (suc (length lines)) (asked 202 line) answer On now → Continues w form given first (line ∷ lines) (before ++ answer) now
+continues-line w form given first line lines before answer then now f k told = record {
   same = told.1 ∙ k.same;
   way = told.2 ∙ k.way;
   shape = told.3 ∙ k.shape;
@@ -158,65 +158,65 @@ continues-line w form given line lines before answer then now f k told = record 
       (on-comes w given (suc (length lines)) then.end.inputs (without_return line) answer now.end end (lines_of tail) more tells come) in
       let bytes : fed lines ++ (line ++ 10 ∷ tail) ≡ (fed lines ++ (line ++ 10 ∷ [])) ++ tail =
       ap (λ (v : List ℕ). fed lines ++ v) (sym (append_assoc line (10 ∷ []) tail)) ∙ sym (append_assoc (fed lines) (line ++ 10 ∷ []) tail) in
-      subst (λ (v : List ℕ). Come w given end 1 [] (lines_of v) ((before ++ answer) ++ more)) bytes
-      (subst (λ (v : List ℕ). Come w given end 1 [] (lines_of (fed lines ++ (line ++ 10 ∷ tail))) v) (sym (append_assoc before answer more))
+      subst (λ (v : List ℕ). Come w given end 1 first (lines_of v) ((before ++ answer) ++ more)) bytes
+      (subst (λ (v : List ℕ). Come w given end 1 first (lines_of (fed lines ++ (line ++ 10 ∷ tail))) v) (sym (append_assoc before answer more))
       (k.on end (line ++ 10 ∷ tail) (answer ++ more) here));
 }
 
-continues : (w : OnFault) (form : LogForm) (given : Setup) (lines : List (List ℕ)) (text : List ℕ) (now : Course) → HaveNoFeed lines → Runs 202 says (begun w form given) lines text now → Continues w form given lines text now
-continues w form given [] text now f r = record {
+continues : (w : OnFault) (form : LogForm) (given : Setup) (first : List Input) (lines : List (List ℕ)) (text : List ℕ) (now : Course) → HaveNoFeed lines → Runs 202 says (begun w form given first) lines text now → Continues w form given first lines text now
+continues w form given first [] text now f r = record {
   same = ap (λ (c : Course). c.given) r.1;
   way = ap (λ (c : Course). c.on_fault) r.1;
   shape = ap (λ (c : Course). c.form) r.1;
   on = λ end tail more come.
-      subst (λ (v : List ℕ). Come w given end 1 [] (lines_of tail) (v ++ more)) (sym r.0)
+      subst (λ (v : List ℕ). Come w given end 1 first (lines_of tail) (v ++ more)) (sym r.0)
       (subst (λ (is : List Input). Come w given end 1 is (lines_of tail) more) (ap (λ (c : Course). c.end.inputs) r.1) come);
 }
-continues w form given (line ∷ lines) text now f r =
+continues w form given first (line ∷ lines) text now f r =
     let then : Course = r.2 in
-    subst (λ (v : List ℕ). Continues w form given (line ∷ lines) v now) (sym r.5) (continues-line w form given line lines r.0 r.1 then now f.0 (continues w form given lines r.0 then f.1 r.3) r.4)
+    subst (λ (v : List ℕ). Continues w form given first (line ∷ lines) v now) (sym r.5) (continues-line w form given first line lines r.0 r.1 then now f.0 (continues w form given first lines r.0 then f.1 r.3) r.4)
 
 -- ## Bytes
 
-heard-on : (w : OnFault) (form : LogForm) (given : Setup) (bytes text : List ℕ) (n : ℕ) (now : Course) (held : List ℕ) → (h : Heard 202 says (begun w form given) bytes text n now held) → Continues w form given h.lines text now
-heard-on w form given bytes text n now held h = continues w form given h.lines text now h.ended h.runs
+heard-on : (w : OnFault) (form : LogForm) (given : Setup) (first : List Input) (bytes text : List ℕ) (n : ℕ) (now : Course) (held : List ℕ) → (h : Heard 202 says (begun w form given first) bytes text n now held) → Continues w form given first h.lines text now
+heard-on w form given first bytes text n now held h = continues w form given first h.lines text now h.ended h.runs
 
-heard-carries : (w : OnFault) (form : LogForm) (given : Setup) (bytes text : List ℕ) (n : ℕ) (now : Course) (held : List ℕ) → (h : Heard 202 says (begun w form given) bytes text n now held)
-    → Carries w given 1 [] bytes n now.end.inputs h.rest text
-heard-carries w form given bytes text n now held h =
-    let k : Continues w form given h.lines text now = heard-on w form given bytes text n now held h in
+heard-carries : (w : OnFault) (form : LogForm) (given : Setup) (first : List Input) (bytes text : List ℕ) (n : ℕ) (now : Course) (held : List ℕ) → (h : Heard 202 says (begun w form given first) bytes text n now held)
+    → Carries w given 1 first bytes n now.end.inputs h.rest text
+heard-carries w form given first bytes text n now held h =
+    let k : Continues w form given first h.lines text now = heard-on w form given first bytes text n now held h in
     record {
       on = λ end more said come.
           let bytes_are : fed h.lines ++ (h.rest ++ more) ≡ bytes ++ more = sym (append_assoc (fed h.lines) h.rest more) ∙ ap (λ (v : List ℕ). v ++ more) (sym h.whole) in
-          subst (λ (v : List ℕ). Come w given end 1 [] (lines_of v) (text ++ said)) bytes_are
+          subst (λ (v : List ℕ). Come w given end 1 first (lines_of v) (text ++ said)) bytes_are
           (k.on end (h.rest ++ more) said (subst (λ (m : ℕ). Come w given end m now.end.inputs (lines_of (h.rest ++ more)) said) h.count come));
     }
 
-pub heard-tells : (w : OnFault) (form : LogForm) (given : Setup) (bytes text : List ℕ) (n : ℕ) (now : Course) (held : List ℕ) → Heard 202 says (begun w form given) bytes text n now held → TellsWhole w given bytes text
-heard-tells w form given bytes text n now held h =
-    record { next = n; now = now.end.inputs; held = h.rest; unfinished = h.unfinished; carries = heard-carries w form given bytes text n now held h }
+pub heard-tells : (w : OnFault) (form : LogForm) (given : Setup) (first : List Input) (bytes text : List ℕ) (n : ℕ) (now : Course) (held : List ℕ) → Heard 202 says (begun w form given first) bytes text n now held → TellsWhole w given first bytes text
+heard-tells w form given first bytes text n now held h =
+    record { next = n; now = now.end.inputs; held = h.rest; unfinished = h.unfinished; carries = heard-carries w form given first bytes text n now held h }
 
 -- at the end of what is read
-pub answered-come : (w : OnFault) (form : LogForm) (given : Setup) (bytes text : List ℕ) (last : Course) → IsAnswered 202 says (begun w form given) bytes text last → (last.given ≡ given) × (last.form ≡ form) × Come w given last.end 1 [] (lines_of bytes) text
-answered-come w form given bytes text last a =
-    let h : Heard 202 says (begun w form given) bytes a.before a.number a.now a.held = a.heard in
-    let k : Continues w form given h.lines a.before a.now = heard-on w form given bytes a.before a.number a.now a.held h in
+pub answered-come : (w : OnFault) (form : LogForm) (given : Setup) (first : List Input) (bytes text : List ℕ) (last : Course) → IsAnswered 202 says (begun w form given first) bytes text last → (last.given ≡ given) × (last.form ≡ form) × Come w given last.end 1 first (lines_of bytes) text
+answered-come w form given first bytes text last a =
+    let h : Heard 202 says (begun w form given first) bytes a.before a.number a.now a.held = a.heard in
+    let k : Continues w form given first h.lines a.before a.now = heard-on w form given first bytes a.before a.number a.now a.held h in
     let tells : TellsLine w given a.now.end.inputs a.number h.rest a.answer a.flow last.end =
     tells-same w given a.now.end.inputs a.number a.held h.rest a.answer a.flow last.end (ap reading h.kept ∙ last-read h.rest) (ap (take 200) h.kept ∙ last-front h.rest)
     (told-given w given a.number a.held a.answer a.flow a.now last k.same k.way a.told) in
     let here : Come w given last.end a.number a.now.end.inputs (lines_of (h.rest ++ [])) a.answer =
     subst (λ (ls : List (List ℕ)). Come w given last.end a.number a.now.end.inputs ls a.answer) (sym (ap lines_of (append-nil h.rest) ∙ lines-alone h.rest h.unfinished))
     (last-comes w given a.number a.now.end.inputs h.rest a.answer a.flow last.end tells) in
-    let all : Come w given last.end 1 [] (lines_of (bytes ++ [])) (a.before ++ a.answer) =
-    (heard-carries w form given bytes a.before a.number a.now a.held h).on last.end [] a.answer here in
-    (a.told.1 ∙ k.same, a.told.3 ∙ k.shape, subst (λ (v : List ℕ). Come w given last.end 1 [] (lines_of bytes) v) (sym a.all) (subst (λ (v : List ℕ). Come w given last.end 1 [] (lines_of v) (a.before ++ a.answer)) (append-nil bytes) all))
+    let all : Come w given last.end 1 first (lines_of (bytes ++ [])) (a.before ++ a.answer) =
+    (heard-carries w form given first bytes a.before a.number a.now a.held h).on last.end [] a.answer here in
+    (a.told.1 ∙ k.same, a.told.3 ∙ k.shape, subst (λ (v : List ℕ). Come w given last.end 1 first (lines_of bytes) v) (sym a.all) (subst (λ (v : List ℕ). Come w given last.end 1 first (lines_of v) (a.before ++ a.answer)) (append-nil bytes) all))
 
 -- where a line ended it, whatever bytes come after
-pub over-come : (w : OnFault) (form : LogForm) (given : Setup) (bytes text : List ℕ) (last : Course) → IsOver 202 says (begun w form given) bytes text last
-    → (last.given ≡ given) × (last.form ≡ form) × ((more : List ℕ) → Come w given last.end 1 [] (lines_of (bytes ++ more)) text)
-over-come w form given bytes text last o =
-    let h : Heard 202 says (begun w form given) o.front o.before o.number o.now o.held = o.heard in
-    let k : Continues w form given h.lines o.before o.now = heard-on w form given o.front o.before o.number o.now o.held h in
+pub over-come : (w : OnFault) (form : LogForm) (given : Setup) (first : List Input) (bytes text : List ℕ) (last : Course) → IsOver 202 says (begun w form given first) bytes text last
+    → (last.given ≡ given) × (last.form ≡ form) × ((more : List ℕ) → Come w given last.end 1 first (lines_of (bytes ++ more)) text)
+over-come w form given first bytes text last o =
+    let h : Heard 202 says (begun w form given first) o.front o.before o.number o.now o.held = o.heard in
+    let k : Continues w form given first h.lines o.before o.now = heard-on w form given first o.front o.before o.number o.now o.held h in
     let tells : TellsLine w given o.now.end.inputs o.number (without_return h.rest) o.answer Over last.end =
     tells-same w given o.now.end.inputs o.number (without_return o.held) (without_return h.rest) o.answer Over last.end (ap (λ (v : List ℕ). reading (without_return v)) h.kept ∙ line-read h.rest)
     (ap (λ (v : List ℕ). take 200 (without_return v)) h.kept ∙ line-front h.rest)
@@ -228,9 +228,9 @@ over-come w form given bytes text last o =
           let here : Come w given last.end o.number o.now.end.inputs (lines_of (h.rest ++ 10 ∷ after)) o.answer =
           subst (λ (ls : List (List ℕ)). Come w given last.end o.number o.now.end.inputs ls o.answer) (sym (lines-joined h.rest after h.unfinished))
           (over-comes w given o.number o.now.end.inputs (without_return h.rest) o.answer last.end (lines_of after) tells) in
-          let all : Come w given last.end 1 [] (lines_of (o.front ++ 10 ∷ after)) (o.before ++ o.answer) =
-          (heard-carries w form given o.front o.before o.number o.now o.held h).on last.end (10 ∷ after) o.answer here in
+          let all : Come w given last.end 1 first (lines_of (o.front ++ 10 ∷ after)) (o.before ++ o.answer) =
+          (heard-carries w form given first o.front o.before o.number o.now o.held h).on last.end (10 ∷ after) o.answer here in
           let bytes_are : o.front ++ 10 ∷ after ≡ bytes ++ more = sym (append_assoc o.front (10 ∷ o.more) more) ∙ ap (λ (v : List ℕ). v ++ more) (sym o.whole) in
-          subst (λ (v : List ℕ). Come w given last.end 1 [] (lines_of v) text) bytes_are
-          (subst (λ (v : List ℕ). Come w given last.end 1 [] (lines_of (o.front ++ 10 ∷ after)) v) (sym o.all) all),
+          subst (λ (v : List ℕ). Come w given last.end 1 first (lines_of v) text) bytes_are
+          (subst (λ (v : List ℕ). Come w given last.end 1 first (lines_of (o.front ++ 10 ∷ after)) v) (sym o.all) all),
     )

@@ -1,5 +1,5 @@
 -- What lines leave is what remains of some commands with right answers.
-use Rattle.std.proofs.Common.{zero, suc, ◌≡◌, ℕ, List, [], ◌∷◌, ap, subst, inl, inr}
+use Rattle.std.proofs.Common.{zero, suc, ◌≡◌, ℕ, List, [], ◌∷◌, Some, None, refl, ap, subst, inl, inr}
 use Rattle.std.specs.declared.option.Option.{Option}
 use Rattle.tsb_types.specs.declared.refusal.Refusal.{Refusal}
 use Rattle.tsb_bench.specs.tsb_machine.declared.commands.Answer.{Answer}
@@ -7,7 +7,9 @@ use Rattle.tsb_bench.specs.tsb_machine.declared.commands.Answer.TheVariants.{Too
 use Rattle.tsb_bench.specs.tsb_machine.declared.commands.MachineCommand.TheVariants as asks
 use Rattle.tsb_step.specs.tsb_plan.Plan.{Plan}
 use Rattle.tsb_step.specs.declared.inputs.Input.{Input}
+use Rattle.tsb_step.specs.declared.inputs.Input.TheVariants.{Clock}
 use Rattle.tsb_step.specs.Play.{AreRight, AreRightFrom, Cmd, IsRight, remaining, remaining_after, remaining_from}
+use Rattle.tsb_step.specs.Step.{verdict}
 use Rattle.tsb_command_text.specs.declared.command.Reading.{Reading}
 use Rattle.tsb_command_text.specs.declared.command.Reading.TheVariants.{Skip, Bad, Do}
 use Rattle.tsb_command_text.specs.Readings.{reading}
@@ -22,7 +24,7 @@ use Rattle.tsb_text.specs.declared.task.Task.TheVariants.{Ask, Ticks}
 use Rattle.tsb_text.specs.Stops.{Stopped}
 use Rattle.tsb_text.specs.declared.faults.LineFault.{LineFault}
 use Rattle.tsb_text.specs.declared.faults.OnFault.{OnFault}
-use Rattle.tsb_text.specs.recording.Leaves.{Come, Does, End, Ends, Follows, quits}
+use Rattle.tsb_text.specs.recording.Leaves.{Come, Does, End, Ends, Follows, first_inputs, quits}
 use Rattle.tsb_text.specs.Stops.{flow_after, stopped_at}
 
 -- commands with right answers lead from some inputs to others
@@ -81,8 +83,14 @@ by-lines on_fault given end (line ∷ lines) n is told h =
     (by-rest given (flow_after (quits (reading line)) (stopped_at on_fault n line h.0)) h.1 end (stopped_at on_fault n line h.0) (Come on_fault given end (suc n) h.1 lines h.2) h.2
     (λ rest. by-lines on_fault given end lines (suc n) h.1 h.2 rest) h.5)
 
-pub lines_leave_what_remains : (on_fault : OnFault) (given : Setup) (end : End) (lines : List (List ℕ)) (told : List ℕ) → Come on_fault given end 1 [] lines told
+-- a clock that is set first is left by a command as well
+by-clock : (plan : Plan) (clock : Option ℕ) → Leads plan [] (first_inputs clock)
+unfolding verdict
+by-clock plan None = stay plan [] [] refl
+by-clock plan (Some m) = one plan [] (Clock m ∷ []) (asks.Apply (Clock m)) Took refl refl
+
+pub lines_leave_what_remains : (on_fault : OnFault) (given : Setup) (clock : Option ℕ) (end : End) (lines : List (List ℕ)) (told : List ℕ) → Come on_fault given end 1 (first_inputs clock) lines told
     → (cs : List Cmd) × (ans : List Answer) × AreRight given.plan cs ans × (end.inputs ≡ remaining given.plan cs ans)
-lines_leave_what_remains on_fault given end lines told h =
-    let all : Leads given.plan [] end.inputs = by-lines on_fault given end lines 1 [] told h in
+lines_leave_what_remains on_fault given clock end lines told h =
+    let all : Leads given.plan [] end.inputs = then given.plan [] (first_inputs clock) end.inputs (by-clock given.plan clock) (by-lines on_fault given end lines 1 (first_inputs clock) told h) in
     (all.cs, all.ans, all.right, all.left)

@@ -36,73 +36,73 @@ use Rattle.tsb_text.proofs.recording.ComeLemmas.{answered-come, begun, heard-tel
 
 -- ## What was told
 
-reads-on : (w : OnFault) (form : LogForm) (given : Setup) (read : List ℕ) → dialogs.ReadsOn 202 says (begun w form given) read → ReadsOn w given read
-reads-on w form given read r =
-    record { before = r.before; last = r.last; whole = r.whole; short = r.short; said = r.text; going = heard-tells w form given r.before r.text r.number r.now r.held r.heard }
+reads-on : (w : OnFault) (form : LogForm) (given : Setup) (first : List Input) (read : List ℕ) → dialogs.ReadsOn 202 says (begun w form given first) read → ReadsOn w given first read
+reads-on w form given first read r =
+    record { before = r.before; last = r.last; whole = r.whole; short = r.short; said = r.text; going = heard-tells w form given first r.before r.text r.number r.now r.held r.heard }
 
-whole-remain : (w : OnFault) (form : LogForm) (given : Setup) (left : Option (List ℕ)) (read text : List ℕ) (last : Course) → dialogs.IsWhole 202 says (begun w form given) left read text last
-    → (last.given ≡ given) × (last.form ≡ form) × Remain w given left read last.end text
-whole-remain w form given left read text last (inl a) = let k : (last.given ≡ given) × (last.form ≡ form) × Come w given last.end 1 [] (lines_of read) text = answered-come w form given read text last a.1 in (k.0, k.1, inl (a.0, k.2))
-whole-remain w form given left read text last (inr o) =
-    let k : (last.given ≡ given) × (last.form ≡ form) × ((more : List ℕ) → Come w given last.end 1 [] (lines_of (read ++ more)) text) = over-come w form given read text last o in (k.0, k.1, inr k.2)
+whole-remain : (w : OnFault) (form : LogForm) (given : Setup) (first : List Input) (left : Option (List ℕ)) (read text : List ℕ) (last : Course) → dialogs.IsWhole 202 says (begun w form given first) left read text last
+    → (last.given ≡ given) × (last.form ≡ form) × Remain w given first left read last.end text
+whole-remain w form given first left read text last (inl a) = let k : (last.given ≡ given) × (last.form ≡ form) × Come w given last.end 1 first (lines_of read) text = answered-come w form given first read text last a.1 in (k.0, k.1, inl (a.0, k.2))
+whole-remain w form given first left read text last (inr o) =
+    let k : (last.given ≡ given) × (last.form ≡ form) × ((more : List ℕ) → Come w given last.end 1 first (lines_of (read ++ more)) text) = over-come w form given first read text last o in (k.0, k.1, inr k.2)
 
-tells-begun : (w : OnFault) (given : Setup) (read text : List ℕ) → TellsWhole w given read text → IsBegun w given 1 [] read text
-tells-begun w given read text t = carries-begun w given 1 [] read t.next t.now t.held text t.carries
+tells-begun : (w : OnFault) (given : Setup) (first : List Input) (read text : List ℕ) → TellsWhole w given first read text → IsBegun w given 1 first read text
+tells-begun w given first read text t = carries-begun w given 1 first read t.next t.now t.held text t.carries
 
 -- what was told of the bytes that may be read begins what is told of all that were
-front-begun : (w : OnFault) (given : Setup) (read text : List ℕ) → TellsWhole w given (take 16777216 read) text → IsBegun w given 1 [] read text
-front-begun w given read text t =
-    subst (λ (v : List ℕ). IsBegun w given 1 [] v text) (take-append-drop 16777216 read)
-    (begun-more w given 1 [] (take 16777216 read) (drop 16777216 read) text (tells-begun w given (take 16777216 read) text t))
+front-begun : (w : OnFault) (given : Setup) (first : List Input) (read text : List ℕ) → TellsWhole w given first (take 16777216 read) text → IsBegun w given 1 first read text
+front-begun w given first read text t =
+    subst (λ (v : List ℕ). IsBegun w given 1 first v text) (take-append-drop 16777216 read)
+    (begun-more w given 1 first (take 16777216 read) (drop 16777216 read) text (tells-begun w given first (take 16777216 read) text t))
 
 -- what begins what remains to be told
-remain-begins : (w : OnFault) (given : Setup) (left : Option (List ℕ)) (read text rest : List ℕ) (end : End) → Remain w given left read end (text ++ rest) → Begins w given left read text
-remain-begins w given left read text rest end (inl e) = inl (e.0, (end, rest, e.1))
-remain-begins w given left read text rest end (inr o) = inr (record { rest = λ more. (end, rest, o more) })
+remain-begins : (w : OnFault) (given : Setup) (first : List Input) (left : Option (List ℕ)) (read text rest : List ℕ) (end : End) → Remain w given first left read end (text ++ rest) → Begins w given first left read text
+remain-begins w given first left read text rest end (inl e) = inl (e.0, (end, rest, e.1))
+remain-begins w given first left read text rest end (inr o) = inr (record { rest = λ more. (end, rest, o more) })
 
-said-begun : (w : OnFault) (form : LogForm) (given : Setup) (read text : List ℕ) → IsSaid 202 says (begun w form given) read text → IsBegun w given 1 [] read text
-said-begun w form given read text s = subst (λ (v : List ℕ). IsBegun w given 1 [] v text) (sym s.whole) (begun-more w given 1 [] s.front s.more text (front s.so))
+said-begun : (w : OnFault) (form : LogForm) (given : Setup) (first : List Input) (read text : List ℕ) → IsSaid 202 says (begun w form given first) read text → IsBegun w given 1 first read text
+said-begun w form given first read text s = subst (λ (v : List ℕ). IsBegun w given 1 first v text) (sym s.whole) (begun-more w given 1 first s.front s.more text (front s.so))
   where
-    front : ((number : ℕ) × (now : Course) × (held : List ℕ) × Heard 202 says (begun w form given) s.front text number now held) ⊎ ((last : Course) × IsOver 202 says (begun w form given) s.front text last)
-        → IsBegun w given 1 [] s.front text
-    front (inl h) = tells-begun w given s.front text (heard-tells w form given s.front text h.0 h.1 h.2 h.3)
-    front (inr o) = record { rest = λ more. (o.0.end, [], subst (λ (v : List ℕ). Come w given o.0.end 1 [] (lines_of (s.front ++ more)) v) (sym (append-nil text)) ((over-come w form given s.front text o.0 o.1).2 more)) }
+    front : ((number : ℕ) × (now : Course) × (held : List ℕ) × Heard 202 says (begun w form given first) s.front text number now held) ⊎ ((last : Course) × IsOver 202 says (begun w form given first) s.front text last)
+        → IsBegun w given 1 first s.front text
+    front (inl h) = tells-begun w given first s.front text (heard-tells w form given first s.front text h.0 h.1 h.2 h.3)
+    front (inr o) = record { rest = λ more. (o.0.end, [], subst (λ (v : List ℕ). Come w given o.0.end 1 first (lines_of (s.front ++ more)) v) (sym (append-nil text)) ((over-come w form given first s.front text o.0 o.1).2 more)) }
 
 -- ## The record
 
 -- where it came to this end, and what it gives is of that end
-remains : (w : OnFault) (given : Setup) (left : Option (List ℕ)) (read told : List ℕ) (end : End) (stop : Option StoppedLine) → end.stop ≡ stop → Remain w given left read end told
-    → Remain w given left read (record { inputs = end.inputs; stop = stop }) told
-remains w given left read told end stop same r = subst (λ (s : Option StoppedLine). Remain w given left read (record { inputs = end.inputs; stop = s }) told) same r
+remains : (w : OnFault) (given : Setup) (first : List Input) (left : Option (List ℕ)) (read told : List ℕ) (end : End) (stop : Option StoppedLine) → end.stop ≡ stop → Remain w given first left read end told
+    → Remain w given first left read (record { inputs = end.inputs; stop = stop }) told
+remains w given first left read told end stop same r = subst (λ (s : Option StoppedLine). Remain w given first left read (record { inputs = end.inputs; stop = s }) told) same r
 
-came-so : (w : OnFault) (form : LogForm) (given : Setup) (left : Option (List ℕ)) (read told : List ℕ) (outcome : Outcome) (end : End) → IsOutcome outcome end.stop (told_along form given.plan end.inputs)
-    → Remain w given left read end told → EndedSo (Ok outcome) w form given left read told
-came-so w form given left read told (Events all) end is r = (end.inputs, remains w given left read told end None is.0 r, is.1)
-came-so w form given left read told (Stopped line) end is r = (end.inputs, remains w given left read told end (stop_in (Some line)) is r)
+came-so : (w : OnFault) (form : LogForm) (given : Setup) (first : List Input) (left : Option (List ℕ)) (read told : List ℕ) (outcome : Outcome) (end : End) → IsOutcome outcome end.stop (told_along form given.plan end.inputs)
+    → Remain w given first left read end told → EndedSo (Ok outcome) w form given first left read told
+came-so w form given first left read told (Events all) end is r = (end.inputs, remains w given first left read told end None is.0 r, is.1)
+came-so w form given first left read told (Stopped line) end is r = (end.inputs, remains w given first left read told end (stop_in (Some line)) is r)
 
 -- what a dialog left is what a record gives
-pub recorded : {A : Type 0} (stands : A → Course → Type 0) (w : OnFault) (form : LogForm) (given : Setup) (new : A) (i l o n : Option (List ℕ)) (outcome : Outcome) → dialogs.Ended 202 16777216 stands says (begun w form given) (Ok tt) new i l o n
-    → ((last : Course) → stands new last → IsOutcome outcome last.end.stop (told_along last.form last.given.plan last.end.inputs)) → Ended (Ok outcome) w form given i l o n
-recorded stands w form given new i l o n outcome d tells =
+pub recorded : {A : Type 0} (stands : A → Course → Type 0) (w : OnFault) (form : LogForm) (given : Setup) (first : List Input) (new : A) (i l o n : Option (List ℕ)) (outcome : Outcome) → dialogs.Ended 202 16777216 stands says (begun w form given first) (Ok tt) new i l o n
+    → ((last : Course) → stands new last → IsOutcome outcome last.end.stop (told_along last.form last.given.plan last.end.inputs)) → Ended (Ok outcome) w form given first i l o n
+recorded stands w form given first new i l o n outcome d tells =
     let last : Course = d.so.0 in
-    let k : (last.given ≡ given) × (last.form ≡ form) × Remain w given l d.read last.end d.written = whole-remain w form given l d.read d.written last d.so.2 in
+    let k : (last.given ≡ given) × (last.form ≡ form) × Remain w given first l d.read last.end d.written = whole-remain w form given first l d.read d.written last d.so.2 in
     record {
       read = d.read;
       taken = d.taken;
       told = d.written;
       grown = d.grown;
-      so = came-so w form given l d.read d.written outcome last.end (subst (λ (f : LogForm). IsOutcome outcome last.end.stop (told_along f given.plan last.end.inputs)) k.1
+      so = came-so w form given first l d.read d.written outcome last.end (subst (λ (f : LogForm). IsOutcome outcome last.end.stop (told_along f given.plan last.end.inputs)) k.1
           (subst (λ (g : Setup). IsOutcome outcome last.end.stop (told_along last.form g.plan last.end.inputs)) k.0 (tells last d.so.1))) k.2;
       large = (λ h. absurd h, λ h. absurd (let e = d.large.1 h in cc));
       most = d.limited;
       whole = λ f. absurd f;
-      reads = reads-on w form given d.read d.reads;
+      reads = reads-on w form given first d.read d.reads;
     }
 
 -- all whole lines of what may be read were told of
-pub not-recorded : {A : Type 0} (stands : A → Course → Type 0) (w : OnFault) (form : LogForm) (given : Setup) (e : DialogError) (new : A) (i l o n : Option (List ℕ)) → dialogs.Ended 202 16777216 stands says (begun w form given) (Err e) new i l o n
-    → Ended (Err (fault_of e)) w form given i l o n
-not-recorded stands w form given dialog.Write new i l o n d = record {
+pub not-recorded : {A : Type 0} (stands : A → Course → Type 0) (w : OnFault) (form : LogForm) (given : Setup) (first : List Input) (e : DialogError) (new : A) (i l o n : Option (List ℕ)) → dialogs.Ended 202 16777216 stands says (begun w form given first) (Err e) new i l o n
+    → Ended (Err (fault_of e)) w form given first i l o n
+not-recorded stands w form given first dialog.Write new i l o n d = record {
   read = d.read;
   taken = d.taken;
   told = d.written;
@@ -111,42 +111,42 @@ not-recorded stands w form given dialog.Write new i l o n d = record {
   large = (λ h. absurd h, λ h. absurd (let e = d.large.1 h in cc));
   most = d.limited;
   whole = λ f. absurd f;
-  reads = reads-on w form given d.read d.reads;
+  reads = reads-on w form given first d.read d.reads;
 }
   where
-    begins : (rest : List ℕ) × (((last : Course) × dialogs.IsWhole 202 says (begun w form given) l d.read (d.written ++ rest) last) ⊎ IsSaid 202 says (begun w form given) d.read (d.written ++ rest)) → Begins w given l d.read d.written
-    begins (rest, inl h) = remain-begins w given l d.read d.written rest h.0.end (whole-remain w form given l d.read (d.written ++ rest) h.0 h.1).2
-    begins (rest, inr s) = inr (begun-front w given 1 [] d.read d.written rest (said-begun w form given d.read (d.written ++ rest) s))
-not-recorded stands w form given dialog.Read new i l o n d =
-    let tells : TellsWhole w given (take 16777216 d.read) d.written = heard-tells w form given (take 16777216 d.read) d.written d.so.0 d.so.1 d.so.2 d.so.4 in
+    begins : (rest : List ℕ) × (((last : Course) × dialogs.IsWhole 202 says (begun w form given first) l d.read (d.written ++ rest) last) ⊎ IsSaid 202 says (begun w form given first) d.read (d.written ++ rest)) → Begins w given first l d.read d.written
+    begins (rest, inl h) = remain-begins w given first l d.read d.written rest h.0.end (whole-remain w form given first l d.read (d.written ++ rest) h.0 h.1).2
+    begins (rest, inr s) = inr (begun-front w given 1 first d.read d.written rest (said-begun w form given first d.read (d.written ++ rest) s))
+not-recorded stands w form given first dialog.Read new i l o n d =
+    let tells : TellsWhole w given first (take 16777216 d.read) d.written = heard-tells w form given first (take 16777216 d.read) d.written d.so.0 d.so.1 d.so.2 d.so.4 in
     record {
       read = d.read;
       taken = d.taken;
       told = d.written;
       grown = d.grown;
-      so = inr (front-begun w given d.read d.written tells);
+      so = inr (front-begun w given first d.read d.written tells);
       large = (λ h. absurd h, λ h. absurd (let e = d.large.1 h in cc));
       most = d.limited;
       whole = λ f. tells;
-      reads = reads-on w form given d.read d.reads;
+      reads = reads-on w form given first d.read d.reads;
     }
-not-recorded stands w form given dialog.TooLarge new i l o n d =
-    let tells : TellsWhole w given (take 16777216 d.read) d.written = heard-tells w form given (take 16777216 d.read) d.written d.so.0 d.so.1 d.so.2 d.so.4 in
+not-recorded stands w form given first dialog.TooLarge new i l o n d =
+    let tells : TellsWhole w given first (take 16777216 d.read) d.written = heard-tells w form given first (take 16777216 d.read) d.written d.so.0 d.so.1 d.so.2 d.so.4 in
     record {
       read = d.read;
       taken = d.taken;
       told = d.written;
       grown = d.grown;
-      so = inr (front-begun w given d.read d.written tells);
+      so = inr (front-begun w given first d.read d.written tells);
       large = (λ h. d.large.0 refl, λ h. tt);
       most = d.limited;
       whole = λ f. tells;
-      reads = reads-on w form given d.read d.reads;
+      reads = reads-on w form given first d.read d.reads;
     }
 
 -- nothing was read, where there was no memory to begin with
-pub none-recorded : (w : OnFault) (form : LogForm) (given : Setup) (i o : Option (List ℕ)) → Ended (Err Memory) w form given i i o o
-none-recorded w form given i o = record {
+pub none-recorded : (w : OnFault) (form : LogForm) (given : Setup) (first : List Input) (i o : Option (List ℕ)) → Ended (Err Memory) w form given first i i o o
+none-recorded w form given first i o = record {
   read = [];
   taken = consumes-nothing i;
   told = [];
@@ -161,7 +161,7 @@ none-recorded w form given i o = record {
     whole = refl;
     short = omega arith;
     said = [];
-    going = record { next = 1; now = []; held = []; unfinished = tt; carries = record { on = λ end more text t. t } };
+    going = record { next = 1; now = first; held = []; unfinished = tt; carries = record { on = λ end more text t. t } };
   };
 }
 

@@ -58,7 +58,7 @@ no-tick : (given : Setup) (is : List Input) (i : Input) → IsNoTick i → HasRo
 no-tick given is (Tick row) none = absurd none
 no-tick given is i none = tt
 
-input-next : (m : Mode) (given : Setup) (is : List Input) (i : Input) → IsNoTick i → IsNext m given is i
+pub input-next : (m : Mode) (given : Setup) (is : List Input) (i : Input) → IsNoTick i → IsNext m given is i
 input-next (Recording form) given is i none = no-tick given is i none
 input-next m given is i none = tt
 

@@ -1,4 +1,4 @@
--- How the record of a run ends.
+-- How the record of a run ends, that `first` inputs began before its first line.
 use Rattle.std.specs.Prelude.{◌≡◌, ◌⊎◌, ◌↔◌, ◌<◌, ◌≤◌, ℕ, List, [], ◌++◌, length, take, Option, Some, None, Result, Ok, Err}
 use Rattle.std.specs.Io.KnownBytes.{Appends, Consumes, IsAtEnd}
 use Rattle.tsb_step.specs.declared.inputs.Input.{Input}
@@ -31,45 +31,45 @@ BeginsLast on_fault given number is bytes said = (end : End) × (rest : List ℕ
 
 -- all whole lines of these bytes were told of, and none ended the record: whatever comes after, what is told is this, and
 -- then what an unfinished line and the bytes after come to
-pub record TellsWhole (on_fault : OnFault) (given : Setup) (bytes told : List ℕ) : Type 0 where
+pub record TellsWhole (on_fault : OnFault) (given : Setup) (first : List Input) (bytes told : List ℕ) : Type 0 where
   pub next : ℕ
   pub now : List Input
   pub held : List ℕ
   pub unfinished : HasNoFeed held
-  pub carries : Carries on_fault given 1 [] bytes next now held told
+  pub carries : Carries on_fault given 1 first bytes next now held told
 
 -- the commands went on up to the last read, which brought 4,096 bytes at most: those before it end no record
-pub record ReadsOn (on_fault : OnFault) (given : Setup) (read : List ℕ) : Type 0 where
+pub record ReadsOn (on_fault : OnFault) (given : Setup) (first : List Input) (read : List ℕ) : Type 0 where
   pub before : List ℕ
   pub last : List ℕ
   pub whole : read ≡ before ++ last
   pub short : length last ≤ 4096
   pub said : List ℕ
-  pub going : TellsWhole on_fault given before said
+  pub going : TellsWhole on_fault given first before said
 
 -- ## How it ends
 
 -- a record whose commands are these bytes comes to this, at the end of what is read, or where a line ended it, and then
 -- whatever comes after; and this was told of lines that are no command or that were refused
-abbrev pub Remain : OnFault → Setup → Option (List ℕ) → List ℕ → End → List ℕ → Type 0
-Remain on_fault given left read end told =
-    (IsAtEnd left × Come on_fault given end 1 [] (lines_of read) told)
-    ⊎ ((more : List ℕ) → Come on_fault given end 1 [] (lines_of (read ++ more)) told)
+abbrev pub Remain : OnFault → Setup → List Input → Option (List ℕ) → List ℕ → End → List ℕ → Type 0
+Remain on_fault given first left read end told =
+    (IsAtEnd left × Come on_fault given end 1 first (lines_of read) told)
+    ⊎ ((more : List ℕ) → Come on_fault given end 1 first (lines_of (read ++ more)) told)
 
 -- what was told begins what is to be told of these bytes, at the end of what is read, or whatever comes after
-abbrev pub Begins : OnFault → Setup → Option (List ℕ) → List ℕ → List ℕ → Type 0
-Begins on_fault given left read told = (IsAtEnd left × BeginsLast on_fault given 1 [] read told) ⊎ IsBegun on_fault given 1 [] read told
+abbrev pub Begins : OnFault → Setup → List Input → Option (List ℕ) → List ℕ → List ℕ → Type 0
+Begins on_fault given first left read told = (IsAtEnd left × BeginsLast on_fault given 1 first read told) ⊎ IsBegun on_fault given 1 first read told
 
 -- the events are those of the inputs that remain, no line ended the record, and all was told; or a line ended it, and this
 -- was told; or after a fault a prefix of what is to be told of the bytes that were read. With no memory to begin with
 -- nothing was read or told.
-abbrev pub EndedSo : Result Outcome SessionError → OnFault → LogForm → Setup → Option (List ℕ) → List ℕ → List ℕ → Type 0
-EndedSo (Ok (Events events)) on_fault form given left read told =
-    (is : List Input) × Remain on_fault given left read (record { inputs = is; stop = None }) told × (events.items ≡ told_along form given.plan is)
-EndedSo (Ok (Stopped line)) on_fault form given left read told =
-    (is : List Input) × Remain on_fault given left read (record { inputs = is; stop = stop_in (Some line) }) told
-EndedSo (Err Memory) on_fault form given left read told = (read ≡ []) × (told ≡ [])
-EndedSo (Err e) on_fault form given left read told = Begins on_fault given left read told
+abbrev pub EndedSo : Result Outcome SessionError → OnFault → LogForm → Setup → List Input → Option (List ℕ) → List ℕ → List ℕ → Type 0
+EndedSo (Ok (Events events)) on_fault form given first left read told =
+    (is : List Input) × Remain on_fault given first left read (record { inputs = is; stop = None }) told × (events.items ≡ told_along form given.plan is)
+EndedSo (Ok (Stopped line)) on_fault form given first left read told =
+    (is : List Input) × Remain on_fault given first left read (record { inputs = is; stop = stop_in (Some line) }) told
+EndedSo (Err Memory) on_fault form given first left read told = (read ≡ []) × (told ≡ [])
+EndedSo (Err e) on_fault form given first left read told = Begins on_fault given first left read told
 
 -- it is too large
 abbrev pub IsTooLarge : {T : Type 0} → Result T SessionError → Type 0
@@ -83,16 +83,16 @@ IsOfReading (Err TooLarge) = Unit {0}
 IsOfReading r = ⊥
 
 -- the bytes that it read, and those that it told of lines that are no command or that were refused
-pub record Ended (result : Result Outcome SessionError) (on_fault : OnFault) (form : LogForm) (given : Setup) (input left old new : Option (List ℕ)) : Type 0 where
+pub record Ended (result : Result Outcome SessionError) (on_fault : OnFault) (form : LogForm) (given : Setup) (first : List Input) (input left old new : Option (List ℕ)) : Type 0 where
   pub read : List ℕ
   pub taken : Consumes input left read
   pub told : List ℕ
   pub grown : Appends old new told
-  pub so : EndedSo result on_fault form given left read told
+  pub so : EndedSo result on_fault form given first left read told
   -- too large is answered where more than 16 MiB were read, and only there; of more no second byte is read
   pub large : IsTooLarge result ↔ (16777216 < length read)
   pub most : length read ≤ 16777217
   -- after a read that failed, and after 16 MiB, nothing that is to be told of a whole line is missing
-  pub whole : IsOfReading result → TellsWhole on_fault given (take 16777216 read) told
+  pub whole : IsOfReading result → TellsWhole on_fault given first (take 16777216 read) told
   -- after a line that ends it, `quit` or one with which something is wrong, nothing more is read
-  pub reads : ReadsOn on_fault given read
+  pub reads : ReadsOn on_fault given first read

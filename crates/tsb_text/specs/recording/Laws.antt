@@ -1,6 +1,6 @@
 -- What holds of all events and of all records. Each law here is the contract of a function in src/recording/laws.rt, and proved
 -- there.
-use Rattle.std.specs.Prelude.{◌≡◌, ◌+◌, ℕ, false, List, [], ◌∷◌, ◌++◌, length, take, Option, Some, None}
+use Rattle.std.specs.Prelude.{◌≡◌, ◌+◌, ℕ, suc, false, List, [], ◌∷◌, ◌++◌, length, take, Option, Some, None}
 use Rattle.std.specs.List.{All}
 use Rattle.tsb_bench.specs.tsb_machine.declared.commands.Answer.{Answer}
 use Rattle.tsb_step.specs.declared.inputs.Input.{Input}
@@ -9,22 +9,31 @@ use Rattle.tsb_step.specs.Events.{events_of}
 use Rattle.tsb_step.specs.Play.{AreRight, Cmd, remaining}
 use Rattle.tsb_step.specs.State.{State}
 use Rattle.tsb_step.specs.Step.{step}
+use Rattle.tsb_command_text.specs.declared.command.Command.TheVariants.{Clock}
+use Rattle.tsb_command_text.specs.declared.command.Reading.TheVariants.{Do}
 use Rattle.tsb_command_text.specs.Readings.{reading}
 use Rattle.tsb_text.specs.Answers.{Setup}
 use Rattle.tsb_text.specs.declared.faults.OnFault.{OnFault}
 use Rattle.tsb_text.specs.declared.faults.OnFault.TheVariants.{GoOn, Stop}
 use Rattle.tsb_text.specs.Stops.{Stopped}
 use Rattle.tsb_text.specs.recording.Faults.{fault_line}
-use Rattle.tsb_text.specs.recording.Leaves.{Come, Does, End, quits}
+use Rattle.tsb_text.specs.recording.Leaves.{Come, Does, End, first_inputs, quits}
 
 -- an event has the number of the tick in force after its input
 abbrev pub EventsHaveTheirTick : Type 0
 EventsHaveTheirTick = (noted : Noted) (s : State) (i : Input) → All (λ e. e.tick ≡ (step s i).now) (events_of noted s i)
 
--- what lines leave are the inputs that remain of some commands with right answers
+-- what lines leave are the inputs that remain of some commands with right answers, that of a clock among them
 abbrev pub LinesLeaveWhatRemains : Type 0
-LinesLeaveWhatRemains = (on_fault : OnFault) (given : Setup) (end : End) (lines : List (List ℕ)) (told : List ℕ) → Come on_fault given end 1 [] lines told
+LinesLeaveWhatRemains = (on_fault : OnFault) (given : Setup) (clock : Option ℕ) (end : End) (lines : List (List ℕ)) (told : List ℕ)
+    → Come on_fault given end 1 (first_inputs clock) lines told
     → (cs : List Cmd) × (ans : List Answer) × AreRight given.plan cs ans × (end.inputs ≡ remaining given.plan cs ans)
+
+-- a record has no clock, unless one is asked for; and one that has is as one without whose first line sets it, but that each
+-- line has the number before its own
+abbrev pub ClocksAreFirstLines : Type 0
+ClocksAreFirstLines = (on_fault : OnFault) (given : Setup) (m : ℕ) (end : End) (n : ℕ) (line : List ℕ) (lines : List (List ℕ)) (told : List ℕ)
+    → reading line ≡ Do (Clock m) → Come on_fault given end (suc n) (first_inputs (Some m)) lines told → Come on_fault given end n (first_inputs None) (line ∷ lines) told
 
 -- ## Strict records
 
@@ -54,9 +63,10 @@ StoppedSo given n is lines told left (Some stop) = StoppedAt given n is lines to
 
 -- a strict record ends with the first line with which something is wrong
 abbrev pub StrictRecordsStopAtTheFirst : Type 0
-StrictRecordsStopAtTheFirst = (given : Setup) (end : End) (lines : List (List ℕ)) (told : List ℕ) → Come Stop given end 1 [] lines told
-    → StoppedSo given 1 [] lines told end.inputs end.stop
+StrictRecordsStopAtTheFirst = (given : Setup) (clock : Option ℕ) (end : End) (lines : List (List ℕ)) (told : List ℕ)
+    → Come Stop given end 1 (first_inputs clock) lines told → StoppedSo given 1 (first_inputs clock) lines told end.inputs end.stop
 
 -- no such line ends a record that goes on
 abbrev pub NoLineStopsOthers : Type 0
-NoLineStopsOthers = (given : Setup) (end : End) (lines : List (List ℕ)) (told : List ℕ) → Come GoOn given end 1 [] lines told → end.stop ≡ None
+NoLineStopsOthers = (given : Setup) (clock : Option ℕ) (end : End) (lines : List (List ℕ)) (told : List ℕ)
+    → Come GoOn given end 1 (first_inputs clock) lines told → end.stop ≡ None

@@ -3,6 +3,7 @@
 use Rattle.std.specs.Prelude.{◌≡◌, ℕ, suc, Bool, true, false, List, [], ◌∷◌, ◌++◌, Option, Some, None, option_map}
 use Rattle.tsb_types.specs.declared.refusal.Refusal.{Refusal}
 use Rattle.tsb_step.specs.declared.inputs.Input.{Input}
+use Rattle.tsb_step.specs.declared.inputs.Input.TheVariants.{Clock}
 use Rattle.tsb_command_text.specs.declared.command.Command.{Command}
 use Rattle.tsb_command_text.specs.declared.command.Command.TheVariants.{Quit}
 use Rattle.tsb_command_text.specs.declared.command.Reading.{Reading}
@@ -19,6 +20,13 @@ use Rattle.tsb_text.specs.declared.faults.LineFault.{LineFault}
 use Rattle.tsb_text.specs.declared.faults.LineFault.TheVariants as faults
 use Rattle.tsb_text.specs.Stops.{Stopped, flow_after, stopped_at}
 use Rattle.tsb_text.specs.recording.Faults.{fault_text}
+
+-- ## Before the first line
+
+-- the inputs with which a record begins: that of its clock, where it has one
+abbrev pub first_inputs : Option ℕ → List Input
+first_inputs None = []
+first_inputs (Some m) = Clock m ∷ []
 
 -- ## Commands
 

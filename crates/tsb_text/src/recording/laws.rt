@@ -1,5 +1,5 @@
 //! What holds of all events and of all records, each law the contract of a function that does nothing.
-ghost use Rattle.tsb_text.specs.recording.Laws.{EventsHaveTheirTick, LinesLeaveWhatRemains, NoLineStopsOthers, StrictRecordsStopAtTheFirst};
+ghost use Rattle.tsb_text.specs.recording.Laws.{ClocksAreFirstLines, EventsHaveTheirTick, LinesLeaveWhatRemains, NoLineStopsOthers, StrictRecordsStopAtTheFirst};
 
 /// Events have their tick. Each event of an input has the number of the tick that is in force after it. So what was
 /// told later than a tick is found without the inputs.
@@ -19,6 +19,17 @@ pub fn events_have_their_tick()
 /// Witness: `one_tick` and `taken_back` of Mistakes, a tick from power-up, and the same undone.
 pub fn records_are_of_what_remains()
     ensures { LinesLeaveWhatRemains }
+{}
+
+/// A record's clock is a first line. A record with a clock is the record without one whose first line sets that clock, but
+/// that its lines have the numbers before theirs. So all laws of sessions hold of it.
+///
+/// Needs: that the first line sets the clock.
+/// Not said: that such a line is always taken, as out of memory it is refused; a record has no events then at all.
+/// Mistake: a clock that is forgotten (`forgets`, `would_leave_none`).
+/// Witness: `clock_first` of Mistakes, a line that sets a clock, and no other.
+pub fn clocks_are_first_lines()
+    ensures { ClocksAreFirstLines }
 {}
 
 /// A strict record ends with the first faulty line. The line that ends it is the first that is no command or that is

@@ -66,7 +66,7 @@ abbrev record_wished : RecordManner → Option Wish
 record_wished manner = option_map (λ from. recording from (codes "7") (codes "a.plan") (codes "a.log") manner) (moment_of (codes "2026-11-22T07:00:00"))
 
 abbrev usual : RecordManner
-usual = record { goes_on = false; recalls = false; outputs = false }
+usual = record { goes_on = false; recalls = false; outputs = false; no_clock = false }
 
 strict : record_of [] ≡ record_wished usual
 unfolding clap_on_literals moment_of
@@ -84,6 +84,11 @@ of-recalls = refl
 of-outputs : record_of (codes "--outputs" ∷ []) ≡ record_wished (record usual { outputs = true })
 unfolding clap_on_literals moment_of
 of-outputs = refl
+
+-- and one that no clock is set
+without-clock : record_of (codes "--no-clock" ∷ []) ≡ record_wished (record usual { no_clock = true })
+unfolding clap_on_literals moment_of
+without-clock = refl
 
 -- it has no value, and comes once
 with-value : record_of (codes "--go-on=true" ∷ []) ≡ None

@@ -52,12 +52,13 @@ const LOG: [Argument; 12] = [
 ];
 
 /// The files and options of `record`.
-const RECORD: [Argument; 7] = [
+const RECORD: [Argument; 8] = [
     Argument::File("PLAN"),
     Argument::File("LOG"),
     Argument::Flag("go-on"),
     Argument::Flag("recalls"),
     Argument::Flag("outputs"),
+    Argument::Flag("no-clock"),
     Argument::Required("from"),
     Argument::Required("device"),
 ];

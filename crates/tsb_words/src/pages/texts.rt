@@ -67,16 +67,17 @@ A value that begins with a hyphen comes after `=`, as in --zone=-07:00. Example:
 
 /// How `record` is used.
 pub(crate) const RECORD_HELP: &[u8] =
-    b"usage: tsb_field record --from TIME --device ID [--go-on] [--recalls] [--outputs] PLAN LOG < COMMANDS > EXPORT
+    b"usage: tsb_field record --from TIME --device ID [OPTION ..] PLAN LOG < COMMANDS > EXPORT
 
 Runs the commands of a session, and writes its events as a controller's event log, as CSV.
 
 PLAN, LOG    the files of a plan and of a log of inputs, as of `tsb run`
---from TIME  tick 1 begins then: YYYY-MM-DD HH:MM:SS; has to be given
+--from TIME  tick 1 begins then, YYYY-MM-DD HH:MM:SS, and the clock is set to it; has to be given
 --device ID  what the first column has, at most 900 bytes; has to be given
 --go-on      goes on after a line that is refused or is no command
 --recalls    calls of phases on recall have events too
 --outputs    vehicle detectors have events after delay and extension, and not as their inputs
+--no-clock   no clock is set: offsets count from tick 0, and not from midnight
 
 Steps are counted in ticks of 0.1 s. Example, ten minutes:
 

@@ -2,7 +2,7 @@
 // tall bars, yellow and clearance striped, red and don't walk thin lines. Where a column
 // holds more than it can show, the height of its bar is the share of right of way.
 
-import { byId, clock } from "./dom.js";
+import { byId, clock, firstAt } from "./dom.js";
 
 export const GUTTER = 74;
 const INK = { G: "#1b7a3d", Y: "#d99a00", R: "#b3261e", W: "#1b7a3d", C: "#d99a00", D: "#8a8a8a", F: "#b3261e" };
@@ -157,7 +157,8 @@ export class Diagram {
     pen.font = "11px system-ui, sans-serif";
     pen.textAlign = "center";
     pen.textBaseline = "bottom";
-    for (let tick = Math.ceil((picture.first - 1) / step) * step + 1; tick <= picture.last; tick += step) {
+    const offset = firstAt() - 1;
+    for (let tick = Math.ceil((picture.first + offset) / step) * step - offset; tick <= picture.last; tick += step) {
       const x = Math.round(this.x(tick)) + 0.5;
       pen.beginPath();
       pen.moveTo(x, y);

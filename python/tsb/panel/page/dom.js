@@ -41,13 +41,28 @@ export function mark(node, name, on) {
 /** A time in tenths of a second, as 3.2 s. */
 export const seconds = (tenths) => (tenths === null ? "–" : `${(tenths / 10).toFixed(1)} s`);
 
-/** The time at which a tick begins, as event logs have it: hours, minutes, seconds and tenths. */
+const DAY = 864000; // tenths of a second
+let begun = null; // where a clock is set, the tenths from 1970 to the begin of tick 1
+
+/** A clock shows this moment as the next tick begins, or none is set. */
+export function setClock(moment, now) {
+  begun = moment === null ? null : Math.round(Date.parse(`${moment.replace(" ", "T")}00Z`) / 100) - now;
+}
+
+/** The tenths of a second from midnight to the begin of tick 1. */
+export const firstAt = () => (begun === null ? 0 : begun % DAY);
+
+/** The time at which a tick begins, as event logs have it: hours, minutes, seconds and tenths, of the clock where one is set. */
 export function clock(tick) {
   const two = (number) => String(number).padStart(2, "0");
-  const tenths = Math.max(tick - 1, 0), whole = Math.floor(tenths / 10);
+  const counted = (firstAt() + Math.max(tick - 1, 0)) % (begun === null ? Infinity : DAY);
+  const whole = Math.floor(counted / 10);
   const parts = [Math.floor(whole / 3600), two(Math.floor(whole / 60) % 60), two(whole % 60)];
-  return `${parts.join(":")}.${tenths % 10}`;
+  return `${parts.join(":")}.${counted % 10}`;
 }
+
+/** The day on which a tick begins, and a space; nothing where no clock is set. */
+export const day = (tick) => (begun === null ? "" : `${new Date((begun + Math.max(tick - 1, 0)) * 100).toISOString().slice(0, 10)} `);
 
 /** A press that is held, with the pointer or with space and enter: `down`, then `up`. */
 export function onPress(node, down, up) {

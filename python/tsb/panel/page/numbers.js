@@ -31,6 +31,14 @@ export function ticks(text, name, low, high) {
   return found;
 }
 
+/** The day, if there is one, and the time that are typed, as 7:42:10 or 2026-11-22 7:42, as commands have them. */
+export function moment(text, isDated) {
+  const typed = text.trim(), form = isDated ? "2026-11-22 7:42:10" : "7:42:10, or with its day as 2026-11-22 7:42:10";
+  const found = /^(?:(\d{4}-\d\d-\d\d)[ T]+)?(\d\d?):(\d\d)(?::(\d\d(?:\.\d)?))?$/.exec(typed);
+  if (!found || (isDated && !found[1])) throw new Typed(`${typed || "nothing"} is no ${isDated ? "day and time" : "time"}`, `enter it as ${form}`);
+  return { day: found[1], time: `${found[2].padStart(2, "0")}:${found[3]}:${found[4] ?? "00"}` };
+}
+
 /** The number of a list of phases: as 2,6, or as `= 34` the number itself. */
 export function phases(text, high) {
   const typed = text.trim();

@@ -3,9 +3,9 @@
 import { Controller } from "./controller.js";
 import { Desk } from "./desk.js";
 import { Diagram } from "./diagram.js";
-import { byId, clock, el, say } from "./dom.js";
+import { byId, clock, day, el, say, setClock } from "./dom.js";
 import { Intersection } from "./intersection.js";
-import { ticks, whole } from "./numbers.js";
+import { moment, ticks, whole } from "./numbers.js";
 
 const WAITING_MOST = 40; // requests that wait for an earlier one
 const LAST_TICK = 6000000;
@@ -14,6 +14,7 @@ const PULSE_MOST = 36000; // ticks
 const BESIDE = {
   begin: "desk-said", set: "desk-said", verify: "desk-said", commit: "desk-said", abort: "desk-said",
   save: "keep-said", load: "keep-said", undo: "time-said", drop: "time-said", go: "time-said", mark: "time-said",
+  find: "time-said", clock: "time-said",
 };
 const BEAT = 50, SELDOM = 400, ALIVE = 20000; // milliseconds
 const WATCHES = {
@@ -157,6 +158,7 @@ class Page {
     if (answer.view) this.detail.draw(answer.view, this.state.now);
     if (answer.overview) this.overview.draw(answer.overview, this.state.now);
     if (answer.view) this.chips(answer.view.marks);
+    this.found = answer.target ?? null;
     if (answer.said) say(byId("said"), answer.said);
     if (answer.said && this.beside) say(byId(this.beside), answer.said);
     if (answer.fault) this.told(new Fault(answer.fault));
@@ -167,8 +169,11 @@ class Page {
     this.state = state;
     say(byId("source"), state.source);
     document.title = `${state.source} – tsb panel`;
+    setClock(state.clock, state.now);
     say(byId("tick"), String(state.now));
-    say(byId("clock"), clock(state.now));
+    say(byId("clock"), day(state.now) + clock(state.now));
+    if (this.firstDay !== day(1) + clock(1) && day(1)) byId("begin-time").value = day(1) + clock(1).padStart(10, "0");
+    this.firstDay = day(1) + clock(1);
     say(byId("line"), state.line);
     byId("trip").hidden = !state.tripped;
     byId("unsaved").hidden = state.saved;
@@ -306,6 +311,18 @@ class Page {
     byId("scrubber").value = this.state.now;
   }
 
+  /** Goes to a tick, or to the one that begins at a time of the clock. */
+  goThere(text) {
+    if (!text.includes(":")) {
+      this.go(whole(text, "a tick", 0, LAST_TICK));
+      return;
+    }
+    const { day: of, time } = moment(text, false);
+    this.pause();
+    this.found = null;
+    this.ask({ do: "find", moment: of ? `${of} ${time}` : time }).then(() => this.found !== null && this.go(this.found));
+  }
+
   step(ticks) {
     this.pause();
     if (ticks > 0) this.ask({ do: "advance", ticks });
@@ -320,7 +337,8 @@ class Page {
     onClick("playfast", () => this.play(Infinity));
     onClick("tick-on", () => this.step(1));
     onClick("tick-back", () => this.step(-1));
-    onClick("go-there", () => this.tried("time-said", () => this.go(whole(byId("go").value, "a tick", 0, LAST_TICK))));
+    onClick("go-there", () => this.tried("time-said", () => this.goThere(byId("go").value)));
+    onClick("set-clock", () => this.tried("time-said", () => this.ask({ do: "clock", ...moment(byId("clock-to").value, true) })));
     onClick("undo", () => this.ask({ do: "undo" }));
     onClick("drop", () => this.ask({ do: "drop" }));
     onClick("message-close", () => this.clear());

@@ -19,6 +19,7 @@ use Rattle.tsb_step.specs.tsb_rules.Rules.{first_broken}
 use Rattle.tsb_step.specs.tsb_coord.declared.correction.Correction.{Correction}
 use Rattle.tsb_step.specs.tsb_coord.Coordinated.{local, force_off, asks_force_off, walk_and_clearance, is_left}
 use Rattle.tsb_step.specs.tsb_coord.Correction.{in_step}
+use Rattle.tsb_step.proofs.tsb_coord.ClockLemmas.{counts_from_tick_0}
 use Rattle.tsb_step.proofs.tsb_coord.CorrectionLemmas.{always_in_step}
 use Rattle.tsb_step.specs.tsb_phase.Pedestrian.{pedestrian_now}
 use Rattle.tsb_step.specs.tsb_preempt.Preempts.{Preempts, delay_timer, still_spent, requests, requesting, if_may_begin, beginning, going_on, service_by}
@@ -37,7 +38,7 @@ use Rattle.tsb_step.proofs.GoodLemmas.{good_run}
 use Rattle.tsb_laws.specs.Stretches.{IsUntripped}
 use Rattle.tsb_laws.specs.CoordinatedGreens.{HasGoneOn}
 use Rattle.tsb_laws.specs.RecycledWalks.{WalksAgain, MayWalkAgain, is_unheld, is_unforced}
-use Rattle.tsb_laws.proofs.operation.pattern.InStepLemmas.{forces_as}
+use Rattle.tsb_laws.proofs.operation.pattern.InStepLemmas.{clocked_in, forces_as}
 use Rattle.tsb_laws.proofs.operation.recycle.RecycleTimeLemmas.{IsRecycled, recycled_so}
 use Rattle.tsb_laws.proofs.operation.recycle.RecycledRunLemmas.{calls_are_recycled}
 use Rattle.tsb_laws.proofs.safety.Examples.PlanFits.{Fits, values_fit, quad_fits, consistent}
@@ -255,9 +256,19 @@ steps_so k = always_in_step s.plan s.pattern s.correction s.now (ap (λ (c : Cor
     s : State
     s = replay walking (after k)
 
+-- no clock is set
+from_tick_0 : (k t : ℕ) → clocked_in (replay walking (after k)) t ≡ t
+from_tick_0 k t =
+    counts_from_tick_0 s.plan s.pattern s.correction 0 t
+    (ap (λ (c : Correction). c.midnight) (correction_then walking all_off base k ∙ at_base.correction_is))
+  where
+    s : State
+    s = replay walking (after k)
+
 forced_is : (k : ℕ) → forced (replay walking (after k)) 2 ≡ asks_force_off walking (k + 3) (Some 1) 2
 forced_is k =
     forces_as s (s.now + 1) 2 (steps_so k) (omega arith)
+    ∙ ap (λ (t : ℕ). asks_force_off s.plan t s.pattern 2) (from_tick_0 k (s.now + 1))
     ∙ ap (λ (x : Plan). asks_force_off x (s.now + 1) s.pattern 2) (same_plan k)
     ∙ (ap (λ (o : Option ℕ). asks_force_off walking (s.now + 1) o 2) (pattern_then walking all_off base k ∙ at_base.pattern_is)
     ∙ ap (λ (t : ℕ). asks_force_off walking t (Some 1) 2) (let now = ticked k in omega (arith, now)))
@@ -270,22 +281,29 @@ record AtStart : Type 0 where
   now_is : (replay walking started).now ≡ 1
   plan_is : (replay walking started).plan ≡ walking
   pattern_is : (replay walking started).pattern ≡ Some 1
+  correction_is : (replay walking started).correction ≡ in_step
   both : walk walking 2 + pedestrian_clear walking 2 ≡ 20
 
 at_start : AtStart
 unfolding opened walking
-at_start = record { now_is = refl; plan_is = refl; pattern_is = refl; both = refl }
+at_start = record { now_is = refl; plan_is = refl; pattern_is = refl; correction_is = refl; both = refl }
 
 not_forced : (t : ℕ) → 2 ≤ t → t ≤ 21 → asks_force_off walking t (Some 1) 2 ≡ false
 not_forced t from to =
     sym (ap (λ (x : Plan). asks_force_off x t (replay walking started).pattern 2) at_start.plan_is ∙ ap (λ (o : Option ℕ). asks_force_off walking t o 2) at_start.pattern_is)
+    ∙ (sym (ap (λ (u : ℕ). asks_force_off (replay walking started).plan u (replay walking started).pattern 2) by_ticks)
     ∙ (sym (forces_as (replay walking started) t 2 recycled_2.in_step later)
     ∙ recycled_2.fits t later
     (let now = at_start.now_is in
     let both = at_start.both in
     let same = ap (λ (x : Plan). walk x 2 + pedestrian_clear x 2) at_start.plan_is in
-    omega (arith, now, both, same, to)))
+    omega (arith, now, both, same, to))))
   where
+    by_ticks : clocked_in (replay walking started) t ≡ t
+    by_ticks =
+        counts_from_tick_0 (replay walking started).plan (replay walking started).pattern (replay walking started).correction 0 t
+        (ap (λ (c : Correction). c.midnight) at_start.correction_is)
+
     later : (replay walking started).now < t
     later = let now = at_start.now_is in omega (arith, now, from)
 

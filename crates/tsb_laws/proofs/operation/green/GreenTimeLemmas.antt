@@ -461,7 +461,6 @@ unfolding step
 forced_others s (inputs.Tick row) p t r h = absurd (true≢false t)
 forced_others s inputs.Reset p t r h = absurd (true≢false r)
 forced_others s (inputs.Pattern n) p t r h = absurd (false≢true h)
-forced_others s (inputs.Clock m) p t r h = absurd (false≢true h)
 forced_others s (inputs.Fault lamp) p t r h = (sym (lit_latch s lamp p) ∙ h, refl)
 forced_others s i p t r h = (h, refl)
 

@@ -3,7 +3,9 @@
 use Rattle.std.proofs.Common.{◌≡◌, ℕ, ◌+◌, ◌%◌, ◌<◌, ◌≤◌, ◌==◌, Bool, true, false, if◌then◌else◌, List, Option, Some, None, refl, ap, arith, ◌∙◌}
 use Rattle.std.proofs.Math.Nat.{mod-lt}
 use Rattle.tsb_step.specs.tsb_plan.Plan.{Plan, is_enabled}
+use Rattle.tsb_step.specs.tsb_objects.Instants.{offset_in_effect}
 use Rattle.tsb_step.specs.tsb_plan.Parts.{is_used, cycle, offset}
+use Rattle.tsb_step.proofs.tsb_objects.InstantLemmas.{offset-below}
 use Rattle.tsb_step.specs.tsb_rules.Rules.{first_broken}
 use Rattle.tsb_step.specs.tsb_rules.Consistent.{IsWhole}
 use Rattle.tsb_step.specs.tsb_coord.Coordinated.{counter, local_in, instant_from, reference, instant_by, force_off, agree}
@@ -62,8 +64,8 @@ comes_in s k p good running stepped on = go (met_within (cycle s.plan k) (counte
     own : HasOwnInstant s.plan k p
     own = instant_now s k p good running on
 
-    below : offset s.plan k < cycle s.plan k
-    below = parts.below
+    below : offset_in_effect s.plan k < cycle s.plan k
+    below = offset-below s.plan k parts.below
 
     some : 0 < cycle s.plan k
     some = omega (arith, below)

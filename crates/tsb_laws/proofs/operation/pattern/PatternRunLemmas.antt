@@ -191,6 +191,7 @@ module _ (plan : Plan) (base : List Input) (c : ℕ) (ok : IsConsistent plan) (p
       runs_on : is_some (runs (replay plan (later ++ base))) ≡ true
       runs_on = let it = held_runs (replay plan (later ++ base)) c inner.0 in ap is_some it.1
   called_on (inputs.Pattern n ∷ later) taken out = absurd (false≢true out.1)
+  called_on (inputs.Clock m ∷ later) taken out = absurd (false≢true out.1)
   called_on (inputs.Commit station ∷ later) taken out = absurd (false≢true out.1)
   called_on (i ∷ later) taken out = (called_on later taken.0 out.0, refl)
 

@@ -4,13 +4,14 @@ use Rattle.std.proofs.Common.{◌≡◌, ℕ, ◌+◌, ◌-◌, ◌*◌, ◌%◌
 use Rattle.std.proofs.Math.Nat.{mod-eq_of_lt, mod-lt, add-mul-mod_self_right}
 use Rattle.std.proofs.lemmas.Bool.{and_parts, and_from, cases_lt, true≢false, false≢true}
 use Rattle.std.proofs.lemmas.Bool.Decides.{nat_tests}
-use Rattle.tsb_step.specs.tsb_plan.Parts.{cycle, offset, permissive_time}
+use Rattle.tsb_step.specs.tsb_objects.Instants.{offset_in_effect}
+use Rattle.tsb_step.specs.tsb_plan.Parts.{cycle, permissive_time}
 use Rattle.tsb_step.specs.tsb_plan.Plan.{Plan, is_enabled, walk, pedestrian_clear, recycles_walk}
 use Rattle.tsb_step.specs.tsb_plan.Running.{is_coordinated_now}
 use Rattle.tsb_step.specs.tsb_rules.Consistent.{IsWhole}
 use Rattle.tsb_step.specs.tsb_coord.Coordinated.{residue_of_difference, counter, local_in, force_off, agree, is_from_to, is_late, is_permitted, forces_off, asks_force_off, walk_and_clearance, may_recycle, is_left, recycles, asks_recycle}
 use Rattle.tsb_step.specs.tsb_coord.Correction.{forces}
-use Rattle.tsb_step.proofs.tsb_objects.InstantLemmas.{instants-below, coordinated-has-no-end}
+use Rattle.tsb_step.proofs.tsb_objects.InstantLemmas.{instants-below, offset-below, coordinated-has-no-end}
 use Rattle.tsb_step.proofs.tsb_coord.LocalLemmas.{counter_moves_on}
 use Rattle.tsb_step.proofs.tsb_rules.ConsistentLemmas.{is-off}
 use Rattle.tsb_step.specs.State.{State}
@@ -142,14 +143,14 @@ module _ (s : State) (good : IsGood s) (n p : ℕ) (runs_now : runs s ≡ Some n
   parts : IsWhole s.plan n
   parts = runs_whole s n good runs_now
 
-  below : offset s.plan n < cycle s.plan n
-  below = parts.below
+  below : offset_in_effect s.plan n < cycle s.plan n
+  below = offset-below s.plan n parts.below
 
   some : 0 < cycle s.plan n
   some = omega (arith, below)
 
   -- the next tick by the clock
-  next : ℕ
+  abbrev next : ℕ
   next = clocked_in s (s.now + 1)
 
   asks_as : (t : ℕ) → asks_force_off s.plan t s.pattern p ≡ forces_off s.plan (Some n) (Some (counter s.plan n t)) p

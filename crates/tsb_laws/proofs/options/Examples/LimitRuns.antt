@@ -52,7 +52,7 @@ is_green_then = refl
 
 -- 100 ticks after a selection that was 100 ticks ahead
 abbrev selected : Correction
-selected = record { since = 0; ahead = 100 }
+selected = record { since = 0; ahead = 100; midnight = 0 }
 
 -- a mistake: the counter comes into step the short way, whatever the mode
 abbrev whatever_the_mode : Plan → ℕ

@@ -82,8 +82,8 @@ ahead_of s n None = 0
 ahead_of s n (Some l) = residue_of_difference (cycle s.plan n) (l % cycle s.plan n) (counter s.plan n s.now)
 
 abbrev goes_on : State → ℕ → Correction
-goes_on s n = begun s.now (ahead_of s n (local s))
+goes_on s n = begun s.now 0 (ahead_of s n (local s))
 
-would_begin_ahead : goes_on (replay quad first_pattern) 2 ≡ record { since = 2; ahead = 790 }
+would_begin_ahead : goes_on (replay quad first_pattern) 2 ≡ record { since = 2; ahead = 790; midnight = 0 }
 unfolding opened
 would_begin_ahead = refl

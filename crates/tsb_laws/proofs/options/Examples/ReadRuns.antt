@@ -14,7 +14,6 @@ use Rattle.tsb_step.specs.tsb_rules.PatternRules.{permissive_times_end}
 use Rattle.tsb_step.specs.tsb_rules.Rules.{unless}
 use Rattle.tsb_step.specs.tsb_phase.DynamicMaximum.{is_dynamic}
 use Rattle.tsb_step.specs.tsb_coord.declared.correction.Correction.{Correction}
-use Rattle.tsb_step.specs.tsb_coord.Coordinated.{local}
 use Rattle.tsb_step.specs.tsb_coord.Correction.{local_now}
 use Rattle.tsb_step.specs.declared.inputs.Input.{Input}
 use Rattle.tsb_step.specs.declared.inputs.Input.TheVariants.{Tick, Pattern, Begin, Set, Verify, Commit}
@@ -81,21 +80,22 @@ would_break_k23 : first_broken_of_times optional ≡ Some K23
 unfolding opened optional plain.first_broken plain.broken_by_parts
 would_break_k23 = refl
 
--- ## A local counter that comes into step the short way, 12 ticks after a selection that was 100 ticks ahead
+-- ## A local counter that comes into step the short way, 12 ticks after a selection that was 100 ticks ahead. Its offset
+-- is counted to the begin of green, 250 ticks before the end of the coordinated split
 
 abbrev selected : Correction
-selected = record { since = 0; ahead = 100 }
+selected = record { since = 0; ahead = 100; midnight = 0 }
 
 abbrev by_correction : Plan → Option ℕ
 by_correction plan = local_now plan (Some 1) selected 12
 
-is_at_12 : local optional 12 (Some 1) ≡ Some 12
+is_at_12 : plain.local optional 12 (Some 1) ≡ Some 12
 unfolding opened optional
 is_at_12 = refl
 
-would_be_at_110 : by_correction optional ≡ Some 110
+would_be_at_660 : by_correction optional ≡ Some 660
 unfolding opened optional
-would_be_at_110 = refl
+would_be_at_660 = refl
 
 -- ## A list of options that leaves one out
 
@@ -141,6 +141,7 @@ read_alone = record {
       coord_correction_mode = refl;
       overlap_across_rings = λ o. refl;
       preempt_chooses_anew = λ n. refl;
+      coord_reference = refl;
     };
     phase_dynamic_max_limit = λ p. refl;
     overlap_type = λ o. refl;

@@ -10,6 +10,7 @@ use Rattle.tsb_step.specs.tsb_objects.Instants.{offset_in_effect}
 use Rattle.tsb_step.specs.tsb_plan.Plan.{Plan, with_values}
 use Rattle.tsb_step.specs.tsb_plan.Quad.{quad}
 use Rattle.tsb_step.specs.tsb_rules.Rules.{first_broken}
+use Rattle.tsb_step.specs.tsb_coord.declared.correction.Correction.{Correction}
 use Rattle.tsb_step.specs.tsb_coord.Coordinated.{force_off}
 use Rattle.tsb_step.specs.tsb_ring.Rings.{Ring1}
 use Rattle.tsb_step.specs.declared.inputs.Input.{Input}
@@ -24,7 +25,7 @@ use Rattle.tsb_step.specs.Laws.{IsConsistent}
 use Rattle.tsb_step.proofs.Examples.Scenes.{opened}
 use Rattle.tsb_laws.specs.TimesLeft.{IsShown, is_at_instant, StaysInStep}
 use Rattle.tsb_laws.proofs.safety.Examples.PlanFits.{Fits, values_fit, quad_fits, consistent}
-use Rattle.tsb_laws.proofs.safety.Examples.TickRuns.{ticks, now_then, plan_then, all_taken}
+use Rattle.tsb_laws.proofs.safety.Examples.TickRuns.{ticks, now_then, plan_then, all_taken, correction_then}
 
 abbrev near_values : List (Object × ℕ × ℕ)
 near_values = (PatternOffsetTime, 1, 6) ∷ []
@@ -100,7 +101,7 @@ a_force_off = record {
     same_pattern = runs_1_still ∙ sym runs_1;
     same_cycle = λ m h. ap (λ (x : Plan). cycle x m) (plan_then near all_off started 19);
     same_offset = λ m h. ap (λ (x : Plan). offset_in_effect x m) (plan_then near all_off started 19);
-    same_midnight = refl;
+    same_midnight = ap (λ (c : Correction). c.midnight) (correction_then near all_off started 19);
     same_instant = ap₂ (λ (x : Plan) (o : Option ℕ). force_off x o 2) (plan_then near all_off started 19) (runs_1_still ∙ sym runs_1);
   };
   clock = now_then near all_off started 19;

@@ -8,4 +8,4 @@ returns-in-None c = rw c.in-None.is (at-most (omega arith) (part c.push.ensures.
 
 pub returns-in-Some : goal.returns-in-Some
 returns-in-Some c =
-    rw c.in-Some.is (at-most (omega (arith, c.push_number.ensures.short)) (then (part c.push.ensures.line) (then (part c.push_number.ensures.line) (part c.push-2.ensures.line))))
+    rw c.in-Some.is (at-most (omega (arith, c.push_number.ensures.short)) (then (part c.push-in-Some.ensures.line) (then (part c.push_number.ensures.line) (part c.push-in-Some-2.ensures.line))))

@@ -5,11 +5,12 @@ use Rattle.tsb_types.specs.Events.{event}
 use Rattle.tsb_step.specs.tsb_history.declared.kinds.Kind.TheVariants as kinds
 use Rattle.tsb_step.specs.Step.{verdict}
 use Rattle.tsb_bench.specs.tsb_machine.declared.commands.Answer.TheVariants.{Undone}
-use Rattle.tsb_command_text.specs.declared.command.Command.TheVariants.{Step, Undo}
+use Rattle.tsb_command_text.specs.declared.command.Command.TheVariants.{Clock, Step, Undo}
 use Rattle.tsb_command_text.specs.declared.command.Reading.{Reading}
 use Rattle.tsb_command_text.specs.declared.command.Reading.TheVariants.{Bad, Do}
 use Rattle.std.specs.declared.option.Option.{Option}
 use Rattle.tsb_step.specs.declared.inputs.Input.{Input}
+use Rattle.tsb_step.specs.declared.inputs.Input.TheVariants as inputs
 use Rattle.tsb_command_text.specs.Readings.{reading}
 use Rattle.tsb_text.specs.Answers.{Setup, next_tick}
 use Rattle.tsb_text.specs.declared.faults.LineFault.{LineFault}
@@ -22,6 +23,7 @@ use Rattle.tsb_text.specs.recording.Faults.{fault_line, fault_text}
 use Rattle.tsb_text.specs.recording.Laws.{StoppedSo}
 use Rattle.tsb_text.specs.recording.Leaves.{Come, Does, End, Ends, Follows, quits}
 use Rattle.tsb_text.specs.Stops.{flow_after, stopped_at}
+use Rattle.tsb_text.proofs.recording.ClockLemmas.{clocks_are_first_lines}
 use Rattle.tsb_text.proofs.recording.StopLemmas.{no_line_stops_others}
 use Rattle.tsb_text.specs.declared.recording.told.Mark.{Mark}
 use Rattle.tsb_text.specs.recording.Told.{Telling, gone_back, nothing_told, with_events, with_mark}
@@ -140,7 +142,20 @@ would_tell_two given bad s = let no : 49 ≡ 50 = ap (λ (v : List ℕ). get_or 
 
 -- were one that goes on to end with it, the tick after it would be left out
 would_leave_out : (given : Setup) (bad tick told : List ℕ) → Come GoOn given (stopped_by 1 bad) 1 [] (bad ∷ tick ∷ []) told → ⊥
-would_leave_out given bad tick told h = let none : (stopped_by 1 bad).stop ≡ None = no_line_stops_others given (stopped_by 1 bad) (bad ∷ tick ∷ []) told h in absurd (let no : ⊥ = cc in no)
+would_leave_out given bad tick told h = let none : (stopped_by 1 bad).stop ≡ None = no_line_stops_others given None (stopped_by 1 bad) (bad ∷ tick ∷ []) told h in absurd (let no : ⊥ = cc in no)
+
+-- ## Clocks
+
+-- a line that sets a clock, and no other
+clock_first : (given : Setup) (m : ℕ) (clock : List ℕ) → reading clock ≡ Do (Clock m) → Come Stop given (left (inputs.Clock m ∷ [])) 1 [] (clock ∷ []) []
+clock_first given m clock sets = clocks_are_first_lines Stop given m (left (inputs.Clock m ∷ [])) 1 clock [] [] sets (refl, refl)
+
+-- were the clock of a record forgotten, it would leave no input where that line leaves one
+abbrev forgets : Option ℕ → List Input
+forgets clock = []
+
+would_leave_none : (given : Setup) (m : ℕ) → Come Stop given (left (inputs.Clock m ∷ [])) 2 (forgets (Some m)) [] [] → ⊥
+would_leave_none given m h = let no : 1 ≡ 0 = ap (λ (e : End). length e.inputs) h.1 in absurd (omega (arith, no))
 
 -- ## What was told before a fault
 

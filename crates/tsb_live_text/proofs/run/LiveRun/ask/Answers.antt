@@ -15,9 +15,10 @@ use Rattle.tsb_status.specs.Plain.{status_of}
 use Rattle.tsb_status_text.specs.StatusText.{status_text}
 use Rattle.tsb_text.specs.Answers.{when_line}
 use Rattle.tsb_command_text.specs.declared.live_command.LiveCommand.TheVariants as asks
+use Rattle.tsb_live_text.specs.GoTo.{tick_of}
 use Rattle.tsb_live_text.specs.Live.{present, with_echo, with_events}
 use Rattle.tsb_live_text.specs.declared.help.TheConstants.{HELP}
-use Rattle.tsb_live_text.proofs.LiveLemmas.{does-as, does-plan, does-tell, echo-stands, events-stands, made-plan, present-kept, present-state, same-echo}
+use Rattle.tsb_live_text.proofs.LiveLemmas.{does-as, does-plan, does-tell, does-tick-at, echo-stands, events-stands, made-plan, present-kept, present-state, present-tick, same-echo}
 use Rattle.tsb_live_text.proofs.run.LiveRun.ask.Goals as goal
 
 pub returns-in-Session-clause-done : goal.returns-in-Session-clause-done
@@ -25,6 +26,9 @@ returns-in-Session-clause-done g c s stands = does-as c.obey.result s _ c.args.l
 
 pub returns-in-Changes-clause-done : goal.returns-in-Changes-clause-done
 returns-in-Changes-clause-done g c s stands = does-as c.changes.result s _ c.args.line.now c.args.command (asks.Changes c.in-Changes.ticks) _ _ _ _ c.in-Changes.is (c.changes.ensures.done s stands)
+
+pub returns-in-GoTo-clause-done : goal.returns-in-GoTo-clause-done
+returns-in-GoTo-clause-done g c s stands = does-as c.go_to.result s _ c.args.line.now c.args.command (asks.GoTo c.in-GoTo.aim) _ _ _ _ c.in-GoTo.is (c.go_to.ensures.done s stands)
 
 pub returns-in-Plan-clause-done : goal.returns-in-Plan-clause-done
 returns-in-Plan-clause-done g c s stands =
@@ -51,6 +55,13 @@ returns-in-When-clause-done g c s stands =
     does-as c.tell-in-When.result s _ c.args.line.now c.args.command (asks.When c.in-When.which) _ _ _ _ c.in-When.is
     (does-tell c.tell-in-When.result None _ s s c.args.line.now c.deref-in-When.result.now c.as_bytes-in-When.result.now (when_line (last_change (value_of c.in-When.which) s.plan s.inputs)) _ _ _ _ stands
     (same-echo c.args.self.now s c.args.line.now c.deref-in-When.result.now stands (c.deref-in-When.ensures.0 ∙ c.echo-echo.ensures)) (c.as_bytes-in-When.ensures.bytes ∙ c.when_line-change.ensures.line ∙ ap when_line (c.last_change.ensures s.plan s.inputs (ap (λ (k : Stock). k.kept) c.kept.ensures ∙ present-kept c.args.self.now s stands))) c.tell-in-When.ensures.told)
+
+pub returns-in-TickAt-clause-done : goal.returns-in-TickAt-clause-done
+returns-in-TickAt-clause-done g c s stands =
+    does-as c.tell_tick.result s _ c.args.line.now c.args.command (asks.TickAt c.in-TickAt.aim) _ _ _ _ c.in-TickAt.is
+    (does-tick-at c.tick_of.result (tick_of (present s).start_moment (present s).now c.in-TickAt.aim) c.tell_tick.result _ s c.args.line.now c.deref-in-TickAt.result.now _ _ _ _
+    (c.tick_of.ensures ∙ present-tick c.args.self.now s c.in-TickAt.aim stands) stands
+    (same-echo c.args.self.now s c.args.line.now c.deref-in-TickAt.result.now stands (c.deref-in-TickAt.ensures.0 ∙ c.echo-echo.ensures)) c.tell_tick.ensures.told)
 
 pub returns-in-Events-clause-done : goal.returns-in-Events-clause-done
 returns-in-Events-clause-done g c s stands =

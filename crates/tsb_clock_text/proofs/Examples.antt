@@ -1,2 +1,0 @@
--- Computed examples of the definitions, and mistakes that they refuse.
-pub mod Mistakes

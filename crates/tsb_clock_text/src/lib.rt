@@ -1,9 +1,0 @@
-//! The text of a time that a clock is set to: a date of the years 2000 to 2099, and a time of day.
-#![tactic(auto)]
-
-pub mod laws;
-mod read;
-mod write;
-
-pub use read::read_clock;
-pub use write::{date_text, time_text};
