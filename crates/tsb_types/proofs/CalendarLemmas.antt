@@ -5,13 +5,8 @@ use Rattle.std.proofs.lemmas.Bool.{and_parts, and_from, cases_eq, leb-true, le-l
 use Rattle.std.proofs.lemmas.Bool.Decides.{nat_tests}
 use Rattle.std.proofs.lemmas.Nat.{div-mul-add, mod-mul-add}
 use Rattle.tsb_types.specs.declared.clock_time.TheConstants.{FIRST_DAY, LAST_DAY}
-<<<<<<<< HEAD:crates/tsb_types/proofs/CalendarLemmas.antt
 use Rattle.tsb_types.specs.Calendar.{is_leap, common_days_before, days_before, days_of_years, is_day, day_number, is_date, month_up_to, month_of, year_of, date_in, date_after}
 use Rattle.tsb_types.specs.declared.calendar.ClockDate.{ClockDate}
-========
-use Rattle.tsb_command_text.specs.clock.Calendar.{is_leap, common_days_before, days_before, days_of_years, is_day, day_number, is_date, month_up_to, month_of, year_of, date_in, date_after}
-use Rattle.tsb_command_text.specs.declared.clock.calendar.ClockDate.{ClockDate}
->>>>>>>> clocked:crates/tsb_command_text/proofs/clock/CalendarLemmas.antt
 
 -- ## Years
 

@@ -1,11 +1,7 @@
 -- Dates of the years 2000 to 2099, and their numbers: days since 1999-12-24. Each fourth of these years has a 29
 -- February. In functions a year is counted from 2000 and a day of a year from 0, a month and a day of it from 1.
 use Rattle.std.specs.Prelude.{ℕ, zero, suc, ◌+◌, ◌-◌, ◌*◌, ◌/◌, ◌%◌, ◌==◌, nat_le, nat_lt, Bool, false, ◌&&◌, if◌then◌else◌}
-<<<<<<<< HEAD:crates/tsb_types/specs/Calendar.antt
 use Rattle.tsb_types.specs.declared.calendar.ClockDate.{ClockDate}
-========
-use Rattle.tsb_command_text.specs.declared.clock.calendar.ClockDate.{ClockDate}
->>>>>>>> clocked:crates/tsb_command_text/specs/clock/Calendar.antt
 use Rattle.tsb_types.specs.declared.clock_time.TheConstants.{FIRST_DAY}
 
 -- the year has a 29 February

@@ -1,10 +1,6 @@
 //! The calendar of the years 2000 to 2099.
 ghost use Rattle.std.specs.Prelude.{◌≡◌, ◌≤◌, ◌<◌, ◌-◌, true};
-<<<<<<<< HEAD:crates/tsb_types/src/calendar.rt
 ghost use Rattle.tsb_types.specs.Calendar.{common_days_before, date_after, date_in, day_number, days_before, days_of_years, is_date, is_day, is_leap, month_of, year_of};
-========
-ghost use Rattle.tsb_command_text.specs.clock.Calendar.{common_days_before, date_after, date_in, day_number, days_before, days_of_years, is_date, is_day, is_leap, month_of, year_of};
->>>>>>>> clocked:crates/tsb_command_text/src/clock/calendar.rt
 
 use crate::clock_time::FIRST_DAY;
 

@@ -17,7 +17,7 @@ use Rattle.tsb_words.specs.declared.field_files.RecordManner.{RecordManner}
 use Rattle.tsb_words.specs.declared.error.WordsError.{WordsError}
 use Rattle.tsb_words.specs.Commands.{file_rule, flag_rule, option_rule, repeated_rule, required_rule}
 use Rattle.tsb_words.specs.FieldWords.{Wish, diagram, events, log, midnight, recording, reviewing, seconds_of, seen, weekly, window_of}
-use Rattle.tsb_clock_text.specs.ClockText.{clock_of}
+use Rattle.tsb_command_text.specs.clock.ClockText.{clock_of}
 use Rattle.tsb_words.specs.Words.{SpelledBy, met_by}
 use Rattle.tsb_words.specs.Wires.{joined, wires_of}
 

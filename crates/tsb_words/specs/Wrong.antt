@@ -10,7 +10,7 @@ use Rattle.tsb_field_log.specs.Inputs.{most_inputs}
 use Rattle.tsb_field_log.specs.declared.inputs.InputKind.{InputKind}
 use Rattle.tsb_field_log.specs.declared.inputs.InputKind.TheVariants.{Vehicle, Pedestrian, Preempt}
 use Rattle.tsb_words.specs.FieldWords.{midnight, seconds_of, window_of}
-use Rattle.tsb_clock_text.specs.ClockText.{clock_of}
+use Rattle.tsb_command_text.specs.clock.ClockText.{clock_of}
 use Rattle.tsb_words.specs.Near.{first_word, front_of, is_empty, is_slip, words_of}
 use Rattle.tsb_words.specs.Shown.{shown}
 use Rattle.tsb_words.specs.Wires.{parts_of, wire_of}

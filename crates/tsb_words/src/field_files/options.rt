@@ -2,11 +2,11 @@
 ghost use Rattle.std.specs.Prelude.{◌≡◌, option_map};
 ghost use Rattle.clap.specs.Words.{found_of, rows_of};
 ghost use Rattle.tsb_words.specs.FieldProgram.{form_said, from_said, moment_in, seconds_said, usual_window, window_said, zone_said};
-ghost use Rattle.tsb_clock_text.specs.ClockText.{clock_of};
+ghost use Rattle.tsb_command_text.specs.clock.ClockText.{clock_of};
 ghost use Rattle.tsb_words.specs.FieldWords.{midnight, seconds_of, window_of};
 
 use clap::ArgMatches;
-use tsb_clock_text::read_clock;
+use tsb_command_text::clock::read_clock;
 use tsb_event_text::{Moment, TimeForm, Zone, read_moment, time_form_named, zone_named};
 use tsb_lines::number;
 use tsb_types::ClockTime;

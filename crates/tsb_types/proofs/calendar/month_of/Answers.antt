@@ -1,15 +1,8 @@
 use Rattle.std.proofs.Common.{◌≡◌, ◌≤◌, ◌-◌, ℕ, ◌+◌, ap, ◌∙◌, arith, inl, inr}
-<<<<<<<< HEAD:crates/tsb_types/proofs/calendar/month_of/Answers.antt
 use Rattle.tsb_types.specs.Calendar.{month_up_to}
 use Rattle.tsb_types.proofs.CalendarLemmas.{month_on}
 use Rattle.tsb_types.proofs.calendar.month_of.Goals.{then-days_before-day, else-days_before-day}
 use Rattle.tsb_types.proofs.calendar.month_of.Goals as goal
-========
-use Rattle.tsb_command_text.specs.clock.Calendar.{month_up_to}
-use Rattle.tsb_command_text.proofs.clock.CalendarLemmas.{month_on}
-use Rattle.tsb_command_text.proofs.clock.calendar.month_of.Goals.{then-days_before-day, else-days_before-day}
-use Rattle.tsb_command_text.proofs.clock.calendar.month_of.Goals as goal
->>>>>>>> clocked:crates/tsb_command_text/proofs/clock/calendar/month_of/Answers.antt
 
 pub loop-next-preserved : goal.loop-next-preserved
 loop-next-preserved c =

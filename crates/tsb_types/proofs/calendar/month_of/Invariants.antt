@@ -1,11 +1,6 @@
 use Rattle.std.proofs.Common.{◌≡◌, ◌-◌, ◌≤◌}
-<<<<<<<< HEAD:crates/tsb_types/proofs/calendar/month_of/Invariants.antt
 use Rattle.tsb_types.specs.Calendar.{month_up_to}
 use Rattle.tsb_types.proofs.calendar.month_of.Given as goal
-========
-use Rattle.tsb_command_text.specs.clock.Calendar.{month_up_to}
-use Rattle.tsb_command_text.proofs.clock.calendar.month_of.Given as goal
->>>>>>>> clocked:crates/tsb_command_text/proofs/clock/calendar/month_of/Invariants.antt
 
 -- the month is the last of those so far that has begun
 abbrev pub invariant-loop-next : goal.invariant-loop-next
