@@ -1,3 +1,4 @@
+pub mod RunStepLemmas
 pub mod PlanLemmas
 pub mod TableLemmas
 pub mod CellLemmas
