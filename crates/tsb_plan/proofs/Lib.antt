@@ -1,3 +1,5 @@
+pub mod ActingLemmas
+pub mod HoldingLemmas
 pub mod RunStepLemmas
 pub mod PlanLemmas
 pub mod TableLemmas
