@@ -40,7 +40,8 @@ pub fn inputs_of(digits: &[u8]) -> Option<Row>
     })
 }
 
-fn tick(digits: &[u8]) -> Option<u32>
+/// The tick that digits spell: 1 to the last of a bench.
+pub(crate) fn tick(digits: &[u8]) -> Option<u32>
     ensures { result ≡ tick_of digits.now }
 {
     let tick = number(digits)?;

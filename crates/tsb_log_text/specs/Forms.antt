@@ -1,0 +1,21 @@
+-- The two forms of a log, and the row that a line spells in each.
+use Rattle.std.specs.Prelude.{ℕ, List, [], ◌∷◌, if◌then◌else◌, Option, is_some}
+use Rattle.tsb_lines.specs.Lines.{is_skipped}
+use Rattle.tsb_log_text.specs.Rows.{row_of}
+use Rattle.tsb_log_text.specs.RowLists.{row_of_lists}
+use Rattle.tsb_log_text.specs.declared.form.RowForm.{RowForm}
+use Rattle.tsb_log_text.specs.declared.form.RowForm.TheVariants.{Digits, Lists}
+use Rattle.tsb_log_text.specs.declared.log.LogRow.{LogRow}
+
+-- the row that a line spells in a form
+abbrev pub row_in : RowForm → List ℕ → Option LogRow
+row_in Digits line = row_of line
+row_in Lists line = row_of_lists line
+
+-- the form of a log with these lines: lists, where the first line that is not skipped is a row of lists
+abbrev pub form_of : List (List ℕ) → RowForm
+form_of [] = Digits
+form_of (line ∷ lines) =
+    if is_skipped line then form_of lines
+    else if is_some (row_of_lists line) then Lists
+    else Digits
