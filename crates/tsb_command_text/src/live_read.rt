@@ -7,7 +7,7 @@ ghost use Rattle.tsb_command_text.specs.LiveReadings.{live_reading};
 use crate::live_command::{LiveCommand, LiveReading};
 use crate::{LINE, read_command, turned_on};
 use tsb_lines::{is_skipped, next_word, number};
-use tsb_log_text::{RowInput, inputs_of};
+use tsb_log_text::{RowInput, inputs_in};
 use tsb_types::Number;
 
 /// What a line asks. The line is given without its end, and is bad where it has over `LINE` bytes.
@@ -21,7 +21,7 @@ pub fn live_reading_of(line: &[u8]) -> LiveReading
     if is_skipped(line) {
         return LiveReading::Skip;
     }
-    if let Some(row) = inputs_of(line) {
+    if let Some(row) = inputs_in(line) {
         return LiveReading::Tick(row);
     }
     match live_command(line) {

@@ -1,8 +1,9 @@
 -- The two forms of a log, and the row that a line spells in each.
-use Rattle.std.specs.Prelude.{ℕ, List, [], ◌∷◌, if◌then◌else◌, Option, is_some}
+use Rattle.std.specs.Prelude.{ℕ, List, [], ◌∷◌, if◌then◌else◌, Option, Some, None, is_some}
 use Rattle.tsb_lines.specs.Lines.{is_skipped}
-use Rattle.tsb_log_text.specs.Rows.{row_of}
-use Rattle.tsb_log_text.specs.RowLists.{row_of_lists}
+use Rattle.tsb_types.specs.declared.row.Row.{Row}
+use Rattle.tsb_log_text.specs.Rows.{inputs_of, row_of}
+use Rattle.tsb_log_text.specs.RowLists.{lists_of, row_of_lists}
 use Rattle.tsb_log_text.specs.declared.form.RowForm.{RowForm}
 use Rattle.tsb_log_text.specs.declared.form.RowForm.TheVariants.{Digits, Lists}
 use Rattle.tsb_log_text.specs.declared.log.LogRow.{LogRow}
@@ -19,3 +20,12 @@ form_of (line ∷ lines) =
     if is_skipped line then form_of lines
     else if is_some (row_of_lists line) then Lists
     else Digits
+
+-- the first row, or where there is none the second
+abbrev pub row_or_other : Option Row → Option Row → Option Row
+row_or_other None other = other
+row_or_other (Some row) other = Some row
+
+-- the inputs that a line spells in either form, without a tick; no line spells some in both
+abbrev pub inputs_in : List ℕ → Option Row
+inputs_in line = row_or_other (inputs_of line) (lists_of line)

@@ -1,12 +1,13 @@
 //! The two forms of a log, and the row that a line spells in each.
 ghost use Rattle.std.specs.Prelude.{◌≡◌};
 ghost use Rattle.tsb_lines.specs.Lines.{lines_of};
-ghost use Rattle.tsb_log_text.specs.Forms.{form_of, row_in};
+ghost use Rattle.tsb_log_text.specs.Forms.{form_of, inputs_in, row_in};
 
-use crate::list_text::lists_row;
+use crate::list_text::{lists_of, lists_row};
 use crate::log::LogRow;
-use crate::row_text::row;
+use crate::row_text::{inputs_of, row};
 use tsb_lines::{is_skipped, next_line};
+use tsb_types::Row;
 
 /// A form of the rows of a log. All rows of a log have one form.
 #[derive(Clone, Copy, PartialEq, Eq)]
@@ -45,5 +46,15 @@ pub(crate) fn form_of(text: &[u8]) -> RowForm
             return RowForm::Digits;
         };
         rest = more;
+    }
+}
+
+/// The inputs that a line spells in either form, as a row does behind its tick, or `None` where it spells none.
+pub fn inputs_in(line: &[u8]) -> Option<Row>
+    ensures { result ≡ inputs_in line.now }
+{
+    match inputs_of(line) {
+        Some(row) => Some(row),
+        None => lists_of(line),
     }
 }

@@ -20,7 +20,7 @@ mod row_text;
 mod search;
 
 pub use error::{LogError, LogLine};
-pub use form::RowForm;
+pub use form::{RowForm, inputs_in};
 pub use line::{RowLine, row_line};
 pub use list_line::{ListsLine, lists_line};
 pub use list_text::lists_of;
