@@ -18,6 +18,7 @@ use crate::controller::Controller;
 use crate::found::{RingTold, RingsTold};
 use crate::seen::numbers;
 use tsb_events::Seen;
+use tsb_objects::limits::PREEMPTS;
 use tsb_objects::{Checked, Interval, NumberSet, Pattern, Preempt, Stage, Station};
 use tsb_status::{PhaseFound, RingStatus, Status, ring};
 use tsb_step::{FlashStatus, FreeStatus, PreemptState};
@@ -220,7 +221,7 @@ impl Controller {
     }
 
     /// `preemptState` of each preempt in turn.
-    fn preempt_states(&self, plan: &Checked) -> [PreemptState; 4]
+    fn preempt_states(&self, plan: &Checked) -> [PreemptState; PREEMPTS as usize]
         ensures { TellsPreempts (checked_plan plan.now) (rows_of self.now) result }
     {
         let entered = self.preempts.has_entered(&self.phases.intervals(), plan);

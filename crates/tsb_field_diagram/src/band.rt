@@ -6,7 +6,8 @@ ghost use Rattle.tsb_field_diagram.specs.Bands.{flash_mark, mark_in_change, mark
 
 use tsb_field_display::{PedestrianHeads, Shown, Signals, VehicleHeads};
 use tsb_log_text::LogRow;
-use tsb_types::NumberSet;
+use tsb_types::limits::VEHICLE_DETECTORS;
+use tsb_types::{DetectorSet, NumberSet};
 
 /// How high a band is.
 pub(crate) const BAND: u128 = 16;
@@ -86,7 +87,7 @@ pub(crate) fn mark_in_row(band: Band, row: &LogRow) -> BandMark
     ensures { result ≡ mark_in_row band row.now }
 {
     match band.kind {
-        BandKind::VehicleInput => on_mark(shows(row.row.vehicles, band.number)),
+        BandKind::VehicleInput => on_mark(shows_detector(row.row.vehicles, band.number)),
         BandKind::PedestrianInput => on_mark(shows(row.row.pedestrians, band.number)),
         BandKind::PreemptInput => on_mark(shows(row.row.preempts, band.number)),
         _ => BandMark::Dark,
@@ -164,4 +165,11 @@ fn shows(set: NumberSet, number: u8) -> bool
     ensures { result ≡ shows set number }
 {
     1 <= number && number <= 16 && set.contains(number)
+}
+
+/// Whether a vehicle detector is in a set: only one that there is can be.
+fn shows_detector(set: DetectorSet, number: u8) -> bool
+    ensures { result ≡ shows_detector set number }
+{
+    1 <= number && number <= VEHICLE_DETECTORS && set.contains(number)
 }

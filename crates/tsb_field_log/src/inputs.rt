@@ -2,6 +2,8 @@
 ghost use Rattle.std.specs.Prelude.{◌≡◌};
 ghost use Rattle.tsb_field_log.specs.Inputs.{is_of, most_inputs, signal_of};
 
+use tsb_types::limits::{PEDESTRIAN_DETECTORS, PREEMPTS, VEHICLE_DETECTORS};
+
 /// A kind of input.
 #[derive(Clone, Copy, PartialEq, Eq)]
 pub enum InputKind {
@@ -19,9 +21,9 @@ impl InputKind {
         ensures { result ≡ most_inputs self }
     {
         match self {
-            InputKind::Vehicle => 16,
-            InputKind::Pedestrian => 8,
-            InputKind::Preempt => 4,
+            InputKind::Vehicle => VEHICLE_DETECTORS,
+            InputKind::Pedestrian => PEDESTRIAN_DETECTORS,
+            InputKind::Preempt => PREEMPTS,
         }
     }
 }

@@ -1,7 +1,7 @@
 -- The line of a row by lists, as it is written: each run of numbers that are on is one item of its list.
 use Rattle.std.specs.Prelude.{ℕ, zero, suc, ◌+◌, ◌==◌, Bool, List, [], ◌∷◌, ◌++◌, if◌then◌else◌, codes, decimal}
 use Rattle.tsb_lines.specs.Digits.{seven_digits}
-use Rattle.tsb_types.specs.Sets.{has_number}
+use Rattle.tsb_types.specs.Sets.{has_detector, has_number}
 use Rattle.tsb_types.specs.declared.limits.TheConstants.{VEHICLE_DETECTORS, PEDESTRIAN_DETECTORS, PREEMPTS}
 use Rattle.tsb_log_text.specs.declared.log.LogRow.{LogRow}
 
@@ -42,7 +42,7 @@ kind_text before most on = items_behind before (runs_from 1 most on)
 unfoldable pub lists_line : LogRow → List ℕ
 lists_line r =
     seven_digits r.tick
-    ++ (kind_text (codes " V") VEHICLE_DETECTORS (has_number r.row.vehicles)
+    ++ (kind_text (codes " V") VEHICLE_DETECTORS (has_detector r.row.vehicles)
     ++ (kind_text (codes " P") PEDESTRIAN_DETECTORS (has_number r.row.pedestrians)
     ++ kind_text (codes " E") PREEMPTS (has_number r.row.preempts)))
 

@@ -3,9 +3,8 @@ use Rattle.std.specs.Prelude.{ℕ, ◌-◌, ◌==◌, ◌&&◌, nat_le, nat_lt, 
 use Rattle.tsb_lines.specs.Lines.{onto_first}
 use Rattle.tsb_lines.specs.Words.{number_of}
 use Rattle.tsb_types.specs.Lists.{among, run_from}
-use Rattle.tsb_types.specs.Sets.{all_off, list_of, set_of_list}
+use Rattle.tsb_types.specs.Sets.{all_off, list_of, set_of_detectors, set_of_list}
 use Rattle.tsb_types.specs.declared.limits.TheConstants.{VEHICLE_DETECTORS, PEDESTRIAN_DETECTORS, PREEMPTS}
-use Rattle.tsb_types.specs.declared.number_set.NumberSet.{NumberSet}
 use Rattle.tsb_types.specs.declared.row.Row.{Row}
 use Rattle.tsb_log_text.specs.Rows.{field, has_space, row_with, tick_of}
 use Rattle.tsb_log_text.specs.declared.log.LogRow.{LogRow}
@@ -56,14 +55,14 @@ abbrev pub numbers_from : ℕ → ℕ → List (List ℕ) → Option (List ℕ)
 numbers_from most last [] = Some []
 numbers_from most last (item ∷ items) = item_then most last (ends_of_item (parts 45 item)) (λ end. numbers_from most end items)
 
--- the set of these numbers, each at most this
-abbrev pub set_of_numbers : ℕ → Option (List ℕ) → Option NumberSet
-set_of_numbers most None = None
-set_of_numbers most (Some ns) = Some (set_of_list (list_of most (λ n. among n ns)))
+-- the list of these numbers, each at most this
+abbrev pub list_of_numbers : ℕ → Option (List ℕ) → Option ℕ
+list_of_numbers most None = None
+list_of_numbers most (Some ns) = Some (list_of most (λ n. among n ns))
 
--- the set that a list spells: items with commas between them, of which the numbers rise
-abbrev pub set_in_list : ℕ → List ℕ → Option NumberSet
-set_in_list most list = set_of_numbers most (numbers_from most 0 (parts 44 list))
+-- the list of the numbers that a text spells: items with commas between them, of which the numbers rise
+abbrev pub list_spelled : ℕ → List ℕ → Option ℕ
+list_spelled most text = list_of_numbers most (numbers_from most 0 (parts 44 text))
 
 -- ## Rows
 
@@ -77,31 +76,32 @@ abbrev pub is_of : ℕ → List ℕ → Bool
 is_of letter [] = false
 is_of letter (b ∷ bs) = b == letter
 
--- a set, where a list spells one, with the words behind it
-abbrev pub set_before : Option NumberSet → List (List ℕ) → Option (NumberSet × List (List ℕ))
-set_before None words = None
-set_before (Some set) words = Some (set, words)
+-- a list, where there is one, with the words behind it
+abbrev pub list_before : Option ℕ → List (List ℕ) → Option (ℕ × List (List ℕ))
+list_before None words = None
+list_before (Some list) words = Some (list, words)
 
--- the set of the kind with this letter, and the words behind it: the first word has its list where some of it are on
-abbrev pub own_list : ℕ → ℕ → List (List ℕ) → Option (NumberSet × List (List ℕ))
-own_list letter most [] = Some (set_of_list 0, [])
+-- the list of the kind with this letter, and the words behind it: the first word has it where some of the kind are on
+abbrev pub own_list : ℕ → ℕ → List (List ℕ) → Option (ℕ × List (List ℕ))
+own_list letter most [] = Some (0, [])
 own_list letter most (w ∷ ws) =
-    if is_of letter w then set_before (set_in_list most (drop 1 w)) ws else Some (set_of_list 0, w ∷ ws)
+    if is_of letter w then list_before (list_spelled most (drop 1 w)) ws else Some (0, w ∷ ws)
 
--- the sets of three kinds as the inputs of a row, where no word is left
-abbrev pub row_of_sets : NumberSet → NumberSet → Option (NumberSet × List (List ℕ)) → Option Row
-row_of_sets v p None = None
-row_of_sets v p (Some (e, [])) = Some (record { vehicles = v; pedestrians = p; preempts = e })
-row_of_sets v p (Some (e, w ∷ ws)) = None
+-- the lists of three kinds as the inputs of a row, where no word is left
+abbrev pub row_of_three : ℕ → ℕ → Option (ℕ × List (List ℕ)) → Option Row
+row_of_three v p None = None
+row_of_three v p (Some (e, [])) = Some (record { vehicles = set_of_detectors v; pedestrians = set_of_list p; preempts = set_of_list e })
+row_of_three v p (Some (e, w ∷ ws)) = None
+
+-- preempt inputs, after these vehicle and pedestrian detectors
+abbrev pub after_pedestrians : ℕ → Option (ℕ × List (List ℕ)) → Option Row
+after_pedestrians v None = None
+after_pedestrians v (Some (p, words)) = row_of_three v p (own_list 69 PREEMPTS words)
 
 -- pedestrian detectors and preempt inputs, after these vehicle detectors
-abbrev pub after_vehicles : Option (NumberSet × List (List ℕ)) → Option Row
+abbrev pub after_vehicles : Option (ℕ × List (List ℕ)) → Option Row
 after_vehicles None = None
 after_vehicles (Some (v, words)) = after_pedestrians v (own_list 80 PEDESTRIAN_DETECTORS words)
-  where
-    abbrev after_pedestrians : NumberSet → Option (NumberSet × List (List ℕ)) → Option Row
-    after_pedestrians v None = None
-    after_pedestrians v (Some (p, words)) = row_of_sets v p (own_list 69 PREEMPTS words)
 
 -- inputs by lists: V and the list of vehicle detectors, P and that of pedestrian detectors, E and that of preempt inputs,
 -- with a space between them; a kind with nothing on is left out

@@ -1,12 +1,11 @@
 //! The line of a row by lists, written.
 ghost use Rattle.std.specs.Prelude.{◌≡◌, ◌≤◌, ◌<◌, ◌++◌, ◌∷◌, [], ℕ};
 ghost use Rattle.tsb_lines.specs.ShortLines.{Adds};
-ghost use Rattle.tsb_types.specs.Sets.{has_number};
+ghost use Rattle.tsb_types.specs.Sets.{names};
 ghost use Rattle.tsb_log_text.specs.ListText.{kind_text, lists_line, item_text, run_end};
 
 use crate::log::LogRow;
 use tsb_lines::{ShortLine, seven_digits};
-use tsb_types::NumberSet;
 use tsb_types::limits::{PEDESTRIAN_DETECTORS, PREEMPTS, VEHICLE_DETECTORS};
 
 /// The most bytes of the line of a row by lists, with its line feed.
@@ -22,22 +21,24 @@ pub fn lists_line(row: LogRow) -> ListsLine
 {
     let mut line = ListsLine::new();
     line.push(&seven_digits(row.tick));
-    push_kind(&mut line, b" V", row.row.vehicles, VEHICLE_DETECTORS);
-    push_kind(&mut line, b" P", row.row.pedestrians, PEDESTRIAN_DETECTORS);
-    push_kind(&mut line, b" E", row.row.preempts, PREEMPTS);
+    push_kind(&mut line, b" V", row.row.vehicles.list(), VEHICLE_DETECTORS);
+    let pedestrians = u64::from(row.row.pedestrians.list());
+    push_kind(&mut line, b" P", pedestrians, PEDESTRIAN_DETECTORS);
+    let preempts = u64::from(row.row.preempts.list());
+    push_kind(&mut line, b" E", preempts, PREEMPTS);
     line.push(b"\n");
     line
 }
 
 /// Adds a space, a letter and the list of the numbers from 1 to `most` that are on, where there are some.
-fn push_kind(line: &mut ListsLine, letter: &[u8; 2], on: NumberSet, most: u8)
-    requires { most ≤ 16 }
-    ensures { Adds LISTS_LINE line.old (kind_text letter.now most (has_number on)) line.new }
+fn push_kind(line: &mut ListsLine, letter: &[u8; 2], on: u64, most: u8)
+    requires { most ≤ 64 }
+    ensures { Adds LISTS_LINE line.old (kind_text letter.now most (names on)) line.new }
 {
     let mut is_first = true;
     let mut number = 1u8;
     while number <= most {
-        if on.contains(number) {
+        if is_on(on, number) {
             let end = end_of_run(on, number, most);
             line.push(if is_first { letter } else { b"," });
             push_item(line, number, end);
@@ -60,17 +61,27 @@ fn push_item(line: &mut ListsLine, first: u8, end: u8)
 }
 
 /// The last number, at most `most`, of the run of numbers that are on from `first`, which is, on.
-fn end_of_run(on: NumberSet, first: u8, most: u8) -> u8
+fn end_of_run(on: u64, first: u8, most: u8) -> u8
     requires from_one { 1 ≤ first }
     requires within { first ≤ most }
-    requires few { most ≤ 16 }
-    ensures end { result ≡ run_end first (most - first) (has_number on) }
+    requires few { most ≤ 64 }
+    ensures end { result ≡ run_end first (most - first) (names on) }
     ensures from { first ≤ result }
     ensures within { result ≤ most }
 {
     let mut end = first;
-    while end < most && on.contains(end + 1) {
+    while end < most && is_on(on, end + 1) {
         end += 1;
     }
     end
+}
+
+/// Whether a list has a number.
+#[inline(always)]
+fn is_on(on: u64, number: u8) -> bool
+    requires from_one { 1 ≤ number }
+    requires within { number ≤ 64 }
+    ensures { result ≡ names on number }
+{
+    on >> (number - 1) & 1 == 1
 }

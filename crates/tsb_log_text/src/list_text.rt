@@ -1,13 +1,13 @@
 //! The line that spells a row by lists, read.
 ghost use Rattle.std.specs.Prelude.{◌≡◌, ◌≤◌, ◌<◌, ℕ, MatchOption, ◌∷◌, [], ◌&&◌, ◌||◌, nat_le};
-ghost use Rattle.tsb_types.specs.Sets.{has_number};
-ghost use Rattle.tsb_log_text.specs.RowLists.{ends_of_item, lists_of, own_list, parts, plain_number, row_of_lists, set_in_list, words_left};
+ghost use Rattle.tsb_types.specs.Sets.{names};
+ghost use Rattle.tsb_log_text.specs.RowLists.{ends_of_item, lists_of, own_list, parts, plain_number, row_of_lists, list_spelled, words_left};
 
 use crate::log::LogRow;
 use crate::row_text::tick;
 use tsb_lines::number;
 use tsb_types::limits::{PEDESTRIAN_DETECTORS, PREEMPTS, VEHICLE_DETECTORS};
-use tsb_types::{NumberSet, Row};
+use tsb_types::{DetectorSet, NumberSet, Row};
 
 /// What may follow a list: the words behind it, and none of these where there is no space.
 type Behind<'a> = Option<&'a [u8]>;
@@ -46,36 +46,36 @@ pub fn lists_of(text: &[u8]) -> Option<Row>
         return None;
     }
     Some(Row {
-        vehicles,
-        pedestrians,
-        preempts,
+        vehicles: DetectorSet::from_list(vehicles),
+        pedestrians: NumberSet::from_list(pedestrians as u16),
+        preempts: NumberSet::from_list(preempts as u16),
     })
 }
 
-/// The numbers in the list of a kind, which stands first of these words where some are on, and the words behind it.
+/// The numbers, as a list, that the list of a kind spells, which stands first of these words where some are on, and the words behind it.
 /// `None` where it is not a list of numbers from 1 to `most`.
-fn own_list(letter: u8, most: u8, words: Behind<'_>) -> Option<(NumberSet, Behind<'_>)>
-    requires { most ≤ 16 }
+fn own_list(letter: u8, most: u8, words: Behind<'_>) -> Option<(u64, Behind<'_>)>
+    requires { most ≤ 64 }
     ensures { MatchOption result (own_list letter most (words_left words) ≡ None)
         (λ found. own_list letter most (words_left words) ≡ Some (found.0, words_left found.1)) }
 {
     let Some(text) = words else {
-        return Some((NumberSet::empty(), None));
+        return Some((0, None));
     };
     if text.is_empty() || text[0] != letter {
-        return Some((NumberSet::empty(), Some(text)));
+        return Some((0, Some(text)));
     }
     let (word, behind) = cut_at(text, b' ');
-    let set = set_in(&word[1..], most)?;
-    Some((set, behind))
+    let on = list_in(&word[1..], most)?;
+    Some((on, behind))
 }
 
-/// The numbers that a list spells: numbers and ranges of numbers, with a comma between them, from 1 to `most` and rising.
-fn set_in(list: &[u8], most: u8) -> Option<NumberSet>
-    requires { most ≤ 16 }
-    ensures { result ≡ set_in_list most list.now }
+/// The numbers, as a list, that a list spells: numbers and ranges of numbers, with a comma between them, from 1 to `most` and rising.
+fn list_in(list: &[u8], most: u8) -> Option<u64>
+    requires { most ≤ 64 }
+    ensures { result ≡ list_spelled most list.now }
 {
-    let mut set = NumberSet::empty();
+    let mut on = 0;
     let mut last = 0;
     let mut rest = list;
     loop {
@@ -84,10 +84,10 @@ fn set_in(list: &[u8], most: u8) -> Option<NumberSet>
         if first <= last || end > u32::from(most) {
             return None;
         }
-        set = with_run(set, first as u8, end as u8);
+        on = with_run(on, first as u8, end as u8);
         last = end;
         let Some(more) = behind else {
-            return Some(set);
+            return Some(on);
         };
         rest = more;
     }
@@ -121,16 +121,16 @@ fn plain_number(digits: &[u8]) -> Option<u32>
     number(digits)
 }
 
-/// The set with all numbers from `first` to `end`.
-fn with_run(set: NumberSet, first: u8, end: u8) -> NumberSet
+/// The list with all numbers from `first` to `end`.
+fn with_run(on: u64, first: u8, end: u8) -> u64
     requires from_one { 1 ≤ first }
-    requires within { end ≤ 16 }
-    ensures { (n : ℕ) → has_number result n ≡ (has_number set n || (nat_le first n && nat_le n end)) }
+    requires within { end ≤ 64 }
+    ensures { (n : ℕ) → names result n ≡ (names on n || (nat_le first n && nat_le n end)) }
 {
-    let mut all = set;
+    let mut all = on;
     let mut number = first;
     while number <= end {
-        all = all.with(number, true);
+        all |= 1 << (number - 1);
         number += 1;
     }
     all

@@ -16,7 +16,8 @@ use crate::rings::push_ring;
 use crate::waits::push_waits;
 use tsb_status::{RingStatus, Status};
 use tsb_step::PreemptState;
-use tsb_types::{NumberSet, Station};
+use tsb_types::limits::{PREEMPTS, VEHICLE_DETECTORS};
+use tsb_types::{DetectorSet, NumberSet, Station};
 
 /// How many phases and vehicle detectors there are.
 const PHASES: u8 = 16;
@@ -77,7 +78,15 @@ fn push_end(line: &mut StatusLine, time: Option<u32>)
     }
 }
 
-/// Adds a set of phases or vehicle detectors to a line, after a name.
+/// Adds a set of vehicle detectors to a line, after a name.
+fn push_detector_set(line: &mut StatusLine, name: &[u8], set: DetectorSet)
+    ensures { AddsShort LONGEST (length name.now + length (numbers (has_detector set) VEHICLE_DETECTORS)) line.old (name.now ++ numbers (has_detector set) VEHICLE_DETECTORS) line.new }
+{
+    line.push(name);
+    push_detectors_of(line, set);
+}
+
+/// Adds a set of phases to a line, after a name.
 fn push_set(line: &mut StatusLine, name: &[u8], set: NumberSet)
     ensures { AddsShort LONGEST (length name.now + 40) line.old (name.now ++ numbers (has_number set) 16) line.new }
 {
@@ -131,13 +140,13 @@ fn push_overlaps(line: &mut StatusLine, status: &Status)
 fn push_detectors(line: &mut StatusLine, status: &Status)
     ensures { AddsShort LONGEST 101 line.old (detectors_text (status_of status.entry.now)) line.new }
 {
-    push_set(line, b"{\"active\":", status.active);
-    push_set(line, b",\"alarms\":", status.alarms);
+    push_detector_set(line, b"{\"active\":", status.active);
+    push_detector_set(line, b",\"alarms\":", status.alarms);
     line.push(b"}");
 }
 
 /// Adds preemptState of preempts 1 to 4 to a line.
-fn push_preempts(line: &mut StatusLine, states: &[PreemptState; 4])
+fn push_preempts(line: &mut StatusLine, states: &[PreemptState; PREEMPTS as usize])
     ensures { AddsShort LONGEST 81 line.old (preempts_text (λ n. get_or states.now (n - 1) NotActive)) line.new }
 {
     push_preempt(line, b"[", states[0]);

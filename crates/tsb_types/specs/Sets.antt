@@ -45,12 +45,12 @@ size_of_detectors s = s.word
 
 -- all inputs off
 abbrev pub all_off : Row
-all_off = record { vehicles = set_of_list 0; pedestrians = set_of_list 0; preempts = set_of_list 0 }
+all_off = record { vehicles = set_of_detectors 0; pedestrians = set_of_list 0; preempts = set_of_list 0 }
 
 -- two rows have the same inputs on
 abbrev pub is_same_row : Row → Row → Bool
 is_same_row one other =
-    is_same_set one.vehicles other.vehicles && is_same_set one.pedestrians other.pedestrians
+    is_same_detectors one.vehicles other.vehicles && is_same_set one.pedestrians other.pedestrians
     && is_same_set one.preempts other.preempts
 
 -- the set has phase p
