@@ -225,12 +225,11 @@ impl Controller {
         ensures { TellsPreempts (checked_plan plan.now) (rows_of self.now) result }
     {
         let entered = self.preempts.has_entered(&self.phases.intervals(), plan);
-        [
-            self.preempt_state(entered, Preempt::of(1)),
-            self.preempt_state(entered, Preempt::of(2)),
-            self.preempt_state(entered, Preempt::of(3)),
-            self.preempt_state(entered, Preempt::of(4)),
-        ]
+        let mut states = [PreemptState::NotActive; PREEMPTS as usize];
+        for before in 0..PREEMPTS {
+            states[usize::from(before)] = self.preempt_state(entered, Preempt::of(before + 1));
+        }
+        states
     }
 
     /// The status of the pattern that runs, at tick number `now`.

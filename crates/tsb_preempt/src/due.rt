@@ -1,5 +1,6 @@
 //! Until which tick nothing happens to the preempts, while their inputs and the intervals of phases stay: when a delay
 //! has passed, and when the stage in service ends.
+ghost use Rattle.tsb_types.specs.declared.limits.TheConstants.{PREEMPTS};
 ghost use Rattle.std.specs.Prelude.{◌≡◌, ℕ, ◌+◌, ◌<◌, ◌≤◌, ◌&&◌, true, false, slice_index, not};
 ghost use Rattle.tsb_cells.specs.Timer.{timer_at, has_reached};
 ghost use Rattle.tsb_types.specs.Flow.{interval_of};
@@ -14,6 +15,7 @@ ghost use Rattle.tsb_preempt.specs.Due.{StaysInStage, StaysInService, IsWaiting}
 use crate::cells::LISTS;
 use crate::preempts::Preempts;
 use crate::serving::{Serving, has_dwell, has_input, is_exit_green, is_track_green, may_begin};
+use tsb_objects::limits::PREEMPTS;
 use tsb_objects::{Intervals, NumberSet, Plan, Preempt, Stage};
 
 /// No tick.
@@ -158,11 +160,13 @@ impl Preempts {
     pub(crate) fn has_delays(&self, inputs: NumberSet) -> bool
         ensures { result ≡ true → (t : ℕ) → AreDelayed t inputs (cells_of self.now) (cells_of self.now) }
     {
-        let one = runs(self.delay(1));
-        let two = runs(self.delay(2));
-        let three = runs(self.delay(3));
-        let four = runs(self.delay(4));
-        one + 2 * two + 4 * three + 8 * four == u32::from(inputs.list()) % LISTS
+        let mut running = 0;
+        let mut weight = 1;
+        for before in 0..PREEMPTS {
+            running += weight * runs(self.delay(before + 1));
+            weight *= 2;
+        }
+        running == u32::from(inputs.list()) % LISTS
     }
 
     /// The tick at which a preempt requests service, where its service may then begin.
@@ -176,7 +180,7 @@ impl Preempts {
         was: &Option<Serving>,
     ) -> u32
         requires from { 1 ≤ n }
-        requires within { n ≤ 4 }
+        requires within { n ≤ PREEMPTS }
         ensures { (now t : ℕ) → slice_index (cells_of self.now) (1 + n) ≤ t + 1 → t < result → IsWaiting now t (plan_of plan.now) (cells_of self.now) inputs spent was.now n }
     {
         request_due(
@@ -198,13 +202,13 @@ impl Preempts {
         spent: NumberSet,
         was: &Option<Serving>,
     ) -> u32
-        ensures { (now t : ℕ) → ((n : ℕ) → 1 ≤ n → n ≤ 4 → slice_index (cells_of self.now) (1 + n) ≤ t + 1) → t < result →
-            (n : ℕ) → 1 ≤ n → n ≤ 4 → IsWaiting now t (plan_of plan.now) (cells_of self.now) inputs spent was.now n }
+        ensures { (now t : ℕ) → ((n : ℕ) → 1 ≤ n → n ≤ PREEMPTS → slice_index (cells_of self.now) (1 + n) ≤ t + 1) → t < result →
+            (n : ℕ) → 1 ≤ n → n ≤ PREEMPTS → IsWaiting now t (plan_of plan.now) (cells_of self.now) inputs spent was.now n }
     {
-        let one = self.request_due(plan, 1, inputs, spent, was);
-        let two = self.request_due(plan, 2, inputs, spent, was);
-        let three = self.request_due(plan, 3, inputs, spent, was);
-        let four = self.request_due(plan, 4, inputs, spent, was);
-        one.min(two).min(three.min(four))
+        let mut due = NEVER;
+        for before in 0..PREEMPTS {
+            due = due.min(self.request_due(plan, before + 1, inputs, spent, was));
+        }
+        due
     }
 }

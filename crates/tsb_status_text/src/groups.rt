@@ -16,14 +16,11 @@ use crate::rings::push_ring;
 use crate::waits::push_waits;
 use tsb_status::{RingStatus, Status};
 use tsb_step::PreemptState;
-use tsb_types::limits::{PREEMPTS, VEHICLE_DETECTORS};
+use tsb_types::limits::{OVERLAPS, PREEMPTS, VEHICLE_DETECTORS};
 use tsb_types::{DetectorSet, NumberSet, Station};
 
-/// How many phases and vehicle detectors there are.
+/// How many phases there are.
 const PHASES: u8 = 16;
-
-/// How many overlaps there are.
-const OVERLAPS: u8 = 4;
 
 /// The line of a status: one object of JSON, in ASCII, without spaces and without a line feed. Its names are those of
 /// NTCIP 1202, group by group, so that `reds` of `phaseStatusGroup` is phaseStatusGroupReds; those that it has not are
@@ -149,10 +146,9 @@ fn push_detectors(line: &mut StatusLine, status: &Status)
 fn push_preempts(line: &mut StatusLine, states: &[PreemptState; PREEMPTS as usize])
     ensures { AddsShort LONGEST 81 line.old (preempts_text (λ n. get_or states.now (n - 1) NotActive)) line.new }
 {
-    push_preempt(line, b"[", states[0]);
-    push_preempt(line, b",", states[1]);
-    push_preempt(line, b",", states[2]);
-    push_preempt(line, b",", states[3]);
+    for k in 0..PREEMPTS as usize {
+        push_preempt(line, if k == 0 { b"[" } else { b"," }, states[k]);
+    }
     line.push(b"]");
 }
 

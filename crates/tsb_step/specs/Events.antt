@@ -142,9 +142,9 @@ calls_now s = record {
   service_ended = false;
 }
 
--- there are overlaps 1 to 4
+-- there are overlaps of these numbers
 abbrev pub is_overlap : ℕ → Bool
-is_overlap o = nat_le 1 o && nat_le o 4
+is_overlap o = nat_le 1 o && nat_le o OVERLAPS
 
 -- some phase that the overlap includes is in service
 abbrev pub includes_service : State → ℕ → Bool

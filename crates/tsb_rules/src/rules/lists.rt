@@ -1,6 +1,7 @@
 //! Rules K14, K15, K16 and K21: the lists of overlaps and preempts.
 #![tactic(auto, unfolding(tsb_plan::specs::PlanOf::plan_of))]
 
+ghost use Rattle.tsb_types.specs.declared.limits.TheConstants.{OVERLAPS, PREEMPTS};
 ghost use Rattle.std.specs.Prelude.{◌≡◌, ◌≤◌, ◌&&◌, ◌||◌, not};
 ghost use Rattle.std.specs.List.{list_all};
 ghost use Rattle.tsb_plan.specs.declared.object.Object.TheVariants.{OverlapIncludedPhases};
@@ -15,6 +16,7 @@ ghost use Rattle.tsb_types.specs.Sets.{names};
 use crate::rules::asked::{OfPhase, each_phase};
 use crate::rules::concurrency::may_be_concurrent;
 use tsb_plan::{Object, Plan};
+use tsb_types::limits::{OVERLAPS, PREEMPTS};
 use tsb_types::{Overlap, Phase, PhaseSet, Preempt};
 
 /// What a rule asks of each phase that a list names.
@@ -30,7 +32,7 @@ pub(super) enum OfNamed {
     GoesWith(Phase),
 }
 
-/// What a rule asks of each overlap, or of each preempt: there are four of either.
+/// What a rule asks of each overlap, or of each preempt.
 #[derive(Clone, Copy)]
 pub(super) enum OfFour {
     /// K14: the included phases of the overlap are enabled.
@@ -66,10 +68,10 @@ pub(super) fn each_named(plan: &Plan, list: u16, asked: OfNamed) -> bool
     Phase::all().iter().all(|other| !named.contains(*other) || named_meets(plan, asked, *other))
 }
 
-/// Whether overlap or preempt `number`, 1 to 4, is as a rule asks.
+/// Whether overlap or preempt `number` is as a rule asks.
 fn one_meets(plan: &Plan, asked: OfFour, number: u8) -> bool
     requires from { 1 ≤ number }
-    requires to { number ≤ 4 }
+    requires to { number ≤ of_kind asked }
     ensures { result ≡ four_meet asked (plan_of plan.now) number }
 {
     match asked {
@@ -80,20 +82,32 @@ fn one_meets(plan: &Plan, asked: OfFour, number: u8) -> bool
     }
 }
 
-/// Whether each of the four overlaps or preempts is as a rule asks.
+/// How many there are of what a rule asks: overlaps or preempts.
+fn of_kind(asked: OfFour) -> u8
+    ensures { result ≡ of_kind asked }
+{
+    match asked {
+        OfFour::IncludesEnabled | OfFour::ModifiesRightly => OVERLAPS,
+        OfFour::HasConcurrentLists | OfFour::DwellsOrIsEmpty => PREEMPTS,
+    }
+}
+
+/// Whether each overlap or preempt is as a rule asks.
 #[tactic(auto, unfolding(tsb_plan::specs::PlanOf::plan_of, tsb_types::specs::Lists::run_from))]
 pub(super) fn four_meet(plan: &Plan, asked: OfFour) -> bool
-    ensures { result ≡ list_all (four_meet asked (plan_of plan.now)) (run_from 1 4) }
+    ensures { result ≡ list_all (four_meet asked (plan_of plan.now)) (run_from 1 (of_kind asked)) }
 {
-    one_meets(plan, asked, 1)
-        && one_meets(plan, asked, 2)
-        && one_meets(plan, asked, 3)
-        && one_meets(plan, asked, 4)
+    for before in 0..of_kind(asked) {
+        if !one_meets(plan, asked, before + 1) {
+            return false;
+        }
+    }
+    true
 }
 
 /// A list of an overlap.
 fn of_overlap(plan: &Plan, object: Object, overlap: Overlap) -> u16
-    requires index { indices object ≡ 4 }
+    requires index { indices object ≡ OVERLAPS }
     ensures value { result ≡ (plan_of plan.now).value object overlap }
 {
     plan.at(object, u32::from(overlap.number())) as u16
@@ -101,7 +115,7 @@ fn of_overlap(plan: &Plan, object: Object, overlap: Overlap) -> u16
 
 /// A list of a preempt.
 fn of_preempt(plan: &Plan, object: Object, preempt: Preempt) -> u16
-    requires index { indices object ≡ 4 }
+    requires index { indices object ≡ PREEMPTS }
     ensures value { result ≡ (plan_of plan.now).value object preempt }
 {
     plan.at(object, u32::from(preempt.number())) as u16
