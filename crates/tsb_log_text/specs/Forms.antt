@@ -1,5 +1,6 @@
 -- The two forms of a log, and the row that a line spells in each.
-use Rattle.std.specs.Prelude.{ℕ, List, [], ◌∷◌, if◌then◌else◌, Option, Some, None, is_some}
+use Rattle.std.specs.List.{list_any}
+use Rattle.std.specs.Prelude.{ℕ, ◌||◌, Bool, nat_le, List, [], ◌∷◌, if◌then◌else◌, Option, Some, None, is_some}
 use Rattle.tsb_lines.specs.Lines.{is_skipped}
 use Rattle.tsb_types.specs.declared.row.Row.{Row}
 use Rattle.tsb_log_text.specs.Rows.{inputs_of, row_of}
@@ -29,3 +30,11 @@ row_or_other (Some row) other = Some row
 -- the inputs that a line spells in either form, without a tick; no line spells some in both
 abbrev pub inputs_in : List ℕ → Option Row
 inputs_in line = row_or_other (inputs_of line) (lists_of line)
+
+-- an input is on for which rows in digits have none
+abbrev pub is_beyond_digits : Row → Bool
+is_beyond_digits row = nat_le 65536 row.vehicles.word || (nat_le 256 row.pedestrians.word || nat_le 16 row.preempts.word)
+
+-- the form in which a log with these rows is written
+abbrev pub form_for : List LogRow → RowForm
+form_for rows = if list_any (λ r. is_beyond_digits r.row) rows then Lists else Digits

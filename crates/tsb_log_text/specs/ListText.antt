@@ -3,6 +3,9 @@ use Rattle.std.specs.Prelude.{ℕ, zero, suc, ◌+◌, ◌==◌, Bool, List, [],
 use Rattle.tsb_lines.specs.Digits.{seven_digits}
 use Rattle.tsb_types.specs.Sets.{has_detector, has_number}
 use Rattle.tsb_types.specs.declared.limits.TheConstants.{VEHICLE_DETECTORS, PEDESTRIAN_DETECTORS, PREEMPTS}
+use Rattle.tsb_log_text.specs.LogText.{log_text, row_line}
+use Rattle.tsb_log_text.specs.declared.form.RowForm.{RowForm}
+use Rattle.tsb_log_text.specs.declared.form.RowForm.TheVariants.{Digits, Lists}
 use Rattle.tsb_log_text.specs.declared.log.LogRow.{LogRow}
 
 -- the last number of the run that n begins, of which at most so many follow n
@@ -50,3 +53,13 @@ lists_line r =
 unfoldable pub lists_text : List LogRow → List ℕ
 lists_text [] = []
 lists_text (r ∷ rs) = lists_line r ++ 10 ∷ lists_text rs
+
+-- the line of a row in a form
+abbrev pub line_in : RowForm → LogRow → List ℕ
+line_in Digits r = row_line r
+line_in Lists r = lists_line r
+
+-- the text of these rows in a form
+abbrev pub text_in : RowForm → List LogRow → List ℕ
+text_in Digits rows = log_text rows
+text_in Lists rows = lists_text rows

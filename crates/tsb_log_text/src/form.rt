@@ -1,7 +1,7 @@
 //! The two forms of a log, and the row that a line spells in each.
 ghost use Rattle.std.specs.Prelude.{◌≡◌};
 ghost use Rattle.tsb_lines.specs.Lines.{lines_of};
-ghost use Rattle.tsb_log_text.specs.Forms.{form_of, inputs_in, row_in};
+ghost use Rattle.tsb_log_text.specs.Forms.{form_of, form_for, inputs_in, is_beyond_digits, row_in};
 
 use crate::list_text::{lists_of, lists_row};
 use crate::log::LogRow;
@@ -57,4 +57,23 @@ pub fn inputs_in(line: &[u8]) -> Option<Row>
         Some(row) => Some(row),
         None => lists_of(line),
     }
+}
+
+/// Whether an input is on for which rows in digits have none.
+pub fn is_beyond_digits(row: &Row) -> bool
+    ensures { result ≡ is_beyond_digits row.now }
+{
+    row.vehicles.list() >= 1 << 16 || row.pedestrians.list() >= 1 << 8 || row.preempts.list() >= 1 << 4
+}
+
+/// The form in which a log with these rows is written: digits, where these have one for each input that is on.
+pub fn form_for(rows: &[LogRow]) -> RowForm
+    ensures { result ≡ form_for rows.now }
+{
+    for row in rows {
+        if is_beyond_digits(&row.row) {
+            return RowForm::Lists;
+        }
+    }
+    RowForm::Digits
 }

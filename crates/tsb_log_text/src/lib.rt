@@ -20,9 +20,9 @@ mod row_text;
 mod search;
 
 pub use error::{LogError, LogLine};
-pub use form::{RowForm, inputs_in};
+pub use form::{RowForm, form_for, inputs_in, is_beyond_digits};
 pub use line::{RowLine, row_line};
-pub use list_line::{ListsLine, lists_line};
+pub use list_line::{LISTS_LINE, ListsLine, line_in, lists_line};
 pub use list_text::lists_of;
 pub use log::{Log, LogRow};
 pub use read::{LIMIT, read_log};

@@ -2,14 +2,16 @@
 ghost use Rattle.std.specs.Prelude.{◌≡◌, ◌≤◌, ◌<◌, ◌++◌, ◌∷◌, [], ℕ};
 ghost use Rattle.tsb_lines.specs.ShortLines.{Adds};
 ghost use Rattle.tsb_types.specs.Sets.{names};
-ghost use Rattle.tsb_log_text.specs.ListText.{kind_text, lists_line, item_text, run_end};
+ghost use Rattle.tsb_log_text.specs.ListText.{kind_text, line_in, lists_line, item_text, run_end};
 
+use crate::form::RowForm;
+use crate::line::row_line;
 use crate::log::LogRow;
 use tsb_lines::{ShortLine, seven_digits};
 use tsb_types::limits::{PEDESTRIAN_DETECTORS, PREEMPTS, VEHICLE_DETECTORS};
 
-/// The most bytes of the line of a row by lists, with its line feed.
-const LISTS_LINE: usize = 180;
+/// The most bytes of the line of a row, with its line feed.
+pub const LISTS_LINE: usize = 180;
 
 /// The bytes of the line of a row by lists.
 pub type ListsLine = ShortLine<LISTS_LINE>;
@@ -28,6 +30,20 @@ pub fn lists_line(row: LogRow) -> ListsLine
     push_kind(&mut line, b" E", preempts, PREEMPTS);
     line.push(b"\n");
     line
+}
+
+/// The line of a row in a form, with its line feed.
+pub fn line_in(form: RowForm, row: LogRow) -> ListsLine
+    ensures { result ≡ line_in form row ++ 10 ∷ [] }
+{
+    match form {
+        RowForm::Lists => lists_line(row),
+        RowForm::Digits => {
+            let mut line = ListsLine::new();
+            line.push(row_line(row).as_bytes());
+            line
+        }
+    }
 }
 
 /// Adds a space, a letter and the list of the numbers from 1 to `most` that are on, where there are some.

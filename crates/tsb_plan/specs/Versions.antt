@@ -1,8 +1,8 @@
 -- The versions of plan texts: which objects each has, at how many indices, up to which value, and the index in a plan of
 -- what a text names. The last version is the table of objects; here stands how those before it differ.
-use Rattle.std.specs.Prelude.{ℕ, ◌+◌, ◌-◌, ◌*◌, ◌/◌, ◌%◌, Bool, true, false, ◌&&◌, nat_le, if◌then◌else◌, Option, Some, None}
+use Rattle.std.specs.Prelude.{ℕ, ◌+◌, ◌-◌, ◌*◌, ◌/◌, ◌%◌, Bool, true, false, ◌&&◌, ◌||◌, nat_le, if◌then◌else◌, Option, Some, None}
 use Rattle.tsb_plan.specs.declared.object.Object.{Object}
-use Rattle.tsb_plan.specs.declared.object.Object.TheVariants.{PhaseCarsBeforeReduction, SplitTime, SplitMode, SplitCoordPhase, SequenceData}
+use Rattle.tsb_plan.specs.declared.object.Object.TheVariants.{PhaseCarsBeforeReduction, VehicleDetectorCallPhase, VehicleDetectorFailTime, PedestrianDetectorCallPhase, OverlapIncludedPhases, SplitTime, SplitMode, SplitCoordPhase, SequenceData, PreemptDelay, PreemptExitPhase, OverlapType, OverlapModifierPhases}
 use Rattle.tsb_plan.specs.declared.object.Range.{Range}
 use Rattle.tsb_plan.specs.declared.version.Version.{Version}
 use Rattle.tsb_plan.specs.declared.version.Version.TheVariants.{One, Two, Three}
@@ -50,10 +50,36 @@ or_else (since_version_1 narrow) wide = narrow
 or_else since_version_2 wide = wide
 or_else since_version_3 wide = wide
 
+-- the object stands in the table from the first to the second
+abbrev is_from : Object → Object → Object → Bool
+is_from first last o = nat_le (order first) (order o) && nat_le (order o) (order last)
+
+-- its index is a vehicle detector
+abbrev pub is_by_detector : Object → Bool
+is_by_detector o = is_from VehicleDetectorCallPhase VehicleDetectorFailTime o
+
+-- its index is a preempt, in version 2 too
+abbrev pub is_by_preempt : Object → Bool
+is_by_preempt o = is_from PreemptDelay PreemptExitPhase o
+
+-- its index is an overlap, in version 2 too
+abbrev pub is_by_overlap : Object → Bool
+is_by_overlap OverlapIncludedPhases = true
+is_by_overlap OverlapType = true
+is_by_overlap OverlapModifierPhases = true
+is_by_overlap o = false
+
+-- how many indices version 2 gives it: 16 vehicle detectors, 8 pedestrian detectors, 4 overlaps, 4 preempts, and of all else
+-- as many as a plan has
+abbrev pub indices_of_two : Object → ℕ
+indices_of_two PedestrianDetectorCallPhase = 8
+indices_of_two o =
+    if is_by_detector o then 16 else (if is_by_overlap o || is_by_preempt o then 4 else (row o).range.indices)
+
 -- the object's range in the version; for one that the version has not, its range in a plan
 abbrev range_of : Version → Object → Range
 range_of One o = or_else (row o).since (row o).range
-range_of Two o = (row o).range
+range_of Two o = record { indices = indices_of_two o; greatest = (row o).range.greatest }
 range_of Three o = (row o).range
 
 -- how many indices the object has, from 1 on

@@ -10,7 +10,7 @@ use tsb_bench::{
 /// Vehicle detector 3, the walk button of phase 2 and preempt 3 are on, which has no dwell phases and so never requests.
 fn row() -> Row {
     Row {
-        vehicles: NumberSet::from_list(0x0004),
+        vehicles: DetectorSet::from_list(0x0004),
         pedestrians: NumberSet::from_list(0x0002),
         preempts: NumberSet::from_list(0x0004),
     }

@@ -2,14 +2,14 @@
 
 use std::alloc::Global;
 use tsb_log_text::{Log, LogError, LogRow, laws, lists_line, lists_of, read_log};
-use tsb_types::{NumberSet, Row};
+use tsb_types::{DetectorSet, NumberSet, Row};
 
 const TEXT: &str =
     "# made by hand\r\n\n0000100 0010010000000000 00000000 0000\r\n   \n0000102 0000010000000000 00000000 0000\n0000151 0000000000000000 00000000 0000";
 
 fn only(list: u16) -> Row {
     Row {
-        vehicles: NumberSet::from_list(list),
+        vehicles: DetectorSet::from_list(u64::from(list)),
         pedestrians: NumberSet::empty(),
         preempts: NumberSet::empty(),
     }
@@ -57,7 +57,7 @@ fn digits_are_inputs(rt: HostRuntime) {
         panic!(rt; "no log");
     };
     let row = Row {
-        vehicles: NumberSet::from_list(0x8001),
+        vehicles: DetectorSet::from_list(0x8001),
         pedestrians: NumberSet::from_list(0x81),
         preempts: NumberSet::from_list(9),
     };
@@ -99,7 +99,7 @@ fn faults_name_their_line(rt: HostRuntime) {
 /// The inputs of three lists.
 fn inputs(vehicles: u16, pedestrians: u16, preempts: u16) -> Row {
     Row {
-        vehicles: NumberSet::from_list(vehicles),
+        vehicles: DetectorSet::from_list(u64::from(vehicles)),
         pedestrians: NumberSet::from_list(pedestrians),
         preempts: NumberSet::from_list(preempts),
     }
