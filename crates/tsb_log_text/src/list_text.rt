@@ -130,7 +130,7 @@ fn with_run(on: u64, first: u8, end: u8) -> u64
     let mut all = on;
     let mut number = first;
     while number <= end {
-        all |= 1 << (number - 1);
+        all |= 1u64 << (number - 1);
         number += 1;
     }
     all

@@ -10,7 +10,7 @@ ghost use Rattle.tsb_lines.specs.ShortLines.{AddsShort};
 ghost use Rattle.tsb_status_text.specs.declared.line.TheConstants.{LONGEST};
 ghost use Rattle.tsb_status_text.specs.StatusText.{desk_text, detectors_text, end_text, overlaps_text, phases_text, preempts_text, rings_text, status_text, waits_text};
 
-use crate::line::{StatusLine, push_byte, push_named, push_numbers, push_optional};
+use crate::line::{StatusLine, push_byte, push_named, push_detectors_of, push_numbers, push_optional};
 use crate::names::{desk_name, flash_name, free_name, preempt_name};
 use crate::rings::push_ring;
 use crate::waits::push_waits;

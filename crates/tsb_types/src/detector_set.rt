@@ -91,11 +91,11 @@ impl DetectorSet {
         let bit = number - 1;
         if on {
             DetectorSet {
-                word: self.word | 1 << bit,
+                word: self.word | 1u64 << bit,
             }
         } else {
             DetectorSet {
-                word: self.word & !(1 << bit),
+                word: self.word & !(1u64 << bit),
             }
         }
     }
