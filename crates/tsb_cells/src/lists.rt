@@ -56,6 +56,9 @@ pub fn put_phases<const N: usize>(bank: &mut Bank<N>, k: usize, set: PhaseSet)
     put_list(bank, k, NumberSet::from_list(set.list()));
 }
 
+/// How many lists there are of 32 numbers.
+const HALF: u64 = 4_294_967_296;
+
 /// The detectors in the list of the cells `k` and `k + 1`, of which the first has its lower 32 bits.
 #[inline(always)]
 pub fn detectors<const N: usize>(bank: &Bank<N>, k: usize) -> DetectorSet
@@ -64,7 +67,7 @@ pub fn detectors<const N: usize>(bank: &Bank<N>, k: usize) -> DetectorSet
 {
     let low = u64::from(bank.get(k));
     let high = u64::from(bank.get(k + 1));
-    DetectorSet::from_list(low | high << 32)
+    DetectorSet::from_list(low + HALF * high)
 }
 
 /// Puts the list of a set of detectors into the cells `k` and `k + 1`. The bank has to be open.
@@ -78,6 +81,6 @@ pub fn put_detectors<const N: usize>(bank: &mut Bank<N>, k: usize, set: Detector
     ensures opened { is_open bank.new ≡ true }
 {
     let list = set.list();
-    bank.put(k, list as u32);
-    bank.put(k + 1, (list >> 32) as u32);
+    bank.put(k, (list % HALF) as u32);
+    bank.put(k + 1, (list / HALF) as u32);
 }
