@@ -2,7 +2,7 @@
 ghost use Rattle.std.specs.Prelude.{◌≡◌};
 ghost use Rattle.tsb_types.specs.Lists.{is};
 ghost use Rattle.tsb_field_display.specs.Events.{is_in_flash};
-ghost use Rattle.tsb_field_diagram.specs.Bands.{flash_mark, mark_in_change, mark_in_row, on_mark, pedestrian_mark, served_mark, shows, vehicle_mark};
+ghost use Rattle.tsb_field_diagram.specs.Bands.{flash_mark, mark_in_change, mark_in_row, on_mark, pedestrian_mark, served_mark, shows, shows_detector, vehicle_mark};
 
 use tsb_field_display::{PedestrianHeads, Shown, Signals, VehicleHeads};
 use tsb_log_text::LogRow;

@@ -1,5 +1,6 @@
 -- What a check asks one by one: of each phase, of each phase that a list names, of each overlap, preempt and pattern.
 -- The rules say the same in their own words, and each comes to one of these tests for all of them.
+use Rattle.tsb_types.specs.declared.limits.TheConstants.{OVERLAPS, PREEMPTS}
 use Rattle.std.specs.Prelude.{ℕ, ◌==◌, nat_le, nat_lt, Bool, not, ◌&&◌, ◌||◌, List}
 use Rattle.std.specs.List.{list_all}
 use Rattle.tsb_plan.specs.declared.object.Object.TheVariants.{PhaseConcurrency, OverlapIncludedPhases}
@@ -82,3 +83,10 @@ listed_meets (IsFromSide d) plan = λ q. nat_le d (side_of plan q)
 -- a test that each listed phase passes
 abbrev pub each_listed : List ℕ → (ℕ → Bool) → Bool
 each_listed ps test = list_all (λ q. q == 0 || test q) ps
+
+-- how many there are of what a rule asks: overlaps or preempts
+abbrev pub of_kind : OfFour → ℕ
+of_kind IncludesEnabled = OVERLAPS
+of_kind ModifiesRightly = OVERLAPS
+of_kind HasConcurrentLists = PREEMPTS
+of_kind DwellsOrIsEmpty = PREEMPTS

@@ -1,6 +1,7 @@
 -- The line of a status: one JSON object, in ASCII, without spaces and without a line feed. Its names are those of NTCIP
 -- 1202, group by group: `reds` of `phaseStatusGroup` is phaseStatusGroupReds. A set is the list of its numbers, what is
 -- none is null, times are in tenths of a second, and numbers of phases, detectors and preempts begin with 1.
+use Rattle.tsb_types.specs.declared.limits.TheConstants.{OVERLAPS, VEHICLE_DETECTORS}
 use Rattle.std.specs.Prelude.{ℕ, List, [], ◌∷◌, Option, Some, None, option_map, codes, decimal}
 use Rattle.tsb_step.specs.tsb_ring.Rings.{Ring, Ring1, Ring2}
 use Rattle.tsb_step.specs.declared.status.PreemptState.{PreemptState}
@@ -32,16 +33,16 @@ phases_text s = object (
 -- overlapStatusGroup: Reds, Yellows, Greens
 unfoldable pub overlaps_text : Status → List ℕ
 overlaps_text s = object (
-    member (codes "reds") (numbers s.overlap_reds 4)
-    ∷ member (codes "yellows") (numbers s.overlap_yellows 4)
-    ∷ member (codes "greens") (numbers s.overlap_greens 4)
+    member (codes "reds") (numbers s.overlap_reds OVERLAPS)
+    ∷ member (codes "yellows") (numbers s.overlap_yellows OVERLAPS)
+    ∷ member (codes "greens") (numbers s.overlap_greens OVERLAPS)
     ∷ [])
 
 -- vehicleDetectorStatusGroup: Active, Alarms
 unfoldable pub detectors_text : Status → List ℕ
 detectors_text s = object (
-    member (codes "active") (numbers s.active 16)
-    ∷ member (codes "alarms") (numbers s.alarms 16)
+    member (codes "active") (numbers s.active VEHICLE_DETECTORS)
+    ∷ member (codes "alarms") (numbers s.alarms VEHICLE_DETECTORS)
     ∷ [])
 
 -- preemptState of preempts 1 to 4
@@ -51,6 +52,10 @@ preempts_text preempt = array (
     ∷ string (preempt_name (preempt 2))
     ∷ string (preempt_name (preempt 3))
     ∷ string (preempt_name (preempt 4))
+    ∷ string (preempt_name (preempt 5))
+    ∷ string (preempt_name (preempt 6))
+    ∷ string (preempt_name (preempt 7))
+    ∷ string (preempt_name (preempt 8))
     ∷ [])
 
 -- the desk: the station that owns it, and how far its transaction is

@@ -140,7 +140,7 @@ fn lists_are_inputs(rt: HostRuntime) {
 fn lists_are_spelled_in_one_way(rt: HostRuntime) {
     for text in [
         b"V1".as_slice(),
-        b"V1-16 P1-8 E1-4",
+        b"V1-64 P1-16 E1-8",
         b"P1,2,3-5,6-7",
         b"E4",
         b"V1 E1",
@@ -159,12 +159,12 @@ fn lists_are_spelled_in_one_way(rt: HostRuntime) {
         b"V1,,2",
         b"V0",
         b"V01",
-        b"V17",
-        b"P9",
-        b"E5",
+        b"V65",
+        b"P17",
+        b"E9",
         b"V1-1",
         b"V2-1",
-        b"V1-17",
+        b"V1-65",
         b"V1-2-3",
         b"V1-",
         b"V-2",
@@ -208,7 +208,7 @@ fn have_faults_of_forms(alloc: Global) -> bool {
         && says(alloc, b"0000100 \n", "log line 1: malformed")
         && says(alloc, b"0000100V3\n", "log line 1: malformed")
         && says(alloc, b"000100 V3\n", "log line 1: malformed")
-        && says(alloc, b"0000100 V3\n0000101 V17\n", "log line 2: malformed")
+        && says(alloc, b"0000100 V3\n0000101 V65\n", "log line 2: malformed")
         && says(alloc, b"0000100\r", "log line 1: malformed")
 }
 

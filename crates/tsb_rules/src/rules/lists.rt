@@ -8,7 +8,7 @@ ghost use Rattle.tsb_plan.specs.declared.object.Object.TheVariants.{OverlapInclu
 ghost use Rattle.tsb_plan.specs.Objects.{indices};
 ghost use Rattle.tsb_plan.specs.Plan.{is_enabled};
 ghost use Rattle.tsb_plan.specs.PlanOf.{plan_of};
-ghost use Rattle.tsb_rules.specs.Asked.{each_named, four_meet, named_meets};
+ghost use Rattle.tsb_rules.specs.Asked.{each_named, four_meet, of_kind, named_meets};
 ghost use Rattle.tsb_rules.specs.Rules.{names_enabled, goes_with_all, names_concurrent, has_concurrent_lists, dwells_or_is_empty, modifies_rightly};
 ghost use Rattle.tsb_types.specs.Lists.{run_from};
 ghost use Rattle.tsb_types.specs.Sets.{names};
