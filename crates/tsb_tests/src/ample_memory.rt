@@ -7,7 +7,7 @@ use tsb_bench::{Answer, Bench, Cmd, Input, Kind, Nothing, play};
 use tsb_history::History;
 use tsb_log_text::{Log, LogError, read_log};
 use tsb_objects::{
-    Checked, Lamp, DetectorSet, NumberSet, Object, ObjectId, Phase, Plan, Row, SignalColor, Station,
+    Checked, DetectorSet, Lamp, NumberSet, Object, ObjectId, Phase, Plan, Row, SignalColor, Station,
 };
 
 /// More than a million.

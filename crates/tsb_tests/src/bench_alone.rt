@@ -3,7 +3,7 @@
 use std::alloc::{AllocError, Global};
 use std::test::Fail;
 use tsb_bench::{
-    Answer, Bench, Checked, Cmd, Detector, Input, Lamp, DetectorSet, NumberSet, Object, ObjectId, Overlap,
+    Answer, Bench, Checked, Cmd, Detector, DetectorSet, Input, Lamp, NumberSet, Object, ObjectId, Overlap,
     PedestrianColor, Phase, Plan, Refusal, Row, SignalColor, Station, Watch, play,
 };
 
