@@ -289,12 +289,12 @@ line 7: phasePassage.2 = INTEGER: 300: phasePassage: 300 is not in 0 to 255 (ten
 lines 10 to 11: phaseReduceBy.1 to .2 = INTEGER: 0: a plan has no place for it; as it is, it does nothing
 line 12: phaseReduceBy.3 = INTEGER: 5: a plan has no place for it
 line 13: phaseOptions.2 = INTEGER: 4097: bit 12 (guaranteed passage) has no object
-line 17: phaseConcurrency.2 = Hex-STRING: 06 14: there is no phase 20 here, so it is left out
+line 17: phaseConcurrency.2 = Hex-STRING: 06 14: there is no phase 20 here: it is left out
 line 19: phaseStatusGroupReds.1 = INTEGER: 255: it is a status, and no part of a plan
 line 21: coordMaximumMode = INTEGER: other(1): coordMaximumMode has nothing of this kind
 line 24: sequenceData.1.3 = "": a plan has 4 x 2 of them; as it is, it does nothing
-phaseConcurrency.2 = 6: only phases that are enabled are in lists, so it is left out
-phaseConcurrency.9 = 13: only phases that are enabled are in lists, so it is left out
+phaseConcurrency.2 = 6: only phases that are enabled are in lists: it is left out
+phaseConcurrency.9 = 13: only phases that are enabled are in lists: it is left out
 sequenceData.1 = 3: phase 3 is not enabled, so ring 1 leaves it out
 vehicleDetectorCallPhase.3 = 6: phase 6 is not enabled, so it calls none
 phaseSide.2 = 1: given, by lists of concurrent phases and sequences
@@ -486,7 +486,7 @@ def test_numbers_that_stand_for_nothing() -> None:
     sets, lost = order.read(bytes([1, 0, 2, 77, *[3] * 16]), (1, 1))
     assert [it.number for it in sets] == [1, 2, *[3] * 14] and len(lost) == 3
     # in the order of their numbers, which is not that of a set of Python
-    other = [f"there is no phase {it} here, so it is left out" for it in (17, 24)]
+    other = [f"there is no phase {it} here: it is left out" for it in (17, 24)]
     assert order.read(bytes([24, 17, *[3] * 13]), (1, 1)).lost == other
     assert order.read(bytes([3] * 16), (1, 1)).lost == []
     phases = forms.Phases("phaseConcurrency")

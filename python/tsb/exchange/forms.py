@@ -139,7 +139,7 @@ class Phases(_Octets):
         number = sum(1 << (it - 1) for it in here)
         return Read(
             [Set(self.name, index_of(row), number)],
-            [f"there is no phase {it} here, so it is left out" for it in other],
+            [f"there is no phase {it} here: it is left out" for it in other],
         )
 
 
@@ -158,7 +158,7 @@ class Order(_Octets):
         sequence, ring = row
         here = [it for it in value if it in PHASES][:PLACES]
         lost = [
-            f"there is no phase {it} here, so it is left out"
+            f"there is no phase {it} here: it is left out"
             for it in sorted({it for it in value if it not in PHASES})
         ]
         if len(value) > PLACES:

@@ -164,7 +164,7 @@ class Reading:
         values = self.plan[name]
         phases = values.phases(index)
         for it in sorted(phases - set(keeps)):
-            why = "only phases that are enabled are in lists, so it is left out"
+            why = "only phases that are enabled are in lists: it is left out"
             self._leave_out(name, index, it, why)
         values[index] = phases & set(keeps)
 
