@@ -458,6 +458,13 @@ def test_switches_are_those_that_were_given(run: Run) -> None:
     assert run.tape.switches(5) == {2} and run.tape.switches(4) == {1}
 
 
+def test_one_change_is_said_as_one(run: Run) -> None:
+    """Phase 2 starts in tick 1."""
+    to(run, 1)
+    said = run.mark(Mark("interval", 2, True))
+    assert said == "interval 2: 1 change up to tick 1"
+
+
 def test_marks_are_all_changes(run: Run, tmp_path: Path) -> None:
     """Found as ticks pass, and of a run that has passed: those that the lines show."""
     early = run.mark(Mark("interval", 2, True))

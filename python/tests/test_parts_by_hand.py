@@ -462,7 +462,7 @@ def test_marks_of_a_run(run: Run) -> None:
     run.give(Lamp("P4", "R"))
     run.advance(130)
     trip = run.mark(Mark("trip", 0, True))
-    assert trip.startswith("trip: 1 changes")
+    assert trip.startswith("trip: 1 change up")
     run.give(Reset())
     assert run.watched[-1].ticks[-1] == 130
     run.undo()

@@ -221,7 +221,9 @@ class Run:
         self._take_again(now)
         found.until = now
         self.watched = [*others, found]
-        return f"{found.name}: {len(found.ticks)} changes up to tick {now}"
+        count = len(found.ticks)
+        changes = "change" if count == 1 else "changes"
+        return f"{found.name}: {count} {changes} up to tick {now}"
 
     def _find_marks(self, begun: int) -> None:
         """Marks the changes of the ticks that were just taken, from `begun` on."""

@@ -204,7 +204,8 @@ class Page {
     const seen = JSON.stringify(marks.map((it) => [it.name, it.count]));
     if (this.marksSeen === seen) return;
     this.marksSeen = seen;
-    byId("marks").replaceChildren(...marks.map((it, at) => el("li", {}, `${at + 1}: ${it.name}, ${it.count} changes `,
+    const changes = (count) => (count === 1 ? "1 change" : `${count} changes`);
+    byId("marks").replaceChildren(...marks.map((it, at) => el("li", {}, `${at + 1}: ${it.name}, ${changes(it.count)} `,
       el("button", { type: "button", "aria-label": `mark ${it.name} no more`, on: { click: () => this.ask({ do: "mark", watch: it.watch, number: it.number, on: false }) } }, "✕"))));
   }
 
