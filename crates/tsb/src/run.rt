@@ -124,9 +124,16 @@ fn talk<R: Read, W: Write, E: Write>(
     requires reads { streams.old.input.failed ≡ false }
     requires writes { streams.old.output.failed ≡ false }
     requires flushed { streams.old.output.flushed ≡ true }
-    ensures { Talked result (record { plan = checked_plan plan; log = log.now }) streams.old streams.new }
+    ensures { Talked result (record { plan = checked_plan plan; log = log.now; acts = true }) streams.old streams.new }
 {
-    match session(alloc, plan, log, &mut streams.input, &mut streams.output) {
+    match session(
+        alloc,
+        plan,
+        log,
+        true,
+        &mut streams.input,
+        &mut streams.output,
+    ) {
         Ok(()) => ExitStatus::Done.number(),
         Err(fault) => streams.tell_end(fault),
     }

@@ -10,6 +10,8 @@ pub mod Applied
 pub mod Telling
 -- what is kept of the heads while no cell changes
 pub mod Shown
+-- when no tick brings another action of the schedule into force
+pub mod Schedule
 -- how long the room of the history lasts
 pub mod Room
 -- the names of crates below, for those above

@@ -14,6 +14,7 @@ mod monitor_cells;
 mod passing;
 mod player;
 mod room_laws;
+mod schedule;
 mod shown;
 mod status;
 mod telling;

@@ -6,7 +6,8 @@ use Rattle.tsb_plan.specs.Plan.{Plan}
 use Rattle.tsb_rules.specs.declared.rules.Rule.{Rule}
 use Rattle.tsb_rules.specs.declared.rules.Rule.TheVariants as rules
 use Rattle.tsb_rules.specs.PatternRules.{coordinated_phases_agree, patterns_are_whole, permissive_times_end, splits_fill_cycles, splits_hold_phases}
-use Rattle.tsb_rules.specs.Rules.{are_placed, broken_by_extensions, broken_by_parts, broken_by_phases, broken_by_rings, concurrency_is_symmetric, detectors_call_phases, first_broken, gaps_can_reduce, included_phases_are_enabled, limits_reach_minimums, lists_name_across_rings, maximums_reach_minimums, modifiers_are_right, or_rule, pedestrian_detectors_call_walks, preempts_are_concurrent, preempts_dwell, recalled_pedestrians_walk, some_enabled, unless, unused_lists_are_empty, yellows_are_long}
+use Rattle.tsb_rules.specs.Rules.{are_placed, broken_by_extensions, broken_by_parts, broken_by_phases, broken_by_rings, broken_by_schedule, concurrency_is_symmetric, detectors_call_phases, first_broken, gaps_can_reduce, included_phases_are_enabled, limits_reach_minimums, lists_name_across_rings, maximums_reach_minimums, modifiers_are_right, or_rule, pedestrian_detectors_call_walks, preempts_are_concurrent, preempts_dwell, recalled_pedestrians_walk, some_enabled, unless, unused_lists_are_empty, yellows_are_long}
+use Rattle.tsb_rules.specs.ScheduleRules.{actions_are_defined, asked_patterns_are_used, day_plans_have_events, events_are_apart}
 use Rattle.tsb_rules.specs.SequenceRules.{first_sequence_is_ordered, other_sequences_are_ordered}
 use Rattle.tsb_breaches.specs.declared.breach.Breach.{Breach}
 use Rattle.tsb_breaches.specs.declared.fault.RuleFault.{RuleFault}
@@ -20,6 +21,7 @@ use Rattle.tsb_breaches.proofs.NoneLemmas.{none_at}
 use Rattle.tsb_breaches.proofs.PatternLaws.{met-17, met-18, met-19, met-23}
 use Rattle.tsb_breaches.proofs.PhaseLaws.{met-1, met-2, met-3, met-4, met-5, met-8, met-9, met-10, met-11, met-12, met-13, met-14, met-16, met-21, met-22}
 use Rattle.tsb_breaches.proofs.PreemptLaws.{met-15}
+use Rattle.tsb_breaches.proofs.ScheduleLaws.{met-24, met-25, met-26, met-27}
 use Rattle.tsb_breaches.proofs.SequenceLaws.{met-6, met-7}
 
 -- ## The first breach
@@ -65,8 +67,20 @@ or-unless true r next rest = refl
 or-unless false r next rest = refl
 
 -- the first rule that is broken, of those from a number on
+from_27 : Plan → Option Rule
+from_27 plan = unless (asked_patterns_are_used plan) rules.K27 None
+
+from_26 : Plan → Option Rule
+from_26 plan = unless (actions_are_defined plan) rules.K26 (from_27 plan)
+
+from_25 : Plan → Option Rule
+from_25 plan = unless (day_plans_have_events plan) rules.K25 (from_26 plan)
+
+from_24 : Plan → Option Rule
+from_24 plan = unless (events_are_apart plan) rules.K24 (from_25 plan)
+
 from_23 : Plan → Option Rule
-from_23 plan = unless (permissive_times_end plan) rules.K23 None
+from_23 plan = unless (permissive_times_end plan) rules.K23 (from_24 plan)
 
 from_22 : Plan → Option Rule
 from_22 plan = unless (limits_reach_minimums plan) rules.K22 (from_23 plan)
@@ -148,13 +162,24 @@ or-six a b c d e f k l m n o p rest =
     or-unless a k _ rest ∙ ap (unless a k) (or-unless b l _ rest ∙ ap (unless b l) (or-unless c m _ rest ∙ ap (unless c m) (or-unless d n _ rest
     ∙ ap (unless d n) (or-unless e o _ rest ∙ ap (unless e o) (or-unless f p None rest)))))
 
-parts-in-order : (plan : Plan) → or_rule (broken_by_parts plan) (broken_by_extensions plan) ≡ from_14 plan
-unfolding broken_by_parts broken_by_extensions from_14 from_15 from_16 from_17 from_18 from_19 from_20 from_21 from_22 from_23
-parts-in-order plan =
-    or-seven (included_phases_are_enabled plan) (preempts_are_concurrent plan) (preempts_dwell plan) (patterns_are_whole plan) (splits_hold_phases plan) (splits_fill_cycles plan) (coordinated_phases_agree plan)
-    rules.K14 rules.K15 rules.K16 rules.K17 rules.K18 rules.K19 rules.K20 (broken_by_extensions plan)
+or-three : (a b c : Bool) (k l m : Rule) (rest : Option Rule) →
+    or_rule (unless a k (unless b l (unless c m None))) rest ≡ unless a k (unless b l (unless c m rest))
+or-three a b c k l m rest =
+    or-unless a k _ rest ∙ ap (unless a k) (or-unless b l _ rest ∙ ap (unless b l) (or-unless c m None rest))
 
-phases-in-order : (plan : Plan) → or_rule (broken_by_phases plan) (or_rule (broken_by_parts plan) (broken_by_extensions plan)) ≡ from_8 plan
+extensions-in-order : (plan : Plan) → or_rule (broken_by_extensions plan) (broken_by_schedule plan) ≡ from_21 plan
+unfolding broken_by_extensions broken_by_schedule from_21 from_22 from_23 from_24 from_25 from_26 from_27
+extensions-in-order plan =
+    or-three (modifiers_are_right plan) (limits_reach_minimums plan) (permissive_times_end plan) rules.K21 rules.K22 rules.K23 (broken_by_schedule plan)
+
+parts-in-order : (plan : Plan) → or_rule (broken_by_parts plan) (or_rule (broken_by_extensions plan) (broken_by_schedule plan)) ≡ from_14 plan
+unfolding broken_by_parts from_14 from_15 from_16 from_17 from_18 from_19 from_20
+parts-in-order plan =
+    ap (or_rule (broken_by_parts plan)) (extensions-in-order plan)
+    ∙ or-seven (included_phases_are_enabled plan) (preempts_are_concurrent plan) (preempts_dwell plan) (patterns_are_whole plan) (splits_hold_phases plan) (splits_fill_cycles plan) (coordinated_phases_agree plan)
+    rules.K14 rules.K15 rules.K16 rules.K17 rules.K18 rules.K19 rules.K20 (from_21 plan)
+
+phases-in-order : (plan : Plan) → or_rule (broken_by_phases plan) (or_rule (broken_by_parts plan) (or_rule (broken_by_extensions plan) (broken_by_schedule plan))) ≡ from_8 plan
 unfolding broken_by_phases from_8 from_9 from_10 from_11 from_12 from_13
 phases-in-order plan =
     ap (or_rule (broken_by_phases plan)) (parts-in-order plan)
@@ -170,8 +195,20 @@ in-order plan =
 
 -- ## Rules and the ways to break them, from the last on
 
+ways_27 : List RuleFault
+ways_27 = at.K27Number ∷ at.K27Unused ∷ []
+
+ways_26 : List RuleFault
+ways_26 = at.K26 ∷ ways_27
+
+ways_25 : List RuleFault
+ways_25 = at.K25 ∷ ways_26
+
+ways_24 : List RuleFault
+ways_24 = at.K24 ∷ ways_25
+
 ways_23 : List RuleFault
-ways_23 = at.K23 ∷ []
+ways_23 = at.K23 ∷ ways_24
 
 ways_22 : List RuleFault
 ways_22 = at.K22 ∷ ways_23
@@ -239,10 +276,31 @@ ways_2 = at.K2Ring ∷ at.K2Side ∷ ways_3
 ways_1 : List RuleFault
 ways_1 = at.K1 ∷ ways_2
 
+met-from-27 : (v : Object → ℕ → ℕ) → chain (of_values v) ways_27 ≡ from_27 (of_values v)
+unfolding chain ways_27 from_27
+met-from-27 v =
+    unless-and (none_at (of_values v) at.K27Number) (none_at (of_values v) at.K27Unused) rules.K27 None
+    ∙ step ((none_at (of_values v) at.K27Number) && (none_at (of_values v) at.K27Unused)) (asked_patterns_are_used (of_values v)) rules.K27 None None (met-27 v) (λ m. refl)
+
+met-from-26 : (v : Object → ℕ → ℕ) → chain (of_values v) ways_26 ≡ from_26 (of_values v)
+unfolding chain ways_26 from_26
+met-from-26 v =
+    step (none_at (of_values v) at.K26) (actions_are_defined (of_values v)) rules.K26 (chain (of_values v) ways_27) (from_27 (of_values v)) (met-26 v) (λ m. met-from-27 v)
+
+met-from-25 : (v : Object → ℕ → ℕ) → chain (of_values v) ways_25 ≡ from_25 (of_values v)
+unfolding chain ways_25 from_25
+met-from-25 v =
+    step (none_at (of_values v) at.K25) (day_plans_have_events (of_values v)) rules.K25 (chain (of_values v) ways_26) (from_26 (of_values v)) (met-25 v) (λ m. met-from-26 v)
+
+met-from-24 : (v : Object → ℕ → ℕ) → chain (of_values v) ways_24 ≡ from_24 (of_values v)
+unfolding chain ways_24 from_24
+met-from-24 v =
+    step (none_at (of_values v) at.K24) (events_are_apart (of_values v)) rules.K24 (chain (of_values v) ways_25) (from_25 (of_values v)) (met-24 v) (λ m. met-from-25 v)
+
 met-from-23 : (v : Object → ℕ → ℕ) → chain (of_values v) ways_23 ≡ from_23 (of_values v)
 unfolding chain ways_23 from_23
 met-from-23 v =
-    step (none_at (of_values v) at.K23) (permissive_times_end (of_values v)) rules.K23 None None (met-23 v) (λ m. refl)
+    step (none_at (of_values v) at.K23) (permissive_times_end (of_values v)) rules.K23 (chain (of_values v) ways_24) (from_24 (of_values v)) (met-23 v) (λ m. met-from-24 v)
 
 met-from-22 : (v : Object → ℕ → ℕ) → chain (of_values v) ways_22 ≡ from_22 (of_values v)
 unfolding chain ways_22 from_22
@@ -387,7 +445,7 @@ met-from-1 v =
     step (none_at (of_values v) at.K1) (some_enabled (of_values v)) rules.K1 (chain (of_values v) ways_2) (from_2 (of_values v)) (met-1 (of_values v)) (λ m. met-from-2 v)
 
 all-ways : faults ≡ ways_1
-unfolding faults ways_1 ways_2 ways_3 ways_4 ways_5 ways_6 ways_7 ways_8 ways_9 ways_10 ways_11 ways_12 ways_13 ways_14 ways_15 ways_16 ways_17 ways_18 ways_19 ways_20 ways_21 ways_22 ways_23
+unfolding faults ways_1 ways_2 ways_3 ways_4 ways_5 ways_6 ways_7 ways_8 ways_9 ways_10 ways_11 ways_12 ways_13 ways_14 ways_15 ways_16 ways_17 ways_18 ways_19 ways_20 ways_21 ways_22 ways_23 ways_24 ways_25 ways_26 ways_27
 all-ways = refl
 
 pub first-is : (v : Object → ℕ → ℕ) → first_rule (breaches (of_values v)) ≡ first_broken (of_values v)

@@ -5,6 +5,7 @@ pub mod SequenceLaws
 pub mod PreemptLaws
 pub mod PatternLaws
 pub mod CoordinationLaws
+pub mod ScheduleLaws
 pub mod LawLemmas
 pub mod Examples
 pub use Rattle.tsb_plan.proofs as tsb_plan

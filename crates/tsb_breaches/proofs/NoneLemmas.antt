@@ -6,9 +6,10 @@ use Rattle.tsb_types.specs.Lists.{run_from}
 use Rattle.tsb_breaches.specs.declared.fault.RuleFault.{RuleFault}
 use Rattle.tsb_review.specs.declared.place.Shape.{Shape}
 use Rattle.tsb_review.specs.declared.place.Shape.TheVariants as shapes
-use Rattle.tsb_breaches.specs.Breaches.{is_at, shape, of_phase, of_phases, of_listing, of_sequence_phase, of_pedestrian_detector, of_overlap_phase, of_preempt, of_preempt_phase, of_preempt_phases, of_pattern, of_pattern_phase, of_pattern_phases, of_pattern_side, of_pattern_ring}
+use Rattle.tsb_breaches.specs.Breaches.{is_at, shape, of_phase, of_phases, of_listing, of_sequence_phase, of_pedestrian_detector, of_overlap_phase, of_preempt, of_preempt_phase, of_preempt_phases, of_pattern, of_pattern_phase, of_pattern_phases, of_pattern_side, of_pattern_ring, of_action}
 use Rattle.tsb_breaches.specs.Lists.{calls_unused, modifies_nothing}
 use Rattle.tsb_breaches.specs.Phases.{has_no_phase}
+use Rattle.tsb_breaches.specs.Schedules.{come_together, names_undefined, runs_nothing}
 use Rattle.tsb_review.specs.Places.{places}
 use Rattle.tsb_breaches.proofs.AllLemmas.{all-one, all-pairs, all-places, all-singles}
 
@@ -78,3 +79,16 @@ none-pattern_side plan f = all-pairs shapes.PatternSide (λ place. not (is_at pl
 
 pub none-pattern_ring : (plan : Plan) (f : RuleFault) → none_of plan f shapes.PatternRing ≡ list_all (λ n. none_up_to 2 (of_pattern_ring plan n)) (run_from 1 16)
 none-pattern_ring plan f = all-pairs shapes.PatternRing (λ place. not (is_at plan f place)) refl
+
+pub none-entry : (plan : Plan) (f : RuleFault) → none_of plan f shapes.Entry ≡ none_up_to 32 (runs_nothing plan)
+none-entry plan f = all-singles shapes.Entry (λ place. not (is_at plan f place)) refl refl
+
+pub none-day_event : (plan : Plan) (f : RuleFault) → none_of plan f shapes.DayEvent ≡ list_all (λ d. none_up_to 16 (names_undefined plan d)) (run_from 1 16)
+none-day_event plan f = all-pairs shapes.DayEvent (λ place. not (is_at plan f place)) refl
+
+pub none-day_events : (plan : Plan) (f : RuleFault) →
+    none_of plan f shapes.DayEvents ≡ list_all (λ d. list_all (λ j. none_up_to 16 (come_together plan d j)) (run_from 1 16)) (run_from 1 16)
+none-day_events plan f = all-places shapes.DayEvents (λ place. not (is_at plan f place))
+
+pub none-action : (plan : Plan) (f : RuleFault) → none_of plan f shapes.Action ≡ none_up_to 32 (of_action plan f)
+none-action plan f = all-singles shapes.Action (λ place. not (is_at plan f place)) refl refl

@@ -9,7 +9,7 @@ use Rattle.tsb_rules.specs.declared.rules.Rule.TheVariants as rules
 use Rattle.tsb_rules.specs.PatternRules.{some_and}
 use Rattle.tsb_breaches.specs.declared.breach.Breach.{Breach}
 use Rattle.tsb_breaches.specs.declared.fault.RuleFault.{RuleFault}
-use Rattle.tsb_breaches.specs.declared.fault.RuleFault.TheVariants.{K1, K2Ring, K2Side, K3, K4Unused, K4Ring, K4Side, K5, K6Unused, K6Ring, K6Missing, K6Again, K6Side, K6Gap, K7Unused, K7Ring, K7Missing, K7Again, K7Side, K7Gap, K8, K9, K10Maximum1, K10Maximum2, K11, K12, K13Unused, K13Walk, K14, K15TrackUnused, K15DwellUnused, K15ExitUnused, K15Track, K15Dwell, K15Exit, K16Track, K16Exit, K17Offset, K17Split, K17Sequence, K17Blank, K18, K19Rings, K19Cycle, K20None, K20Unused, K20Omitted, K20Sides, K20Apart, K20Ends, K20Ring, K21Unused, K21Type, K22, K23}
+use Rattle.tsb_breaches.specs.declared.fault.RuleFault.TheVariants.{K1, K2Ring, K2Side, K3, K4Unused, K4Ring, K4Side, K5, K6Unused, K6Ring, K6Missing, K6Again, K6Side, K6Gap, K7Unused, K7Ring, K7Missing, K7Again, K7Side, K7Gap, K8, K9, K10Maximum1, K10Maximum2, K11, K12, K13Unused, K13Walk, K14, K15TrackUnused, K15DwellUnused, K15ExitUnused, K15Track, K15Dwell, K15Exit, K16Track, K16Exit, K17Offset, K17Split, K17Sequence, K17Blank, K18, K19Rings, K19Cycle, K20None, K20Unused, K20Omitted, K20Sides, K20Apart, K20Ends, K20Ring, K21Unused, K21Type, K22, K23, K24, K25, K26, K27Number, K27Unused}
 use Rattle.tsb_breaches.specs.declared.fault.TheConstants.RuleFault.{ALL}
 use Rattle.tsb_review.specs.declared.place.Place.{Place}
 use Rattle.tsb_review.specs.declared.place.Place.TheVariants as at
@@ -19,6 +19,7 @@ use Rattle.tsb_breaches.specs.Phases.{has_no_phase, has_no_ring, has_no_side, ke
 use Rattle.tsb_breaches.specs.Sequences.{is_first, is_other, lists_unused as place_lists_unused, lists_other_ring, lists_again, falls, leaves_gap, is_missing}
 use Rattle.tsb_breaches.specs.Lists.{calls_unused, button_calls_unused, button_calls_no_walk, lists_unused, lists_apart, has_no_dwell, modifies_nothing}
 use Rattle.tsb_breaches.specs.Patterns.{has_late_offset, has_no_split, has_no_sequence, has_blank_sequence, table_of, is_too_short, has_two_sums, misses_cycle, coordinates_none, coordinates_unused, coordinates_omitted, are_across, are_apart, end_apart, has_wrong_count, permits_always}
+use Rattle.tsb_breaches.specs.Schedules.{asks_for_no_pattern, asks_for_unused, come_together, names_undefined, runs_nothing}
 use Rattle.tsb_review.specs.Places.{places}
 
 -- all of them, in order
@@ -82,6 +83,11 @@ rule_of K21Unused = rules.K21
 rule_of K21Type = rules.K21
 rule_of K22 = rules.K22
 rule_of K23 = rules.K23
+rule_of K24 = rules.K24
+rule_of K25 = rules.K25
+rule_of K26 = rules.K26
+rule_of K27Number = rules.K27
+rule_of K27Unused = rules.K27
 
 -- the kind of the places at which it is
 abbrev pub shape : RuleFault → Shape
@@ -140,6 +146,11 @@ shape K21Unused = shapes.OverlapPhase
 shape K21Type = shapes.Overlap
 shape K22 = shapes.Phase
 shape K23 = shapes.Pattern
+shape K24 = shapes.DayEvents
+shape K25 = shapes.Entry
+shape K26 = shapes.DayEvent
+shape K27Number = shapes.Action
+shape K27Unused = shapes.Action
 
 -- it is there at phase p
 abbrev pub of_phase : Plan → RuleFault → ℕ → Bool
@@ -277,6 +288,12 @@ of_pattern_side plan n d = some_and (λ t. has_two_sums plan t d) (table_of plan
 abbrev pub of_pattern_ring : Plan → ℕ → ℕ → Bool
 of_pattern_ring plan n r = some_and (λ t. has_wrong_count plan t r) (table_of plan n)
 
+-- action a has it
+abbrev pub of_action : Plan → RuleFault → ℕ → Bool
+of_action plan K27Number a = asks_for_no_pattern plan a
+of_action plan K27Unused a = asks_for_unused plan a
+of_action plan f a = false
+
 -- it is there at a place of its kind; where that is the kind of it alone, the kind says which it is
 abbrev pub is_at : Plan → RuleFault → Place → Bool
 is_at plan f at.Unit = has_no_phase plan
@@ -296,6 +313,10 @@ is_at plan f (at.PatternPhase n p) = of_pattern_phase plan f n p
 is_at plan f (at.PatternPhases n p q) = of_pattern_phases plan f n p q
 is_at plan f (at.PatternSide n d) = of_pattern_side plan n d
 is_at plan f (at.PatternRing n r) = of_pattern_ring plan n r
+is_at plan f (at.Entry e) = runs_nothing plan e
+is_at plan f (at.DayEvent d k) = names_undefined plan d k
+is_at plan f (at.DayEvents d j k) = come_together plan d j k
+is_at plan f (at.Action a) = of_action plan f a
 is_at plan f place = false
 
 -- the breach at a place, where there is one

@@ -3,6 +3,8 @@ pub mod Phases
 pub mod Sequences
 pub mod Lists
 pub mod Patterns
+-- rules K24 to K27
+pub mod Schedules
 -- THE WAYS TO BREAK A RULE: which there are, and all that a plan has
 pub mod Breaches
 -- breaches one by one

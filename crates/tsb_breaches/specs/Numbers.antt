@@ -1,9 +1,10 @@
 -- The numbers that the line of a breach shows, up to five, named `a` to `e`: those of its place first, and then what does
 -- not fit there. Times are in tenths of a second, but for those of K10, which are as the plan has them.
-use Rattle.std.specs.Prelude.{ℕ, Option, Some, None}
+use Rattle.std.specs.Prelude.{ℕ, ◌/◌, ◌%◌, Option, Some, None}
 use Rattle.tsb_plan.specs.declared.object.Object.TheVariants.{PhaseConcurrency, PhaseMinimumGreen, PhaseMaximum1, PhaseMaximum2, PatternSplitNumber, PatternSequenceNumber, OverlapType}
 use Rattle.tsb_types.specs.Lists.{or_number}
 use Rattle.tsb_plan.specs.Parts.{call_phase, pedestrian_call_phase, cycle, offset, permissive_time, split_of, sequence_of, split_time}
+use Rattle.tsb_plan.specs.Schedule.{action_of, asked_by, day_plan_of, time_of}
 use Rattle.tsb_plan.specs.Plan.{Plan, ring_of, side_of, yellow_change, minimum_gap, passage, minimum_green, dynamic_maximum_limit}
 use Rattle.tsb_rules.specs.PatternRules.{split_sum, split_end, coordinated_count}
 use Rattle.tsb_review.specs.declared.numbers.Numbers.{Numbers}
@@ -93,6 +94,10 @@ of_pattern_side plan n d = five n d (sum_in plan n 1 d) (sum_in plan n 2 d) 0
 abbrev pub of_pattern_ring : Plan → ℕ → ℕ → Numbers
 of_pattern_ring plan n r = five n r (in_table (split_of plan n) (λ t. coordinated_count plan t r)) 0 0
 
+-- of two events of a day plan: all three, and the hour and minute of the first
+abbrev pub of_events : Plan → ℕ → ℕ → ℕ → Numbers
+of_events plan d j k = five d j k (time_of plan d j / 60) (time_of plan d j % 60)
+
 -- of a way to break a rule, at a place
 abbrev pub at_place : Plan → RuleFault → Place → Numbers
 at_place plan f at.Unit = five 0 0 0 0 0
@@ -112,6 +117,10 @@ at_place plan f (at.PatternPhase n p) = of_pattern_phase plan f n p
 at_place plan f (at.PatternPhases n p q) = of_pattern_phases plan f n p q
 at_place plan f (at.PatternSide n d) = of_pattern_side plan n d
 at_place plan f (at.PatternRing n r) = of_pattern_ring plan n r
+at_place plan f (at.Entry e) = five e (day_plan_of plan e) 0 0 0
+at_place plan f (at.DayEvent d k) = five d k (action_of plan d k) 0 0
+at_place plan f (at.DayEvents d j k) = of_events plan d j k
+at_place plan f (at.Action a) = five a (asked_by plan a) 0 0 0
 at_place plan f place = five 0 0 0 0 0
 
 -- of a breach

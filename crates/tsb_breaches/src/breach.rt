@@ -3,18 +3,18 @@
 
 ghost use Rattle.std.specs.Prelude.{◌≡◌};
 ghost use Rattle.tsb_plan.specs.PlanOf.{plan_of};
-ghost use Rattle.tsb_breaches.specs.Breaches.{is_at, of_phase, of_phases, asks_of, is_listed_wrongly, of_listing, of_sequence_phase, of_pedestrian_detector, of_overlap_phase, of_preempt, of_preempt_phase, of_preempt_phases, of_table, of_pattern, of_split, of_pattern_phase, of_splits, of_pattern_phases, of_pattern_side, of_pattern_ring};
+ghost use Rattle.tsb_breaches.specs.Breaches.{is_at, of_phase, of_phases, asks_of, is_listed_wrongly, of_listing, of_sequence_phase, of_pedestrian_detector, of_overlap_phase, of_preempt, of_preempt_phase, of_preempt_phases, of_table, of_pattern, of_split, of_pattern_phase, of_splits, of_pattern_phases, of_pattern_side, of_pattern_ring, of_action};
 ghost use Rattle.tsb_rules.specs.PatternRules.{some_and};
 ghost use Rattle.tsb_breaches.specs.Patterns.{table_of};
 ghost use Rattle.tsb_breaches.specs.Found.{breach_at};
 
 use crate::fault::RuleFault;
 use crate::sums::rings_agree;
-use crate::{lists, patterns, phases, sequences};
+use crate::{lists, patterns, phases, schedules, sequences};
 use tsb_plan::{Object, Plan};
 use tsb_review::{Listing, Place};
 use tsb_types::{
-    Overlap, Pattern, PedestrianDetector, Phase, Preempt, Ring, Sequence, Side, Split,
+    Action, Overlap, Pattern, PedestrianDetector, Phase, Preempt, Ring, Sequence, Side, Split,
 };
 
 /// A rule that is broken, and where.
@@ -68,6 +68,12 @@ pub fn is_at(plan: &Plan, fault: RuleFault, place: &Place) -> bool
         }
         Place::PatternSide(pattern, side) => of_pattern_side(plan, *pattern, *side),
         Place::PatternRing(pattern, ring) => of_pattern_ring(plan, *pattern, *ring),
+        Place::Entry(entry) => schedules::runs_nothing(plan, *entry),
+        Place::DayEvent(day_plan, event) => schedules::names_undefined(plan, *day_plan, *event),
+        Place::DayEvents(day_plan, event, other) => {
+            schedules::come_together(plan, *day_plan, *event, *other)
+        }
+        Place::Action(action) => of_action(plan, fault, *action),
         _ => false,
     }
 }
@@ -360,6 +366,17 @@ fn of_pattern_side(plan: &Plan, pattern: Pattern, side: Side) -> bool
     match patterns::table_of(plan, pattern) {
         Some(split) => !rings_agree(plan, split, u32::from(side.number())),
         None => false,
+    }
+}
+
+/// Whether the action has it.
+fn of_action(plan: &Plan, fault: RuleFault, action: Action) -> bool
+    ensures { result ≡ of_action (plan_of plan.now) fault action }
+{
+    match fault {
+        RuleFault::K27Number => schedules::asks_for_no_pattern(plan, action),
+        RuleFault::K27Unused => schedules::asks_for_unused(plan, action),
+        _ => false,
     }
 }
 

@@ -122,11 +122,21 @@ pub enum RuleFault {
     K22,
     /// The permissive time of a used pattern is not below its cycle.
     K23,
+    /// Two events of a day plan come at one minute.
+    K24,
+    /// An entry of the schedule names a day plan that has no event.
+    K25,
+    /// An event of a day plan names an action that is not defined.
+    K26,
+    /// An action asks for a pattern that there is not.
+    K27Number,
+    /// An action asks for a pattern that is not used.
+    K27Unused,
 }
 
 impl RuleFault {
     /// All of them, in order.
-    pub const ALL: [RuleFault; 55] = [
+    pub const ALL: [RuleFault; 60] = [
         RuleFault::K1,
         RuleFault::K2Ring,
         RuleFault::K2Side,
@@ -182,6 +192,11 @@ impl RuleFault {
         RuleFault::K21Type,
         RuleFault::K22,
         RuleFault::K23,
+        RuleFault::K24,
+        RuleFault::K25,
+        RuleFault::K26,
+        RuleFault::K27Number,
+        RuleFault::K27Unused,
     ];
 
     /// The rule that is broken.
@@ -236,6 +251,10 @@ impl RuleFault {
             RuleFault::K21Unused | RuleFault::K21Type => Rule::K21,
             RuleFault::K22 => Rule::K22,
             RuleFault::K23 => Rule::K23,
+            RuleFault::K24 => Rule::K24,
+            RuleFault::K25 => Rule::K25,
+            RuleFault::K26 => Rule::K26,
+            RuleFault::K27Number | RuleFault::K27Unused => Rule::K27,
         }
     }
 
@@ -286,6 +305,10 @@ impl RuleFault {
             RuleFault::K20Sides | RuleFault::K20Apart | RuleFault::K20Ends => Shape::PatternPhases,
             RuleFault::K20Ring => Shape::PatternRing,
             RuleFault::K21Type => Shape::Overlap,
+            RuleFault::K24 => Shape::DayEvents,
+            RuleFault::K25 => Shape::Entry,
+            RuleFault::K26 => Shape::DayEvent,
+            RuleFault::K27Number | RuleFault::K27Unused => Shape::Action,
         }
     }
 }

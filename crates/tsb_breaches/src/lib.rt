@@ -11,6 +11,7 @@ mod lists;
 pub mod numbers;
 mod patterns;
 mod phases;
+mod schedules;
 mod sequences;
 mod sums;
 

@@ -7,9 +7,10 @@ ghost use Rattle.tsb_plan.specs.declared.object.Object.TheVariants.{OverlapType,
 ghost use Rattle.tsb_plan.specs.Objects.{indices};
 ghost use Rattle.tsb_plan.specs.Parts.{call_phase, pedestrian_call_phase, sequence_of, split_of, split_time};
 ghost use Rattle.tsb_plan.specs.PlanOf.{plan_of};
+ghost use Rattle.tsb_plan.specs.Schedule.{action_of, asked_by, day_plan_of};
 ghost use Rattle.tsb_rules.specs.PatternRules.{coordinated_count, split_end};
 ghost use Rattle.tsb_breaches.specs.Patterns.{sides_time};
-ghost use Rattle.tsb_breaches.specs.Numbers.{five, number_of, in_table, end_in, of_phase, of_phases, of_listing, of_pattern, of_pattern_phase, of_pattern_phases, sum_in, of_pattern_side, of_pattern_ring, at_place, numbers_of};
+ghost use Rattle.tsb_breaches.specs.Numbers.{five, number_of, in_table, end_in, of_phase, of_phases, of_listing, of_pattern, of_pattern_phase, of_pattern_phases, sum_in, of_pattern_side, of_pattern_ring, of_events, at_place, numbers_of};
 
 use crate::breach::Breach;
 use crate::fault::RuleFault;
@@ -20,7 +21,8 @@ use tsb_plan::{Object, Plan};
 use tsb_review::{Listing, Numbers, Place};
 use tsb_rules::split_end;
 use tsb_types::{
-    Detector, Overlap, Pattern, PedestrianDetector, Phase, Ring, Sequence, Side, Split,
+    Action, DayEvent, DayPlan, Detector, Entry, Overlap, Pattern, PedestrianDetector, Phase, Ring,
+    Sequence, Side, Split,
 };
 
 /// Five numbers.
@@ -88,6 +90,10 @@ fn at_place(plan: &Plan, fault: RuleFault, place: &Place) -> Numbers
         }
         Place::PatternSide(pattern, side) => of_pattern_side(plan, *pattern, *side),
         Place::PatternRing(pattern, ring) => of_pattern_ring(plan, *pattern, *ring),
+        Place::Entry(entry) => of_entry(plan, *entry),
+        Place::DayEvent(day_plan, event) => of_event(plan, *day_plan, *event),
+        Place::DayEvents(day_plan, event, other) => of_events(plan, *day_plan, *event, *other),
+        Place::Action(action) => of_action(plan, *action),
         _ => five(0, 0, 0, 0, 0),
     }
 }
@@ -114,6 +120,39 @@ fn of_overlap(plan: &Plan, overlap: Overlap) -> Numbers
 {
     let number = u32::from(overlap.number());
     five(number, plan.at(Object::OverlapType, number), 0, 0, 0)
+}
+
+/// An entry of the schedule: its number, and its day plan.
+fn of_entry(plan: &Plan, entry: Entry) -> Numbers
+    ensures { result ≡ five entry (day_plan_of (plan_of plan.now) entry) 0 0 0 }
+{
+    let number = u32::from(entry.number());
+    five(number, plan.day_plan_of(number), 0, 0, 0)
+}
+
+/// An event of a day plan: both numbers, and its action.
+fn of_event(plan: &Plan, day_plan: DayPlan, event: DayEvent) -> Numbers
+    ensures { result ≡ five day_plan event (action_of (plan_of plan.now) day_plan event) 0 0 }
+{
+    let (d, k) = (u32::from(day_plan.number()), u32::from(event.number()));
+    five(d, k, plan.action_of(d, k), 0, 0)
+}
+
+/// Two events of a day plan: all three numbers, and the hour and minute of the first.
+fn of_events(plan: &Plan, day_plan: DayPlan, event: DayEvent, other: DayEvent) -> Numbers
+    ensures { result ≡ of_events (plan_of plan.now) day_plan event other }
+{
+    let (d, j) = (u32::from(day_plan.number()), u32::from(event.number()));
+    let time = plan.time_of(d, j);
+    five(d, j, u32::from(other.number()), time / 60, time % 60)
+}
+
+/// An action of the schedule: its number, and what it asks for.
+fn of_action(plan: &Plan, action: Action) -> Numbers
+    ensures { result ≡ five action (asked_by (plan_of plan.now) action) 0 0 0 }
+{
+    let number = u32::from(action.number());
+    five(number, plan.asked_by(number), 0, 0, 0)
 }
 
 /// Of a side in a pattern: both, and the sums of the two rings.

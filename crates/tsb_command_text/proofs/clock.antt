@@ -1,2 +1,1 @@
-pub mod CalendarLemmas
 pub mod ReadLemmas

@@ -1,5 +1,3 @@
--- dates and their numbers
-pub mod Calendar
 -- a date and a time of day as two words
 pub mod ClockText
 -- that what is written is read again

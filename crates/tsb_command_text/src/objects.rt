@@ -50,6 +50,7 @@ fn up_to_11(word: &[u8]) -> Option<Object>
         SplitMode   b"splitMode"
         UnitMax2    b"unitMax2"
         OverlapType b"overlapType"
+        DayPlanHour b"dayPlanHour"
     }
 }
 
@@ -69,6 +70,7 @@ fn of_12_or_13(word: &[u8]) -> Option<Object>
         SequenceData  b"sequenceData"
         PreemptDelay  b"preemptDelay"
         UnitRedRevert b"unitRedRevert"
+        DayPlanMinute b"dayPlanMinute"
     }
 }
 
@@ -142,6 +144,9 @@ fn of_18_or_19(word: &[u8]) -> Option<Object>
         CoordCorrectionMode b"coordCorrectionMode"
         OverlapAcrossRings  b"overlapAcrossRings"
         PreemptChoosesAnew  b"preemptChoosesAnew"
+        TimeBaseScheduleDay b"timeBaseScheduleDay"
+        DayPlanActionNumber b"dayPlanActionNumber"
+        TimebaseAscPattern  b"timebaseAscPattern"
     }
 }
 
@@ -158,6 +163,7 @@ fn of_20(word: &[u8]) -> Option<Object>
         PreemptEnterPedClear b"preemptEnterPedClear"
         PhaseDynamicMaxLimit b"phaseDynamicMaxLimit"
         CoordCorrectionLimit b"coordCorrectionLimit"
+        TimeBaseScheduleDate b"timeBaseScheduleDate"
     }
 }
 
@@ -176,6 +182,7 @@ fn of_21_or_22(word: &[u8]) -> Option<Object>
         OverlapModifierPhases  b"overlapModifierPhases"
         PatternPermissiveTime  b"patternPermissiveTime"
         PhasePedestrianRecycle b"phasePedestrianRecycle"
+        TimeBaseScheduleMonth  b"timeBaseScheduleMonth"
     }
 }
 
@@ -194,5 +201,6 @@ fn from_23(word: &[u8]) -> Option<Object>
         VehicleDetectorErraticCounts b"vehicleDetectorErraticCounts"
         VehicleDetectorFailTime      b"vehicleDetectorFailTime"
         PedestrianDetectorCallPhase  b"pedestrianDetectorCallPhase"
+        TimeBaseScheduleDayPlan      b"timeBaseScheduleDayPlan"
     }
 }

@@ -28,13 +28,11 @@ use Rattle.tsb_field_display.specs.Remaining.{changes_in, last_in}
 use Rattle.tsb_field_display.specs.Stream.{ReadSo, ReplayRead}
 use Rattle.tsb_field_display.specs.declared.replay.Replay.{Replay}
 use Rattle.tsb_field_display.specs.declared.shown.Shown.{Shown}
-use Rattle.tsb_text.specs.Answers.{Setup}
 use Rattle.tsb_text.specs.Blame.{Blames}
 use Rattle.tsb_text.specs.declared.error.SessionError.{SessionError}
 use Rattle.tsb_text.specs.declared.recording.Outcome.{Outcome}
 use Rattle.tsb_text.specs.declared.recording.RecordOptions.{RecordOptions}
 use Rattle.tsb_text.specs.recording.Ended as recorded
-use Rattle.tsb_text.specs.recording.Leaves.{first_inputs}
 use Rattle.tsb_field_display.specs.Merge.{session_events}
 use Rattle.tsb_field_display.specs.Texts.{IsLog, LogWritten}
 use Rattle.tsb_field_display.specs.declared.events_error.EventsError.{EventsError}
@@ -57,7 +55,7 @@ use Rattle.tsb_field_streams.specs.declared.filter.Summary.{Summary}
 use Rattle.tsb_field.specs.LogEnds.{IsPassedOn, Logged, LoggedBeside, LoggedBy, LoggedWith, NoPlan, TellsFault}
 use Rattle.tsb_words.specs.FieldWords.{LogWish}
 use Rattle.tsb_field.specs.ReviewEnds.{Answered}
-use Rattle.tsb_field.specs.Ends.{Drawn, Draws, IsDiagram, LogNamed, NamesLog, NoRun, NotDrawn, RanSo, Recorded, RecordedOn, Stops, Told, ToldOn, Writes, WritesEnd, WritesMade, failure_by, name_of}
+use Rattle.tsb_field.specs.Ends.{Drawn, Draws, IsDiagram, LogNamed, NamesLog, NoRun, NotDrawn, RanSo, Recorded, RecordedOn, Scheduled, Stops, Told, ToldOn, Writes, WritesEnd, WritesMade, failure_by, name_of}
 
 -- there is no log
 pub stops : (fault : ReadError RefusedLog) (known : List ℕ → Option (List ℕ)) (path : Option (List ℕ)) (name : List ℕ) (status : ℕ) (told tells : Seen) → name ≡ name_of path → LogNamed (Err fault) known path
@@ -87,7 +85,7 @@ stops-there (faults.Refused fault) status rows files told tells read line = inl 
 pub recorded-on : (status : ℕ) (from : Moment) (device : List ℕ) (options : RecordOptions) (found : Plan) (plan rows : List ℕ) (files : List ℕ → Option (List ℕ)) (before after : Devices) → HasPlan (files plan) found
     → RecordedOn status from device options found rows files before after → Recorded status from device options plan rows files before after
 recorded-on status from device options found plan rows files before after has recorded = elim recorded [
-  | inl ran ↦ inl (record { plan = found; log = ran.0 }, has, ran.1, ran.2)
+  | inl ran ↦ inl (record { plan = found; log = ran.0; acts = true }, has, ran.1, refl, ran.2)
   | inr none ↦ inr (none.0, elim none.1 [ inl refused ↦ inr (inl (found, has, refused.0, refused.1, refused.2)) | inr failed ↦ inr (inr (inr (found, has, failed))) ])
 ]
 
@@ -179,16 +177,17 @@ not-read Is fault failure status rows before after left is so fails =
     subst (λ (s : Seen). ReplayRead (Err fault) s.failed before.input.bytes s.bytes) (sym fails.0.0) so in
     inr (read.bytes, read.taken, fails.0.1, not-drawn fault failure after.input.failed after.input.bytes read.bytes status before.errors after.errors is read.so fails.1)
 
--- a run ended so, with these options, and then this was written, with no more read
-pub ran-so : (result : Result Outcome SessionError) (status : ℕ) (from : Moment) (device : List ℕ) (options other : RecordOptions) (given : Setup) (before after : Devices) (left mid : Seen)
-    → other ≡ options → after.input ≡ left → recorded.Ended result other.on_fault other.form given (first_inputs other.clock) before.input.bytes left.bytes before.errors.bytes mid.bytes
+-- a run on this plan and log ended so, with these options, and then this was written, with no more read
+pub ran-so : (result : Result Outcome SessionError) (status : ℕ) (from : Moment) (device : List ℕ) (options other : RecordOptions) (plan : Plan) (log : List LogRow) (before after : Devices) (left mid : Seen)
+    → other ≡ options → after.input ≡ left
+    → recorded.EndedFrom result other.on_fault other.form (record { plan = plan; log = log; acts = other.acts }) other.clock before.input.bytes left.bytes before.errors.bytes mid.bytes
     → Blames result left.failed mid.failed mid.flushed → WritesEnd result status from device before.output after.output mid after.errors
-    → RanSo status from device options given before after
-ran-so result status from device options other given before after left mid asked same ended blames ends = (
+    → RanSo status from device options (record { plan = plan; log = log; acts = options.acts }) before after
+ran-so result status from device options other plan log before after left mid asked same ended blames ends = (
   result,
   mid,
-  subst (λ (s : Seen). recorded.Ended result options.on_fault options.form given (first_inputs options.clock) before.input.bytes s.bytes before.errors.bytes mid.bytes) (sym same)
-      (subst (λ (o : RecordOptions). recorded.Ended result o.on_fault o.form given (first_inputs o.clock) before.input.bytes left.bytes before.errors.bytes mid.bytes) asked ended),
+  subst (λ (s : Seen). recorded.EndedFrom result options.on_fault options.form (record { plan = plan; log = log; acts = options.acts }) options.clock before.input.bytes s.bytes before.errors.bytes mid.bytes) (sym same)
+      (subst (λ (o : RecordOptions). recorded.EndedFrom result o.on_fault o.form (record { plan = plan; log = log; acts = o.acts }) o.clock before.input.bytes left.bytes before.errors.bytes mid.bytes) asked ended),
   subst (λ (s : Seen). Blames result s.failed mid.failed mid.flushed) (sym same) blames,
   ends,
 )
@@ -253,3 +252,15 @@ answer-failed status wanted answer before after new failed front fails = (
     fails.1,
   ),
 )
+
+-- ## Schedules
+
+-- there is no plan whose schedule is asked for
+no-week-by : (why : ReadError PlanError) (clue : Option PlanClue) (status : ℕ) (path : List ℕ) (week : ℕ) (file : Option (List ℕ)) (old new told tells : Seen) → HasNoPlan why clue file → new ≡ old
+    → TellsWhy path why clue status told tells → Scheduled status path week file old new told tells
+no-week-by (faults.Failed why) clue status path week file old new told tells has same line = inr (inr (same, (why, line)))
+no-week-by (faults.Refused fault) clue status path week file old new told tells has same line = inr (inl (fault, clue, has, same, line))
+
+pub no-week : (fault : PlanFault) (status : ℕ) (path : List ℕ) (week : ℕ) (file : Option (List ℕ)) (old new told tells : Seen) → HasNoPlan fault.why fault.clue file → new ≡ old
+    → TellsNoPlan path fault status told tells → Scheduled status path week file old new told tells
+no-week fault status path week file old new told tells has same line = no-week-by fault.why fault.clue status path week file old new told tells has same line

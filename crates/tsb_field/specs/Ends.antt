@@ -4,6 +4,7 @@
 -- and `tells`.
 use Rattle.std.specs.Prelude.{◌≡◌, ◌⊎◌, ℕ, Bool, not, false, true, List, [], IsSome, Option, Some, None, Result, Ok, Err, Vec, option_map, unwrap_or, codes}
 use Rattle.std.specs.Io.KnownBytes.{Consumes, IsAtEnd}
+use Rattle.tsb_review_text.specs.Week.{week_text}
 use Rattle.tsb_program.specs.Read.{HasLog, HasPlan, RefusesLog, RefusesPlanAt}
 use Rattle.tsb_program.specs.Failures.{Fails}
 use Rattle.tsb_program.specs.Lines.{Wrote}
@@ -31,7 +32,6 @@ use Rattle.tsb_field_display.specs.Merge.{session_events}
 use Rattle.tsb_field_display.specs.Texts.{IsLog}
 use Rattle.tsb_field_display.specs.Ticks.{AreWritten}
 use Rattle.tsb_text.specs.recording.Ended as recorded
-use Rattle.tsb_text.specs.recording.Leaves.{first_inputs}
 use Rattle.tsb_text.specs.declared.recording.RecordOptions.{RecordOptions}
 use Rattle.tsb_text.specs.declared.recording.Outcome.{Outcome}
 use Rattle.tsb_text.specs.declared.recording.Outcome.TheVariants as outcomes
@@ -44,7 +44,7 @@ use Rattle.tsb_text.specs.tsb_plan_text.declared.error.PlanError.{PlanError}
 use Rattle.tsb_words.specs.FieldProgram.{Spells}
 use Rattle.tsb_words.specs.Near.{field_near}
 use Rattle.tsb_words.specs.Wrong.{Wrong, field_wrong}
-use Rattle.tsb_words.specs.FieldWords.{Wish, diagram, events, log, recording, reviewing, seen}
+use Rattle.tsb_words.specs.FieldWords.{Wish, diagram, events, log, recording, reviewing, seen, weekly}
 use Rattle.tsb_words.specs.declared.field_files.Asked.{Asked}
 use Rattle.tsb_words.specs.declared.field_files.DiagramAsked.{DiagramAsked}
 use Rattle.tsb_words.specs.declared.field_files.RecordManner.{RecordManner}
@@ -55,7 +55,7 @@ use Rattle.tsb_field.specs.Clocks.{clock_of, lacks_clock}
 use Rattle.tsb_field.specs.Lines.{TellsLate, TellsNoClock, usage_for}
 use Rattle.tsb_field.specs.GreenEnds.{HasEnds, NoEnds}
 use Rattle.tsb_field.specs.LogEnds.{LoggedOn}
-use Rattle.tsb_field.specs.ReviewEnds.{Reviewed}
+use Rattle.tsb_field.specs.ReviewEnds.{Answered as Replied, Reviewed}
 
 -- ## What words name
 
@@ -161,6 +161,7 @@ abbrev pub options_of : Moment → RecordManner → RecordOptions
 options_of from manner = record {
   on_fault = after_fault (not manner.goes_on);
   form = record { recalls = manner.recalls; outputs = manner.outputs };
+  acts = true;
   clock = clock_of manner.no_clock from;
 }
 
@@ -175,19 +176,19 @@ WritesEnd (Err fault) status from device old new told tells = (new ≡ old) × T
 abbrev pub RanSo : ℕ → Moment → List ℕ → RecordOptions → Setup → (before after : Devices) → Type 0
 RanSo status from device options given before after =
     (result : Result Outcome SessionError) × (mid : Seen)
-    × recorded.Ended result options.on_fault options.form given (first_inputs options.clock) before.input.bytes after.input.bytes before.errors.bytes mid.bytes
+    × recorded.EndedFrom result options.on_fault options.form given options.clock before.input.bytes after.input.bytes before.errors.bytes mid.bytes
     × Blames result after.input.failed mid.failed mid.flushed × WritesEnd result status from device before.output after.output mid after.errors
 
 -- how `record` ended on this plan and the log in the file of this name: after a run, or with nothing read and nothing written
 abbrev pub RecordedOn : ℕ → Moment → List ℕ → RecordOptions → Plan → (rows : List ℕ) → (List ℕ → Option (List ℕ)) → (before after : Devices) → Type 0
 RecordedOn status from device options plan rows files before after =
-    ((log : List LogRow) × HasLog (files rows) log × RanSo status from device options (record { plan = plan; log = log }) before after)
+    ((log : List LogRow) × HasLog (files rows) log × RanSo status from device options (record { plan = plan; log = log; acts = true }) before after)
     ⊎ OnlyTells (Stops files (Some rows) status) before after
 
 -- how `record` ended on the files of a plan and a log, of these names: after a run, or with nothing read and nothing written
 abbrev pub Recorded : ℕ → Moment → List ℕ → RecordOptions → (plan rows : List ℕ) → (List ℕ → Option (List ℕ)) → (before after : Devices) → Type 0
 Recorded status from device options plan rows files before after =
-    ((given : Setup) × HasPlan (files plan) given.plan × HasLog (files rows) given.log × RanSo status from device options given before after)
+    ((given : Setup) × HasPlan (files plan) given.plan × HasLog (files rows) given.log × (given.acts ≡ true) × RanSo status from device options given before after)
     ⊎ OnlyTells (NoRun plan rows files status) before after
 
 -- the same, where it may be that no clock can be set to tick 1, and one has to be: nothing is read or written then
@@ -236,6 +237,14 @@ Pictured status form source files path before after =
     OnlyTells (Stops files path status) before after
     ⊎ ((rows : List LogRow) × NamesLog files path rows × PicturedBeside source form.from status form rows files before after)
 
+-- what the schedule of the plan in this file runs in the week from a moment on is written, with 0; or the fault of the file
+-- or of the plan is told
+abbrev pub Scheduled : ℕ → List ℕ → ℕ → Option (List ℕ) → (old new told tells : Seen) → Type 0
+Scheduled status path week file old new told tells =
+    ((plan : Plan) × HasPlan file plan × Replied status 0 (week_text plan week) old new told tells)
+    ⊎ (((fault : PlanError) × (clue : Option PlanClue) × RefusesPlanAt file fault clue × (new ≡ old) × RefusesAt fault clue status told tells)
+    ⊎ ((new ≡ old) × FailsToReadFile path status told tells))
+
 -- ## What is done
 
 -- what was done for a wish, where files has the known bytes of each path
@@ -246,6 +255,7 @@ DidWish (recording from device plan file manner) status files before after =
 DidWish (events from device path) status files before after = Told status from device files path before after
 DidWish (diagram path title seconds from told_by) status files before after =
     Pictured status (form_of title seconds from) told_by files path before after
+DidWish (weekly plan week) status files before after = ReadsNothing (Scheduled status plan week (files plan)) before after
 DidWish (reviewing plan) status files before after = ReadsNothing (Reviewed status plan (files plan)) before after
 
 -- what was done for what the words ask, where this right word is near a bad one, or this is wrong with them

@@ -1,6 +1,6 @@
 //! Field files in, events and pictures out: `tsb_field log` makes a log for `tsb` from a controller's event log, and
 //! `tsb_field events` and `tsb_field diagram` make an event log and a phase diagram from what `tsb` answers. `tsb_field
-//! review` says what can be wrong with a plan that runs.
+//! review` says what can be wrong with a plan that runs, and `tsb_field schedule` what its schedule runs in a week.
 #![tactic(auto)]
 
 mod clock;
@@ -15,6 +15,7 @@ mod record_run;
 mod report;
 mod review_run;
 mod run;
+mod schedule_run;
 mod twice;
 
 use crate::end::USAGE;

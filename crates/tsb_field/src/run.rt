@@ -3,10 +3,11 @@ ghost use Rattle.std.specs.Prelude.{◌≡◌, Result, false, map, true};
 ghost use Rattle.tsb_words.specs.declared.field_files.Asked.{Asked};
 ghost use Rattle.tsb_words.specs.declared.error.WordsError.{WordsError};
 ghost use Rattle.tsb_words.specs.FieldProgram.{Spells};
+ghost use Rattle.tsb_words.specs.FieldWords.{seen};
 ghost use Rattle.tsb_words.specs.Near.{field_near};
 ghost use Rattle.tsb_words.specs.Pages.{field_page};
 ghost use Rattle.tsb_words.specs.Wrong.{field_wrong};
-ghost use Rattle.tsb_field.specs.Ends.{Answered, Did};
+ghost use Rattle.tsb_field.specs.Ends.{Answered, Did, DidWish};
 
 use crate::diagram_run::write_diagram;
 use crate::end::tell_words;
@@ -14,6 +15,7 @@ use crate::events_run::write_events;
 use crate::outputs_run::run_log;
 use crate::record_run::write_record;
 use crate::review_run::review_plan;
+use crate::schedule_run::write_schedule;
 use std::alloc::Global;
 use std::convert::AsStr;
 use std::io::{Read, Write};
@@ -25,7 +27,7 @@ use tsb_words::pages::field_page;
 /// with: 0 where all was done, 1 for bad input, 2 for bad words, 3 where a read, a write or memory failed, 4 where a line
 /// ended a strict record.
 ///
-/// The log, the events, the diagram or the review go to the output. What was left out, faults, bad words and failures go
+/// The log, the events, the diagram, the review or the week go to the output. What was left out, faults, bad words and failures go
 /// to the errors. A second line has where the text of a plan stops being JSON, or what was not read. The version and the
 /// help, where the words ask for one of them, go to the output.
 pub fn run_words<S: AsStr, F: Files, R: Read, W: Write, E: Write>(
@@ -59,13 +61,31 @@ fn run_asked<S: AsStr, F: Files, R: Read, W: Write, E: Write>(
         × Did (field_near (map S.text words.now)) (field_wrong (map S.text words.now)) answer result (F.bytes files.now) streams.old streams.new }
 {
     match read_words(alloc, words) {
-        Ok(Asked::Log(asked)) => run_log(alloc, &asked, files, streams),
-        Ok(Asked::Record(asked)) => write_record(alloc, &asked, files, streams),
-        Ok(Asked::Events { from, device, log }) => {
-            write_events(alloc, from, device, log, files, streams)
-        }
-        Ok(Asked::Diagram(asked)) => write_diagram(alloc, &asked, files, streams),
-        Ok(Asked::Review { plan }) => review_plan(alloc, plan, files, streams),
+        Ok(asked) => run_wish(alloc, &asked, files, streams),
         Err(fault) => tell_words(words, fault, streams),
+    }
+}
+
+/// Does what was asked for.
+fn run_wish<F: Files, R: Read, W: Write, E: Write>(
+    alloc: Global,
+    asked: &Asked<'_>,
+    files: &F,
+    streams: &mut Streams<R, W, E>,
+) -> u8
+    requires reads { streams.old.input.failed ≡ false }
+    requires writes { streams.old.errors.failed ≡ false }
+    requires flushed { streams.old.errors.flushed ≡ true }
+    ensures { DidWish (seen asked.now) result (F.bytes files.now) streams.old streams.new }
+{
+    match asked {
+        Asked::Log(asked) => run_log(alloc, asked, files, streams),
+        Asked::Record(asked) => write_record(alloc, asked, files, streams),
+        Asked::Events { from, device, log } => {
+            write_events(alloc, *from, device, *log, files, streams)
+        }
+        Asked::Diagram(asked) => write_diagram(alloc, asked, files, streams),
+        Asked::Review { plan } => review_plan(alloc, plan, files, streams),
+        Asked::Schedule { plan, week } => write_schedule(alloc, plan, *week, files, streams),
     }
 }

@@ -301,10 +301,26 @@ fn review_words(rt: HostRuntime) {
     assert!(rt; ask_for_review(rt.alloc(), &hyphen, "-a.json"));
 }
 
+/// Whether the words ask for the week of this plan from 2026-11-22 on, 9,830 days after 1999-12-24.
+fn ask_for_week(alloc: Global, words: &[&str], file: &str) -> bool {
+    match read_words(alloc, words) {
+        Ok(Asked::Schedule { plan, week }) => plan == file && week.number() == 9_830 * 864_000,
+        _ => false,
+    }
+}
+
+#[test]
+fn schedule_words(rt: HostRuntime) {
+    let behind = ["tsb_field", "schedule", "a.json", "--week", "2026-11-22"];
+    assert!(rt; ask_for_week(rt.alloc(), &behind, "a.json"));
+    let before = ["tsb_field", "schedule", "--week=2026-11-22", "a.json"];
+    assert!(rt; ask_for_week(rt.alloc(), &before, "a.json"));
+}
+
 const FROM: &str = "--from=2026-11-22T07:00:00";
 
 /// Words that ask for nothing.
-const BAD: [&[&str]; 32] = [
+const BAD: [&[&str]; 36] = [
     &["tsb_field"],
     &["tsb_field", "help"],
     &["tsb_field", "log"],
@@ -361,6 +377,10 @@ const BAD: [&[&str]; 32] = [
     &["tsb_field", "review"],
     &["tsb_field", "review", "a.json", "a.log"],
     &["tsb_field", "review", "--log=a.log", "a.json"],
+    &["tsb_field", "schedule", "a.json"],
+    &["tsb_field", "schedule", "--week=2026-11-22"],
+    &["tsb_field", "schedule", "--week=2026-02-29", "a.json"],
+    &["tsb_field", "schedule", "--week=1999-12-31", "a.json"],
 ];
 
 /// Whether all these words are bad.

@@ -1,5 +1,6 @@
 pub mod AnswerLemmas
 pub mod PartLemmas
+pub mod LeadLemmas
 pub mod TextLemmas
 pub mod PlainLemmas
 pub mod ThereLemmas

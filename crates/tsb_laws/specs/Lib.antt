@@ -64,6 +64,8 @@ pub mod OneText
 pub mod OneAnswer
 -- that what is saved of a live run is a session which ends alike
 pub mod SavedRuns
+-- that what a schedule does are commands
+pub mod Schedules
 -- what the events of runs show
 pub mod Told
 -- that coordinated phases are awaited and other greens forced off, and within which time a coordinated phase is Green again

@@ -1,9 +1,9 @@
 -- What layers say in a controller that has no options: each definition of theirs that reads an option, written anew
--- without one. An option is an object that version 1 of plan texts does not have: phaseDynamicMaxLimit,
+-- without one. An option is one of these objects, which version 1 of plan texts does not have: phaseDynamicMaxLimit,
 -- phaseDynamicMaxStep, overlapType, overlapModifierPhases, coordForceMode, coordMaximumMode, patternPermissiveTime,
 -- patternLeadLag, phasePedestrianRecycle, coordCorrectionMode, coordCorrectionLimit, overlapAcrossRings,
--- preemptChoosesAnew and coordReference. Nothing here reads one. What reads none of them is the layers' own. Each
--- definition has the name of the one that it is in place of.
+-- preemptChoosesAnew and coordReference. Nothing here reads one. What reads none of them is the layers' own, the rules
+-- of the schedule among them. Each definition has the name of the one that it is in place of.
 use Rattle.std.specs.Prelude.{ℕ, ◌+◌, ◌-◌, ◌%◌, ◌==◌, Bool, false, not, ◌&&◌, ◌||◌, if◌then◌else◌, min, Option, Some, None, is_some, is_none}
 use Rattle.tsb_step.specs.tsb_cells.declared.timer.Timer.{Timer}
 use Rattle.tsb_step.specs.tsb_cells.declared.timer.Timer.TheVariants.{Off}
@@ -21,7 +21,7 @@ use Rattle.tsb_step.specs.tsb_plan.Running.{running}
 use Rattle.tsb_step.specs.tsb_rules.declared.rules.Rule.{Rule}
 use Rattle.tsb_step.specs.tsb_rules.declared.rules.Rule.TheVariants.{K14, K15, K16, K17, K18, K19, K20}
 use Rattle.tsb_step.specs.tsb_rules.PatternRules.{some_and, each_pattern, patterns_are_whole, splits_hold_phases, splits_fill_cycles, coordinated_agree}
-use Rattle.tsb_step.specs.tsb_rules.Rules.{unless, or_rule, broken_by_rings, broken_by_phases, included_phases_are_enabled, preempts_are_concurrent, preempts_dwell}
+use Rattle.tsb_step.specs.tsb_rules.Rules.{unless, or_rule, broken_by_rings, broken_by_phases, broken_by_schedule, included_phases_are_enabled, preempts_are_concurrent, preempts_dwell}
 use Rattle.tsb_step.specs.tsb_heads.Heads.{Shown, Heads, vehicle_head, pedestrian_head}
 use Rattle.tsb_step.specs.tsb_heads.Overlaps.{some_of, is_followed_in_ring, is_on_yellow}
 use Rattle.tsb_step.specs.tsb_calls.Memories as calls
@@ -55,7 +55,11 @@ broken_by_parts plan =
 -- the first rule that the plan breaks, by number; K21 to K23 are of modifier phases, of the limits of dynamic maximums
 -- and of permissive times
 unfoldable pub first_broken : Plan → Option Rule
-first_broken plan = or_rule (broken_by_rings plan) (or_rule (broken_by_phases plan) (broken_by_parts plan))
+first_broken plan =
+    or_rule (broken_by_rings plan)
+    (or_rule (broken_by_phases plan)
+    (or_rule (broken_by_parts plan)
+    (broken_by_schedule plan)))
 
 -- ## The local counter
 

@@ -1,7 +1,7 @@
 -- That what is saved of a live run is a session which ends alike, as a statement.
 --
 -- It is proved, as the contract of a function that does nothing (src/one_text.rt).
-use Rattle.std.specs.Prelude.{◌≡◌, ℕ, List, [], ◌∷◌, ◌++◌}
+use Rattle.std.specs.Prelude.{◌≡◌, ℕ, false, List, [], ◌∷◌, ◌++◌}
 use Rattle.tsb_command_text.specs.declared.command.Command.{Command}
 use Rattle.tsb_text.specs.kept.Kept.{kept_of}
 use Rattle.tsb_live_text.specs.saved.Taken.{saved_commands}
@@ -17,7 +17,7 @@ AnswersAll given is (c ∷ cs) text left = (first rest : List ℕ) × (mid : Lis
 
 -- the plan, and the log that is saved of these inputs
 abbrev pub saved_setup : Plan → List Input → Setup
-saved_setup plan is = record { plan = plan; log = (kept_of plan is).rows }
+saved_setup plan is = record { plan = plan; log = (kept_of plan is).rows; acts = false }
 
 -- A session on the saved log may answer the saved commands so that the same inputs remain.
 abbrev pub SavedRunsAreSessions : Type 0

@@ -1,8 +1,8 @@
 -- Options at 0, over runs: a run in which every option is 0 is that of the controller whose definitions have no
 -- options, which PlainStep has. The laws here are the contract of a function in src/options.rt, and proved there.
-use Rattle.std.specs.Prelude.{◌≡◌, ℕ, Bool, true, false, not, ◌&&◌, List, [], ◌∷◌}
+use Rattle.std.specs.Prelude.{◌≡◌, ℕ, Bool, true, false, not, ◌&&◌, ◌||◌, List, [], ◌∷◌}
 use Rattle.tsb_step.specs.tsb_plan.declared.object.Object.{Object}
-use Rattle.tsb_step.specs.tsb_plan.declared.object.Object.TheVariants.{PhaseDynamicMaxLimit, PhaseDynamicMaxStep, OverlapType, OverlapModifierPhases, CoordForceMode, CoordMaximumMode, PatternPermissiveTime, PatternLeadLag, PhasePedestrianRecycle, CoordCorrectionMode, CoordCorrectionLimit, OverlapAcrossRings, PreemptChoosesAnew, CoordReference}
+use Rattle.tsb_step.specs.tsb_plan.declared.object.Object.TheVariants.{PhaseDynamicMaxLimit, PhaseDynamicMaxStep, OverlapType, OverlapModifierPhases, CoordForceMode, CoordMaximumMode, PatternPermissiveTime, PatternLeadLag, PhasePedestrianRecycle, CoordCorrectionMode, CoordCorrectionLimit, OverlapAcrossRings, PreemptChoosesAnew, CoordReference, TimeBaseScheduleMonth, TimeBaseScheduleDay, TimeBaseScheduleDate, TimeBaseScheduleDayPlan, DayPlanHour, DayPlanMinute, DayPlanActionNumber, TimebaseAscPattern}
 use Rattle.tsb_step.specs.tsb_plan.declared.version.Version.{Version}
 use Rattle.tsb_step.specs.tsb_plan.declared.version.Version.TheVariants.{One, Two, Three}
 use Rattle.tsb_step.specs.tsb_plan.Objects.{is_structural, since}
@@ -41,15 +41,27 @@ is_of_options PhaseDynamicMaxStep = true
 is_of_options CoordCorrectionLimit = true
 is_of_options o = is_option o
 
+-- the objects of the schedule: the controller reads them in the rules K24 to K27 alone, with or without options
+abbrev pub is_of_schedule : Object → Bool
+is_of_schedule TimeBaseScheduleMonth = true
+is_of_schedule TimeBaseScheduleDay = true
+is_of_schedule TimeBaseScheduleDate = true
+is_of_schedule TimeBaseScheduleDayPlan = true
+is_of_schedule DayPlanHour = true
+is_of_schedule DayPlanMinute = true
+is_of_schedule DayPlanActionNumber = true
+is_of_schedule TimebaseAscPattern = true
+is_of_schedule o = false
+
 -- version 1 of plan texts has it
 abbrev pub is_of_version_1 : Version → Bool
 is_of_version_1 One = true
 is_of_version_1 Two = false
 is_of_version_1 Three = false
 
--- Those are the objects that version 1 of plan texts does not have, and no others.
+-- With those of the schedule, those are the objects that version 1 of plan texts does not have, and no others.
 abbrev pub OptionsAreAllThatVersion1Lacks : Type 0
-OptionsAreAllThatVersion1Lacks = (o : Object) → is_of_options o ≡ not (is_of_version_1 (since o))
+OptionsAreAllThatVersion1Lacks = (o : Object) → (is_of_options o || is_of_schedule o) ≡ not (is_of_version_1 (since o))
 
 -- each option is 0 in the plan
 pub record HasEachAtZero (plan : Plan) : Type 0 where

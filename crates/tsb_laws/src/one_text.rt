@@ -41,7 +41,7 @@ pub fn live_runs_write_one_text()
 {}
 
 /// What is saved of a live run is a session that ends alike. On the saved log a session may answer the saved commands so
-/// that the same inputs remain, and so the same state, plan and history.
+/// that the same inputs remain, and so the same state, plan and history. The schedule does not act in it.
 ///
 /// Needs: that each of the inputs was taken, as those of a live run were (`live_inputs_are_taken`).
 /// Not said: that memory suffices for them again; that the saved texts are read as this log and these commands, which

@@ -21,8 +21,9 @@ ghost use Rattle.tsb_laws.specs.WithoutOptions.{OptionsAloneRead, OptionsAreAllT
 /// Mistake: as of runs.
 /// Witness: `an_off_run` of OffRuns.
 ///
-/// `lists`: The options are the objects that version 1 of plan texts does not have. There are twelve, and two objects
-/// that one of these alone reads: the step of the dynamic maximum and the correction limit.
+/// `lists`: The options are the objects that version 1 of plan texts does not have, without those of the schedule.
+/// There are twelve, and two objects that one of these alone reads: the step of the dynamic maximum and the correction
+/// limit. The eight objects of the schedule are read in the rules K24 to K27 alone, so that no run needs them to be 0.
 ///
 /// Mistake: a list without the modifier phases of overlaps, `without_modifiers` (`is_later`, `would_be_left_out`).
 /// Witness: none is needed, as the law asks for nothing.

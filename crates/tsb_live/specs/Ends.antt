@@ -2,7 +2,7 @@
 --
 -- `before` and `after` are what is seen of all devices; of the output alone that is `old` and `new`, and of faults `told`
 -- and `tells`.
-use Rattle.std.specs.Prelude.{◌≡◌, ◌⊎◌, ℕ, List, Option, Some, None, Result, Ok, Err, codes}
+use Rattle.std.specs.Prelude.{◌≡◌, ◌⊎◌, ℕ, true, List, Option, Some, None, Result, Ok, Err, codes}
 use Rattle.tsb_words.specs.declared.live.Asked.{Asked}
 use Rattle.tsb_words.specs.declared.error.WordsError.{WordsError}
 use Rattle.tsb_words.specs.LiveWords.{Spells}
@@ -35,7 +35,7 @@ EndsSo (Err fault) status told tells = TellsInputEnd fault status told tells
 abbrev pub Talked : ℕ → OnFault → Plan → (before after : Devices) → Type 0
 Talked status on_fault plan before after =
     (result : Result (Option Stop) SessionError)
-    × LiveEnded result on_fault plan before.input.bytes after.input.bytes before.output.bytes after.output.bytes
+    × LiveEnded result on_fault true plan before.input.bytes after.input.bytes before.output.bytes after.output.bytes
     × Blames result after.input.failed after.output.failed after.output.flushed × EndsSo result status before.errors after.errors
 
 -- there is no run: with 1 because the plan is refused, which its own line says, and a second one what is said of its

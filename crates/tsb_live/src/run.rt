@@ -106,6 +106,7 @@ fn talk<R: Read, W: Write, E: Write>(
         alloc,
         plan,
         on_fault,
+        true,
         &mut streams.input,
         &mut streams.output,
     ) {

@@ -8,10 +8,12 @@ use Rattle.tsb_bench.specs.Held.{state_of, whole}
 use Rattle.tsb_text.specs.kept.Kept.{last_row}
 use Rattle.tsb_lines.specs.declared.writes.WriteError.{WriteError}
 use Rattle.tsb_log_text.specs.declared.log.LogRow.{LogRow}
+use Rattle.tsb_bench.specs.tsb_machine.declared.commands.Answer.TheVariants.{Took as IsTaken}
+use Rattle.tsb_bench.specs.tsb_machine.declared.commands.MachineCommand.TheVariants.{Apply}
 use Rattle.tsb_step.specs.declared.inputs.Input.{Input}
 use Rattle.tsb_step.specs.declared.inputs.Input.TheVariants.{Tick}
-use Rattle.tsb_step.specs.tsb_plan.Plan.{Plan}
 use Rattle.tsb_step.specs.Events.{events_of, usual_after}
+use Rattle.tsb_step.specs.Play.{IsRight}
 use Rattle.tsb_step.specs.Runs.{replay}
 use Rattle.tsb_step.specs.Step.{verdict}
 use Rattle.tsb_step.proofs.RefusalLemmas.{refuses}
@@ -22,37 +24,69 @@ use Rattle.tsb_dialog.proofs.SaidLemmas.{said-more, said-nothing}
 use Rattle.tsb_log_text.specs.Logs.{row_at}
 use Rattle.tsb_text.specs.declared.rows.Rows.TheVariants.{Held}
 use Rattle.tsb_text.specs.Rows.{rows_in}
-use Rattle.tsb_text.specs.Answers.{Setup, display_line, next_tick, refused_line}
+use Rattle.tsb_text.specs.Answers.{GoesUnless, Leads, Setup, display_line, follower, next_tick, refused_after, refused_line}
 use Rattle.tsb_text.specs.Obeyed.{Done, OnCourse, Stands, Took, news_in, tells_in}
-use Rattle.tsb_text.specs.Obeys.{Besides, if_told}
+use Rattle.tsb_text.specs.Obeys.{Besides, if_told, trail}
 use Rattle.tsb_text.proofs.CourseLemmas.{follows-state, told-alike}
-use Rattle.tsb_live_text.specs.Changes.{Changes, line_after, owed, shows_same, tick_text}
+use Rattle.tsb_text.proofs.TextLemmas.{some-leads}
+use Rattle.tsb_live_text.specs.Changes.{Changes, Ends, Follows, TellsTick, line_after, owed, shows_same, tick_text}
+use Rattle.tsb_live_text.proofs.TickLemmas.{rejoin}
 
 -- ## There is an answer to each number of ticks
 
+-- what comes after a tick with this display line, and what followed it
+abbrev After : Setup → Besides → Row → List ℕ → Bool → ℕ → Option Refusal → List Input → List ℕ → Option Refusal → List Input → Type 0
+After given besides row line same k stop left text refusal last =
+    GoesUnless stop (Changes given besides row left line same k text refusal last) (Ends besides line same stop left text refusal last)
+
 -- what answers so many ticks
-record SomeChanges (plan : Plan) (besides : Besides) (row : Row) (is : List Input) (before : List ℕ) (is_owed : Bool) (n : ℕ) : Type 0 where
+record SomeChanges (given : Setup) (besides : Besides) (row : Row) (is : List Input) (before : List ℕ) (is_owed : Bool) (n : ℕ) : Type 0 where
   text : List ℕ
   refusal : Option Refusal
   left : List Input
-  so : Changes plan besides row is before is_owed n text refusal left
+  so : Changes given besides row is before is_owed n text refusal left
+
+-- what answers the rest
+record SomeAfter (given : Setup) (besides : Besides) (row : Row) (line : List ℕ) (same : Bool) (k : ℕ) (stop : Option Refusal) (left : List Input) : Type 0 where
+  text : List ℕ
+  refusal : Option Refusal
+  last : List Input
+  so : After given besides row line same k stop left text refusal last
+
+some-after : (given : Setup) (besides : Besides) (row : Row) (line : List ℕ) (same : Bool) (k : ℕ) → ((left : List Input) → SomeChanges given besides row left line same k)
+    → (stop : Option Refusal) (left : List Input) → SomeAfter given besides row line same k stop left
+some-after given besides row line same k rest None left = let r : SomeChanges given besides row left line same k = rest left in
+    record { text = r.text; refusal = r.refusal; last = r.left; so = r.so }
+some-after given besides row line same k rest (Some e) left =
+    record { text = owed same line ++ refused_after besides.echo (Some e); refusal = Some e; last = left; so = (refl, refl, refl) }
 
 -- one tick more, where there is an answer after it
-one-change : (plan : Plan) (besides : Besides) (row : Row) (n : ℕ) (is : List Input) (before : List ℕ) (is_owed : Bool)
-    → SomeChanges plan besides row (Tick row ∷ is) (line_after plan (Tick row ∷ is)) (shows_same (line_after plan (Tick row ∷ is)) before) n
-    → (found : Option Refusal) → verdict (replay plan is) (Tick row) ≡ found → SomeChanges plan besides row is before is_owed (suc n)
-one-change plan besides row n is before is_owed rest None e = record { text = tick_text plan besides row is before ++ rest.text; refusal = rest.refusal; left = rest.left; so = inl (e, rest.text, refl, rest.so) }
-one-change plan besides row n is before is_owed rest (Some x) e = record {
+one-change : (given : Setup) (besides : Besides) (row : Row) (n : ℕ) (is : List Input) (before : List ℕ) (is_owed : Bool)
+    → ((left : List Input) → SomeChanges given besides row left (line_after given.plan (Tick row ∷ is)) (shows_same (line_after given.plan (Tick row ∷ is)) before) n)
+    → (found : Option Refusal) → verdict (replay given.plan is) (Tick row) ≡ found → SomeChanges given besides row is before is_owed (suc n)
+one-change given besides row n is before is_owed rest None e =
+    let next : (stop : Option Refusal) × (left : List Input) × Leads given (Tick row ∷ is) (follower given is (Tick row)) stop left = some-leads given (Tick row ∷ is) (follower given is (Tick row)) in
+    let said : List ℕ = tick_text given.plan besides row is before (trail besides.tells given (Tick row ∷ is) (follower given is (Tick row)) next.0) in
+    let after : SomeAfter given besides row (line_after given.plan (Tick row ∷ is)) (shows_same (line_after given.plan (Tick row ∷ is)) before) n next.0 next.1 =
+    some-after given besides row (line_after given.plan (Tick row ∷ is)) (shows_same (line_after given.plan (Tick row ∷ is)) before) n rest next.0 next.1 in
+    record {
+      text = said ++ after.text;
+      refusal = after.refusal;
+      left = after.last;
+      so = inl (e, said, after.text, next.0, next.1, record { leads = next.2; told = refl }, refl, after.so);
+    }
+one-change given besides row n is before is_owed rest (Some x) e = record {
   text = owed is_owed before ++ (besides.echo ++ with_feed (refused_line x));
   refusal = Some x;
   left = is;
-  so = inr (record { why = x; right = refuses (replay plan is) (Tick row) x e; line = refl; refused = refl; left = refl });
+  so = inr (record { why = x; right = refuses (replay given.plan is) (Tick row) x e; line = refl; refused = refl; left = refl });
 }
 
-some-changes : (plan : Plan) (besides : Besides) (row : Row) (n : ℕ) (is : List Input) (before : List ℕ) (is_owed : Bool) → SomeChanges plan besides row is before is_owed n
-some-changes plan besides row zero is before is_owed = record { text = owed is_owed before; refusal = None; left = is; so = (refl, refl, refl) }
-some-changes plan besides row (suc n) is before is_owed =
-    one-change plan besides row n is before is_owed (some-changes plan besides row n (Tick row ∷ is) (line_after plan (Tick row ∷ is)) (shows_same (line_after plan (Tick row ∷ is)) before)) (verdict (replay plan is) (Tick row)) refl
+some-changes : (given : Setup) (besides : Besides) (row : Row) (n : ℕ) (is : List Input) (before : List ℕ) (is_owed : Bool) → SomeChanges given besides row is before is_owed n
+some-changes given besides row zero is before is_owed = record { text = owed is_owed before; refusal = None; left = is; so = (refl, refl, refl) }
+some-changes given besides row (suc n) is before is_owed =
+    one-change given besides row n is before is_owed (λ left. some-changes given besides row n left (line_after given.plan (Tick row ∷ is)) (shows_same (line_after given.plan (Tick row ∷ is)) before))
+    (verdict (replay given.plan is) (Tick row)) refl
 
 -- ## The row that is held
 
@@ -64,30 +98,44 @@ held-row row n = elim (cases_Bool (nat_le 1 (n + 1))) [
 ]
 
 -- the next tick has it
+held-tick : (given : Setup) (log : List LogRow) (course : OnCourse) (is : List Input) (row : Row) → Stands given log course is → log ≡ rows_in (Held row) → next_tick given is ≡ Tick row
+held-tick given log course is row stands held =
+    ap Tick (ap (λ (l : List LogRow). row_at l ((replay given.plan is).now + 1)) (stands.same ∙ held) ∙ held-row row (replay given.plan is).now)
+
 pub held-took : (r : Result (Unit {0}) Refusal) (given : Setup) (log : List LogRow) (old new : OnCourse) (is : List Input) (row : Row) → Stands given log old is → log ≡ rows_in (Held row) → Took r given log new is (next_tick given is)
     → Took r given log new is (Tick row)
-held-took r given log old new is row stands held took =
-    let there : row_at given.log ((replay given.plan is).now + 1) ≡ row = ap (λ (l : List LogRow). row_at l ((replay given.plan is).now + 1)) (stands.same ∙ held) ∙ held-row row (replay given.plan is).now in
-    subst (λ (i : Input). Took r given log new is i) (ap Tick there) took
+held-took r given log old new is row stands held took = subst (λ (i : Input). Took r given log new is i) (held-tick given log old is row stands held) took
+
+-- the next tick, with the row that is held, was taken
+pub record TookNext (given : Setup) (log : List LogRow) (course : OnCourse) (row : Row) (is : List Input) : Type 0 where
+  pub took : Took (Ok tt) given log course is (Tick row)
+  pub next : course.next ≡ follower given is (Tick row)
+
+pub held-next : (given : Setup) (log : List LogRow) (old new : OnCourse) (is : List Input) (row : Row) → Stands given log old is → log ≡ rows_in (Held row) → Took (Ok tt) given log new is (next_tick given is)
+    → new.next ≡ follower given is (next_tick given is) → TookNext given log new row is
+held-next given log old new is row stands held took next = record {
+  took = held-took (Ok tt) given log old new is row stands held took;
+  next = next ∙ ap (λ (i : Input). follower given is i) (held-tick given log old is row stands held);
+}
 
 -- ## So far
 
 -- the ticks that are to come answer the rest
-abbrev On : Plan → Besides → Row → List Input → List ℕ → ℕ → List Input → List ℕ → Bool → ℕ → List ℕ → Type 0
-On plan besides row is first n now before is_owed k said =
-    (text : List ℕ) (refusal : Option Refusal) (last : List Input) → Changes plan besides row now before is_owed k text refusal last → Changes plan besides row is first false n (said ++ text) refusal last
+abbrev On : Setup → Besides → Row → List Input → List ℕ → ℕ → List Input → List ℕ → Bool → ℕ → List ℕ → Type 0
+On given besides row is first n now before is_owed k said =
+    (text : List ℕ) (refusal : Option Refusal) (last : List Input) → Changes given besides row now before is_owed k text refusal last → Changes given besides row is first false n (said ++ text) refusal last
 
 pub record Changing (given : Setup) (log : List LogRow) (besides : Besides) (row : Row) (is : List Input) (first : List ℕ) (n : ℕ) (course : OnCourse) (before : List ℕ) (is_owed : Bool) (k : ℕ) (a b : Option (List ℕ)) (p q : List ℕ) : Type 0 where
   pub now : List Input
   pub stands : Stands given log course now
-  pub wrote : Wrote a b p q (On given.plan besides row is first n now before is_owed k)
+  pub wrote : Wrote a b p q (On given besides row is first n now before is_owed k)
 
 changes-start : (given : Setup) (log : List LogRow) (besides : Besides) (row : Row) (is : List Input) (first : List ℕ) (n k : ℕ) (course : OnCourse) (a : Option (List ℕ)) (p : List ℕ) → k ≡ n → Stands given log course is
     → Changing given log besides row is first n course first false k a a p p
 changes-start given log besides row is first n k course a p all stands = record {
   now = is;
   stands = stands;
-  wrote = record { text = []; said = said-nothing a p; so = λ text refusal last c. subst (λ (m : ℕ). Changes given.plan besides row is first false m text refusal last) all c };
+  wrote = record { text = []; said = said-nothing a p; so = λ text refusal last c. subst (λ (m : ℕ). Changes given besides row is first false m text refusal last) all c };
 }
 
 pub changes-started : (given : Setup) (log : List LogRow) (besides : Besides) (row : Row) (is : List Input) (first line : List ℕ) (n k : ℕ) (course : OnCourse) (a : Option (List ℕ)) (p : List ℕ) → line ≡ first → k ≡ n
@@ -95,133 +143,183 @@ pub changes-started : (given : Setup) (log : List LogRow) (besides : Besides) (r
 changes-started given log besides row is first line n k course a p tells all stands =
     subst (λ (l : List ℕ). Changing given log besides row is first n course l false k a a p p) (sym tells) (changes-start given log besides row is first n k course a p all stands)
 
--- a tick was taken, and what it tells
-record Taken (given : Setup) (log : List LogRow) (besides : Besides) (row : Row) (is : List Input) (first : List ℕ) (n : ℕ) (now : List Input) (new : OnCourse) (line : List ℕ) (same : Bool) (k : ℕ) (said : List ℕ) : Type 0 where
-  stands : Stands given log new (Tick row ∷ now)
-  on : On given.plan besides row is first n (Tick row ∷ now) line same k (said ++ (news_in new ++ owed (not same) line))
+-- ## A tick that was taken
 
-taken : (given : Setup) (log : List LogRow) (besides : Besides) (row : Row) (is : List Input) (first : List ℕ) (n : ℕ) (old new : OnCourse) (before : List ℕ) (is_owed : Bool) (left k : ℕ) (line : List ℕ) (same : Bool) (a b : Option (List ℕ)) (p q : List ℕ)
-    → (s : Changing given log besides row is first n old before is_owed left a b p q) → left ≡ suc k → tells_in new.mode ≡ besides.tells → Took (Ok tt) given log new s.now (Tick row)
-    → line ≡ display_line (state_of new.bench) → same ≡ shows_same line before → Taken given log besides row is first n s.now new line same k s.wrote.text
-taken given log besides row is first n old new before is_owed left k line same a b p q s one mode took tells alike = record { stands = took.1; on = on }
+-- it was taken, and this was said of it and of what follows it
+record Taken (given : Setup) (besides : Besides) (row : Row) (now : List Input) (before line : List ℕ) (same : Bool) (said : List ℕ) (stop : Option Refusal) (left : List Input) : Type 0 where
+  right : IsRight given.plan now (Apply (Tick row)) IsTaken
+  follows : Follows given besides row now before said stop left
+  is-line : line ≡ line_after given.plan (Tick row ∷ now)
+  is-same : same ≡ shows_same (line_after given.plan (Tick row ∷ now)) before
+
+-- where the display line after it is said unless it shows the same as that before
+abbrev TellsOf : Setup → OnCourse → List Input → Row → List ℕ → Bool → List ℕ → Option Refusal → List Input → Type 0
+TellsOf given course now row line same = TellsTick given (tells_in course.mode) (Tick row ∷ now) course.next (news_in course) (owed (not same) line)
+
+taken : (given : Setup) (log : List LogRow) (besides : Besides) (row : Row) (course : OnCourse) (now : List Input) (before line : List ℕ) (same : Bool) (said : List ℕ) (stop : Option Refusal) (left : List Input)
+    → TookNext given log course row now → tells_in course.mode ≡ besides.tells → line ≡ display_line (state_of course.bench) → same ≡ shows_same line before → TellsOf given course now row line same said stop left
+    → Taken given besides row now before line same said stop left
+taken given log besides row course now before line same said stop left t mode tells alike told = record {
+  right = t.took.0;
+  follows = record {
+    leads = subst (λ (i : Option Input). Leads given (Tick row ∷ now) i stop left) t.next told.leads;
+    told = told.told ∙ (λ j. (news j ++ trail (mode j) given (Tick row ∷ now) (t.next j) stop) ++ owed (not (same-there j)) (line-there j));
+  };
+  is-line = line-there;
+  is-same = same-there;
+}
   where
-    is-line : line ≡ line_after given.plan (Tick row ∷ s.now)
-    is-line = tells ∙ ap display_line (follows-state given.plan (whole new.bench) (Tick row ∷ s.now) took.1.follows)
+    line-there : line ≡ line_after given.plan (Tick row ∷ now)
+    line-there = tells ∙ ap display_line (follows-state given.plan (whole course.bench) (Tick row ∷ now) t.took.1.follows)
 
-    is-same : same ≡ shows_same (line_after given.plan (Tick row ∷ s.now)) before
-    is-same = alike ∙ ap (λ (l : List ℕ). shows_same l before) is-line
+    same-there : same ≡ shows_same (line_after given.plan (Tick row ∷ now)) before
+    same-there = alike ∙ ap (λ (l : List ℕ). shows_same l before) line-there
 
-    news : news_in new ≡ if_told besides.tells (events_of (usual_after (last_row s.now)) (replay given.plan s.now) (Tick row))
-    news = told-alike (tells_in new.mode) new.news (events_of (usual_after (last_row s.now)) (replay given.plan s.now) (Tick row)) took.2
-        ∙ ap (λ (t : Bool). if_told t (events_of (usual_after (last_row s.now)) (replay given.plan s.now) (Tick row))) mode
+    news : news_in course ≡ if_told besides.tells (events_of (usual_after (last_row now)) (replay given.plan now) (Tick row))
+    news = told-alike (tells_in course.mode) course.news (events_of (usual_after (last_row now)) (replay given.plan now) (Tick row)) t.took.2
+        ∙ ap (λ (b : Bool). if_told b (events_of (usual_after (last_row now)) (replay given.plan now) (Tick row))) mode
 
-    said : news_in new ++ owed (not same) line ≡ tick_text given.plan besides row s.now before
-    said = (λ j. news j ++ owed (not (is-same j)) (is-line j))
+-- what comes after it answers the rest
+goes-on : (given : Setup) (besides : Besides) (row : Row) (is : List Input) (first : List ℕ) (n : ℕ) (now : List Input) (before : List ℕ) (is_owed : Bool) (k next : ℕ) (so-far : List ℕ) (line : List ℕ) (same : Bool) (said : List ℕ) (stop : Option Refusal) (left : List Input)
+    → On given besides row is first n now before is_owed k so-far → k ≡ suc next → Taken given besides row now before line same said stop left
+    → (text : List ℕ) (refusal : Option Refusal) (last : List Input) → After given besides row line same next stop left text refusal last
+    → Changes given besides row is first false n ((so-far ++ said) ++ text) refusal last
+goes-on given besides row is first n now before is_owed k next so-far line same said stop left on one t text refusal last after =
+    subst (λ (v : List ℕ). Changes given besides row is first false n v refusal last) (sym (append_assoc so-far said text))
+    (on (said ++ text) refusal last (subst (λ (m : ℕ). Changes given besides row now before is_owed m (said ++ text) refusal last) (sym one) tick))
+  where
+    there : After given besides row (line_after given.plan (Tick row ∷ now)) (shows_same (line_after given.plan (Tick row ∷ now)) before) next stop left text refusal last
+    there = subst (λ (l : List ℕ). After given besides row l (shows_same (line_after given.plan (Tick row ∷ now)) before) next stop left text refusal last) t.is-line
+        (subst (λ (x : Bool). After given besides row line x next stop left text refusal last) t.is-same after)
 
-    step : (text : List ℕ) (refusal : Option Refusal) (last : List Input) → Changes given.plan besides row (Tick row ∷ s.now) line same k text refusal last
-        → Changes given.plan besides row s.now before is_owed (suc k) ((news_in new ++ owed (not same) line) ++ text) refusal last
-    step text refusal last c = inl (
-      took.0,
-      text,
-      ap (λ (v : List ℕ). v ++ text) said,
-      subst (λ (l : List ℕ). Changes given.plan besides row (Tick row ∷ s.now) l (shows_same (line_after given.plan (Tick row ∷ s.now)) before) k text refusal last) is-line
-          (subst (λ (x : Bool). Changes given.plan besides row (Tick row ∷ s.now) line x k text refusal last) is-same c),
-    )
+    tick : Changes given besides row now before is_owed (suc next) (said ++ text) refusal last
+    tick = inl (t.right, said, text, stop, left, t.follows, refl, there)
 
-    on : On given.plan besides row is first n (Tick row ∷ s.now) line same k (s.wrote.text ++ (news_in new ++ owed (not same) line))
-    on text refusal last c = subst (λ (v : List ℕ). Changes given.plan besides row is first false n v refusal last) (sym (append_assoc s.wrote.text (news_in new ++ owed (not same) line) text))
-        (s.wrote.so ((news_in new ++ owed (not same) line) ++ text) refusal last
-        (subst (λ (m : ℕ). Changes given.plan besides row s.now before is_owed m ((news_in new ++ owed (not same) line) ++ text) refusal last) (sym one) (step text refusal last c)))
-
-pub changes-more : (given : Setup) (log : List LogRow) (besides : Besides) (row : Row) (is : List Input) (first : List ℕ) (n : ℕ) (old new : OnCourse) (before : List ℕ) (is_owed : Bool) (left k : ℕ) (line : List ℕ) (same : Bool) (a b c : Option (List ℕ)) (p q r : List ℕ)
-    → Changing given log besides row is first n old before is_owed left a b p q → left ≡ suc k → tells_in new.mode ≡ besides.tells
-    → ((inputs : List Input) → Stands given log old inputs → Took (Ok tt) given log new inputs (Tick row))
-    → line ≡ display_line (state_of new.bench) → same ≡ shows_same line before → Said b c q r (news_in new ++ owed (not same) line) → Changing given log besides row is first n new line same k a c p r
-changes-more given log besides row is first n old new before is_owed left k line same a b c p q r s one mode took tells alike said =
-    let x : Taken given log besides row is first n s.now new line same k s.wrote.text =
-    taken given log besides row is first n old new before is_owed left k line same a b p q s one mode (took s.now s.stands) tells alike in
+-- nothing was refused
+pub changes-more : (given : Setup) (log : List LogRow) (besides : Besides) (row : Row) (is : List Input) (first : List ℕ) (n : ℕ) (old mid new : OnCourse) (before : List ℕ) (is_owed : Bool) (left k : ℕ) (line : List ℕ) (same : Bool) (stop : Option Refusal) (a b c : Option (List ℕ)) (p q r : List ℕ)
+    → Changing given log besides row is first n old before is_owed left a b p q → left ≡ suc k → tells_in mid.mode ≡ besides.tells
+    → ((inputs : List Input) → Stands given log old inputs → TookNext given log mid row inputs)
+    → line ≡ display_line (state_of mid.bench) → same ≡ shows_same line before
+    → stop ≡ None → ((inputs : List Input) → Stands given log mid (Tick row ∷ inputs) → Done (Ok stop) given log new (TellsOf given mid inputs row line same) b c q r)
+    → Changing given log besides row is first n new line same k a c p r
+changes-more given log besides row is first n old mid new before is_owed left k line same stop a b c p q r s one mode took tells alike none told =
+    let t : TookNext given log mid row s.now = took s.now s.stands in
+    let d : Done (Ok None) given log new (TellsOf given mid s.now row line same) b c q r =
+    subst (λ (x : Option Refusal). Done (Ok x) given log new (TellsOf given mid s.now row line same) b c q r) none (told s.now t.took.1) in
     record {
-      now = Tick row ∷ s.now;
-      stands = x.stands;
+      now = d.0;
+      stands = d.1;
       wrote = record {
-        text = s.wrote.text ++ (news_in new ++ owed (not same) line);
-        said = said-more a b c p q r s.wrote.text (news_in new ++ owed (not same) line) s.wrote.said said;
-        so = x.on;
+        text = s.wrote.text ++ d.2.text;
+        said = said-more a b c p q r s.wrote.text d.2.text s.wrote.said d.2.said;
+        so = goes-on given besides row is first n s.now before is_owed left k s.wrote.text line same d.2.text None d.0 s.wrote.so one
+            (taken given log besides row mid s.now before line same d.2.text None d.0 t mode tells alike d.2.so);
       };
     }
 
--- a first part of a text that is said after what was said
-rejoin : (said cut rest more : List ℕ) → (said ++ cut) ++ (rest ++ more) ≡ (said ++ (cut ++ rest)) ++ more
-rejoin said cut rest more =
-    append_assoc said cut (rest ++ more) ∙ ap (λ (v : List ℕ). said ++ v) (sym (append_assoc cut rest more)) ∙ sym (append_assoc said (cut ++ rest) more)
-
--- a fault within what a tick tells
-pub changes-fault : (given : Setup) (log : List LogRow) (besides : Besides) (row : Row) (is : List Input) (first : List ℕ) (n : ℕ) (old new : OnCourse) (before : List ℕ) (is_owed : Bool) (left k : ℕ) (line : List ℕ) (same : Bool) (a b c : Option (List ℕ)) (p q r : List ℕ) (e : WriteError)
-    → Changing given log besides row is first n old before is_owed left a b p q → left ≡ suc k → tells_in new.mode ≡ besides.tells
-    → ((inputs : List Input) → Stands given log old inputs → Took (Ok tt) given log new inputs (Tick row))
-    → line ≡ display_line (state_of new.bench) → same ≡ shows_same line before → IsCutShort b c q r (news_in new ++ owed (not same) line)
-    → Done (Err e) given log new (Changes given.plan besides row is first false n) a c p r
-changes-fault given log besides row is first n old new before is_owed left k line same a b c p q r e s one mode took tells alike cut =
-    let x : Taken given log besides row is first n s.now new line same k s.wrote.text =
-    taken given log besides row is first n old new before is_owed left k line same a b p q s one mode (took s.now s.stands) tells alike in
-    let rest : SomeChanges given.plan besides row (Tick row ∷ s.now) line same k = some-changes given.plan besides row k (Tick row ∷ s.now) line same in
+-- a fault within what is said of a tick
+pub changes-fault : (given : Setup) (log : List LogRow) (besides : Besides) (row : Row) (is : List Input) (first : List ℕ) (n : ℕ) (old mid new : OnCourse) (before : List ℕ) (is_owed : Bool) (left k : ℕ) (line : List ℕ) (same : Bool) (a b c : Option (List ℕ)) (p q r : List ℕ) (e : WriteError)
+    → Changing given log besides row is first n old before is_owed left a b p q → left ≡ suc k → tells_in mid.mode ≡ besides.tells
+    → ((inputs : List Input) → Stands given log old inputs → TookNext given log mid row inputs)
+    → line ≡ display_line (state_of mid.bench) → same ≡ shows_same line before
+    → ((inputs : List Input) → Stands given log mid (Tick row ∷ inputs) → Done (Err e) given log new (TellsOf given mid inputs row line same) b c q r)
+    → Done (Err e) given log new (Changes given besides row is first false n) a c p r
+changes-fault given log besides row is first n old mid new before is_owed left k line same a b c p q r e s one mode took tells alike told =
+    let t : TookNext given log mid row s.now = took s.now s.stands in
+    let d : Done (Err e) given log new (TellsOf given mid s.now row line same) b c q r = told s.now t.took.1 in
+    let rest : SomeAfter given besides row line same k d.so.1 d.so.2 = some-after given besides row line same k (λ last. some-changes given besides row k last line same) d.so.1 d.so.2 in
     record {
-      text = s.wrote.text ++ cut.text;
-      said = said-more a b c p q r s.wrote.text cut.text s.wrote.said cut.said;
+      text = s.wrote.text ++ d.text;
+      said = said-more a b c p q r s.wrote.text d.text s.wrote.said d.said;
       so = (
-        cut.so.0 ++ rest.text,
+        d.so.0 ++ rest.text,
         rest.refusal,
-        rest.left,
-        subst (λ (v : List ℕ). Changes given.plan besides row is first false n v rest.refusal rest.left)
-            (ap (λ (v : List ℕ). (s.wrote.text ++ v) ++ rest.text) cut.so.1 ∙ sym (rejoin s.wrote.text cut.text cut.so.0 rest.text)) (x.on rest.text rest.refusal rest.left rest.so),
+        rest.last,
+        subst (λ (v : List ℕ). Changes given besides row is first false n v rest.refusal rest.last) (sym (rejoin s.wrote.text d.text d.so.0 rest.text))
+            (goes-on given besides row is first n s.now before is_owed left k s.wrote.text line same (d.text ++ d.so.0) d.so.1 d.so.2 s.wrote.so one
+            (taken given log besides row mid s.now before line same (d.text ++ d.so.0) d.so.1 d.so.2 t mode tells alike d.so.3) rest.text rest.refusal rest.last rest.so),
       );
     }
 
--- the next tick was refused
-refused : (given : Setup) (log : List LogRow) (besides : Besides) (row : Row) (is : List Input) (first : List ℕ) (n : ℕ) (old new : OnCourse) (before : List ℕ) (is_owed : Bool) (left k : ℕ) (a b : Option (List ℕ)) (p q : List ℕ) (e : Refusal)
-    → (s : Changing given log besides row is first n old before is_owed left a b p q) → left ≡ suc k → Took (Err e) given log new s.now (Tick row)
-    → Changes given.plan besides row is first false n (s.wrote.text ++ (owed is_owed before ++ (besides.echo ++ with_feed (refused_line e)))) (Some e) s.now
-refused given log besides row is first n old new before is_owed left k a b p q e s one took =
-    s.wrote.so (owed is_owed before ++ (besides.echo ++ with_feed (refused_line e))) (Some e) s.now
-    (subst (λ (m : ℕ). Changes given.plan besides row s.now before is_owed m (owed is_owed before ++ (besides.echo ++ with_feed (refused_line e))) (Some e) s.now) (sym one)
-    (inr (record { why = e; right = took.0; line = refl; refused = refl; left = refl })))
+-- ## Ends
 
-pub changes-stop : (result : Result (Option Refusal) WriteError) (given : Setup) (log : List LogRow) (besides : Besides) (row : Row) (is : List Input) (first : List ℕ) (n : ℕ) (old new : OnCourse) (before : List ℕ) (is_owed : Bool) (left k : ℕ) (a b c : Option (List ℕ)) (p q r : List ℕ) (e : Refusal)
-    → Changing given log besides row is first n old before is_owed left a b p q → left ≡ suc k
-    → ((inputs : List Input) → Stands given log old inputs → Took (Err e) given log new inputs (Tick row))
-    → OnOk result (result ≡ Ok (Some e)) → SaidUntilFault result b c q r (owed is_owed before ++ (besides.echo ++ with_feed (refused_line e)))
-    → Done result given log new (Changes given.plan besides row is first false n) a c p r
-changes-stop (Ok refusal) given log besides row is first n old new before is_owed left k a b c p q r e s one took why said =
-    subst (λ (x : Result (Option Refusal) WriteError). Done x given log new (Changes given.plan besides row is first false n) a c p r) (sym why) (
-      s.now,
-      (took s.now s.stands).1,
-      record {
-        text = s.wrote.text ++ (owed is_owed before ++ (besides.echo ++ with_feed (refused_line e)));
-        said = said-more a b c p q r s.wrote.text (owed is_owed before ++ (besides.echo ++ with_feed (refused_line e))) s.wrote.said said;
-        so = refused given log besides row is first n old new before is_owed left k a b p q e s one (took s.now s.stands);
-      },
+-- something was refused, and once it is said the ticks end
+record Ending (given : Setup) (log : List LogRow) (besides : Besides) (row : Row) (is : List Input) (first : List ℕ) (n : ℕ) (course : OnCourse) (e : Refusal) (rest : List ℕ) (a b : Option (List ℕ)) (p q : List ℕ) : Type 0 where
+  left : List Input
+  stands : Stands given log course left
+  wrote : Wrote a b p q (λ said. Changes given besides row is first false n (said ++ rest) (Some e) left)
+
+ends : (result : Result (Option Refusal) WriteError) (given : Setup) (log : List LogRow) (besides : Besides) (row : Row) (is : List Input) (first : List ℕ) (n : ℕ) (course : OnCourse) (e : Refusal) (rest : List ℕ) (a b c : Option (List ℕ)) (p q r : List ℕ)
+    → Ending given log besides row is first n course e rest a b p q → OnOk result (result ≡ Ok (Some e)) → SaidUntilFault result b c q r rest → Done result given log course (Changes given besides row is first false n) a c p r
+ends (Ok refusal) given log besides row is first n course e rest a b c p q r s why said =
+    subst (λ (x : Result (Option Refusal) WriteError). Done x given log course (Changes given besides row is first false n) a c p r) (sym why) (
+      s.left,
+      s.stands,
+      record { text = s.wrote.text ++ rest; said = said-more a b c p q r s.wrote.text rest s.wrote.said said; so = s.wrote.so },
     )
-changes-stop (Err f) given log besides row is first n old new before is_owed left k a b c p q r e s one took why cut = record {
+ends (Err f) given log besides row is first n course e rest a b c p q r s why cut = record {
   text = s.wrote.text ++ cut.text;
   said = said-more a b c p q r s.wrote.text cut.text s.wrote.said cut.said;
   so = (
     cut.so.0,
     Some e,
-    s.now,
-    subst (λ (v : List ℕ). Changes given.plan besides row is first false n v (Some e) s.now)
-        (ap (λ (v : List ℕ). s.wrote.text ++ v) cut.so.1 ∙ sym (append_assoc s.wrote.text cut.text cut.so.0))
-        (refused given log besides row is first n old new before is_owed left k a b p q e s one (took s.now s.stands)),
+    s.left,
+    subst (λ (v : List ℕ). Changes given besides row is first false n v (Some e) s.left)
+        (ap (λ (v : List ℕ). s.wrote.text ++ v) cut.so.1 ∙ sym (append_assoc s.wrote.text cut.text cut.so.0)) s.wrote.so,
   );
 }
 
+-- the next tick was refused
+pub changes-stop : (result : Result (Option Refusal) WriteError) (given : Setup) (log : List LogRow) (besides : Besides) (row : Row) (is : List Input) (first : List ℕ) (n : ℕ) (old new : OnCourse) (before : List ℕ) (is_owed : Bool) (left k : ℕ) (a b c : Option (List ℕ)) (p q r : List ℕ) (e : Refusal)
+    → Changing given log besides row is first n old before is_owed left a b p q → left ≡ suc k
+    → ((inputs : List Input) → Stands given log old inputs → Took (Err e) given log new inputs (Tick row))
+    → OnOk result (result ≡ Ok (Some e)) → SaidUntilFault result b c q r (owed is_owed before ++ (besides.echo ++ with_feed (refused_line e)))
+    → Done result given log new (Changes given besides row is first false n) a c p r
+changes-stop result given log besides row is first n old new before is_owed left k a b c p q r e s one took why said =
+    ends result given log besides row is first n new e (owed is_owed before ++ (besides.echo ++ with_feed (refused_line e))) a b c p q r
+    (record { left = s.now; stands = (took s.now s.stands).1; wrote = record { text = s.wrote.text; said = s.wrote.said; so = all } }) why said
+  where
+    all : Changes given besides row is first false n (s.wrote.text ++ (owed is_owed before ++ (besides.echo ++ with_feed (refused_line e)))) (Some e) s.now
+    all = s.wrote.so (owed is_owed before ++ (besides.echo ++ with_feed (refused_line e))) (Some e) s.now
+        (subst (λ (m : ℕ). Changes given besides row s.now before is_owed m (owed is_owed before ++ (besides.echo ++ with_feed (refused_line e))) (Some e) s.now) (sym one)
+        (inr (record { why = e; right = (took s.now s.stands).0; line = refl; refused = refl; left = refl })))
+
+-- what follows the tick was refused
+pub changes-stop-after : (result : Result (Option Refusal) WriteError) (given : Setup) (log : List LogRow) (besides : Besides) (row : Row) (is : List Input) (first : List ℕ) (n : ℕ) (old mid new : OnCourse) (before : List ℕ) (is_owed : Bool) (left k : ℕ) (line : List ℕ) (same : Bool) (stop : Option Refusal) (a b c d : Option (List ℕ)) (p q r t : List ℕ) (e : Refusal)
+    → Changing given log besides row is first n old before is_owed left a b p q → left ≡ suc k → tells_in mid.mode ≡ besides.tells
+    → ((inputs : List Input) → Stands given log old inputs → TookNext given log mid row inputs)
+    → line ≡ display_line (state_of mid.bench) → same ≡ shows_same line before
+    → stop ≡ Some e → ((inputs : List Input) → Stands given log mid (Tick row ∷ inputs) → Done (Ok stop) given log new (TellsOf given mid inputs row line same) b c q r)
+    → OnOk result (result ≡ Ok (Some e)) → SaidUntilFault result c d r t (owed same line ++ (besides.echo ++ with_feed (refused_line e)))
+    → Done result given log new (Changes given besides row is first false n) a d p t
+changes-stop-after result given log besides row is first n old mid new before is_owed left k line same stop a b c d p q r t e s one mode took tells alike some told why said =
+    ends result given log besides row is first n new e (owed same line ++ refused_after besides.echo (Some e)) a c d p r t
+    (record {
+      left = done.0;
+      stands = done.1;
+      wrote = record {
+        text = s.wrote.text ++ done.2.text;
+        said = said-more a b c p q r s.wrote.text done.2.text s.wrote.said done.2.said;
+        so = goes-on given besides row is first n s.now before is_owed left k s.wrote.text line same done.2.text (Some e) done.0 s.wrote.so one
+            (taken given log besides row mid s.now before line same done.2.text (Some e) done.0 next mode tells alike done.2.so)
+            (owed same line ++ refused_after besides.echo (Some e)) (Some e) done.0 (refl, refl, refl);
+      };
+    }) why said
+  where
+    next : TookNext given log mid row s.now
+    next = took s.now s.stands
+
+    done : Done (Ok (Some e)) given log new (TellsOf given mid s.now row line same) b c q r
+    done = subst (λ (x : Option Refusal). Done (Ok x) given log new (TellsOf given mid s.now row line same) b c q r) some (told s.now next.took.1)
+
 -- all ticks were taken
 all-taken : (given : Setup) (log : List LogRow) (besides : Besides) (row : Row) (is : List Input) (first : List ℕ) (n : ℕ) (course : OnCourse) (before : List ℕ) (is_owed : Bool) (k : ℕ) (a b : Option (List ℕ)) (p q : List ℕ)
-    → (s : Changing given log besides row is first n course before is_owed k a b p q) → k ≡ 0 → Changes given.plan besides row is first false n (s.wrote.text ++ owed is_owed before) None s.now
+    → (s : Changing given log besides row is first n course before is_owed k a b p q) → k ≡ 0 → Changes given besides row is first false n (s.wrote.text ++ owed is_owed before) None s.now
 all-taken given log besides row is first n course before is_owed k a b p q s none =
-    s.wrote.so (owed is_owed before) None s.now (subst (λ (m : ℕ). Changes given.plan besides row s.now before is_owed m (owed is_owed before) None s.now) (sym none) (refl, refl, refl))
+    s.wrote.so (owed is_owed before) None s.now (subst (λ (m : ℕ). Changes given besides row s.now before is_owed m (owed is_owed before) None s.now) (sym none) (refl, refl, refl))
 
 pub changes-end : (given : Setup) (log : List LogRow) (besides : Besides) (row : Row) (is : List Input) (first : List ℕ) (n : ℕ) (course : OnCourse) (before : List ℕ) (is_owed : Bool) (k : ℕ) (a b c : Option (List ℕ)) (p q r : List ℕ)
-    → Changing given log besides row is first n course before is_owed k a b p q → k ≡ 0 → Said b c q r (owed is_owed before) → Done (Ok None) given log course (Changes given.plan besides row is first false n) a c p r
+    → Changing given log besides row is first n course before is_owed k a b p q → k ≡ 0 → Said b c q r (owed is_owed before) → Done (Ok None) given log course (Changes given besides row is first false n) a c p r
 changes-end given log besides row is first n course before is_owed k a b c p q r s none said = (
   s.now,
   s.stands,
@@ -233,7 +331,7 @@ changes-end given log besides row is first n course before is_owed k a b c p q r
 )
 
 pub changes-end-fault : (e : WriteError) (given : Setup) (log : List LogRow) (besides : Besides) (row : Row) (is : List Input) (first : List ℕ) (n : ℕ) (course : OnCourse) (before : List ℕ) (is_owed : Bool) (k : ℕ) (a b c : Option (List ℕ)) (p q r : List ℕ)
-    → Changing given log besides row is first n course before is_owed k a b p q → k ≡ 0 → IsCutShort b c q r (owed is_owed before) → Done (Err e) given log course (Changes given.plan besides row is first false n) a c p r
+    → Changing given log besides row is first n course before is_owed k a b p q → k ≡ 0 → IsCutShort b c q r (owed is_owed before) → Done (Err e) given log course (Changes given besides row is first false n) a c p r
 changes-end-fault e given log besides row is first n course before is_owed k a b c p q r s none cut = record {
   text = s.wrote.text ++ cut.text;
   said = said-more a b c p q r s.wrote.text cut.text s.wrote.said cut.said;
@@ -241,7 +339,7 @@ changes-end-fault e given log besides row is first n course before is_owed k a b
     cut.so.0,
     None,
     s.now,
-    subst (λ (v : List ℕ). Changes given.plan besides row is first false n v None s.now)
+    subst (λ (v : List ℕ). Changes given besides row is first false n v None s.now)
         (ap (λ (v : List ℕ). s.wrote.text ++ v) cut.so.1 ∙ sym (append_assoc s.wrote.text cut.text cut.so.0)) (all-taken given log besides row is first n course before is_owed k a b p q s none),
   );
 }

@@ -40,12 +40,12 @@ ended-stopped result most limit stands says from new stopped input left before a
 }
 
 -- a run ends as its dialog does
-pub live-ended : (result : Result (Unit {0}) DialogError) (stop : Option Stop) (on_fault : OnFault) (plan : Plan) (input left before after : Option (List ℕ))
-    → EndedAs result (stop_in stop) on_fault plan input left before after → LiveEnded (ended_with result stop) on_fault plan input left before after
-live-ended (Ok u) stop on_fault plan input left before after e = e
-live-ended (Err Read) stop on_fault plan input left before after e = (stop_in stop, e)
-live-ended (Err Write) stop on_fault plan input left before after e = (stop_in stop, e)
-live-ended (Err TooLarge) stop on_fault plan input left before after e = (stop_in stop, e)
+pub live-ended : (result : Result (Unit {0}) DialogError) (stop : Option Stop) (on_fault : OnFault) (acts : Bool) (plan : Plan) (input left before after : Option (List ℕ))
+    → EndedAs result (stop_in stop) on_fault acts plan input left before after → LiveEnded (ended_with result stop) on_fault acts plan input left before after
+live-ended (Ok u) stop on_fault acts plan input left before after e = e
+live-ended (Err Read) stop on_fault acts plan input left before after e = (stop_in stop, e)
+live-ended (Err Write) stop on_fault acts plan input left before after e = (stop_in stop, e)
+live-ended (Err TooLarge) stop on_fault acts plan input left before after e = (stop_in stop, e)
 
 -- the device that the dialog blames is the one to blame
 pub live-blames : (result : Result (Unit {0}) DialogError) (stop : Option Stop) (read_failed write_failed flushed : Bool) → dialog_blame.Blames result read_failed write_failed flushed

@@ -1,15 +1,17 @@
 -- Live runs leave what remains of right answers, and are answered as sessions are.
-use Rattle.std.proofs.Common.{zero, suc, ◌≡◌, ◌∙◌, ℕ, ◌+◌, Bool, false, List, [], ◌∷◌, ◌++◌, length, ap, refl, sym, subst, inl, inr}
+use Rattle.std.proofs.Common.{zero, suc, ◌≡◌, ◌∙◌, ℕ, ◌+◌, Bool, false, if◌then◌else◌, List, [], ◌∷◌, ◌++◌, length, ap, refl, sym, subst, inl, inr}
 use Rattle.std.specs.declared.option.Option.{Option}
 use Rattle.std.specs.declared.result.Result.{Result}
 use Rattle.std.proofs.Common.{Ok, Err}
 use Rattle.tsb_types.specs.declared.refusal.Refusal.{Refusal}
 use Rattle.tsb_types.specs.declared.row.Row.{Row}
+use Rattle.tsb_bench.specs.tsb_machine.declared.commands.Answer.{Answer}
 use Rattle.tsb_bench.specs.tsb_machine.declared.commands.Answer.TheVariants.{Took, Refused}
 use Rattle.tsb_bench.specs.tsb_machine.declared.commands.MachineCommand.TheVariants as asks
 use Rattle.tsb_step.specs.tsb_plan.Plan.{Plan}
 use Rattle.tsb_step.specs.declared.inputs.Input.{Input}
 use Rattle.tsb_step.specs.declared.inputs.Input.TheVariants.{Tick as TakesTick}
+use Rattle.tsb_step.specs.Following.{following}
 use Rattle.tsb_step.specs.Play.{Cmd, IsRight, remaining_after}
 use Rattle.tsb_step.specs.Runs.{AreTaken, replay}
 use Rattle.tsb_step.proofs.RemainLemmas.{remaining_taken}
@@ -24,7 +26,8 @@ use Rattle.tsb_command_text.specs.declared.live_command.LiveReading.{LiveReading
 use Rattle.tsb_command_text.specs.declared.live_command.LiveReading.TheVariants.{Skip, Bad, Tick, Ask}
 use Rattle.tsb_command_text.specs.LiveReadings.{live_reading}
 use Rattle.tsb_log_text.specs.Logs.{row_at}
-use Rattle.tsb_text.specs.Answers.{Answers, Setup, Steps, Ticked, display_line, next_tick}
+use Rattle.tsb_text.specs.Answers as answers
+use Rattle.tsb_text.specs.Answers.{Answers, GoesUnless, Setup, Steps, Ticked, display_line, follower, follower_of, next_tick, refused_after}
 use Rattle.tsb_text.specs.declared.faults.LineFault.{LineFault}
 use Rattle.tsb_text.specs.declared.faults.OnFault.{OnFault}
 use Rattle.tsb_text.specs.declared.task.Task.{Task}
@@ -35,7 +38,7 @@ use Rattle.tsb_live_text.proofs.ChangeLemmas.{held-row}
 use Rattle.tsb_dialog.specs.Said.{with_feed}
 use Rattle.tsb_text.specs.Tasks.{task_of}
 use Rattle.tsb_text.proofs.ObeyLemmas.{plain-answers}
-use Rattle.tsb_live_text.specs.Changes.{Changes}
+use Rattle.tsb_live_text.specs.Changes.{Changes, Ends, line_after, shows_same}
 use Rattle.tsb_live_text.specs.Laws.{AreOf, AsksAsThere, RunsAsThere, TakesNoTick, stand}
 use Rattle.tsb_text.specs.Replies.{Replies, flow_after, says}
 use Rattle.tsb_command_text.specs.Readings.{reading}
@@ -50,27 +53,40 @@ use Rattle.tsb_text.specs.declared.faults.OnFault.TheVariants.{GoOn}
 use Rattle.std.specs.Prelude.{codes}
 use Rattle.std.proofs.Common.{Some, None, length}
 use Rattle.tsb_live_text.specs.Live.{AsksLive, GoesTo, Leaves, Live, Obeys, Reads, Says, TellsTick, begun, besides, echo_of, present, setup, with_inputs, with_row, with_stop}
-use Rattle.tsb_text.proofs.recording.CommandLemmas.{Leads, one, onto, stay, then}
+use Rattle.tsb_text.proofs.recording.CommandLemmas.{Leads, by-leads, one, onto, stay, then}
 
 -- ## What remains
+
+unless : (plan : Plan) (stop : Option Refusal) (left new : List Input) (Rest Ending : Type 0) → (Rest → Leads plan left new) → (Ending → Leads plan left new) → GoesUnless stop Rest Ending → Leads plan left new
+unless plan None left new Rest Ending rest ending g = rest g
+unless plan (Some e) left new Rest Ending rest ending g = ending g
 
 by-ticks : (given : Setup) (b : Besides) (n : ℕ) (is : List Input) (text : List ℕ) (refusal : Option Refusal) (new : List Input) → TakesTicks given b is n text refusal new → Leads given.plan is new
 by-ticks given b zero is text refusal new t = stay given.plan is new t.2
 by-ticks given b (suc n) is text refusal new (inl t) =
-    onto given.plan is new (asks.Apply (next_tick given is)) Took t.1.right (by-ticks given b n (next_tick given is ∷ is) t.0 refusal new t.2)
+    onto given.plan is new (asks.Apply (next_tick given is)) Took t.3.right
+    ((then) given.plan (next_tick given is ∷ is) t.2 new (by-leads given (next_tick given is ∷ is) (follower given is (next_tick given is)) t.1 t.2 t.3.leads)
+    (unless given.plan t.1 t.2 new (TakesTicks given b t.2 n t.0 refusal new) ((t.0 ≡ []) × (refusal ≡ t.1) × (new ≡ t.2)) (by-ticks given b n t.2 t.0 refusal new) (λ ends. stay given.plan t.2 new ends.2) t.4))
 by-ticks given b (suc n) is text refusal new (inr t) = one given.plan is new (asks.Apply (next_tick given is)) (Refused t.why) t.right t.left
 
 by-task : (given : Setup) (b : Besides) (is : List Input) (task : Task) (text : List ℕ) (refusal : Option Refusal) (new : List Input) → session.Obeys given b is task text refusal new → Leads given.plan is new
 by-task given b is (tasks.Ticks n) text refusal new o = by-ticks given b n is text refusal new o
 by-task given b is tasks.Show text refusal new o = stay given.plan is new o.2
 by-task given b is tasks.Quit text refusal new o = stay given.plan is new o.2
-by-task given b is (tasks.Ask cmd) text refusal new o = one given.plan is new cmd o.answer o.right o.left
+by-task given b is (tasks.Ask cmd) text refusal new o =
+    onto given.plan is new cmd o.answer o.right (by-leads given (remaining_after given.plan is cmd o.answer) (follower_of given is cmd o.answer) o.stop new o.left)
 
-by-changes : (plan : Plan) (b : Besides) (row : Row) (n : ℕ) (is : List Input) (before : List ℕ) (is_owed : Bool) (text : List ℕ) (refusal : Option Refusal) (new : List Input)
-    → Changes plan b row is before is_owed n text refusal new → Leads plan is new
-by-changes plan b row zero is before is_owed text refusal new c = stay plan is new c.2
-by-changes plan b row (suc n) is before is_owed text refusal new (inl c) = onto plan is new (asks.Apply (TakesTick row)) Took c.0 (by-changes plan b row n (TakesTick row ∷ is) _ _ c.1 refusal new c.3)
-by-changes plan b row (suc n) is before is_owed text refusal new (inr c) = one plan is new (asks.Apply (TakesTick row)) (Refused c.why) c.right c.left
+by-changes : (given : Setup) (b : Besides) (row : Row) (n : ℕ) (is : List Input) (before : List ℕ) (is_owed : Bool) (text : List ℕ) (refusal : Option Refusal) (new : List Input)
+    → Changes given b row is before is_owed n text refusal new → Leads given.plan is new
+by-changes given b row zero is before is_owed text refusal new c = stay given.plan is new c.2
+by-changes given b row (suc n) is before is_owed text refusal new (inl c) =
+    let line : List ℕ = line_after given.plan (TakesTick row ∷ is) in
+    let same : Bool = shows_same line before in
+    onto given.plan is new (asks.Apply (TakesTick row)) Took c.0
+    ((then) given.plan (TakesTick row ∷ is) c.4 new (by-leads given (TakesTick row ∷ is) (follower given is (TakesTick row)) c.3 c.4 c.5.leads)
+    (unless given.plan c.3 c.4 new (Changes given b row c.4 line same n c.2 refusal new) (Ends b line same c.3 c.4 c.2 refusal new)
+    (by-changes given b row n c.4 line same c.2 refusal new) (λ ends. stay given.plan c.4 new ends.2) c.7))
+by-changes given b row (suc n) is before is_owed text refusal new (inr c) = one given.plan is new (asks.Apply (TakesTick row)) (Refused c.why) c.right c.left
 
 -- a run goes on to inputs that so remain, on the same plan
 record Goes (s t : Live) : Type 0 where
@@ -98,8 +114,8 @@ by-tick s t line (Err why) text fault a = goes-to s t s a.2 (quiet s s refl refl
 
 by-asks : (s t : Live) (line : List ℕ) (c : LiveCommand) (text : List ℕ) (fault : Option LineFault) → AsksLive s line c text fault t → Goes s t
 by-asks s t line (live.Session c) text fault a = by-leaves s t _ text fault (λ text refusal left o. by-task (setup s) (besides s line) s.inputs (task_of c) text refusal left o) a
-by-asks s t line (live.Changes n) text fault a = by-leaves s t (Changes s.plan (besides s line) s.row s.inputs (display_line (present s)) false n) text fault
-    (λ text refusal left o. by-changes s.plan (besides s line) s.row n s.inputs (display_line (present s)) false text refusal left o) a
+by-asks s t line (live.Changes n) text fault a = by-leaves s t (Changes (setup s) (besides s line) s.row s.inputs (display_line (present s)) false n) text fault
+    (λ text refusal left o. by-changes (setup s) (besides s line) s.row n s.inputs (display_line (present s)) false text refusal left o) a
 by-asks s t line (live.GoTo aim) text fault a = by-goes s t line (tick_of (present s).start_moment (present s).now aim) text fault a
 by-asks s t line (live.TickAt aim) text fault a = by-tick s t line (tick_of (present s).start_moment (present s).now aim) text fault a
 by-asks s t line live.Status text fault a = goes-to s t s a.2 (quiet s s refl refl)
@@ -127,7 +143,7 @@ by-says s t n line text flow a = goes-to s t (with_stop (stopped_at s.on_fault n
 
 further : (s t u : Live) → Goes s t → Goes t u → Goes s u
 further s t u first last = record {
-  leads = then s.plan s.inputs t.inputs u.inputs first.leads (subst (λ (p : Plan). Leads p t.inputs u.inputs) first.same last.leads);
+  leads = (then) s.plan s.inputs t.inputs u.inputs first.leads (subst (λ (p : Plan). Leads p t.inputs u.inputs) first.same last.leads);
   same = last.same ∙ first.same;
 }
 
@@ -136,19 +152,20 @@ by-runs most from now [] text r = goes-to from now from r.1 (quiet from from ref
 by-runs most from now (line ∷ lines) text r = further from r.2 now (by-runs most from r.2 lines r.0 r.3) (by-says r.2 now (suc (length lines)) _ r.1 On r.4)
 
 -- commands with right answers leave inputs that were taken
-are-of : (on_fault : OnFault) (plan : Plan) (now : Live) → Goes (begun on_fault plan) now → AreOf plan now
-are-of on_fault plan now goes = record {
+are-of : (on_fault : OnFault) (acts : Bool) (plan : Plan) (now : Live) → Goes (begun on_fault acts plan) now → AreOf plan now
+are-of on_fault acts plan now goes = record {
   taken = subst (λ (is : List Input). AreTaken plan is) (sym goes.leads.left) (remaining_taken plan goes.leads.cs goes.leads.ans goes.leads.right);
   same = goes.same;
 }
 
-pub lines-leave : (most : ℕ) (on_fault : OnFault) (plan : Plan) (lines : List (List ℕ)) (text : List ℕ) (now : Live) → Runs most Says (begun on_fault plan) lines text now → AreOf plan now
-lines-leave most on_fault plan lines text now r = are-of on_fault plan now (by-runs most (begun on_fault plan) now lines text r)
+pub lines-leave : (most : ℕ) (on_fault : OnFault) (acts : Bool) (plan : Plan) (lines : List (List ℕ)) (text : List ℕ) (now : Live) → Runs most Says (begun on_fault acts plan) lines text now → AreOf plan now
+lines-leave most on_fault acts plan lines text now r = are-of on_fault acts plan now (by-runs most (begun on_fault acts plan) now lines text r)
 
-pub last-leaves : (most number : ℕ) (on_fault : OnFault) (plan : Plan) (lines : List (List ℕ)) (last before answer : List ℕ) (flow : Flow) (now end : Live)
-    → Runs most Says (begun on_fault plan) lines before now → Says now number last answer flow end → AreOf plan end
-last-leaves most number on_fault plan lines last before answer flow now end r a =
-    are-of on_fault plan end (further (begun on_fault plan) now end (by-runs most (begun on_fault plan) now lines before r) (by-says now end number last answer flow a))
+pub last-leaves : (most number : ℕ) (on_fault : OnFault) (acts : Bool) (plan : Plan) (lines : List (List ℕ)) (last before answer : List ℕ) (flow : Flow) (now end : Live)
+    → Runs most Says (begun on_fault acts plan) lines before now → Says now number last answer flow end → AreOf plan end
+last-leaves most number on_fault acts plan lines last before answer flow now end r a =
+    are-of on_fault acts plan end
+    (further (begun on_fault acts plan) now end (by-runs most (begun on_fault acts plan) now lines before r) (by-says now end number last answer flow a))
 
 -- ## Answers
 
@@ -160,44 +177,68 @@ answered-as s t line text c fault tells echoes o =
     subst (λ (x : Live). Answers (setup s) s.inputs c text x.inputs) (sym o.4)
     (plain-answers (setup s) s.inputs c text o.0 o.1 (subst (λ (b : Besides). session.Obeys (setup s) b s.inputs (task_of c) text o.0 o.1) (quiet-besides s line tells echoes) o.2))
 
-ticked-as : (given other : Setup) (is : List Input) (text rest : List ℕ) → other.plan ≡ given.plan → next_tick other is ≡ next_tick given is → Ticked given is text rest → Ticked other is text rest
-ticked-as given other is text rest p e t = record {
+-- ## Another log
+
+follower-as : (given other : Setup) (is : List Input) (i : Input) → other.plan ≡ given.plan → other.acts ≡ given.acts → follower other is i ≡ follower given is i
+follower-as given other is i plan acts = (λ j. if acts j then following (replay (plan j) is) (replay (plan j) (i ∷ is)) else None)
+
+follower-of-as : (given other : Setup) (is : List Input) (cmd : Cmd) (a : Answer) → other.plan ≡ given.plan → other.acts ≡ given.acts → follower_of other is cmd a ≡ follower_of given is cmd a
+follower-of-as given other is (asks.Apply i) Took plan acts = follower-as given other is i plan acts
+follower-of-as given other is (asks.Apply i) a plan acts = refl
+follower-of-as given other is cmd a plan acts = refl
+
+leads-as : (given other : Setup) (is : List Input) (next : Option Input) (stop : Option Refusal) (left : List Input) → other.plan ≡ given.plan → answers.Leads given is next stop left → answers.Leads other is next stop left
+leads-as given other is None stop left plan l = l
+leads-as given other is (Some i) stop left plan (inl l) = inl (subst (λ (q : Plan). IsRight q is (asks.Apply i) Took) (sym plan) l.0, l.1, l.2)
+leads-as given other is (Some i) stop left plan (inr l) =
+    inr (record { why = l.why; right = subst (λ (q : Plan). IsRight q is (asks.Apply i) (Refused l.why)) (sym plan) l.right; refused = l.refused; left = l.left })
+
+ticked-as : (given other : Setup) (is : List Input) (text rest : List ℕ) (stop : Option Refusal) (left : List Input) → other.plan ≡ given.plan → other.acts ≡ given.acts → next_tick other is ≡ next_tick given is → Ticked given is text rest stop left
+    → Ticked other is text rest stop left
+ticked-as given other is text rest stop left p acts e t = record {
   right = subst (λ (x : Input). IsRight other.plan is (asks.Apply x) Took) (sym e) (subst (λ (q : Plan). IsRight q is (asks.Apply (next_tick given is)) Took) (sym p) t.right);
-  line = subst (λ (x : Input). text ≡ with_feed (display_line (replay other.plan (x ∷ is))) ++ rest) (sym e) (subst (λ (q : Plan). text ≡ with_feed (display_line (replay q (next_tick given is ∷ is))) ++ rest) (sym p) t.line);
+  leads = subst (λ (x : Input). answers.Leads other (x ∷ is) (follower other is x) stop left) (sym e)
+      (subst (λ (next : Option Input). answers.Leads other (next_tick given is ∷ is) next stop left) (sym (follower-as given other is (next_tick given is) p acts))
+      (leads-as given other (next_tick given is ∷ is) (follower given is (next_tick given is)) stop left p t.leads));
+  line = subst (λ (x : Input). text ≡ with_feed (display_line (replay other.plan (x ∷ is))) ++ (refused_after [] stop ++ rest)) (sym e)
+      (subst (λ (q : Plan). text ≡ with_feed (display_line (replay q (next_tick given is ∷ is))) ++ (refused_after [] stop ++ rest)) (sym p) t.line);
 }
 
-one-step : (given other : Setup) (is : List Input) (text : List ℕ) (new : List Input) → other.plan ≡ given.plan → next_tick other is ≡ next_tick given is → Steps given is 1 text new → Steps other is 1 text new
-one-step given other is text new p e (inl s) = inl (s.0, ticked-as given other is text s.0 p e s.1, (s.2.0, subst (λ (x : Input). new ≡ x ∷ is) (sym e) s.2.1))
-one-step given other is text new p e (inr s) = inr (record {
+one-step : (given other : Setup) (is : List Input) (text : List ℕ) (new : List Input) → other.plan ≡ given.plan → other.acts ≡ given.acts → next_tick other is ≡ next_tick given is → Steps given is 1 text new → Steps other is 1 text new
+one-step given other is text new p acts e (inl s) = inl (s.0, s.1, s.2, ticked-as given other is text s.0 s.1 s.2 p acts e s.3, s.4)
+one-step given other is text new p acts e (inr s) = inr (record {
   refusal = s.refusal;
   right = subst (λ (x : Input). IsRight other.plan is (asks.Apply x) (Refused s.refusal)) (sym e) (subst (λ (q : Plan). IsRight q is (asks.Apply (next_tick given is)) (Refused s.refusal)) (sym p) s.right);
   line = s.line;
   left = s.left;
 })
 
-pub rows-as : (given : Setup) (s t : Live) (line text : List ℕ) (row : Row) (fault : Option LineFault) → s.tells ≡ false → s.echoes ≡ false → given.plan ≡ s.plan → row ≡ row_at given.log ((present s).now + 1)
-    → Reads s line (Tick row) text fault t → Answers given s.inputs (Step 1) text t.inputs
-rows-as given s t line text row fault tells echoes plan e o =
-    one-step (setup (with_row row s)) given s.inputs text t.inputs plan
+pub rows-as : (given : Setup) (s t : Live) (line text : List ℕ) (row : Row) (fault : Option LineFault) → s.tells ≡ false → s.echoes ≡ false → given.plan ≡ s.plan → given.acts ≡ s.acts
+    → row ≡ row_at given.log ((present s).now + 1) → Reads s line (Tick row) text fault t → Answers given s.inputs (Step 1) text t.inputs
+rows-as given s t line text row fault tells echoes plan acts e o =
+    one-step (setup (with_row row s)) given s.inputs text t.inputs plan acts
     (ap (λ (p : Plan). TakesTick (row_at given.log ((replay p s.inputs).now + 1))) plan ∙ ap TakesTick (sym e ∙ sym (held-row row (present s).now)))
     (answered-as (with_row row s) t line text (Step 1) fault tells echoes o)
 
 -- ## Whole runs
 
-asked-as : (given other : Setup) (is : List Input) (cmd : Cmd) (text : List ℕ) (new : List Input) → other.plan ≡ given.plan → Asked given is cmd text new → Asked other is cmd text new
-asked-as given other is cmd text new p a = record {
+asked-as : (given other : Setup) (is : List Input) (cmd : Cmd) (text : List ℕ) (new : List Input) → other.plan ≡ given.plan → other.acts ≡ given.acts → Asked given is cmd text new → Asked other is cmd text new
+asked-as given other is cmd text new p acts a = record {
   answer = a.answer;
   right = subst (λ (q : Plan). IsRight q is cmd a.answer) (sym p) a.right;
-  left = subst (λ (q : Plan). new ≡ remaining_after q is cmd a.answer) (sym p) a.left;
-  line = subst (λ (q : Plan). text ≡ with_feed (told cmd a.answer (replay q new))) (sym p) a.line;
+  stop = a.stop;
+  left = subst (λ (q : Plan). answers.Leads other (remaining_after q is cmd a.answer) (follower_of other is cmd a.answer) a.stop new) (sym p)
+      (subst (λ (next : Option Input). answers.Leads other (remaining_after given.plan is cmd a.answer) next a.stop new) (sym (follower-of-as given other is cmd a.answer p acts))
+      (leads-as given other (remaining_after given.plan is cmd a.answer) (follower_of given is cmd a.answer) a.stop new p a.left));
+  line = subst (λ (q : Plan). text ≡ with_feed (told cmd a.answer (replay q (remaining_after q is cmd a.answer))) ++ refused_after [] a.stop) (sym p) a.line;
 }
 
 -- what takes no tick is answered alike on each log
-other-log : (given other : Setup) (is : List Input) (c : Command) (text : List ℕ) (new : List Input) → other.plan ≡ given.plan → TakesNoTick c → Answers given is c text new → Answers other is c text new
-other-log given other is (Step n) text new p none a = absurd none
-other-log given other is Show text new p none a = (subst (λ (q : Plan). text ≡ with_feed (display_line (replay q is))) (sym p) a.0, a.1)
-other-log given other is Quit text new p none a = a
-other-log given other is c text new p none a = asked-as given other is _ text new p a
+other-log : (given other : Setup) (is : List Input) (c : Command) (text : List ℕ) (new : List Input) → other.plan ≡ given.plan → other.acts ≡ given.acts → TakesNoTick c → Answers given is c text new → Answers other is c text new
+other-log given other is (Step n) text new p acts none a = absurd none
+other-log given other is Show text new p acts none a = (subst (λ (q : Plan). text ≡ with_feed (display_line (replay q is))) (sym p) a.0, a.1)
+other-log given other is Quit text new p acts none a = a
+other-log given other is c text new p acts none a = asked-as given other is _ text new p acts a
 
 -- where a live run goes on after a command, a session does
 goes-on : (c : Command) (x : Option Stopped) → On ≡ flow_of (quits (Ask (live.Session c))) x → On ≡ flow_after c
@@ -205,9 +246,10 @@ goes-on Quit (Some x) e = e
 goes-on Quit None e = e
 goes-on c x e = refl
 
--- events and echo are off, and the plan is that of a session
+-- events and echo are off, and the plan is that of a session, in which the schedule acts if it does here
 record Alike (given : Setup) (s : Live) : Type 0 where
   plan : given.plan ≡ s.plan
+  acts : given.acts ≡ s.acts
   tells : s.tells ≡ false
   echoes : s.echoes ≡ false
 
@@ -219,28 +261,36 @@ replied given s t line text Bad there fault x same asks a on =
     (a.0 ∙ ap (λ (b : Bool). echo_of b line ++ with_feed (codes "bad command")) same.echoes, refl, ap (λ (u : Live). stand given u.inputs) a.2)
 replied given s t line text (Tick row) there fault x same asks a on =
     subst (λ (r : Reading). Replies (stand given s.inputs) r text On (stand given t.inputs)) (sym asks.1)
-    (rows-as given s t line text row fault same.tells same.echoes same.plan asks.0 a, refl, refl)
+    (rows-as given s t line text row fault same.tells same.echoes same.plan same.acts asks.0 a, refl, refl)
 replied given s t line text (Ask (live.Session c)) there fault x same asks a on =
     subst (λ (r : Reading). Replies (stand given s.inputs) r text On (stand given t.inputs)) (sym asks.1)
-    (other-log (setup s) given s.inputs c text t.inputs same.plan asks.0 (answered-as s t line text c fault same.tells same.echoes a), goes-on c x on, refl)
+    (other-log (setup s) given s.inputs c text t.inputs same.plan same.acts asks.0 (answered-as s t line text c fault same.tells same.echoes a), goes-on c x on, refl)
 replied given s t line text (Ask c) there fault x same asks a on = absurd asks
 
--- they stay off
-same-off : (given : Setup) (s t : Live) (line text : List ℕ) (asks : LiveReading) (there : Reading) (fault : Option LineFault) → AsksAsThere given s asks there → Reads s line asks text fault t →
-    (t.tells ≡ s.tells) × (t.echoes ≡ s.echoes)
-same-off given s t line text Skip there fault asks a = (ap (λ (u : Live). u.tells) a.2, ap (λ (u : Live). u.echoes) a.2)
-same-off given s t line text Bad there fault asks a = (ap (λ (u : Live). u.tells) a.2, ap (λ (u : Live). u.echoes) a.2)
-same-off given s t line text (Tick row) there fault asks a = (ap (λ (u : Live). u.tells) a.4, ap (λ (u : Live). u.echoes) a.4)
-same-off given s t line text (Ask (live.Session c)) there fault asks a = (ap (λ (u : Live). u.tells) a.4, ap (λ (u : Live). u.echoes) a.4)
+-- they stay off, and the schedule acts on
+record SameOff (s t : Live) : Type 0 where
+  tells : t.tells ≡ s.tells
+  echoes : t.echoes ≡ s.echoes
+  acts : t.acts ≡ s.acts
+
+same-after : (s t u : Live) → t ≡ u → SameOff s u → SameOff s t
+same-after s t u same off = subst (λ (x : Live). SameOff s x) (sym same) off
+
+same-off : (given : Setup) (s t : Live) (line text : List ℕ) (asks : LiveReading) (there : Reading) (fault : Option LineFault) → AsksAsThere given s asks there → Reads s line asks text fault t → SameOff s t
+same-off given s t line text Skip there fault asks a = same-after s t s a.2 (record { tells = refl; echoes = refl; acts = refl })
+same-off given s t line text Bad there fault asks a = same-after s t s a.2 (record { tells = refl; echoes = refl; acts = refl })
+same-off given s t line text (Tick row) there fault asks a = same-after s t (with_inputs a.1 (with_row row s)) a.4 (record { tells = refl; echoes = refl; acts = refl })
+same-off given s t line text (Ask (live.Session c)) there fault asks a = same-after s t (with_inputs a.1 s) a.4 (record { tells = refl; echoes = refl; acts = refl })
 same-off given s t line text (Ask c) there fault asks a = absurd asks
 
 still-alike : (given : Setup) (s now : Live) (n : ℕ) (line text : List ℕ) (there : Reading) → Alike given s → AsksAsThere given s (live_reading line) there → Says s n line text On now → Alike given now
 still-alike given s now n line text there same asks a =
-    let off : (a.left.tells ≡ s.tells) × (a.left.echoes ≡ s.echoes) = same-off given s a.left line text (live_reading line) there a.fault asks a.reads in
+    let off : SameOff s a.left = same-off given s a.left line text (live_reading line) there a.fault asks a.reads in
     record {
       plan = same.plan ∙ sym (by-says s now n line text On a).same;
-      tells = ap (λ (u : Live). u.tells) a.stops ∙ (off.0 ∙ same.tells);
-      echoes = ap (λ (u : Live). u.echoes) a.stops ∙ (off.1 ∙ same.echoes);
+      acts = same.acts ∙ sym (ap (λ (u : Live). u.acts) a.stops ∙ off.acts);
+      tells = ap (λ (u : Live). u.tells) a.stops ∙ (off.tells ∙ same.tells);
+      echoes = ap (λ (u : Live). u.echoes) a.stops ∙ (off.echoes ∙ same.echoes);
     }
 
 -- a session to which the other lines are given has come as far
@@ -248,10 +298,10 @@ record AsFar (given : Setup) (others : List (List ℕ)) (text : List ℕ) (now :
   runs : Runs 202 says (stand given []) others text (stand given now.inputs)
   same : Alike given now
 
-as-far : (given : Setup) (lines others : List (List ℕ)) (text : List ℕ) (now : Live) → RunsAsThere given (begun GoOn given.plan) lines others text now → AsFar given others text now
+as-far : (given : Setup) (lines others : List (List ℕ)) (text : List ℕ) (now : Live) → RunsAsThere given (begun GoOn given.acts given.plan) lines others text now → AsFar given others text now
 as-far given [] [] text now r = record {
   runs = (r.0, ap (λ (u : Live). stand given u.inputs) r.1);
-  same = subst (λ (u : Live). Alike given u) (sym r.1) (record { plan = refl; tells = refl; echoes = refl });
+  same = subst (λ (u : Live). Alike given u) (sym r.1) (record { plan = refl; acts = refl; tells = refl; echoes = refl });
 }
 as-far given [] (other ∷ others) text now r = absurd r
 as-far given (line ∷ lines) [] text now r = absurd r
@@ -270,6 +320,6 @@ as-far given (line ∷ lines) (other ∷ others) text now r =
       same = still-alike given r.2 now (suc (length lines)) (asked 202 line) r.1 (reading (asked 202 other)) before.same r.5 r.4;
     }
 
-pub runs-as : (given : Setup) (lines others : List (List ℕ)) (text : List ℕ) (now : Live) → RunsAsThere given (begun GoOn given.plan) lines others text now →
+pub runs-as : (given : Setup) (lines others : List (List ℕ)) (text : List ℕ) (now : Live) → RunsAsThere given (begun GoOn given.acts given.plan) lines others text now →
     Runs 202 says (stand given []) others text (stand given now.inputs)
 runs-as given lines others text now r = (as-far given lines others text now r).runs

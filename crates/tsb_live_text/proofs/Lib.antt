@@ -1,3 +1,4 @@
+pub mod TickLemmas
 pub mod ChangeLemmas
 pub mod LiveLemmas
 pub mod EndLemmas

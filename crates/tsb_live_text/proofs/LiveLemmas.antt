@@ -84,7 +84,7 @@ stands-on run new s left stands course mode echoes on_fault stop = record {
 -- a row was given
 pub row-stands : (run new : LiveRun) (s : Live) (row : Row) → StandsLive run s → new.course ≡ holding row run.course → new.echoes ≡ run.echoes → new.on_fault ≡ run.on_fault → new.stop ≡ run.stop → StandsLive new (with_row row s)
 row-stands run new s row stands course echoes on_fault stop = record {
-  stands = subst (λ (x : OnCourse). Stands (setup (with_row row s)) (rows_in (HeldRow row)) x s.inputs) (sym course) (record { same = refl; rows = refl; follows = stands.stands.follows; keeps = stands.stands.keeps; tells = not-recorded run.course.mode run.course.told.told (setup (with_row row s)) s.inputs stands.keeps });
+  stands = subst (λ (x : OnCourse). Stands (setup (with_row row s)) (rows_in (HeldRow row)) x s.inputs) (sym course) (record { same = refl; rows = refl; follows = stands.stands.follows; keeps = stands.stands.keeps; tells = not-recorded run.course.mode run.course.told.told (setup (with_row row s)) s.inputs stands.keeps; acts = stands.stands.acts });
   keeps = subst (λ (x : OnCourse). Keeps x.mode) (sym course) stands.keeps;
   tells = ap (λ (x : OnCourse). tells_in x.mode) course ∙ stands.tells;
   echoes = echoes ∙ stands.echoes;
@@ -117,9 +117,9 @@ mode-kept false KeepsInputs kept plan is k same = same
 mode-kept true Telling kept plan is k same = same
 mode-kept false Telling kept plan is k same = same
 
-pub events-stands : (run new : LiveRun) (s : Live) (on : Bool) → StandsLive run s → new.course.mode ≡ mode_with on run.course.mode → new.course.bench ≡ run.course.bench → new.course.rows ≡ run.course.rows → new.course.kept ≡ run.course.kept
+pub events-stands : (run new : LiveRun) (s : Live) (on : Bool) → StandsLive run s → new.course.mode ≡ mode_with on run.course.mode → new.course.bench ≡ run.course.bench → new.course.rows ≡ run.course.rows → new.course.kept ≡ run.course.kept → new.course.acts ≡ run.course.acts
     → new.echoes ≡ run.echoes → new.on_fault ≡ run.on_fault → new.stop ≡ run.stop → StandsLive new (with_events on s)
-events-stands run new s on stands mode bench rows kept echoes on_fault stop = record {
+events-stands run new s on stands mode bench rows kept acts echoes on_fault stop = record {
   stands = record {
     same = stands.stands.same;
     rows = rows ∙ stands.stands.rows;
@@ -127,6 +127,7 @@ events-stands run new s on stands mode bench rows kept echoes on_fault stop = re
     keeps = subst (λ (m : Mode). IsKept m new.course.kept.kept s.plan s.inputs) (sym mode)
         (subst (λ (k : Keeping). IsKept (mode_with on run.course.mode) k s.plan s.inputs) (sym (ap (λ (k : Stock). k.kept) kept)) (mode-kept on run.course.mode run.course.kept.kept s.plan s.inputs stands.keeps stands.stands.keeps));
     tells = not-recorded new.course.mode new.course.told.told (setup s) s.inputs (subst Keeps (sym mode) (mode-keeps on run.course.mode stands.keeps));
+    acts = acts ∙ stands.stands.acts;
   };
   keeps = subst Keeps (sym mode) (mode-keeps on run.course.mode stands.keeps);
   tells = ap tells_in mode ∙ mode-tells on run.course.mode stands.keeps;
@@ -147,10 +148,10 @@ echo-stands run new s on stands course echoes on_fault stop = record {
 }
 
 -- at power-up
-pub run-begins : (on_fault : OnFault) (plan : Plan) (run : LiveRun) → run.course.mode ≡ KeepsInputs → run.on_fault ≡ on_fault → Follows plan (whole run.course.bench) [] → run.course.rows ≡ rows_in (HeldRow all_off) → run.course.kept.kept ≡ nothing_kept → run.course.told.told ≡ nothing_told
-    → run.echoes ≡ false → run.stop ≡ None → StandsLive run (begun on_fault plan)
-run-begins on_fault plan run mode strict follows rows kept told echoes stop = record {
-  stands = course-begins (setup (begun on_fault plan)) (rows_in (HeldRow all_off)) run.course refl rows follows kept told;
+pub run-begins : (on_fault : OnFault) (acts : Bool) (plan : Plan) (run : LiveRun) → run.course.mode ≡ KeepsInputs → run.on_fault ≡ on_fault → Follows plan (whole run.course.bench) [] → run.course.rows ≡ rows_in (HeldRow all_off) → run.course.kept.kept ≡ nothing_kept → run.course.told.told ≡ nothing_told
+    → run.course.acts ≡ acts → run.echoes ≡ false → run.stop ≡ None → StandsLive run (begun on_fault acts plan)
+run-begins on_fault acts plan run mode strict follows rows kept told active echoes stop = record {
+  stands = course-begins (setup (begun on_fault acts plan)) (rows_in (HeldRow all_off)) run.course refl rows follows kept told active;
   keeps = subst Keeps (sym mode) tt;
   tells = ap tells_in mode;
   echoes = echoes;
@@ -188,11 +189,11 @@ obeys-so run s line echo c stands is = λ text refusal left o. subst (λ (x : Be
 
 -- of ticks of which the changes are told
 pub changes-so : (run : LiveRun) (s : Live) (line echo : List ℕ) (n : ℕ) → StandsLive run s → echo ≡ echo_of run.echoes line
-    → Carries (Changes s.plan (besides_of run.course echo) s.row s.inputs (display_line (state_of run.course.bench)) false n)
-    (Changes s.plan (besides s line) s.row s.inputs (display_line (present s)) false n)
+    → Carries (Changes (setup s) (besides_of run.course echo) s.row s.inputs (display_line (state_of run.course.bench)) false n)
+    (Changes (setup s) (besides s line) s.row s.inputs (display_line (present s)) false n)
 changes-so run s line echo n stands is = λ text refusal left o.
-    subst (λ (x : Besides). Changes s.plan x s.row s.inputs (display_line (present s)) false n text refusal left) (same-besides run s line echo stands is)
-    (subst (λ (v : State). Changes s.plan (besides_of run.course echo) s.row s.inputs (display_line v) false n text refusal left) (present-state run s stands) o)
+    subst (λ (x : Besides). Changes (setup s) x s.row s.inputs (display_line (present s)) false n text refusal left) (same-besides run s line echo stands is)
+    (subst (λ (v : State). Changes (setup s) (besides_of run.course echo) s.row s.inputs (display_line v) false n text refusal left) (present-state run s stands) o)
 
 -- ## Answers of one line
 

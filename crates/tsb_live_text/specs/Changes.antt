@@ -12,8 +12,8 @@ use Rattle.tsb_step.specs.Runs.{replay}
 use Rattle.tsb_types.specs.declared.refusal.Refusal.{Refusal}
 use Rattle.tsb_types.specs.declared.row.Row.{Row}
 use Rattle.tsb_dialog.specs.Said.{with_feed}
-use Rattle.tsb_text.specs.Answers.{display_line, refused_line}
-use Rattle.tsb_text.specs.Obeys.{Besides, if_told}
+use Rattle.tsb_text.specs.Answers.{GoesUnless, Leads, Setup, display_line, follower, refused_after, refused_line}
+use Rattle.tsb_text.specs.Obeys.{Besides, if_told, trail}
 
 -- the heads and the preempt of a display line: it without its tick number and without its local counter
 abbrev pub shown : List ℕ → List ℕ
@@ -32,10 +32,10 @@ owed false line = []
 abbrev pub line_after : Plan → List Input → List ℕ
 line_after plan is = display_line (replay plan is)
 
--- what a tick tells that is taken: its events, where they are told, and the display line, if it shows another head or
--- preempt than the line before
-abbrev pub tick_text : Plan → Besides → Row → List Input → List ℕ → List ℕ
-tick_text plan besides row is before = if_told besides.tells (events_of (usual_after (last_row is)) (replay plan is) (Tick row))
+-- what is said of a tick that is taken, where this is said of what follows it: its events, where they are told, that, and the
+-- display line, if it shows another head or preempt than the line before
+abbrev pub tick_text : Plan → Besides → Row → List Input → List ℕ → List ℕ → List ℕ
+tick_text plan besides row is before after = (if_told besides.tells (events_of (usual_after (last_row is)) (replay plan is) (Tick row)) ++ after)
     ++ owed (not (shows_same (line_after plan (Tick row ∷ is)) before)) (line_after plan (Tick row ∷ is))
 
 -- the tick is refused: the line before it is told, if it is owed, and the refusal
@@ -46,12 +46,28 @@ pub record Stopped (plan : Plan) (besides : Besides) (row : Row) (is : List Inpu
   pub refused : refusal ≡ Some why
   pub left : new ≡ is
 
+-- what follows a tick was refused: the line of the tick is said, if it is owed, and the refusal, and no more ticks are taken
+abbrev pub Ends : Besides → List ℕ → Bool → Option Refusal → List Input → List ℕ → Option Refusal → List Input → Type 0
+Ends besides before is_owed stop left text refusal new =
+    (text ≡ owed is_owed before ++ refused_after besides.echo stop) × (refusal ≡ stop) × (new ≡ left)
+
+-- a tick was taken, and what follows it, which leaves these inputs; or that was refused. This is said of both
+pub record Follows (given : Setup) (besides : Besides) (row : Row) (is : List Input) (before said : List ℕ) (stop : Option Refusal) (left : List Input) : Type 0 where
+  pub leads : Leads given (Tick row ∷ is) (follower given is (Tick row)) stop left
+  pub told : said ≡ tick_text given.plan besides row is before (trail besides.tells given (Tick row ∷ is) (follower given is (Tick row)) stop)
+
 -- so many ticks with these inputs, up to one that is refused, after this display line, which is owed where it was not told.
 -- Each display line is told that shows another head or preempt than the line before, and the last.
-abbrev pub Changes : Plan → Besides → Row → List Input → List ℕ → Bool → ℕ → List ℕ → Option Refusal → List Input → Type 0
-Changes plan besides row is before is_owed zero text refusal new = (text ≡ owed is_owed before) × (refusal ≡ None) × (new ≡ is)
-Changes plan besides row is before is_owed (suc n) text refusal new =
-    (IsRight plan is (Apply (Tick row)) Took × (rest : List ℕ)
-    × (text ≡ tick_text plan besides row is before ++ rest)
-    × Changes plan besides row (Tick row ∷ is) (line_after plan (Tick row ∷ is)) (shows_same (line_after plan (Tick row ∷ is)) before) n rest refusal new)
-    ⊎ Stopped plan besides row is before is_owed text refusal new
+abbrev pub Changes : Setup → Besides → Row → List Input → List ℕ → Bool → ℕ → List ℕ → Option Refusal → List Input → Type 0
+Changes given besides row is before is_owed zero text refusal new = (text ≡ owed is_owed before) × (refusal ≡ None) × (new ≡ is)
+Changes given besides row is before is_owed (suc n) text refusal new =
+    (IsRight given.plan is (Apply (Tick row)) Took × (told rest : List ℕ) × (stop : Option Refusal) × (left : List Input)
+    × Follows given besides row is before told stop left × (text ≡ told ++ rest)
+    × GoesUnless stop (Changes given besides row left (line_after given.plan (Tick row ∷ is)) (shows_same (line_after given.plan (Tick row ∷ is)) before) n rest refusal new)
+    (Ends besides (line_after given.plan (Tick row ∷ is)) (shows_same (line_after given.plan (Tick row ∷ is)) before) stop left rest refusal new))
+    ⊎ Stopped given.plan besides row is before is_owed text refusal new
+
+-- what follows a tick is taken, and this is said around it: the events of the tick, its own, and the line of the tick
+pub record TellsTick (given : Setup) (tells : Bool) (is : List Input) (next : Option Input) (news line : List ℕ) (text : List ℕ) (refusal : Option Refusal) (new : List Input) : Type 0 where
+  pub leads : Leads given is next refusal new
+  pub told : text ≡ (news ++ trail tells given is next refusal) ++ line

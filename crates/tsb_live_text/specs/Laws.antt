@@ -1,5 +1,5 @@
 -- What holds of all live runs. Each law here is the contract of a function in src/laws.rt, and proved there.
-use Rattle.std.specs.Prelude.{◌≡◌, ◌+◌, ℕ, suc, false, List, [], ◌∷◌, ◌++◌, length, Option}
+use Rattle.std.specs.Prelude.{◌≡◌, ◌+◌, ℕ, suc, Bool, false, List, [], ◌∷◌, ◌++◌, length, Option}
 use Rattle.tsb_command_text.specs.declared.command.Command.{Command}
 use Rattle.tsb_command_text.specs.declared.command.Command.TheVariants.{Step}
 use Rattle.tsb_dialog.specs.Heard.{Runs, asked}
@@ -31,13 +31,13 @@ pub record AreOf (plan : Plan) (s : Live) : Type 0 where
 
 -- whatever lines came, and however much of each was kept, all inputs that a live run holds were taken
 abbrev pub LinesLeaveWhatWasTaken : Type 0
-LinesLeaveWhatWasTaken = (most : ℕ) (on_fault : OnFault) (plan : Plan) (lines : List (List ℕ)) (text : List ℕ) (now : Live) →
-    Runs most Says (begun on_fault plan) lines text now → AreOf plan now
+LinesLeaveWhatWasTaken = (most : ℕ) (on_fault : OnFault) (acts : Bool) (plan : Plan) (lines : List (List ℕ)) (text : List ℕ) (now : Live) →
+    Runs most Says (begun on_fault acts plan) lines text now → AreOf plan now
 
 -- also after the line that ends it
 abbrev pub LastLinesLeaveWhatWasTaken : Type 0
-LastLinesLeaveWhatWasTaken = (most number : ℕ) (on_fault : OnFault) (plan : Plan) (lines : List (List ℕ)) (last before answer : List ℕ) (flow : Flow) (now end : Live) →
-    Runs most Says (begun on_fault plan) lines before now → Says now number last answer flow end → AreOf plan end
+LastLinesLeaveWhatWasTaken = (most number : ℕ) (on_fault : OnFault) (acts : Bool) (plan : Plan) (lines : List (List ℕ)) (last before answer : List ℕ) (flow : Flow) (now end : Live) →
+    Runs most Says (begun on_fault acts plan) lines before now → Says now number last answer flow end → AreOf plan end
 
 -- where nothing is said besides, a command of `tsb run` is answered as in a session in which each tick has the row last
 -- given
@@ -45,10 +45,11 @@ abbrev pub CommandsAreAnsweredAsThere : Type 0
 CommandsAreAnsweredAsThere = (s t : Live) (line text : List ℕ) (c : Command) (fault : Option LineFault) → s.tells ≡ false → s.echoes ≡ false →
     Obeys s line c text fault t → Answers (setup s) s.inputs c text t.inputs
 
--- and a row, where a log has it at the next tick, as `step 1` of a session on that log
+-- and a row, where a log has it at the next tick, as `step 1` of a session on that log, where the schedule acts in both or in
+-- neither
 abbrev pub RowsAreAnsweredAsThere : Type 0
 RowsAreAnsweredAsThere = (given : Setup) (s t : Live) (line text : List ℕ) (row : Row) (fault : Option LineFault) → s.tells ≡ false → s.echoes ≡ false →
-    given.plan ≡ s.plan → row ≡ row_at given.log ((present s).now + 1) → Reads s line (Tick row) text fault t → Answers given s.inputs (Step 1) text t.inputs
+    given.plan ≡ s.plan → given.acts ≡ s.acts → row ≡ row_at given.log ((present s).now + 1) → Reads s line (Tick row) text fault t → Answers given s.inputs (Step 1) text t.inputs
 
 -- ## Whole runs
 -- A live run and a session on a log, line by line.
@@ -82,5 +83,5 @@ stand given is = record { given = given; inputs = is }
 
 -- then the bytes are those of that session, and the same inputs remain
 abbrev pub RunsWriteAsThere : Type 0
-RunsWriteAsThere = (given : Setup) (lines others : List (List ℕ)) (text : List ℕ) (now : Live) → RunsAsThere given (begun GoOn given.plan) lines others text now →
+RunsWriteAsThere = (given : Setup) (lines others : List (List ℕ)) (text : List ℕ) (now : Live) → RunsAsThere given (begun GoOn given.acts given.plan) lines others text now →
     Runs 202 says (stand given []) others text (stand given now.inputs)

@@ -45,6 +45,8 @@ pub record Live : Type 0 where
   pub plan : Plan
   pub inputs : List Input
   pub row : Row
+  -- whether the schedule of the plan acts
+  pub acts : Bool
   -- whether inputs tell their events, and whether answers that are no display lines stand after their command
   pub tells : Bool
   pub echoes : Bool
@@ -53,8 +55,8 @@ pub record Live : Type 0 where
   pub stopped : Option Stopped
 
 -- at power-up; before the first row all inputs are off
-abbrev pub begun : OnFault → Plan → Live
-begun on_fault plan = record { plan = plan; inputs = []; row = all_off; tells = false; echoes = false; on_fault = on_fault; stopped = None }
+abbrev pub begun : OnFault → Bool → Plan → Live
+begun on_fault acts plan = record { plan = plan; acts = acts; inputs = []; row = all_off; tells = false; echoes = false; on_fault = on_fault; stopped = None }
 
 -- the state of the controller
 abbrev pub present : Live → State
@@ -78,7 +80,7 @@ with_echo on s = record s { echoes = on }
 
 -- a session in which each tick has the row last given
 abbrev pub setup : Live → Setup
-setup s = record { plan = s.plan; log = rows_in (Held s.row) }
+setup s = record { plan = s.plan; log = rows_in (Held s.row); acts = s.acts }
 
 -- ## Answers
 
@@ -105,7 +107,7 @@ Obeys s line c text fault t = Leaves s (session.Obeys (setup s) (besides s line)
 
 -- ticks of which only the changes are told
 abbrev pub TellsChanges : Live → List ℕ → ℕ → List ℕ → Option LineFault → Live → Type 0
-TellsChanges s line n text fault t = Leaves s (Changes s.plan (besides s line) s.row s.inputs (display_line (present s)) false n) text fault t
+TellsChanges s line n text fault t = Leaves s (Changes (setup s) (besides s line) s.row s.inputs (display_line (present s)) false n) text fault t
 
 -- this is answered, and nothing else than this has become of it
 abbrev pub Tells : Live → List ℕ → List ℕ → Option LineFault → List ℕ → Option LineFault → Live → Live → Type 0

@@ -1,24 +1,24 @@
 //! Ticks of which only the changes are told.
-ghost use Rattle.std.specs.Prelude.{◌≡◌, ◌++◌, List, Ok, OnOk, Some, false};
+ghost use Rattle.std.specs.Prelude.{◌≡◌, ◌⊎◌, ◌++◌, List, Ok, OnOk, Some, false};
 ghost use Rattle.tsb_bench.specs.Held.{state_of};
 ghost use Rattle.tsb_dialog.specs.Said.{SaidUntilFault, with_feed};
 ghost use Rattle.tsb_dialog.specs.Blame.{AfterCalls};
-ghost use Rattle.tsb_live_text.specs.Changes.{Changes, owed, shows_same};
+ghost use Rattle.tsb_live_text.specs.Changes.{Changes, TellsTick, owed, shows_same};
 ghost use Rattle.tsb_log_text.specs.declared.log.LogRow.{LogRow};
 ghost use Rattle.tsb_step.specs.declared.inputs.Input.{Input as InputValue};
 ghost use Rattle.tsb_types.specs.declared.row.Row.{Row as RowValue};
 ghost use Rattle.tsb_text.specs.declared.rows.Rows.TheVariants.{Held};
 ghost use Rattle.tsb_text.specs.Rows.{rows_in};
 ghost use Rattle.tsb_text.specs.Answers.{Setup, display_line, refused_line};
-ghost use Rattle.tsb_text.specs.Obeyed.{Done, Stands, besides_of, news_in};
-ghost use Rattle.tsb_text.specs.Wanting.{IsWanting, tick_of};
+ghost use Rattle.tsb_text.specs.Obeyed.{Done, Stands, besides_of, news_in, tells_in};
+ghost use Rattle.tsb_text.specs.Wanting.{IsWanting, WantsAfter, WantsPattern, tick_of};
 ghost use Rattle.tsb_types.specs.declared.refusal.Refusal.TheVariants.{Memory};
 
 use std::io::Write;
 use tsb_dialog::{Pending, Watched, WriteError};
 use tsb_display_text::{LineBytes, LineMaker};
 use tsb_objects::Refusal;
-use tsb_text::{Course, line_bytes, say_refusal};
+use tsb_text::{Course, follow, line_bytes, say_refusal};
 
 /// Where the fields of a display line begin that tell heads and the preempt.
 const SHOWN: usize = 8;
@@ -38,8 +38,8 @@ pub(crate) fn changes<W: Write>(
     writer: &mut Watched<W>,
 ) -> Result<Option<Refusal>, WriteError>
     ensures done { (given : Setup) (log : List LogRow) (row : RowValue) (inputs : List InputValue) → Stands given log course.old inputs → log ≡ rows_in (Held row)
-        → Done result given log course.new (Changes given.plan (besides_of course.old echo.now) row inputs (display_line (state_of course.old.bench)) false ticks) (W.contents writer.old.device) (W.contents writer.new.device) pending.old pending.new }
-    ensures wanting { result ≡ Ok (Some Memory) → IsWanting course.new (tick_of course.new) }
+        → Done result given log course.new (Changes given (besides_of course.old echo.now) row inputs (display_line (state_of course.old.bench)) false ticks) (W.contents writer.old.device) (W.contents writer.new.device) pending.old pending.new }
+    ensures wanting { result ≡ Ok (Some Memory) → IsWanting course.new (tick_of course.new) ⊎ WantsPattern course.new }
     ensures mode { course.new.mode ≡ course.old.mode }
     ensures blame { writer.old.failed ≡ false → AfterCalls result writer.new.failed }
 {
@@ -51,26 +51,34 @@ pub(crate) fn changes<W: Write>(
         }
         let now = line_bytes(lines, course.bench());
         is_owed = shows_same(&now, &before);
-        say_tick(course, &now, !is_owed, pending, writer)?;
-        before = now;
+        match say_tick(course, &now, !is_owed, pending, writer)? {
+            Some(refusal) => return say_stop(&now, is_owed, &refusal, echo, pending, writer),
+            None => before = now,
+        }
     }
     say_owed(&before, is_owed, pending, writer)?;
     Ok(None)
 }
 
-/// Says what a tick tells, and its display line, if it is owed.
+/// Says the events of a tick, takes what follows it and says the events of that, and says the display line of the tick, if
+/// it is owed. It answers why what follows was refused, if it was.
 fn say_tick<W: Write>(
-    course: &Course,
+    course: &mut Course,
     line: &LineBytes,
     is_owed: bool,
     pending: &mut Pending,
     writer: &mut Watched<W>,
-) -> Result<(), WriteError>
-    ensures said { SaidUntilFault result (W.contents writer.old.device) (W.contents writer.new.device) pending.old pending.new (news_in course.now ++ owed is_owed line.now) }
+) -> Result<Option<Refusal>, WriteError>
+    ensures done { (given : Setup) (log : List LogRow) (inputs : List InputValue) → Stands given log course.old inputs
+        → Done result given log course.new (TellsTick given (tells_in course.old.mode) inputs course.old.next (news_in course.old) (owed is_owed line.now)) (W.contents writer.old.device) (W.contents writer.new.device) pending.old pending.new }
+    ensures wanting { result ≡ Ok (Some Memory) → WantsAfter course.new course.old.next }
+    ensures mode { course.new.mode ≡ course.old.mode }
     ensures blame { writer.old.failed ≡ false → AfterCalls result writer.new.failed }
 {
     course.say_news(pending, writer)?;
-    say_owed(line, is_owed, pending, writer)
+    let refusal = follow(course, pending, writer)?;
+    say_owed(line, is_owed, pending, writer)?;
+    Ok(refusal)
 }
 
 /// Says the display line before a tick that was refused, if it is owed, and the refusal, behind `echo`; and tells why it

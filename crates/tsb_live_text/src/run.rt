@@ -369,13 +369,14 @@ pub fn live<R: Read, W: Write>(
     alloc: Global,
     plan: Checked,
     on_fault: OnFault,
+    acts: bool,
     reader: &mut Watched<R>,
     writer: &mut Watched<W>,
 ) -> Result<Option<Stop>, SessionError>
     requires reads { reader.old.failed ≡ false }
     requires writes { writer.old.failed ≡ false }
     requires flushed { writer.old.flushed ≡ true }
-    ensures ended { LiveEnded result on_fault (checked_plan plan) (R.remaining reader.old.device) (R.remaining reader.new.device) (W.contents writer.old.device) (W.contents writer.new.device) }
+    ensures ended { LiveEnded result on_fault acts (checked_plan plan) (R.remaining reader.old.device) (R.remaining reader.new.device) (W.contents writer.old.device) (W.contents writer.new.device) }
     ensures blame { Blames result reader.new.failed writer.new.failed writer.new.flushed }
 {
     let Ok(bench) = Bench::power_up(alloc, plan) else {
@@ -383,7 +384,13 @@ pub fn live<R: Read, W: Write>(
     };
     let mut run = LiveRun {
         alloc,
-        course: Course::new(alloc, bench, Rows::Held(Row::all_off()), Mode::Keeping),
+        course: Course::new(
+            alloc,
+            bench,
+            Rows::Held(Row::all_off()),
+            Mode::Keeping,
+            acts,
+        ),
         lines: LineMaker::new(),
         echoes: false,
         on_fault,

@@ -1,3 +1,6 @@
+pub mod ActingLemmas
+pub mod HoldingLemmas
+pub mod RunStepLemmas
 pub mod PlanLemmas
 pub mod TableLemmas
 pub mod CellLemmas

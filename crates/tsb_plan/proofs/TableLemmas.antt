@@ -25,7 +25,7 @@ unfolding objects
 total = refl
 
 -- no object has many indices
-pub few-indices : (o : Object) → indices o ≤ 128
+pub few-indices : (o : Object) → indices o ≤ 256
 few-indices o = search rules
 
 pub length-objects : length objects ≡ COUNT

@@ -10,6 +10,12 @@ pub mod Plan
 pub mod Parts
 -- what is in effect while a pattern runs, and in free operation
 pub mod Running
+-- what a plan says of the calendar: entries, day plans and actions
+pub mod Schedule
+-- which entry holds of a day
+pub mod Holding
+-- which action is in force at a moment
+pub mod Acting
 -- the plan in the cells of a plan in memory, and what reading and writing a value answer
 pub mod PlanOf
 -- the built-in plan of two phases in one ring

@@ -12,5 +12,8 @@ pub mod version;
 pub mod version_laws;
 
 pub use object::{Object, ObjectId, PLAN_CELLS, Range, is_structural, range_of};
+pub use plan::acting::MINUTE;
+pub use plan::holding::length_of;
+pub use plan::schedule::{ACTIONS, DAY_EVENTS, DAY_PLANS, ENTRIES, FREE};
 pub use plan::{CorrectionMode, OffsetReference, Plan, SplitMode};
 pub use version::Version;

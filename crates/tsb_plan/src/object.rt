@@ -157,6 +157,23 @@ pub enum Object {
     /// `coordReference`: 1 alone, 0 end of split, 1 first green, 2 last green, 3 first yellow, 4 last yellow, 5 first
     /// red (profile); 0 to 5.
     CoordReference,
+    /// `timeBaseScheduleMonth`: entry, sum of `2^month` over its months, January 1; 0 to 8,190.
+    TimeBaseScheduleMonth,
+    /// `timeBaseScheduleDay`: entry, sum of `2^day` over its weekdays, Sunday 1; 0 to 254.
+    TimeBaseScheduleDay,
+    /// `timeBaseScheduleDate`: 32 (half - 1) + entry, sum of `2^day` over its days of the month 1 to 15. Half 2 has that
+    /// of `2^(day - 16)` over those from 16 on (profile); 0 to 65,535.
+    TimeBaseScheduleDate,
+    /// `timeBaseScheduleDayPlan`: entry, day plan, 0 for an entry that is not used; 0 to 16.
+    TimeBaseScheduleDayPlan,
+    /// `dayPlanHour`: 16 (day plan - 1) + event, hour; 0 to 23.
+    DayPlanHour,
+    /// `dayPlanMinute`: 16 (day plan - 1) + event, minute; 0 to 59.
+    DayPlanMinute,
+    /// `dayPlanActionNumber`: 16 (day plan - 1) + event, action, 0 for an event that is not used (profile); 0 to 32.
+    DayPlanActionNumber,
+    /// `timebaseAscPattern`: action, pattern, 254 for free operation, 0 for none; 0 to 254.
+    TimebaseAscPattern,
 }
 
 /// THE TABLE OF OBJECTS, each row as the macro that is named takes it: the object, its name in plan texts,
@@ -239,6 +256,14 @@ macro_rules! table {
             OverlapAcrossRings          "overlapAcrossRings"           1282 [4 1]       [since 3]   structural
             PreemptChoosesAnew          "preemptChoosesAnew"           1286 [4 1]       [since 3]   free
             CoordReference              "coordReference"               1290 [1 5]       [since 3]   free
+            TimeBaseScheduleMonth       "timeBaseScheduleMonth"          1291 [32 8190] [since 3]   free
+            TimeBaseScheduleDay         "timeBaseScheduleDay"            1323 [32 254] [since 3]   free
+            TimeBaseScheduleDate        "timeBaseScheduleDate"           1355 [64 65535] [since 3]   free
+            TimeBaseScheduleDayPlan     "timeBaseScheduleDayPlan"        1419 [32 16] [since 3]   free
+            DayPlanHour                 "dayPlanHour"                    1451 [256 23] [since 3]   free
+            DayPlanMinute               "dayPlanMinute"                  1707 [256 59] [since 3]   free
+            DayPlanActionNumber         "dayPlanActionNumber"            1963 [256 32] [since 3]   free
+            TimebaseAscPattern          "timebaseAscPattern"             2219 [32 254] [since 3]   free
         }
     };
 }

@@ -5,14 +5,17 @@ ghost use Rattle.std.specs.Prelude.{◌≡◌, ℕ, ◌+◌, ◌-◌, ◌≤◌,
 ghost use Rattle.tsb_plan.specs.declared.object.TheConstants.{PLAN_CELLS};
 ghost use Rattle.tsb_plan.specs.Objects.{AreInRange, value_in, has_index, greatest, first_cell, indices};
 
+pub mod acting;
 mod built_in;
 mod cells;
 mod detectors;
+pub mod holding;
 mod overlaps;
 mod patterns;
 mod phases;
 mod preempts;
 mod running;
+pub mod schedule;
 
 use crate::object::{Object, ObjectId, PLAN_CELLS, range_of};
 pub use patterns::{CorrectionMode, OffsetReference, SplitMode};

@@ -21,7 +21,7 @@ range_is v o r e =
       | inr hasnt ↦ absurd (grind (arith, hasnt, e))
     ]
 
-pub few_indices : (v : Version) (o : Object) → indices_in v o ≤ 128
+pub few_indices : (v : Version) (o : Object) → indices_in v o ≤ 256
 few_indices One o = search rules
 few_indices Two o = few-indices o
 few_indices Three o = few-indices o

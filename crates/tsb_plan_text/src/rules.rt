@@ -4,7 +4,7 @@ ghost use Rattle.tsb_plan_text.specs.RuleLines.{rule_line};
 
 use tsb_objects::Rule;
 
-/// The line that names a rule, without its end: `rule K1` to `rule K23`.
+/// The line that names a rule, without its end: `rule K1` to `rule K27`.
 pub fn rule_line(rule: Rule) -> &'static str
     ensures line { result.now ≡ rule_line rule }
     ensures short { length result.now ≤ 11 }
@@ -33,5 +33,9 @@ pub fn rule_line(rule: Rule) -> &'static str
         Rule::K21 => "rule K21",
         Rule::K22 => "rule K22",
         Rule::K23 => "rule K23",
+        Rule::K24 => "rule K24",
+        Rule::K25 => "rule K25",
+        Rule::K26 => "rule K26",
+        Rule::K27 => "rule K27",
     }
 }

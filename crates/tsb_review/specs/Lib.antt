@@ -12,6 +12,8 @@ pub mod Clearance
 pub mod Actuation
 pub mod Detection
 pub mod Unused
+-- on the schedule
+pub mod Schedules
 pub mod Coordination
 pub mod Preempts
 pub mod Overlaps

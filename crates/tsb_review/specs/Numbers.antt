@@ -6,7 +6,7 @@ use Rattle.tsb_plan.specs.declared.object.Object.TheVariants.{CoordCorrectionMod
 use Rattle.tsb_plan.specs.Plan.{Plan, walk, pedestrian_clear, minimum_green, maximum, passage, minimum_gap, time_before_reduction, red_clear, red_revert}
 use Rattle.tsb_plan.specs.Running.{pattern_maximum}
 use Rattle.tsb_review.specs.declared.advice.Advice.{Advice}
-use Rattle.tsb_review.specs.declared.advice.Advice.TheVariants.{A4, A7, A8, A9, A10, A11, A12, A13, A14, A16, A18, A19, A20, A21, A25, A26, A27, A28, A30, A32, A35, A39, A42, A43, A47, A48, A49, A54, A56, A57, A58}
+use Rattle.tsb_review.specs.declared.advice.Advice.TheVariants.{A4, A7, A8, A9, A10, A11, A12, A13, A14, A16, A18, A19, A20, A21, A25, A26, A27, A28, A30, A32, A35, A39, A42, A43, A47, A48, A49, A54, A56, A57, A58, A60}
 use Rattle.tsb_review.specs.declared.finding.Finding.{Finding}
 use Rattle.tsb_review.specs.declared.numbers.Numbers.{Numbers}
 use Rattle.tsb_review.specs.declared.place.Place.{Place}
@@ -19,6 +19,7 @@ use Rattle.tsb_review.specs.Coordination.{spare_time, overrun, first_same}
 use Rattle.tsb_review.specs.Detection.{cycle_of, tripping}
 use Rattle.tsb_review.specs.Entry.{entry_count}
 use Rattle.tsb_review.specs.Overlaps.{split_at, split_from, turn_of}
+use Rattle.tsb_review.specs.Schedules.{open_date, open_month, open_weekday, pattern_at}
 
 -- four numbers, and no fifth
 abbrev pub four : ℕ → ℕ → ℕ → ℕ → Numbers
@@ -33,11 +34,20 @@ abbrev pub revert_of : Plan → Option ℕ → ℕ
 revert_of plan None = 0
 revert_of plan (Some p) = red_revert plan p
 
+-- a month, a day of it and a weekday on which no entry of the schedule holds
+abbrev pub open_in : Plan → ℕ → ℕ → Numbers
+open_in plan m d = four m d (number_of (open_weekday plan m d)) 0
+
+-- the first such month, its first such day, and the first such weekday
+abbrev pub open_numbers : Plan → Numbers
+open_numbers plan = open_in plan (number_of (open_month plan)) (number_of (open_date plan (number_of (open_month plan))))
+
 -- of the whole plan: the first phase of which it is so, and its red revert; or the mode and the limit by which local
 -- counters come into step
 abbrev pub of_unit : Plan → Advice → Numbers
 of_unit plan A16 = four (number_of (reverting plan)) (revert_of plan (reverting plan)) 0 0
 of_unit plan A47 = four (plan.value CoordCorrectionMode 1) (correction_limit plan) 0 0
+of_unit plan A60 = open_numbers plan
 of_unit plan x = four 0 0 0 0
 
 -- of a phase: its number, and then times or phases
@@ -121,6 +131,7 @@ at_place plan x (at.Preempt m) = of_preempt plan x m
 at_place plan x (at.PreemptPhase m p) = four m p 0 0
 at_place plan x (at.Overlap o) = of_overlap plan x o
 at_place plan x (at.OverlapPhase o p) = of_overlap_phase plan x o p
+at_place plan x (at.DayEvent d k) = four d k (pattern_at plan d k) 0
 at_place plan x place = four 0 0 0 0
 
 -- of a finding

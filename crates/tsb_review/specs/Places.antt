@@ -7,7 +7,7 @@ use Rattle.tsb_review.specs.declared.place.Shape.{Shape}
 use Rattle.tsb_review.specs.declared.place.Shape.TheVariants as shapes
 
 -- how many there are by their first number: one unit, 16 phases, vehicle detectors and patterns, 8 pedestrian detectors,
--- 4 sequences, overlaps and preempts, 2 rings
+-- 4 sequences, overlaps and preempts, 2 rings, 32 entries and actions of the schedule, 16 day plans
 abbrev pub firsts : Shape → ℕ
 firsts shapes.Unit = 1
 firsts shapes.Phase = 16
@@ -28,8 +28,12 @@ firsts shapes.PatternPhase = 16
 firsts shapes.PatternPhases = 16
 firsts shapes.PatternSide = 16
 firsts shapes.PatternRing = 16
+firsts shapes.Entry = 32
+firsts shapes.DayEvent = 16
+firsts shapes.DayEvents = 16
+firsts shapes.Action = 32
 
--- by their second: 2 rings, 4 sides or 16 phases, and else one
+-- by their second: 2 rings, 4 sides, 16 phases or events, and else one
 abbrev pub seconds : Shape → ℕ
 seconds shapes.Unit = 1
 seconds shapes.Phase = 1
@@ -50,8 +54,12 @@ seconds shapes.PatternPhase = 16
 seconds shapes.PatternPhases = 16
 seconds shapes.PatternSide = 4
 seconds shapes.PatternRing = 2
+seconds shapes.Entry = 1
+seconds shapes.DayEvent = 16
+seconds shapes.DayEvents = 16
+seconds shapes.Action = 1
 
--- and by their third: 16 places of a sequence or 16 phases, and else one
+-- and by their third: 16 places of a sequence, phases or events, and else one
 abbrev pub thirds : Shape → ℕ
 thirds shapes.Unit = 1
 thirds shapes.Phase = 1
@@ -72,6 +80,10 @@ thirds shapes.PatternPhase = 1
 thirds shapes.PatternPhases = 16
 thirds shapes.PatternSide = 1
 thirds shapes.PatternRing = 1
+thirds shapes.Entry = 1
+thirds shapes.DayEvent = 1
+thirds shapes.DayEvents = 16
+thirds shapes.Action = 1
 
 -- the place of a kind that has these three numbers; those that it does not have do not count
 abbrev pub place_of : Shape → ℕ → ℕ → ℕ → Place
@@ -94,6 +106,10 @@ place_of shapes.PatternPhase i j k = at.PatternPhase i j
 place_of shapes.PatternPhases i j k = at.PatternPhases i j k
 place_of shapes.PatternSide i j k = at.PatternSide i j
 place_of shapes.PatternRing i j k = at.PatternRing i j
+place_of shapes.Entry i j k = at.Entry i
+place_of shapes.DayEvent i j k = at.DayEvent i j
+place_of shapes.DayEvents i j k = at.DayEvents i j k
+place_of shapes.Action i j k = at.Action i
 
 -- those of a kind that have these first two numbers, by their third
 unfoldable pub places_beside : Shape → ℕ → ℕ → List Place

@@ -129,11 +129,17 @@ pub enum Advice {
     A58,
     /// Values are given for a phase that is not enabled.
     A59,
+    /// No entry of the schedule holds on some day.
+    A60,
+    /// No event of a day plan selects a used pattern, in a plan with a schedule.
+    A61,
+    /// An action is in force for under a cycle of the pattern that it selects.
+    A62,
 }
 
 impl Advice {
     /// All advices, in order.
-    pub const ALL: [Advice; 58] = [
+    pub const ALL: [Advice; 61] = [
         Advice::A1,
         Advice::A2,
         Advice::A3,
@@ -192,6 +198,9 @@ impl Advice {
         Advice::A57,
         Advice::A58,
         Advice::A59,
+        Advice::A60,
+        Advice::A61,
+        Advice::A62,
     ];
 
     /// What the advice is given for.
@@ -235,7 +244,9 @@ impl Advice {
             | Advice::A46 => Shape::PatternPhase,
             Advice::A5 => Shape::Ring,
             Advice::A52 => Shape::RingSide,
-            Advice::A16 | Advice::A47 => Shape::Unit,
+            Advice::A16 | Advice::A47 | Advice::A60 => Shape::Unit,
+            Advice::A61 => Shape::Pattern,
+            Advice::A62 => Shape::DayEvent,
             Advice::A30 | Advice::A32 | Advice::A44 | Advice::A54 => Shape::Pattern,
             Advice::A33 | Advice::A36 | Advice::A37 | Advice::A51 => Shape::PreemptPhase,
             Advice::A34 | Advice::A35 | Advice::A38 | Advice::A50 => Shape::Preempt,

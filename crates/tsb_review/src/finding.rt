@@ -10,7 +10,7 @@ use crate::advice::Advice;
 use crate::place::Place;
 use crate::{
     actuation, alike, clearance, coordination, detection, entry, overlaps, pedestrians, preempts,
-    service, unused,
+    schedules, service, unused,
 };
 use tsb_plan::{ObjectId, Plan};
 use tsb_types::{Detector, Overlap, Pattern, Phase, Preempt, Ring, Side};
@@ -108,6 +108,7 @@ pub fn holds(plan: &Plan, advice: Advice, place: &Place) -> bool
         Place::PreemptPhase(preempt, phase) => of_preempt_phase(plan, advice, *preempt, *phase),
         Place::Overlap(overlap) => of_overlap(plan, advice, *overlap),
         Place::OverlapPhase(overlap, phase) => of_overlap_phase(plan, advice, *overlap, *phase),
+        Place::DayEvent(day_plan, event) => schedules::ends_within_cycle(plan, *day_plan, *event),
         _ => false,
     }
 }
@@ -119,6 +120,7 @@ fn of_unit(plan: &Plan, advice: Advice) -> bool
     match advice {
         Advice::A16 => clearance::has_short_revert(plan),
         Advice::A47 => coordination::corrects_nothing(plan),
+        Advice::A60 => schedules::leaves_day_open(plan),
         _ => false,
     }
 }
@@ -208,6 +210,7 @@ fn of_pattern(plan: &Plan, advice: Advice, pattern: Pattern) -> bool
         Advice::A32 => coordination::yields_once(plan, pattern),
         Advice::A44 => coordination::leads_for_nothing(plan, pattern),
         Advice::A54 => coordination::permits_late_greens(plan, pattern),
+        Advice::A61 => schedules::is_never_selected(plan, pattern),
         _ => false,
     }
 }

@@ -1,6 +1,6 @@
 //! A second pair of eyes on a plan: what can run and is still wrong, or may be.
 //!
-//! Each advice has a number, A1 to A59, and a definition of its own over the plan. `finding_at` goes through the places
+//! Each advice has a number, A1 to A62, and a definition of its own over the plan. `finding_at` goes through the places
 //! of each advice. Nothing here takes memory, and nothing is remembered but the plan.
 #![tactic(auto)]
 
@@ -19,6 +19,7 @@ mod overlaps;
 mod pedestrians;
 pub mod place;
 mod preempts;
+mod schedules;
 mod service;
 mod sought;
 mod splits;

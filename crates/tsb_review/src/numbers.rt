@@ -1,9 +1,10 @@
 //! The numbers that the line of a finding shows. Times are in tenths of a second.
 #![tactic(auto, unfolding(tsb_plan::specs::PlanOf::plan_of))]
 
-ghost use Rattle.std.specs.Prelude.{◌≡◌};
+ghost use Rattle.std.specs.Prelude.{◌≡◌, ◌≤◌};
 ghost use Rattle.tsb_plan.specs.PlanOf.{plan_of};
-ghost use Rattle.tsb_review.specs.Numbers.{four, number_of, revert_of, of_unit, of_phase, of_detector, of_split, of_ring_side, of_pattern, of_preempt, of_overlap, of_overlap_phase, at_place, numbers_of};
+ghost use Rattle.tsb_review.specs.Schedules.{open_date, open_month, pattern_at};
+ghost use Rattle.tsb_review.specs.Numbers.{four, number_of, revert_of, open_in, open_numbers, of_unit, of_phase, of_detector, of_split, of_ring_side, of_pattern, of_preempt, of_overlap, of_overlap_phase, at_place, numbers_of};
 
 use crate::advice::Advice;
 use crate::clearance::reverting;
@@ -14,10 +15,11 @@ use crate::finding::Finding;
 use crate::overlaps::{split_at, split_from, turn_of};
 use crate::pedestrians::{passed_by_rest, pedestrian_time};
 use crate::place::Place;
+use crate::schedules::{open_date, open_month, open_weekday, pattern_at};
 use crate::service::{apart_from, rival_of, rivalled};
 use crate::splits::{green_of_split, left_short, longest_permissive};
 use tsb_plan::Plan;
-use tsb_types::{Detector, Overlap, Pattern, Phase, Preempt, Ring, Side};
+use tsb_types::{DayEvent, DayPlan, Detector, Overlap, Pattern, Phase, Preempt, Ring, Side};
 
 /// The numbers that the line of a finding shows: those of its place, and times, phases or patterns. What an advice does
 /// not have is 0.
@@ -111,6 +113,7 @@ fn at_place(plan: &Plan, advice: Advice, place: &Place) -> Numbers
         }
         Place::Overlap(overlap) => of_overlap(plan, advice, *overlap),
         Place::OverlapPhase(overlap, phase) => of_overlap_phase(plan, advice, *overlap, *phase),
+        Place::DayEvent(day_plan, event) => of_event(plan, *day_plan, *event),
         _ => four(0, 0, 0, 0),
     }
 }
@@ -126,8 +129,65 @@ fn of_unit(plan: &Plan, advice: Advice) -> Numbers
             four(number, revert_of(plan, reverting(plan)), 0, 0)
         }
         Advice::A47 => four(correction_number(plan), plan.correction_limit(), 0, 0),
+        Advice::A60 => open_numbers(plan),
         _ => four(0, 0, 0, 0),
     }
+}
+
+/// A month, a day of it and a weekday on which no entry of the schedule holds.
+fn open_numbers(plan: &Plan) -> Numbers
+    ensures { result ≡ open_numbers (plan_of plan.now) }
+{
+    let month = first_month(plan);
+    open_in(plan, month, first_day(plan, month))
+}
+
+/// The first such month, 0 for none.
+fn first_month(plan: &Plan) -> u32
+    ensures value { result ≡ number_of (open_month (plan_of plan.now)) }
+    ensures within { result ≤ 12 }
+{
+    match open_month(plan) {
+        Some(month) => month,
+        None => 0,
+    }
+}
+
+/// The first such day of a month, 0 for none.
+fn first_day(plan: &Plan, month: u32) -> u32
+    requires { month ≤ 12 }
+    ensures value { result ≡ number_of (open_date (plan_of plan.now) month) }
+    ensures within { result ≤ 31 }
+{
+    if month == 0 {
+        return 0;
+    }
+    match open_date(plan, month) {
+        Some(day) => day,
+        None => 0,
+    }
+}
+
+/// A month, a day of it, and the first such weekday.
+fn open_in(plan: &Plan, month: u32, day: u32) -> Numbers
+    requires month { month ≤ 12 }
+    requires day { day ≤ 31 }
+    ensures { result ≡ open_in (plan_of plan.now) month day }
+{
+    four(month, day, time_or_zero(open_weekday(plan, month, day)), 0)
+}
+
+/// An event of a day plan: both numbers, and the pattern that it selects.
+fn of_event(plan: &Plan, day_plan: DayPlan, event: DayEvent) -> Numbers
+    ensures { result ≡ four day_plan event (pattern_at (plan_of plan.now) day_plan event) 0 }
+{
+    let pattern = pattern_at(plan, day_plan, event);
+    four(
+        u32::from(day_plan.number()),
+        u32::from(event.number()),
+        pattern,
+        0,
+    )
 }
 
 /// Of a phase: its number, and then times or phases.

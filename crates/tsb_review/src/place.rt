@@ -3,7 +3,8 @@ ghost use Rattle.std.specs.Prelude.{◌≡◌, ◌≤◌};
 ghost use Rattle.tsb_review.specs.Places.{firsts, seconds, thirds, place_of};
 
 use tsb_types::{
-    Detector, Number, Overlap, Pattern, PedestrianDetector, Phase, Preempt, Ring, Sequence, Side,
+    Action, DayEvent, DayPlan, Detector, Entry, Number, Overlap, Pattern, PedestrianDetector,
+    Phase, Preempt, Ring, Sequence, Side,
 };
 
 /// The number of a place in what a sequence has for a ring: 1 to 16.
@@ -50,6 +51,14 @@ pub enum Place {
     PatternSide(Pattern, Side),
     /// A ring in a pattern.
     PatternRing(Pattern, Ring),
+    /// An entry of the schedule.
+    Entry(Entry),
+    /// An event of a day plan.
+    DayEvent(DayPlan, DayEvent),
+    /// Two events of a day plan.
+    DayEvents(DayPlan, DayEvent, DayEvent),
+    /// An action of the schedule.
+    Action(Action),
 }
 
 /// The kind of a place.
@@ -93,13 +102,21 @@ pub enum Shape {
     PatternSide,
     /// A ring in a pattern.
     PatternRing,
+    /// An entry of the schedule.
+    Entry,
+    /// An event of a day plan.
+    DayEvent,
+    /// Two events of a day plan.
+    DayEvents,
+    /// An action of the schedule.
+    Action,
 }
 
 impl Shape {
     /// How many places of the kind there are by their first number.
     pub fn firsts(self) -> u8
         ensures value { result ≡ firsts self }
-        ensures range { result ≤ 16 }
+        ensures range { result ≤ 32 }
     {
         match self {
             Shape::Unit => 1,
@@ -111,6 +128,8 @@ impl Shape {
             Shape::Phase | Shape::Phases | Shape::Detector => 16,
             Shape::Pattern | Shape::PatternPhase | Shape::PatternPhases => 16,
             Shape::PatternSide | Shape::PatternRing => 16,
+            Shape::DayEvent | Shape::DayEvents => 16,
+            Shape::Entry | Shape::Action => 32,
         }
     }
 
@@ -122,11 +141,13 @@ impl Shape {
         match self {
             Shape::Unit | Shape::Phase | Shape::Detector | Shape::PedestrianDetector => 1,
             Shape::Ring | Shape::Overlap | Shape::Preempt | Shape::Pattern => 1,
+            Shape::Entry | Shape::Action => 1,
             Shape::Listing | Shape::SequencePhase | Shape::PatternRing => 2,
             Shape::RingSide | Shape::PatternSide => 4,
             Shape::Phases | Shape::OverlapPhase => 16,
             Shape::PreemptPhase | Shape::PreemptPhases => 16,
             Shape::PatternPhase | Shape::PatternPhases => 16,
+            Shape::DayEvent | Shape::DayEvents => 16,
         }
     }
 
@@ -141,8 +162,10 @@ impl Shape {
             Shape::RingSide | Shape::PatternSide | Shape::PatternRing => 1,
             Shape::Phases | Shape::OverlapPhase => 1,
             Shape::PreemptPhase | Shape::PatternPhase => 1,
+            Shape::Entry | Shape::DayEvent | Shape::Action => 1,
             Shape::Listing | Shape::SequencePhase => 16,
             Shape::PreemptPhases | Shape::PatternPhases => 16,
+            Shape::DayEvents => 16,
         }
     }
 }
@@ -186,5 +209,15 @@ pub fn place_of(shape: Shape, first: u8, second: u8, third: u8) -> Place
         }
         Shape::PatternSide => Place::PatternSide(Pattern::of(first), Side::of(second)),
         Shape::PatternRing => Place::PatternRing(Pattern::of(first), Ring::of(second)),
+        Shape::Entry => Place::Entry(Entry::of(first)),
+        Shape::DayEvent => Place::DayEvent(DayPlan::of(first), DayEvent::of(second)),
+        Shape::DayEvents => {
+            Place::DayEvents(
+                DayPlan::of(first),
+                DayEvent::of(second),
+                DayEvent::of(third),
+            )
+        }
+        Shape::Action => Place::Action(Action::of(first)),
     }
 }

@@ -2,7 +2,7 @@
 -- numbers a to e of a breach; W, X, Y, Z and U are the same as times, in seconds.
 use Rattle.std.specs.Prelude.{ℕ, List, codes}
 use Rattle.tsb_breaches.specs.declared.fault.RuleFault.{RuleFault}
-use Rattle.tsb_breaches.specs.declared.fault.RuleFault.TheVariants.{K1, K2Ring, K2Side, K3, K4Unused, K4Ring, K4Side, K5, K6Unused, K6Ring, K6Missing, K6Again, K6Side, K6Gap, K7Unused, K7Ring, K7Missing, K7Again, K7Side, K7Gap, K8, K9, K10Maximum1, K10Maximum2, K11, K12, K13Unused, K13Walk, K14, K15TrackUnused, K15DwellUnused, K15ExitUnused, K15Track, K15Dwell, K15Exit, K16Track, K16Exit, K17Offset, K17Split, K17Sequence, K17Blank, K18, K19Rings, K19Cycle, K20None, K20Unused, K20Omitted, K20Sides, K20Apart, K20Ends, K20Ring, K21Unused, K21Type, K22, K23}
+use Rattle.tsb_breaches.specs.declared.fault.RuleFault.TheVariants.{K1, K2Ring, K2Side, K3, K4Unused, K4Ring, K4Side, K5, K6Unused, K6Ring, K6Missing, K6Again, K6Side, K6Gap, K7Unused, K7Ring, K7Missing, K7Again, K7Side, K7Gap, K8, K9, K10Maximum1, K10Maximum2, K11, K12, K13Unused, K13Walk, K14, K15TrackUnused, K15DwellUnused, K15ExitUnused, K15Track, K15Dwell, K15Exit, K16Track, K16Exit, K17Offset, K17Split, K17Sequence, K17Blank, K18, K19Rings, K19Cycle, K20None, K20Unused, K20Omitted, K20Sides, K20Apart, K20Ends, K20Ring, K21Unused, K21Type, K22, K23, K24, K25, K26, K27Number, K27Unused}
 
 -- the text of a breach
 abbrev pub breach_template : RuleFault → List ℕ
@@ -61,3 +61,8 @@ breach_template K21Unused = codes "K21 overlap P: its modifier phase Q is not en
 breach_template K21Type = codes "K21 overlap P: it has modifier phases, and its type is Q"
 breach_template K22 = codes "K22 phase P: its dynamic maximum limit of X s is under its minimum green of Y s"
 breach_template K23 = codes "K23 pattern P: its permissive time of X s is not below its cycle of Y s"
+breach_template K24 = codes "K24 day plan P: events Q and R both come at hour S, minute T"
+breach_template K25 = codes "K25 entry P: its day plan Q has no event"
+breach_template K26 = codes "K26 day plan P, event Q: its action R is not defined"
+breach_template K27Number = codes "K27 action P: it asks for pattern Q, and there are 16"
+breach_template K27Unused = codes "K27 action P: it asks for pattern Q, which is not used"

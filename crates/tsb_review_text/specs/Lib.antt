@@ -8,3 +8,5 @@ pub mod Lines
 pub mod Bytes
 -- what a review writes, part by part
 pub mod Written
+-- what a schedule runs in a week
+pub mod Week

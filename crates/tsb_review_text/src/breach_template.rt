@@ -84,5 +84,10 @@ pub(crate) fn breach_template(fault: RuleFault) -> &'static [u8]
         }
         RuleFault::K23 =>
             b"K23 pattern P: its permissive time of X s is not below its cycle of Y s",
+        RuleFault::K24 => b"K24 day plan P: events Q and R both come at hour S, minute T",
+        RuleFault::K25 => b"K25 entry P: its day plan Q has no event",
+        RuleFault::K26 => b"K26 day plan P, event Q: its action R is not defined",
+        RuleFault::K27Number => b"K27 action P: it asks for pattern Q, and there are 16",
+        RuleFault::K27Unused => b"K27 action P: it asks for pattern Q, which is not used",
     }
 }

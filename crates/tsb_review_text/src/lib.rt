@@ -6,6 +6,8 @@ mod breach_template;
 mod line;
 mod review;
 mod template;
+mod week;
 
 pub use line::{LONGEST, Line, breach_line, line_of};
 pub use review::{write_breaches, write_review};
+pub use week::write_week;

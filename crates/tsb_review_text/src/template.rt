@@ -171,5 +171,10 @@ fn template(advice: Advice) -> &'static [u8]
             b"A58 phase P: its passage of X s is under 1 s and no detector extends it, as if it were given in seconds and not in tenths"
         }
         Advice::A59 => { b"A59 phase P: it is not enabled, so its values have no effect, such as" }
+        Advice::A60 =>
+            b"A60 unit: no entry of the schedule holds on day Q of month P where that is weekday R, so the action of the day before stays",
+        Advice::A61 => b"A61 pattern P: it is used, and no event of a day plan selects it",
+        Advice::A62 =>
+            b"A62 day plan P, event Q: another event comes before a cycle of its pattern R is over",
     }
 }

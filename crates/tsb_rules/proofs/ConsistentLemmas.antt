@@ -10,7 +10,8 @@ use Rattle.tsb_types.specs.Lists.{among}
 use Rattle.tsb_plan.specs.Parts.{unless_zero, is_used, cycle, offset, permissive_time, leads_and_lags, split_of, sequence_of, is_omitted, is_coordinated}
 use Rattle.tsb_rules.specs.PatternRules.{some_and, names_split, is_whole, patterns_are_whole, splits_hold_phases, splits_fill_cycles, coordinated_phases_agree, coordinated_agree, coordinates, agrees_with_all, ends_with, has_one_in_each_ring, has_coordinated, may_coordinate, has_phases, coordinated_count, permissive_times_end, split_end, each_pattern}
 use Rattle.tsb_plan.specs.Plan.{Plan, phases, is_enabled, ring_of, side_of, is_concurrent, sequence}
-use Rattle.tsb_rules.specs.Rules.{or_rule, some_enabled, is_placed, are_placed, unused_lists_are_empty, may_be_concurrent, names_across_rings, lists_name_across_rings, is_named_back, concurrency_is_symmetric, included_phases_are_enabled, names_concurrent, goes_with_all, has_concurrent_lists, preempts_are_concurrent, dwells_or_is_empty, preempts_dwell, modifiers_are_right, limits_reach_minimums, first_broken, broken_by_rings, broken_by_phases, broken_by_parts, broken_by_extensions}
+use Rattle.tsb_rules.specs.Rules.{or_rule, some_enabled, is_placed, are_placed, unused_lists_are_empty, may_be_concurrent, names_across_rings, lists_name_across_rings, is_named_back, concurrency_is_symmetric, included_phases_are_enabled, names_concurrent, goes_with_all, has_concurrent_lists, preempts_are_concurrent, dwells_or_is_empty, preempts_dwell, modifiers_are_right, limits_reach_minimums, first_broken, broken_by_rings, broken_by_phases, broken_by_parts, broken_by_extensions, broken_by_schedule}
+use Rattle.tsb_rules.specs.declared.rules.Rule.{Rule}
 use Rattle.tsb_rules.specs.SequenceRules.{each_phase, is_ordered, sequence_is_ordered, is_blank, lists_only, lists_each, lists_once, rises, first_sequence_is_ordered, other_sequences_are_ordered}
 use Rattle.tsb_types.specs.Sets.{names}
 use Rattle.tsb_types.proofs.SetLemmas.{names-zero}
@@ -38,17 +39,19 @@ pub record MeetsExtensions (plan : Plan) : Type 0 where
 
 met-rings : (plan : Plan) → first_broken plan ≡ None → broken_by_rings plan ≡ None
 unfolding first_broken
-met-rings plan none = (or_rule-none (broken_by_rings plan) (or_rule (broken_by_phases plan) (or_rule (broken_by_parts plan) (broken_by_extensions plan))) none).0
+met-rings plan none = (or_rule-none (broken_by_rings plan) (or_rule (broken_by_phases plan) (or_rule (broken_by_parts plan) (or_rule (broken_by_extensions plan) (broken_by_schedule plan)))) none).0
 
 -- of the parts and the extensions
 met-late : (plan : Plan) → first_broken plan ≡ None → (broken_by_parts plan ≡ None) × (broken_by_extensions plan ≡ None)
 unfolding first_broken
 met-late plan none =
-    let behind : or_rule (broken_by_phases plan) (or_rule (broken_by_parts plan) (broken_by_extensions plan)) ≡ None =
-    (or_rule-none (broken_by_rings plan) (or_rule (broken_by_phases plan) (or_rule (broken_by_parts plan) (broken_by_extensions plan))) none).1 in
-    let late : or_rule (broken_by_parts plan) (broken_by_extensions plan) ≡ None =
-    (or_rule-none (broken_by_phases plan) (or_rule (broken_by_parts plan) (broken_by_extensions plan)) behind).1 in
-    or_rule-none (broken_by_parts plan) (broken_by_extensions plan) late
+    let last : Option Rule = or_rule (broken_by_extensions plan) (broken_by_schedule plan) in
+    let behind : or_rule (broken_by_phases plan) (or_rule (broken_by_parts plan) last) ≡ None =
+    (or_rule-none (broken_by_rings plan) (or_rule (broken_by_phases plan) (or_rule (broken_by_parts plan) last)) none).1 in
+    let late : or_rule (broken_by_parts plan) last ≡ None =
+    (or_rule-none (broken_by_phases plan) (or_rule (broken_by_parts plan) last) behind).1 in
+    let both : (broken_by_parts plan ≡ None) × (last ≡ None) = or_rule-none (broken_by_parts plan) last late in
+    (both.0, (or_rule-none (broken_by_extensions plan) (broken_by_schedule plan) both.1).0)
 
 rings : (plan : Plan) → broken_by_rings plan ≡ None → MeetsRings plan
 unfolding broken_by_rings

@@ -1,12 +1,13 @@
 -- What the rules' tests say where they are passed.
-use Rattle.std.proofs.Common.{zero, suc, ◌≡◌, ℕ, ◌+◌, ◌<◌, ◌≤◌, ◌==◌, nat_le, Bool, true, false, not, ◌&&◌, ◌||◌, List, [], ◌∷◌, length, get_or, drop, Option, Some, None, refl, arith, sym, ◌∙◌, ap, inl, inr}
+use Rattle.std.proofs.Common.{zero, suc, ◌≡◌, ◌≢◌, ℕ, ◌+◌, ◌-◌, ◌<◌, ◌≤◌, ◌==◌, nat_le, Bool, true, false, not, ◌&&◌, ◌||◌, List, [], ◌∷◌, length, get_or, drop, Option, Some, None, refl, arith, sym, ◌∙◌, ap, inl, inr}
 use Rattle.std.specs.List.{list_all, list_any}
-use Rattle.std.proofs.lemmas.Bool.{and_parts, cases_eq}
+use Rattle.std.proofs.lemmas.Bool.{and_parts, cases_eq, ne_eqb}
 use Rattle.std.proofs.lemmas.Bool.Decides.{nat_tests}
 use Rattle.tsb_rules.specs.declared.rules.Rule.{Rule}
 use Rattle.tsb_types.specs.Lists.{run_from}
 use Rattle.tsb_types.specs.Sets.{names}
 use Rattle.tsb_rules.specs.SequenceRules.{is_zeros, zeros_last}
+use Rattle.tsb_plan.proofs.RunStepLemmas.{run-first, run-none}
 use Rattle.tsb_types.proofs.RunLemmas.{all-run_from}
 use Rattle.tsb_types.proofs.SetLemmas.{names-zero}
 use Rattle.tsb_rules.specs.Rules.{unless, or_rule}
@@ -98,3 +99,25 @@ zeros-at (p ∷ ps) zero below none = rw none (zeros-then ps)
 zeros-at (p ∷ ps) (suc k) below none =
     let later : suc k + 1 ≡ suc (k + 1) = omega arith in
     rw later (zeros-at ps k (omega (arith, below)) none)
+
+pub or-on : (a b : Bool) → b ≡ true → (a || b) ≡ true
+or-on a b e = ap (λ (t : Bool). a || t) e ∙ or-true a
+
+-- a test of a number that is used, where it is 0 and where it is not
+pub unless-used : (n : ℕ) (b : Bool) → n ≡ 0 → (n == 0 || b) ≡ true
+unless-used n b e = ap (λ (m : ℕ). m == 0 || b) e
+
+pub where-used : (n : ℕ) (b : Bool) → n ≢ 0 → (n == 0 || b) ≡ b
+where-used n b e = ap (λ (t : Bool). t || b) (ne_eqb n 0 e)
+
+-- a run that is tested number by number: what a passed test leaves, a failed one, and the end
+pub all-on : (f : ℕ → Bool) (a b : ℕ) → a ≤ b → f a ≡ true → list_all f (run_from (a + 1) (b + 1 - (a + 1))) ≡ list_all f (run_from a (b + 1 - a))
+all-on f a b below on =
+    sym (ap (λ (ks : List ℕ). list_all f ks) (run-first a b below) ∙ ap (λ (t : Bool). t && list_all f (run_from (a + 1) (b + 1 - (a + 1)))) on)
+
+pub all-off : (f : ℕ → Bool) (a b : ℕ) → a ≤ b → f a ≡ false → list_all f (run_from a (b + 1 - a)) ≡ false
+all-off f a b below off =
+    ap (λ (ks : List ℕ). list_all f ks) (run-first a b below) ∙ ap (λ (t : Bool). t && list_all f (run_from (a + 1) (b + 1 - (a + 1)))) off
+
+pub all-end : (f : ℕ → Bool) (a b : ℕ) → b < a → list_all f (run_from a (b + 1 - a)) ≡ true
+all-end f a b above = ap (λ (ks : List ℕ). list_all f ks) (run-none a b above)

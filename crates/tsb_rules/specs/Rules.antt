@@ -5,10 +5,11 @@ use Rattle.std.specs.List.{list_all, list_any}
 use Rattle.tsb_plan.specs.declared.object.Object.{Object}
 use Rattle.tsb_plan.specs.declared.object.Object.TheVariants.{PhaseConcurrency, PhaseWalk, PhaseMinimumGreen, PhaseMaximum1, PhaseMaximum2, OverlapIncludedPhases, OverlapModifierPhases, PreemptTrackPhase, PreemptDwellPhase, PreemptExitPhase}
 use Rattle.tsb_rules.specs.declared.rules.Rule.{Rule}
-use Rattle.tsb_rules.specs.declared.rules.Rule.TheVariants.{K1, K2, K3, K4, K5, K6, K7, K8, K9, K10, K11, K12, K13, K14, K15, K16, K17, K18, K19, K20, K21, K22, K23}
+use Rattle.tsb_rules.specs.declared.rules.Rule.TheVariants.{K1, K2, K3, K4, K5, K6, K7, K8, K9, K10, K11, K12, K13, K14, K15, K16, K17, K18, K19, K20, K21, K22, K23, K24, K25, K26, K27}
 use Rattle.tsb_types.specs.Lists.{run_from}
 use Rattle.tsb_plan.specs.Parts.{call_phase, pedestrian_call_phase, is_minus_green_yellow}
 use Rattle.tsb_rules.specs.PatternRules.{patterns_are_whole, splits_hold_phases, splits_fill_cycles, coordinated_phases_agree, permissive_times_end}
+use Rattle.tsb_rules.specs.ScheduleRules.{events_are_apart, day_plans_have_events, actions_are_defined, asked_patterns_are_used}
 use Rattle.tsb_plan.specs.Plan.{Plan, phases, is_enabled, has_pedestrian_recall, ring_of, side_of, is_concurrent, minimum_green, minimum_gap, passage, yellow_change, dynamic_maximum_limit}
 use Rattle.tsb_rules.specs.SequenceRules.{each_phase, first_sequence_is_ordered, other_sequences_are_ordered}
 use Rattle.tsb_types.specs.Sets.{names}
@@ -191,6 +192,15 @@ broken_by_extensions plan =
     (unless (permissive_times_end plan) K23
     None))
 
+-- the first of K24 to K27, on the schedule, which plan texts of version 3 alone can give
+unfoldable pub broken_by_schedule : Plan → Option Rule
+broken_by_schedule plan =
+    unless (events_are_apart plan) K24
+    (unless (day_plans_have_events plan) K25
+    (unless (actions_are_defined plan) K26
+    (unless (asked_patterns_are_used plan) K27
+    None)))
+
 -- the first, or where there is none the second
 abbrev pub or_rule : Option Rule → Option Rule → Option Rule
 or_rule (Some r) next = Some r
@@ -202,7 +212,8 @@ first_broken plan =
     or_rule (broken_by_rings plan)
     (or_rule (broken_by_phases plan)
     (or_rule (broken_by_parts plan)
-    (broken_by_extensions plan)))
+    (or_rule (broken_by_extensions plan)
+    (broken_by_schedule plan))))
 
 -- what a check of a plan answers: that it is consistent, or the first rule that it breaks
 abbrev pub or_broken : Option Rule → Result (Unit {0}) Rule

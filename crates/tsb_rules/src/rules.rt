@@ -3,7 +3,7 @@
 
 ghost use Rattle.std.specs.Prelude.{◌≡◌, ◌+◌, ◌*◌, ◌≤◌, ◌==◌, ◌&&◌, ◌||◌, nat_le, if◌then◌else◌, Ok, Err};
 ghost use Rattle.tsb_plan.specs.PlanOf.{plan_of};
-ghost use Rattle.tsb_rules.specs.Rules.{broken_by_rings, broken_by_phases, broken_by_parts, broken_by_extensions, first_broken, or_broken};
+ghost use Rattle.tsb_rules.specs.Rules.{broken_by_rings, broken_by_phases, broken_by_parts, broken_by_extensions, broken_by_schedule, first_broken, or_broken};
 
 mod asked;
 mod calls;
@@ -11,6 +11,7 @@ mod concurrency;
 mod lists;
 mod patterns;
 mod phases;
+mod schedules;
 mod sequences;
 mod splits;
 
@@ -77,6 +78,14 @@ pub enum Rule {
     K22,
     /// `patternPermissiveTime` of a used pattern is below its cycle.
     K23,
+    /// No two events of a day plan come at one minute.
+    K24,
+    /// A day plan that an entry of the schedule names has events.
+    K25,
+    /// An action that an event of a day plan names is defined.
+    K26,
+    /// A pattern that an action asks for is used.
+    K27,
 }
 
 /// Whether the plan meets the rules: an `Err` is the first one that it breaks, in the order of their
@@ -88,7 +97,8 @@ pub fn check(plan: &Plan) -> Result<(), Rule>
     check_rings(plan)?;
     check_phases(plan)?;
     check_parts(plan)?;
-    check_extensions(plan)
+    check_extensions(plan)?;
+    check_schedule(plan)
 }
 
 /// Rules K1 to K7, on rings, sides and sequences.
@@ -140,6 +150,17 @@ fn check_extensions(plan: &Plan) -> Result<(), Rule>
     require(four_meet(plan, OfFour::ModifiesRightly), Rule::K21)?;
     require(each_enabled(plan, OfEnabled::ReachedByLimit), Rule::K22)?;
     require(each_pattern(plan, OfPattern::PermissiveTimeEnds), Rule::K23)
+}
+
+/// Rules K24 to K27, on the schedule, which plan texts of version 3 alone can give.
+#[tactic(auto, unfolding(tsb_plan::specs::PlanOf::plan_of, crate::specs::Rules::broken_by_schedule))]
+fn check_schedule(plan: &Plan) -> Result<(), Rule>
+    ensures { result ≡ or_broken (broken_by_schedule (plan_of plan.now)) }
+{
+    require(schedules::events_are_apart(plan), Rule::K24)?;
+    require(schedules::day_plans_have_events(plan), Rule::K25)?;
+    require(schedules::actions_are_defined(plan), Rule::K26)?;
+    require(schedules::asked_patterns_are_used(plan), Rule::K27)
 }
 
 /// An `Err` with that rule, unless its test is passed.

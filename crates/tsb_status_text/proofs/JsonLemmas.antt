@@ -206,16 +206,16 @@ entries_room plan small o a (suc n) le =
     let here = entry_room (plan.value o a == 0) a (plan.value o a) (entries plan o (run_from (a + 1) n)) (omega (arith, le)) (small o a) in
     omega (arith, rest, here)
 
-table_room : (plan : Plan) → AreSmall plan → (o : Object) → room (members_tokens (table plan o)) ≤ 3842
+table_room : (plan : Plan) → AreSmall plan → (o : Object) → room (members_tokens (table plan o)) ≤ 7682
 unfolding table
 table_room plan small o = omega (arith, few-indices o, entries_room plan small o 1 (indices o) (omega (arith, few-indices o)))
 
-object_room : (b : Bool) (k : List ℕ) (ms rest : Members) → length k ≤ 28 → room (members_tokens ms) ≤ 3842 →
-    room (members_tokens (if b then rest else member k (object ms) rest)) ≤ 4100 + room (members_tokens rest)
+object_room : (b : Bool) (k : List ℕ) (ms rest : Members) → length k ≤ 28 → room (members_tokens ms) ≤ 7682 →
+    room (members_tokens (if b then rest else member k (object ms) rest)) ≤ 7940 + room (members_tokens rest)
 object_room true k ms rest hk hm = omega arith
 object_room false k ms rest hk hm = omega (arith, hk, hm, key_room k, room-append (members_tokens ms) (members_tokens rest))
 
-members_room : (plan : Plan) → AreSmall plan → (os : List Object) → room (members_tokens (members_of plan os)) ≤ 4100 * length os + 2
+members_room : (plan : Plan) → AreSmall plan → (os : List Object) → room (members_tokens (members_of plan os)) ≤ 7940 * length os + 2
 unfolding with_object
 members_room plan small [] = omega arith
 members_room plan small (o ∷ os) =

@@ -25,7 +25,7 @@ record IsUnset (s : State) : Type 0 where
   start : s.start_moment ≡ None
   midnight : s.correction.midnight ≡ 0
 
-start_stays : (s : State) (row : Row) → (step s (inputs.Tick row)).start_moment ≡ s.start_moment
+pub start_stays : (s : State) (row : Row) → (step s (inputs.Tick row)).start_moment ≡ s.start_moment
 unfolding step watched
 start_stays s row = go (is_some s.trip)
   where

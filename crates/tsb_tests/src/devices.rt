@@ -157,7 +157,14 @@ fn talk<R: Read, W: Write>(
     let plan = Checked::new(Plan::two()).ok()?;
     let mut reader = Watched::new(reader);
     let mut writer = Watched::new(writer);
-    Some(session(alloc, plan, &Log::empty(alloc), &mut reader, &mut writer))
+    Some(session(
+        alloc,
+        plan,
+        &Log::empty(alloc),
+        true,
+        &mut reader,
+        &mut writer,
+    ))
 }
 
 /// How many bytes the answers to these commands have, if `OUTPUT` begins with them.

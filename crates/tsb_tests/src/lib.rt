@@ -50,6 +50,7 @@ mod recycle;
 #[cfg(test)]
 mod rules;
 #[cfg(test)]
+mod schedules;
 mod sessions;
 #[cfg(test)]
 mod times;

@@ -24,7 +24,7 @@ fn id(object: Object, index: u32) -> ObjectId {
 }
 
 /// Objects, each with how many indices it has and its greatest value.
-const RANGES: [Value; 26] = [
+const RANGES: [Value; 34] = [
     (Object::PhaseEnabled, 16, 1),
     (Object::PhaseSide, 16, 4),
     (Object::PhaseConcurrency, 16, 65_535),
@@ -51,6 +51,14 @@ const RANGES: [Value; 26] = [
     (Object::OverlapAcrossRings, 4, 1),
     (Object::PreemptChoosesAnew, 4, 1),
     (Object::CoordReference, 1, 5),
+    (Object::TimeBaseScheduleMonth, 32, 8190),
+    (Object::TimeBaseScheduleDay, 32, 254),
+    (Object::TimeBaseScheduleDate, 64, 65_535),
+    (Object::TimeBaseScheduleDayPlan, 32, 16),
+    (Object::DayPlanHour, 256, 23),
+    (Object::DayPlanMinute, 256, 59),
+    (Object::DayPlanActionNumber, 256, 32),
+    (Object::TimebaseAscPattern, 32, 254),
 ];
 
 /// Whether the object has so many indices and this greatest value, said in both ways.
@@ -74,7 +82,7 @@ fn have_ranges(wanted: &[Value]) -> bool {
 
 #[test]
 fn objects_have_their_ranges(rt: HostRuntime) {
-    assert!(rt; have_ranges(&RANGES) && Object::ALL.len() == 71);
+    assert!(rt; have_ranges(&RANGES) && Object::ALL.len() == 79);
     laws::cells_are_told_apart();
     laws::values_are_told_apart();
 }

@@ -112,7 +112,14 @@ fn talk<R: Read, W: Write>(
     let plan = Checked::new(Plan::two()).ok()?;
     let mut reader = Watched::new(reader);
     let mut writer = Watched::new(writer);
-    Some(session(alloc, plan, &Log::empty(alloc), &mut reader, &mut writer))
+    Some(session(
+        alloc,
+        plan,
+        &Log::empty(alloc),
+        true,
+        &mut reader,
+        &mut writer,
+    ))
 }
 
 /// Whether the session of a reader and a writer ends with the commands.
@@ -257,7 +264,7 @@ fn answers_on_quad(alloc: Global, log: &[u8], commands: &[u8], text: &[u8]) -> b
     };
     let mut reader = Watched::new(commands);
     let mut writer = Watched::new(Vec::new(alloc));
-    match session(alloc, plan, &log, &mut reader, &mut writer) {
+    match session(alloc, plan, &log, true, &mut reader, &mut writer) {
         Ok(()) => writer.device().as_slice() == text,
         Err(_) => false,
     }
@@ -450,7 +457,15 @@ fn answered(alloc: Global, plan: &[u8], log: &[u8], commands: &[u8]) -> Option<V
     let log = read_log(alloc, log).ok()?;
     let mut reader = Watched::new(commands);
     let mut out = Vec::new(alloc);
-    session(alloc, plan, &log, &mut reader, &mut Watched::new(&mut out)).ok()?;
+    session(
+        alloc,
+        plan,
+        &log,
+        true,
+        &mut reader,
+        &mut Watched::new(&mut out),
+    )
+    .ok()?;
     Some(out)
 }
 

@@ -71,10 +71,18 @@ const NEW: [Object; 11] = [
 ];
 
 /// What version 3 alone has.
-const OF_3_ALONE: [Object; 3] = [
+const OF_3_ALONE: [Object; 11] = [
     Object::OverlapAcrossRings,
     Object::PreemptChoosesAnew,
     Object::CoordReference,
+    Object::TimeBaseScheduleMonth,
+    Object::TimeBaseScheduleDay,
+    Object::TimeBaseScheduleDate,
+    Object::TimeBaseScheduleDayPlan,
+    Object::DayPlanHour,
+    Object::DayPlanMinute,
+    Object::DayPlanActionNumber,
+    Object::TimebaseAscPattern,
 ];
 
 /// Whether version 1 has the objects with these indices and greatest values.
@@ -170,11 +178,13 @@ fn names_are() -> bool {
         && is_named(Object::OverlapAcrossRings, "overlapAcrossRings")
         && is_named(Object::PreemptChoosesAnew, "preemptChoosesAnew")
         && is_named(Object::CoordReference, "coordReference")
+        && is_named(Object::DayPlanHour, "dayPlanHour")
+        && is_named(Object::TimebaseAscPattern, "timebaseAscPattern")
 }
 
 /// Whether objects are found by their names, where the version has them.
 fn names_are_found() -> bool {
-    let (split, last) = (Object::SplitTime, Object::CoordReference);
+    let (split, last) = (Object::SplitTime, Object::TimebaseAscPattern);
     finds(Version::One, split.name(), Some(split))
         && finds(Version::Three, last.name(), Some(last))
         && finds(Version::Two, last.name(), None)

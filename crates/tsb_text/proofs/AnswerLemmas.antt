@@ -1,28 +1,40 @@
 -- What is said of an answer, where a bench has come from power-up by some inputs.
-use Rattle.std.proofs.Common.{◌≡◌, ℕ, List, [], ◌∷◌, ◌++◌, None, Some, refl, sym, ap, ◌∙◌, append_assoc, Ok, Err, subst, suc, inl, inr, OnOk, OnErr}
+use Rattle.std.proofs.Common.{◌≡◌, ℕ, Bool, true, false, List, [], ◌∷◌, ◌++◌, None, Some, refl, sym, ap, ◌∙◌, append_assoc, arith, Ok, Err, subst, suc, inl, inr, OnOk, OnErr}
+use Rattle.std.proofs.lemmas.Bool.{eq-eqb}
 use Rattle.std.proofs.lemmas.List.{append-nil}
 use Rattle.std.specs.declared.option.Option.{Option}
 use Rattle.std.specs.declared.result.Result.{Result}
 use Rattle.tsb_objects.specs.tsb_types.declared.refusal.Refusal.{Refusal}
+use Rattle.tsb_objects.specs.tsb_types.declared.refusal.Refusal.TheVariants.{Memory}
 use Rattle.tsb_bench.specs.tsb_machine.declared.commands.MachineCommand.TheVariants.{Apply}
 use Rattle.tsb_bench.specs.tsb_machine.declared.commands.Answer.{Answer}
 use Rattle.tsb_bench.specs.tsb_machine.declared.commands.Answer.TheVariants as answers
 use Rattle.tsb_bench.specs.tsb_machine.declared.commands.Answer.TheVariants.{Refused}
 use Rattle.tsb_bench.specs.tsb_step.declared.inputs.Input.{Input}
+use Rattle.tsb_bench.specs.tsb_step.declared.inputs.Input.TheVariants as inputs
+use Rattle.tsb_bench.specs.tsb_step.Events.{events_of, usual_after}
+use Rattle.tsb_bench.specs.tsb_step.Following.{action, following, selects}
 use Rattle.tsb_bench.specs.tsb_step.Play.{Cmd, IsRight, remaining_after}
 use Rattle.tsb_bench.specs.tsb_step.Runs.{replay}
+use Rattle.tsb_bench.specs.tsb_step.State.{State}
+use Rattle.tsb_bench.specs.tsb_step.Step.{step}
+use Rattle.tsb_objects.specs.tsb_plan.Plan.{Plan}
 use Rattle.tsb_bench.specs.Held.{Held, state_of, whole}
 use Rattle.tsb_dialog.specs.Said.{IsCutShort, Said, SaidUntilFault, Wrote, with_feed}
-use Rattle.tsb_dialog.proofs.SaidLemmas.{said-nothing, said-more, until-line, until-more}
+use Rattle.tsb_dialog.proofs.SaidLemmas.{said-nothing, said-more, still-cut, until-line, until-more}
 use Rattle.tsb_lines.specs.declared.writes.WriteError.{WriteError}
 use Rattle.tsb_log_text.specs.declared.log.LogRow.{LogRow}
 use Rattle.tsb_text.specs.declared.course.Mode.{Mode}
 use Rattle.tsb_text.specs.declared.task.Task.TheVariants.{Show, Quit}
-use Rattle.tsb_text.specs.Answers.{Setup, next_tick, told, refused_line, display_line}
-use Rattle.tsb_text.specs.Obeyed.{Answered, Done, OnCourse, Stands, Took, news_in, tells_in}
-use Rattle.tsb_text.specs.Obeys.{AsksOnce, Besides, Obeys, TakesTicks, before_line, news, news_of, refusal_in}
+use Rattle.tsb_text.specs.Answers.{GoesUnless, Leads, Setup, display_line, follower, follower_of, next_tick, refused_after, refused_line, told}
+use Rattle.tsb_text.specs.Obeyed.{Answered, Done, Followed, OnCourse, Stands, TellsNext, Took, news_in, tells_in}
+use Rattle.tsb_text.specs.Obeys.{AsksOnce, Besides, Obeys, TakesTicks, Ticked, before_line, news, news_of, or_refusal, refusal_in, trail, trail_of}
+use Rattle.tsb_text.specs.Trails.{Trailing, Trails}
+use Rattle.tsb_text.specs.Wanting.{WantsAfter, WantsPattern}
+use Rattle.tsb_text.specs.kept.Kept.{last_row}
 use Rattle.tsb_text.proofs.CourseLemmas.{follows-state, told-alike}
-use Rattle.tsb_text.proofs.ObeyLemmas.{some-ticks}
+use Rattle.tsb_text.proofs.ObeyLemmas.{more-ticks, some-ticks}
+use Rattle.tsb_text.proofs.TextLemmas.{some-leads}
 
 -- ## Texts
 
@@ -32,55 +44,281 @@ pub pair-said : (r : Result (Unit {0}) WriteError) (a b c : Option (List ℕ)) (
 pair-said r a b c p q u text line wanted is said ok fault =
     subst (λ (l : List ℕ). SaidUntilFault r a c p u (text ++ with_feed l)) is (until-more r a b c p q u text (with_feed line) said (until-line r b c q u (with_feed line) ok fault))
 
+-- all of an answer was said
+pub done-all : (given : Setup) (log : List LogRow) (course : OnCourse) (IsAnswer : List ℕ → Option Refusal → List Input → Type 0) (refusal : Option Refusal) (left : List Input) (text : List ℕ) (p q : Option (List ℕ)) (u v : List ℕ)
+    → Stands given log course left → IsAnswer text refusal left → Said p q u v text → Done (Ok refusal) given log course IsAnswer p q u v
+done-all given log course IsAnswer refusal left text p q u v stands so said = (left, stands, record { text = text; said = said; so = so })
+
+-- or a fault came within it
+pub done-cut : (e : WriteError) (given : Setup) (log : List LogRow) (course : OnCourse) (IsAnswer : List ℕ → Option Refusal → List Input → Type 0) (refusal : Option Refusal) (left : List Input) (text : List ℕ) (p q : Option (List ℕ)) (u v : List ℕ)
+    → IsAnswer text refusal left → IsCutShort p q u v text → Done (Err e) given log course IsAnswer p q u v
+done-cut e given log course IsAnswer refusal left text p q u v so cut =
+    record { text = cut.text; said = cut.said; so = (cut.so.0, refusal, left, subst (λ (t : List ℕ). IsAnswer t refusal left) cut.so.1 so) }
+
+-- one of both, where a call says it
+pub done-so : (r : Result (Option Refusal) WriteError) (given : Setup) (log : List LogRow) (course : OnCourse) (IsAnswer : List ℕ → Option Refusal → List Input → Type 0) (refusal : Option Refusal) (left : List Input) (text : List ℕ) (p q : Option (List ℕ)) (u v : List ℕ)
+    → Stands given log course left → IsAnswer text refusal left → OnOk r (r ≡ Ok refusal) → SaidUntilFault r p q u v text → Done r given log course IsAnswer p q u v
+done-so (Ok x) given log course IsAnswer refusal left text p q u v stands so why said =
+    subst (λ (r : Result (Option Refusal) WriteError). Done r given log course IsAnswer p q u v) (sym why) (done-all given log course IsAnswer refusal left text p q u v stands so said)
+done-so (Err e) given log course IsAnswer refusal left text p q u v stands so why said = done-cut e given log course IsAnswer refusal left text p q u v so said
+
+-- what was said of an answer before a fault
+pub cut-of : (e : WriteError) (given : Setup) (log : List LogRow) (course : OnCourse) (IsAnswer : List ℕ → Option Refusal → List Input → Type 0) (p q : Option (List ℕ)) (u v : List ℕ)
+    → (d : Done (Err e) given log course IsAnswer p q u v) → IsCutShort p q u v (d.text ++ d.so.0)
+cut-of e given log course IsAnswer p q u v d = record { text = d.text; said = d.said; so = (d.so.0, refl) }
+
+-- ## What follows
+
+-- what found no memory after an input is a pattern
+pub wants-pattern : (course : OnCourse) (next : Option Input) → WantsAfter course next → WantsPattern course
+wants-pattern course (Some (inputs.Pattern n)) wants = (n, wants)
+wants-pattern course next wants = absurd wants
+
+-- a call that says why something was refused says what it was given
+pub told-stop : (r : Result (Option Refusal) WriteError) (stop : Option Refusal) → OnOk r (r ≡ Ok stop) → r ≡ Ok (Some Memory) → stop ≡ Some Memory
+told-stop (Ok o) stop told is = grind (arith, told, is)
+told-stop (Err w) stop told is = absurd (cc)
+
+-- the events of an input that has followed
+told-next : (given : Setup) (course : OnCourse) (is : List Input) (i : Input) → TellsNext (Ok true) given course is (Some i) → news_in course ≡ news (tells_in course.mode) given is i
+told-next given course is i tells = told-alike (tells_in course.mode) course.news (events_of (usual_after (last_row is)) (replay given.plan is) i) tells.1
+
+told-trail : (given : Setup) (course : OnCourse) (is : List Input) (next : Option Input) → TellsNext (Ok true) given course is next → news_in course ≡ trail (tells_in course.mode) given is next None
+told-trail given course is None tells = let never : true ≡ false = tells in absurd (cc)
+told-trail given course is (Some i) tells = told-next given course is i tells
+
+-- what was refused has no events
+no-trail : (tells : Bool) (given : Setup) (is : List Input) (next : Option Input) (e : Refusal) → trail tells given is next (Some e) ≡ []
+no-trail tells given is None e = refl
+no-trail tells given is (Some i) e = refl
+
+none-next : (given : Setup) (course : OnCourse) (tells : Bool) (is : List Input) (next : Option Input) → TellsNext (Ok false) given course is next → trail tells given is next None ≡ []
+none-next given course tells is None told = refl
+none-next given course tells is (Some i) told = let never : false ≡ true = told.0 in absurd (cc)
+
+module _ (r : Result Bool Refusal) (given : Setup) (log : List LogRow) (is : List Input) (next : Option Input) (course : OnCourse) (mode : Mode) (same : course.mode ≡ mode) (f : Followed r given log next course is) where
+  at-once : (x : Result Bool Refusal) → r ≡ x → Followed x given log next course is
+  at-once x at = subst (λ (y : Result Bool Refusal). Followed y given log next course is) at f
+
+  -- something has followed, with these events
+  told-so : r ≡ Ok true → (left : List Input) × Stands given log course left × Trailing given (tells_in mode) is next (news_in course) None left
+  told-so at =
+      let x : Followed (Ok true) given log next course is = at-once (Ok true) at in
+      (x.0, x.2, record { leads = x.1; told = told-trail given course is next x.3 ∙ ap (λ (m : Mode). trail (tells_in m) given is next None) same })
+
+  -- they were said
+  pub follow-done : (p q : Option (List ℕ)) (u v : List ℕ) → r ≡ Ok true → Said p q u v (news_in course) → Done (Ok None) given log course (Trailing given (tells_in mode) is next) p q u v
+  follow-done p q u v at said =
+      let x : (left : List Input) × Stands given log course left × Trailing given (tells_in mode) is next (news_in course) None left = told-so at in
+      done-all given log course (Trailing given (tells_in mode) is next) None x.0 (news_in course) p q u v x.1 x.2 said
+
+  pub follow-fault : (e : WriteError) (p q : Option (List ℕ)) (u v : List ℕ) → r ≡ Ok true → IsCutShort p q u v (news_in course) → Done (Err e) given log course (Trailing given (tells_in mode) is next) p q u v
+  follow-fault e p q u v at cut =
+      let x : (left : List Input) × Stands given log course left × Trailing given (tells_in mode) is next (news_in course) None left = told-so at in
+      done-cut e given log course (Trailing given (tells_in mode) is next) None x.0 (news_in course) p q u v x.2 cut
+
+  -- nothing has followed
+  pub follow-none : (p : Option (List ℕ)) (u : List ℕ) → r ≡ Ok false → Done (Ok None) given log course (Trailing given (tells_in mode) is next) p p u u
+  follow-none p u at =
+      let x : Followed (Ok false) given log next course is = at-once (Ok false) at in
+      done-all given log course (Trailing given (tells_in mode) is next) None x.0 [] p p u u x.2 (record { leads = x.1; told = sym (none-next given course (tells_in mode) is next x.3) }) (said-nothing p u)
+
+  -- it was refused
+  pub follow-refused : (e : Refusal) (p : Option (List ℕ)) (u : List ℕ) → r ≡ Err e → Done (Ok (Some e)) given log course (Trailing given (tells_in mode) is next) p p u u
+  follow-refused e p u at =
+      let x : Followed (Err e) given log next course is = at-once (Err e) at in
+      done-all given log course (Trailing given (tells_in mode) is next) (Some e) x.0 [] p p u u x.2 (record { leads = x.1; told = sym (no-trail (tells_in mode) given is next e) }) (said-nothing p u)
+
+-- so of a course that is the same
+pub follow-there : (r : Result (Option Refusal) WriteError) (here there new : OnCourse) (p q : Option (List ℕ)) (u v : List ℕ) → there ≡ here
+    → ((given : Setup) (log : List LogRow) (inputs : List Input) → Stands given log there inputs → Done r given log new (Trailing given (tells_in there.mode) inputs there.next) p q u v)
+    → (given : Setup) (log : List LogRow) (inputs : List Input) → Stands given log here inputs → Done r given log new (Trailing given (tells_in here.mode) inputs here.next) p q u v
+follow-there r here there new p q u v same done given log inputs =
+    subst (λ (x : OnCourse). Stands given log x inputs → Done r given log new (Trailing given (tells_in x.mode) inputs x.next) p q u v) same (done given log inputs)
+
+-- ## What follows a tick
+
+-- all that is said of a tick, with these lines of what follows
+abbrev trails_text : List ℕ → List ℕ → List ℕ → List ℕ → Option Refusal → List ℕ
+trails_text news trailing line echo refusal = (news ++ trailing) ++ (with_feed line ++ refused_after echo refusal)
+
+module _ (given : Setup) (besides : Besides) (is : List Input) (next : Option Input) (news line : List ℕ) where
+  trails : (text : List ℕ) (refusal : Option Refusal) (left : List Input) → Trailing given besides.tells is next text refusal left
+      → Trails given besides is next news line (trails_text news text line besides.echo refusal) refusal left
+  trails text refusal left t = record { leads = t.leads; told = ap (λ (v : List ℕ). trails_text news v line besides.echo refusal) t.told }
+
+  -- a fault came in the events of the tick
+  pub trails-cut-news : (e : WriteError) (log : List LogRow) (course : OnCourse) (a b : Option (List ℕ)) (p q : List ℕ) → IsCutShort a b p q news → Done (Err e) given log course (Trails given besides is next news line) a b p q
+  trails-cut-news e log course a b p q cut =
+      let f : (stop : Option Refusal) × (left : List Input) × Leads given is next stop left = some-leads given is next in
+      done-cut e given log course (Trails given besides is next news line) f.0 f.1 (trails_text news (trail besides.tells given is next f.0) line besides.echo f.0) a b p q
+      (trails (trail besides.tells given is next f.0) f.0 f.1 (record { leads = f.2; told = refl }))
+      (still-cut a b p q (news ++ trail besides.tells given is next f.0) (with_feed line ++ refused_after besides.echo f.0) (still-cut a b p q news (trail besides.tells given is next f.0) cut))
+
+  module _ (log : List LogRow) (new : OnCourse) (a b c : Option (List ℕ)) (p q r : List ℕ) where
+    -- in the events of what follows
+    pub trails-cut-next : (e : WriteError) → Said a b p q news → Done (Err e) given log new (Trailing given besides.tells is next) b c q r → Done (Err e) given log new (Trails given besides is next news line) a c p r
+    trails-cut-next e said d =
+        done-cut e given log new (Trails given besides is next news line) d.so.1 d.so.2 (trails_text news (d.text ++ d.so.0) line besides.echo d.so.1) a c p r
+        (trails (d.text ++ d.so.0) d.so.1 d.so.2 d.so.3)
+        (still-cut a c p r (news ++ (d.text ++ d.so.0)) (with_feed line ++ refused_after besides.echo d.so.1)
+        (until-more {T = Unit {0}} (Err e) a b c p q r news (d.text ++ d.so.0) said (cut-of e given log new (Trailing given besides.tells is next) b c q r d)))
+
+  module _ (log : List LogRow) (new : OnCourse) (stop : Option Refusal) (a b c d : Option (List ℕ)) (p q r s : List ℕ) where
+    -- in the line of the tick
+    pub trails-cut-line : (e : WriteError) → Said a b p q news → Done (Ok stop) given log new (Trailing given besides.tells is next) b c q r → Said c d r s []
+        → Done (Err e) given log new (Trails given besides is next news line) a d p s
+    trails-cut-line e said f none =
+        done-cut e given log new (Trails given besides is next news line) stop f.0 (trails_text news f.2.text line besides.echo stop) a d p s (trails f.2.text stop f.0 f.2.so)
+        (until-more {T = Unit {0}} (Err e) a c d p r s (news ++ f.2.text) (with_feed line ++ refused_after besides.echo stop) (said-more a b c p q r news f.2.text said f.2.said)
+        (record { text = []; said = none; so = (with_feed line ++ refused_after besides.echo stop, refl) }))
+
+    -- all was said before the line of a refusal
+    pub trails-so : (result : Result (Option Refusal) WriteError) (e : Option (List ℕ)) (t shown : List ℕ) → shown ≡ line → Said a b p q news → Done (Ok stop) given log new (Trailing given besides.tells is next) b c q r
+        → Said c d r s (with_feed shown) → OnOk result (result ≡ Ok stop) → SaidUntilFault result d e s t (refused_after besides.echo stop) → Done result given log new (Trails given besides is next news line) a e p t
+    trails-so result e t shown same said f there why last =
+        done-so result given log new (Trails given besides is next news line) stop f.0 (trails_text news f.2.text line besides.echo stop) a e p t f.1 (trails f.2.text stop f.0 f.2.so) why
+        (until-more result a c e p r t (news ++ f.2.text) (with_feed line ++ refused_after besides.echo stop) (said-more a b c p q r news f.2.text said f.2.said)
+        (until-more result c d e r s t (with_feed line) (refused_after besides.echo stop) (subst (λ (l : List ℕ). Said c d r s (with_feed l)) same there) last))
+
 -- ## What the bench is asked once
 
--- the line of an answer, told of this bench
-pub answer-said : (r : Result (Unit {0}) WriteError) (cmd : Cmd) (a : Answer) (bench there : Held) (p q : Option (List ℕ)) (u v : List ℕ) → bench ≡ there
-    → SaidUntilFault r p q u v (with_feed (told cmd a (state_of bench))) → SaidUntilFault r p q u v (with_feed (told cmd a (state_of there)))
-answer-said r cmd a bench there p q u v same said = subst (λ (b : Held). SaidUntilFault r p q u v (with_feed (told cmd a (state_of b)))) same said
-
--- what stands before the line of an answer is so of what the newest input told
+-- what is said before the line of an answer, with the events of the newest input
 before-same : (echo : List ℕ) (a : Answer) (here told : List ℕ) → (a ≡ answers.Took → here ≡ told) → before_line echo a here ≡ before_line echo a told
 before-same echo answers.Took here told same = ap (λ (t : List ℕ). echo ++ t) (same refl)
 before-same echo answers.Moved here told same = refl
 before-same echo a here told same = refl
 
--- what is said of the answer
-answer-line : (given : Setup) (log : List LogRow) (is : List Input) (cmd : Cmd) (a : Answer) (course : OnCourse) (echo : List ℕ) → Answered given log course is cmd a
-    → before_line echo a (news_in course) ++ with_feed (told cmd a (state_of course.bench))
-    ≡ before_line echo a (news_of (tells_in course.mode) given is cmd) ++ with_feed (told cmd a (replay given.plan (remaining_after given.plan is cmd a)))
-answer-line given log is cmd a course echo s =
-    let state : state_of course.bench ≡ replay given.plan (remaining_after given.plan is cmd a) = follows-state given.plan (whole course.bench) (remaining_after given.plan is cmd a) s.stands.follows in
-    (λ j. before-same echo a (news_in course) (news_of (tells_in course.mode) given is cmd) s.tells j ++ with_feed (told cmd a (state j)))
+-- why an input was refused that was answered so
+refused-so : (a : Answer) (e : Refusal) → Some e ≡ refusal_in a → a ≡ Refused e
+refused-so (Refused x) e is = ap Refused (grind (arith, is))
+refused-so a e is = absurd (cc)
 
-pub ask-done : (given : Setup) (log : List LogRow) (is : List Input) (cmd : Cmd) (a : Answer) (course : OnCourse) (mode : Mode) (echo : List ℕ) (refusal : Option Refusal) (p q : Option (List ℕ)) (u v : List ℕ)
-    → course.mode ≡ mode → Answered given log course is cmd a → refusal ≡ refusal_in a → Said p q u v (before_line echo a (news_in course) ++ with_feed (told cmd a (state_of course.bench)))
-    → Done (Ok refusal) given log course (AsksOnce given (record { tells = tells_in mode; echo = echo }) is cmd) p q u v
-ask-done given log is cmd a course mode echo refusal p q u v same s why said = (
-  remaining_after given.plan is cmd a,
-  s.stands,
-  record {
-    text = before_line echo a (news_in course) ++ with_feed (told cmd a (state_of course.bench));
-    said = said;
-    so = subst (λ (m : Mode). AsksOnce given (record { tells = tells_in m; echo = echo }) is cmd (before_line echo a (news_in course) ++ with_feed (told cmd a (state_of course.bench))) refusal (remaining_after given.plan is cmd a)) same
-        (record { answer = a; right = s.right; left = refl; line = answer-line given log is cmd a course echo s; refused = why });
-  },
-)
-
-pub ask-fault : (e : WriteError) (given : Setup) (log : List LogRow) (is : List Input) (cmd : Cmd) (a : Answer) (course : OnCourse) (mode : Mode) (echo : List ℕ) (p q : Option (List ℕ)) (u v : List ℕ)
-    → course.mode ≡ mode → Answered given log course is cmd a → IsCutShort p q u v (before_line echo a (news_in course) ++ with_feed (told cmd a (state_of course.bench)))
-    → Done (Err e) given log course (AsksOnce given (record { tells = tells_in mode; echo = echo }) is cmd) p q u v
-ask-fault e given log is cmd a course mode echo p q u v same s cut = record {
-  text = cut.text;
-  said = cut.said;
-  so = (
-    cut.so.0,
-    refusal_in a,
-    remaining_after given.plan is cmd a,
-    subst (λ (m : Mode). AsksOnce given (record { tells = tells_in m; echo = echo }) is cmd (cut.text ++ cut.so.0) (refusal_in a) (remaining_after given.plan is cmd a)) same
-        (record { answer = a; right = s.right; left = refl; line = sym cut.so.1 ∙ answer-line given log is cmd a course echo s; refused = refl }),
-  );
+-- what is said of a refused input
+refused-once : (given : Setup) (besides : Besides) (is : List Input) (cmd : Cmd) (e : Refusal) → IsRight given.plan is cmd (Refused e)
+    → AsksOnce given besides is cmd (besides.echo ++ with_feed (refused_line e)) (Some e) (remaining_after given.plan is cmd (Refused e))
+refused-once given besides is (Apply i) e right = record {
+  answer = Refused e;
+  right = right;
+  stop = None;
+  left = (refl, refl);
+  line = λ j. sym (append-nil besides.echo) j ++ sym (append-nil (with_feed (refused_line e))) j;
+  refused = refl;
 }
+refused-once given besides is cmd e right = absurd right
+
+pub ask-refused : (r : Result (Option Refusal) WriteError) (given : Setup) (log : List LogRow) (is : List Input) (cmd : Cmd) (a : Answer) (course : OnCourse) (besides : Besides) (e : Refusal) (p q : Option (List ℕ)) (u v : List ℕ)
+    → Answered given log course is cmd a → Some e ≡ refusal_in a → OnOk r (r ≡ Ok (Some e)) → SaidUntilFault r p q u v (besides.echo ++ with_feed (refused_line e)) → Done r given log course (AsksOnce given besides is cmd) p q u v
+ask-refused r given log is cmd a course besides e p q u v s why told said =
+    let x : Answered given log course is cmd (Refused e) = subst (λ (b : Answer). Answered given log course is cmd b) (refused-so a e why) s in
+    done-so r given log course (AsksOnce given besides is cmd) (Some e) (remaining_after given.plan is cmd (Refused e)) (besides.echo ++ with_feed (refused_line e)) p q u v x.stands
+    (refused-once given besides is cmd e x.right) told said
+
+-- a check at the desk brings no other action into force
+check-alone : (s : State) (station : ℕ) → following s (step s (inputs.Verify station)) ≡ None
+unfolding step
+check-alone s station = go s.plan (action s)
+  where
+    go : (plan : Plan) (a : Option ℕ) → selects plan a a ≡ None
+    go plan None = refl
+    go plan (Some a) = rw (eq-eqb a a refl) refl
+
+check-follows : (acts : Bool) (given : Setup) (is : List Input) (station : ℕ) → given.acts ≡ acts → follower given is (inputs.Verify station) ≡ None
+check-follows true given is station acts = rw acts (check-alone (replay given.plan is) station)
+check-follows false given is station acts = rw acts refl
+
+-- what follows leaves the line of an answer as it was: of an answer that shows a state nothing follows
+alone-told : (given : Setup) (after : List Input) (stop : Option Refusal) (left : List Input) (cmd : Cmd) (a : Answer) (next : Option Input) → next ≡ None → Leads given after next stop left → told cmd a (replay given.plan left) ≡ told cmd a (replay given.plan after)
+alone-told given after stop left cmd a next none leads =
+    let l : (stop ≡ None) × (left ≡ after) = subst (λ (n : Option Input). Leads given after n stop left) none leads in
+    ap (λ (is : List Input). told cmd a (replay given.plan is)) l.1
+
+line-stays : (given : Setup) (is : List Input) (cmd : Cmd) (a : Answer) (stop : Option Refusal) (left : List Input) → Leads given (remaining_after given.plan is cmd a) (follower_of given is cmd a) stop left
+    → told cmd a (replay given.plan left) ≡ told cmd a (replay given.plan (remaining_after given.plan is cmd a))
+line-stays given is (Apply (inputs.Verify station)) answers.Took stop left leads =
+    alone-told given (inputs.Verify station ∷ is) stop left (Apply (inputs.Verify station)) answers.Took (follower given is (inputs.Verify station)) (check-follows given.acts given is station refl) leads
+line-stays given is (Apply i) answers.Took stop left leads = refl
+line-stays given is cmd a stop left leads = alone-told given (remaining_after given.plan is cmd a) stop left cmd a None refl leads
+
+-- all that is said of an answer that is no refusal, with these lines of what follows
+abbrev once_text : List ℕ → Answer → List ℕ → List ℕ → Cmd → State → Option Refusal → List ℕ
+once_text echo a news trailing cmd s stop = (before_line echo a news ++ trailing) ++ (with_feed (told cmd a s) ++ refused_after echo stop)
+
+module _ (given : Setup) (log : List LogRow) (is : List Input) (cmd : Cmd) (a : Answer) (mid : OnCourse) (mode : Mode) (echo : List ℕ) (same : mid.mode ≡ mode) (none : None ≡ refusal_in a)
+    (s : Answered given log mid is cmd a) (next : mid.next ≡ follower_of given is cmd a) where
+  -- what remains before what follows
+  abbrev after : List Input
+  after = remaining_after given.plan is cmd a
+
+  abbrev IsOnce : List ℕ → Option Refusal → List Input → Type 0
+  IsOnce = AsksOnce given (record { tells = tells_in mode; echo = echo }) is cmd
+
+  abbrev Trailed : List ℕ → Option Refusal → List Input → Type 0
+  Trailed = Trailing given (tells_in mid.mode) after mid.next
+
+  leads-there : (stop : Option Refusal) (left : List Input) → Leads given after mid.next stop left → Leads given after (follower_of given is cmd a) stop left
+  leads-there stop left leads = subst (λ (n : Option Input). Leads given after n stop left) next leads
+
+  once : (text : List ℕ) (stop : Option Refusal) (left : List Input) (state : State) → Trailed text stop left → told cmd a state ≡ told cmd a (replay given.plan after)
+      → IsOnce (once_text echo a (news_in mid) text cmd state stop) stop left
+  once text stop left state t line =
+      let before : before_line echo a (news_in mid) ≡ before_line echo a (news_of (tells_in mode) given is cmd) =
+      before-same echo a (news_in mid) (news_of (tells_in mode) given is cmd) (λ took. s.tells took ∙ ap (λ (m : Mode). news_of (tells_in m) given is cmd) same) in
+      let trailing : text ≡ trail_of (tells_in mode) given is cmd a stop = t.told ∙ (λ j. trail (tells_in (same j)) given after (next j) stop) in
+      record {
+        answer = a;
+        right = s.right;
+        stop = stop;
+        left = leads-there stop left t.leads;
+        line = λ j. (before j ++ trailing j) ++ (with_feed (line j) ++ refused_after echo stop);
+        refused = ap (λ (x : Option Refusal). or_refusal x stop) none;
+      }
+
+  -- a fault came before what follows was taken
+  pub ask-cut-before : (e : WriteError) (p q : Option (List ℕ)) (u v : List ℕ) → IsCutShort p q u v (before_line echo a (news_in mid)) → Done (Err e) given log mid IsOnce p q u v
+  ask-cut-before e p q u v cut =
+      let f : (stop : Option Refusal) × (left : List Input) × Leads given after mid.next stop left = some-leads given after mid.next in
+      let tells : List ℕ = trail (tells_in mid.mode) given after mid.next f.0 in
+      let state : State = replay given.plan after in
+      done-cut e given log mid IsOnce f.0 f.1 (once_text echo a (news_in mid) tells cmd state f.0) p q u v
+      (once tells f.0 f.1 state (record { leads = f.2; told = refl }) refl)
+      (still-cut p q u v (before_line echo a (news_in mid) ++ tells) (with_feed (told cmd a state) ++ refused_after echo f.0)
+      (still-cut p q u v (before_line echo a (news_in mid)) tells cut))
+
+  module _ (new : OnCourse) where
+    -- in the events of what follows
+    pub ask-cut-next : (e : WriteError) (x y z : Option (List ℕ)) (p q r : List ℕ) → Said x y p q (before_line echo a (news_in mid)) → Done (Err e) given log new Trailed y z q r → Done (Err e) given log new IsOnce x z p r
+    ask-cut-next e x y z p q r said d =
+        let state : State = replay given.plan after in
+        done-cut e given log new IsOnce d.so.1 d.so.2 (once_text echo a (news_in mid) (d.text ++ d.so.0) cmd state d.so.1) x z p r
+        (once (d.text ++ d.so.0) d.so.1 d.so.2 state d.so.3 refl)
+        (still-cut x z p r (before_line echo a (news_in mid) ++ (d.text ++ d.so.0)) (with_feed (told cmd a state) ++ refused_after echo d.so.1)
+        (until-more {T = Unit {0}} (Err e) x y z p q r (before_line echo a (news_in mid)) (d.text ++ d.so.0) said (cut-of e given log new Trailed y z q r d)))
+
+    module _ (stop : Option Refusal) (bench : Held) (there : bench ≡ new.bench) (x y z w : Option (List ℕ)) (p q r t : List ℕ) (said : Said x y p q (before_line echo a (news_in mid)))
+        (f : Done (Ok stop) given log new Trailed y z q r) where
+      -- the line shows the state before what follows
+      shows : told cmd a (state_of bench) ≡ told cmd a (replay given.plan after)
+      shows =
+          ap (λ (b : Held). told cmd a (state_of b)) there ∙ ap (λ (x : State). told cmd a x) (follows-state given.plan (whole new.bench) f.0 f.1.follows)
+          ∙ line-stays given is cmd a stop f.0 (leads-there stop f.0 f.2.so.leads)
+
+      -- in the line of the answer
+      pub ask-cut-line : (e : WriteError) → IsCutShort z w r t (with_feed (told cmd a (state_of bench))) → Done (Err e) given log new IsOnce x w p t
+      ask-cut-line e cut =
+          done-cut e given log new IsOnce stop f.0 (once_text echo a (news_in mid) f.2.text cmd (state_of bench) stop) x w p t (once f.2.text stop f.0 (state_of bench) f.2.so shows)
+          (until-more {T = Unit {0}} (Err e) x z w p r t (before_line echo a (news_in mid) ++ f.2.text) (with_feed (told cmd a (state_of bench)) ++ refused_after echo stop)
+          (said-more x y z p q r (before_line echo a (news_in mid)) f.2.text said f.2.said)
+          (still-cut z w r t (with_feed (told cmd a (state_of bench))) (refused_after echo stop) cut))
+
+      -- all was said before the line of a refusal
+      pub ask-so : (result : Result (Option Refusal) WriteError) (o : Option (List ℕ)) (l : List ℕ) → Said z w r t (with_feed (told cmd a (state_of bench)))
+          → OnOk result (result ≡ Ok stop) → SaidUntilFault result w o t l (refused_after echo stop) → Done result given log new IsOnce x o p l
+      ask-so result o l shown why last =
+          done-so result given log new IsOnce stop f.0 (once_text echo a (news_in mid) f.2.text cmd (state_of bench) stop) x o p l f.1 (once f.2.text stop f.0 (state_of bench) f.2.so shows) why
+          (until-more result x z o p r l (before_line echo a (news_in mid) ++ f.2.text) (with_feed (told cmd a (state_of bench)) ++ refused_after echo stop)
+          (said-more x y z p q r (before_line echo a (news_in mid)) f.2.text said f.2.said)
+          (until-more result z w o r t l (with_feed (told cmd a (state_of bench))) (refused_after echo stop) shown last))
 
 -- ## The display, and the end
 
@@ -121,72 +359,81 @@ steps-start given log besides is n k course p u all stands = record {
   wrote = record { text = []; said = said-nothing p u; so = λ text refusal last s. subst (λ (m : ℕ). TakesTicks given besides is m text refusal last) all s };
 }
 
--- what a tick says that was taken
-abbrev tick_text : OnCourse → List ℕ
-tick_text course = news_in course ++ with_feed (display_line (state_of course.bench))
-
-tick-line : (given : Setup) (log : List LogRow) (now : List Input) (course : OnCourse) (i : Input) → Took (Ok tt) given log course now i
-    → tick_text course ≡ news (tells_in course.mode) given now i ++ with_feed (display_line (replay given.plan (i ∷ now)))
-tick-line given log now course i t =
-    let state : state_of course.bench ≡ replay given.plan (i ∷ now) = follows-state given.plan (whole course.bench) (i ∷ now) t.1.follows in
-    (λ j. told-alike (tells_in course.mode) course.news _ t.2 j ++ with_feed (display_line (state j)))
-
--- a tick was taken, where these steps are left
-step-on : (given : Setup) (besides : Besides) (is : List Input) (n : ℕ) (now : List Input) (k left : ℕ) (said line : List ℕ) → left ≡ suc k → TicksOn given besides is n now left said
-    → IsRight given.plan now (Apply (next_tick given now)) answers.Took
-    → line ≡ news besides.tells given now (next_tick given now) ++ with_feed (display_line (replay given.plan (next_tick given now ∷ now)))
-    → TicksOn given besides is n (next_tick given now ∷ now) k (said ++ line)
-step-on given besides is n now k left said line one on right tells = λ text refusal last steps.
-    subst (λ (v : List ℕ). TakesTicks given besides is n v refusal last) (sym (append_assoc said line text))
-    (on (line ++ text) refusal last (subst (λ (m : ℕ). TakesTicks given besides now m (line ++ text) refusal last) (sym one)
-    (inl (text, record { right = right; line = ap (λ (v : List ℕ). v ++ text) tells }, steps))))
-
--- what a taken tick makes of the steps
-record Taken (given : Setup) (log : List LogRow) (besides : Besides) (is : List Input) (n : ℕ) (now : List Input) (new : OnCourse) (k : ℕ) (said : List ℕ) : Type 0 where
-  stands : Stands given log new (next_tick given now ∷ now)
-  on : TicksOn given besides is n (next_tick given now ∷ now) k (said ++ tick_text new)
-
-taken : (given : Setup) (log : List LogRow) (besides : Besides) (is : List Input) (n : ℕ) (now : List Input) (old new : OnCourse) (k left : ℕ) (said : List ℕ)
-    → Stands given log old now → left ≡ suc k → tells_in new.mode ≡ besides.tells → Took (Ok tt) given log new now (next_tick given now)
-    → TicksOn given besides is n now left said → Taken given log besides is n now new k said
-taken given log besides is n now old new k left said stands one tells took on =
-    let line : tick_text new ≡ news besides.tells given now (next_tick given now) ++ with_feed (display_line (replay given.plan (next_tick given now ∷ now))) =
-    tick-line given log now new (next_tick given now) took
-    ∙ ap (λ (b : _). news b given now (next_tick given now) ++ with_feed (display_line (replay given.plan (next_tick given now ∷ now)))) tells in
-    record { stands = took.1; on = step-on given besides is n now k left said (tick_text new) one on took.0 line }
-
-pub steps-more : (given : Setup) (log : List LogRow) (besides : Besides) (is : List Input) (n : ℕ) (old new : OnCourse) (left k : ℕ) (a b c : Option (List ℕ)) (p q r : List ℕ)
-    → Stepping given log besides is n old left a b p q → left ≡ suc k → tells_in new.mode ≡ besides.tells
-    → ((given : Setup) (log : List LogRow) (inputs : List Input) → Stands given log old inputs → Took (Ok tt) given log new inputs (next_tick given inputs))
-    → Said b c q r (tick_text new) → Stepping given log besides is n new k a c p r
-steps-more given log besides is n old new left k a b c p q r s one tells took said =
-    let x : Taken given log besides is n s.now new k s.wrote.text = taken given log besides is n s.now old new k left s.wrote.text s.stands one tells (took given log s.now s.stands) s.wrote.so in
+-- a tick was taken, and what follows it; then this is said
+ticked : (given : Setup) (log : List LogRow) (besides : Besides) (now : List Input) (mid : OnCourse) (text rest : List ℕ) (stop : Option Refusal) (left : List Input)
+    → tells_in mid.mode ≡ besides.tells → Took (Ok tt) given log mid now (next_tick given now) → mid.next ≡ follower given now (next_tick given now)
+    → Trails given (record { tells = tells_in mid.mode; echo = besides.echo }) (next_tick given now ∷ now) mid.next (news_in mid) (display_line (state_of mid.bench)) text stop left
+    → Ticked given besides now (text ++ rest) rest stop left
+ticked given log besides now mid text rest stop left tells took next t =
+    let i : Input = next_tick given now in
+    let told : List ℕ = news_in mid ++ trail (tells_in mid.mode) given (i ∷ now) mid.next stop in
+    let shown : List ℕ = with_feed (display_line (state_of mid.bench)) in
+    let refused : List ℕ = refused_after besides.echo stop in
+    let state : state_of mid.bench ≡ replay given.plan (i ∷ now) = follows-state given.plan (whole mid.bench) (i ∷ now) took.1.follows in
+    let same : news_in mid ≡ news besides.tells given now i =
+    told-alike (tells_in mid.mode) mid.news (events_of (usual_after (last_row now)) (replay given.plan now) i) took.2 ∙ ap (λ (b : Bool). news b given now i) tells in
     record {
-      now = next_tick given s.now ∷ s.now;
-      stands = x.stands;
-      wrote = record { text = s.wrote.text ++ tick_text new; said = said-more a b c p q r s.wrote.text (tick_text new) s.wrote.said said; so = x.on };
+      right = took.0;
+      leads = subst (λ (n : Option Input). Leads given (i ∷ now) n stop left) next t.leads;
+      line = ap (λ (v : List ℕ). v ++ rest) t.told ∙ append_assoc told (shown ++ refused) rest ∙ ap (λ (v : List ℕ). told ++ v) (append_assoc shown refused rest)
+          ∙ (λ j. (same j ++ trail (tells j) given (i ∷ now) (next j) stop) ++ (with_feed (display_line (state j)) ++ (refused ++ rest)));
     }
 
-pub steps-fault : (given : Setup) (log : List LogRow) (besides : Besides) (is : List Input) (n : ℕ) (old new : OnCourse) (left k : ℕ) (a b c : Option (List ℕ)) (p q r : List ℕ) (e : WriteError)
-    → Stepping given log besides is n old left a b p q → left ≡ suc k → tells_in new.mode ≡ besides.tells
-    → ((given : Setup) (log : List LogRow) (inputs : List Input) → Stands given log old inputs → Took (Ok tt) given log new inputs (next_tick given inputs))
-    → IsCutShort b c q r (tick_text new) → Done (Err e) given log new (TakesTicks given besides is n) a c p r
-steps-fault given log besides is n old new left k a b c p q r e s one tells took cut =
-    let x : Taken given log besides is n s.now new k s.wrote.text = taken given log besides is n s.now old new k left s.wrote.text s.stands one tells (took given log s.now s.stands) s.wrote.so in
-    let rest : (text : List ℕ) × (refusal : Option Refusal) × (last : List Input) × TakesTicks given besides (next_tick given s.now ∷ s.now) k text refusal last = some-ticks given besides k (next_tick given s.now ∷ s.now) in
-    record {
-      text = s.wrote.text ++ cut.text;
-      said = said-more a b c p q r s.wrote.text cut.text s.wrote.said cut.said;
-      so = (
-        cut.so.0 ++ rest.0,
-        rest.1,
-        rest.2,
-        subst (λ (v : List ℕ). TakesTicks given besides is n v rest.1 rest.2)
-            (ap (λ (v : List ℕ). (s.wrote.text ++ v) ++ rest.0) cut.so.1 ∙ append_assoc s.wrote.text (cut.text ++ cut.so.0) rest.0
-            ∙ ap (λ (v : List ℕ). s.wrote.text ++ v) (append_assoc cut.text cut.so.0 rest.0) ∙ sym (append_assoc s.wrote.text cut.text (cut.so.0 ++ rest.0)))
-            (x.on rest.0 rest.1 rest.2 rest.3),
-      );
-    }
+-- a tick that takes a bench to another, with what follows it
+module _ (given : Setup) (log : List LogRow) (besides : Besides) (is : List Input) (n : ℕ) (old mid new : OnCourse) (left k : ℕ) (a b c : Option (List ℕ)) (p q r : List ℕ)
+    (s : Stepping given log besides is n old left a b p q) (one : left ≡ suc k) (tells : tells_in mid.mode ≡ besides.tells)
+    (took : (given : Setup) (log : List LogRow) (inputs : List Input) → Stands given log old inputs → Took (Ok tt) given log mid inputs (next_tick given inputs))
+    (next : (given : Setup) (log : List LogRow) (inputs : List Input) → Stands given log old inputs → mid.next ≡ follower given inputs (next_tick given inputs)) where
+  -- all that is said of the tick
+  abbrev TrailsTick : Setup → List Input → List ℕ → Option Refusal → List Input → Type 0
+  TrailsTick given inputs = Trails given (record { tells = tells_in mid.mode; echo = besides.echo }) inputs mid.next (news_in mid) (display_line (state_of mid.bench))
+
+  abbrev behind : List Input
+  behind = next_tick given s.now ∷ s.now
+
+  there : Took (Ok tt) given log mid s.now (next_tick given s.now)
+  there = took given log s.now s.stands
+
+  -- the tick answers the first of the ticks that are left
+  step-on : (text rest : List ℕ) (stop refusal : Option Refusal) (gone last : List Input) → TrailsTick given behind text stop gone
+      → GoesUnless stop (TakesTicks given besides gone k rest refusal last) ((rest ≡ []) × (refusal ≡ stop) × (last ≡ gone)) → TakesTicks given besides is n (s.wrote.text ++ (text ++ rest)) refusal last
+  step-on text rest stop refusal gone last t more =
+      s.wrote.so (text ++ rest) refusal last (subst (λ (m : ℕ). TakesTicks given besides s.now m (text ++ rest) refusal last) (sym one)
+      (inl (rest, stop, gone, ticked given log besides s.now mid text rest stop gone tells there (next given log s.now s.stands) t, more)))
+
+  pub steps-more : (stop : Option Refusal) → stop ≡ None → ((given : Setup) (log : List LogRow) (inputs : List Input) → Stands given log mid inputs → Done (Ok stop) given log new (TrailsTick given inputs) b c q r)
+      → Stepping given log besides is n new k a c p r
+  steps-more stop none done =
+      let d : Done (Ok None) given log new (TrailsTick given behind) b c q r = subst (λ (o : Option Refusal). Done (Ok o) given log new (TrailsTick given behind) b c q r) none (done given log behind there.1) in
+      record {
+        now = d.0;
+        stands = d.1;
+        wrote = record {
+          text = s.wrote.text ++ d.2.text;
+          said = said-more a b c p q r s.wrote.text d.2.text s.wrote.said d.2.said;
+          so = λ text refusal last steps.
+              subst (λ (v : List ℕ). TakesTicks given besides is n v refusal last) (sym (append_assoc s.wrote.text d.2.text text)) (step-on d.2.text text None refusal d.0 last d.2.so steps);
+        };
+      }
+
+  pub steps-over : (stop : Option Refusal) (e : Refusal) → stop ≡ Some e → ((given : Setup) (log : List LogRow) (inputs : List Input) → Stands given log mid inputs → Done (Ok stop) given log new (TrailsTick given inputs) b c q r)
+      → Done (Ok (Some e)) given log new (TakesTicks given besides is n) a c p r
+  steps-over stop e some done =
+      let d : Done (Ok (Some e)) given log new (TrailsTick given behind) b c q r = subst (λ (o : Option Refusal). Done (Ok o) given log new (TrailsTick given behind) b c q r) some (done given log behind there.1) in
+      done-all given log new (TakesTicks given besides is n) (Some e) d.0 (s.wrote.text ++ d.2.text) a c p r d.1
+      (subst (λ (v : List ℕ). TakesTicks given besides is n (s.wrote.text ++ v) (Some e) d.0) (append-nil d.2.text) (step-on d.2.text [] (Some e) (Some e) d.0 d.0 d.2.so (refl, refl, refl)))
+      (said-more a b c p q r s.wrote.text d.2.text s.wrote.said d.2.said)
+
+  pub steps-fault : (e : WriteError) → ((given : Setup) (log : List LogRow) (inputs : List Input) → Stands given log mid inputs → Done (Err e) given log new (TrailsTick given inputs) b c q r)
+      → Done (Err e) given log new (TakesTicks given besides is n) a c p r
+  steps-fault e done =
+      let d : Done (Err e) given log new (TrailsTick given behind) b c q r = done given log behind there.1 in
+      let text : List ℕ = d.text ++ d.so.0 in
+      let more : (text : List ℕ) × (refusal : Option Refusal) × (last : List Input) × GoesUnless d.so.1 (TakesTicks given besides d.so.2 k text refusal last) ((text ≡ []) × (refusal ≡ d.so.1) × (last ≡ d.so.2)) =
+      more-ticks given besides k d.so.1 d.so.2 (some-ticks given besides k d.so.2) in
+      done-cut e given log new (TakesTicks given besides is n) more.1 more.2 (s.wrote.text ++ (text ++ more.0)) a c p r (step-on text more.0 d.so.1 more.1 d.so.2 more.2 d.so.3 more.3)
+      (until-more {T = Unit {0}} (Err e) a b c p q r s.wrote.text (text ++ more.0) s.wrote.said
+      (still-cut b c q r text more.0 (cut-of e given log new (TrailsTick given behind) b c q r d)))
 
 -- what a refused tick makes of the steps
 record Ends (given : Setup) (log : List LogRow) (besides : Besides) (is : List Input) (n : ℕ) (now : List Input) (new : OnCourse) (said line : List ℕ) (e : Refusal) : Type 0 where
@@ -203,49 +450,14 @@ stopped given log besides is n now old new k left said e stands one took on =
           (inr (record { why = e; right = took.0; line = refl; refused = refl; left = refl })));
     }
 
-pub steps-refused : (given : Setup) (log : List LogRow) (besides : Besides) (is : List Input) (n : ℕ) (old new : OnCourse) (left k : ℕ) (a b c : Option (List ℕ)) (p q r : List ℕ) (e : Refusal)
-    → Stepping given log besides is n old left a b p q → left ≡ suc k
-    → ((given : Setup) (log : List LogRow) (inputs : List Input) → Stands given log old inputs → Took (Err e) given log new inputs (next_tick given inputs))
-    → Said b c q r (besides.echo ++ with_feed (refused_line e)) → Done (Ok (Some e)) given log new (TakesTicks given besides is n) a c p r
-steps-refused given log besides is n old new left k a b c p q r e s one took said =
-    let x : Ends given log besides is n s.now new s.wrote.text (besides.echo ++ with_feed (refused_line e)) e =
-    stopped given log besides is n s.now old new k left s.wrote.text e s.stands one (took given log s.now s.stands) s.wrote.so in (
-      s.now,
-      x.stands,
-      record {
-        text = s.wrote.text ++ (besides.echo ++ with_feed (refused_line e));
-        said = said-more a b c p q r s.wrote.text (besides.echo ++ with_feed (refused_line e)) s.wrote.said said;
-        so = x.all;
-      },
-    )
-
-pub steps-refused-fault : (given : Setup) (log : List LogRow) (besides : Besides) (is : List Input) (n : ℕ) (old new : OnCourse) (left k : ℕ) (a b c : Option (List ℕ)) (p q r : List ℕ) (e : Refusal) (f : WriteError)
-    → Stepping given log besides is n old left a b p q → left ≡ suc k
-    → ((given : Setup) (log : List LogRow) (inputs : List Input) → Stands given log old inputs → Took (Err e) given log new inputs (next_tick given inputs))
-    → IsCutShort b c q r (besides.echo ++ with_feed (refused_line e)) → Done (Err f) given log new (TakesTicks given besides is n) a c p r
-steps-refused-fault given log besides is n old new left k a b c p q r e f s one took cut =
-    let x : Ends given log besides is n s.now new s.wrote.text (besides.echo ++ with_feed (refused_line e)) e =
-    stopped given log besides is n s.now old new k left s.wrote.text e s.stands one (took given log s.now s.stands) s.wrote.so in
-    record {
-      text = s.wrote.text ++ cut.text;
-      said = said-more a b c p q r s.wrote.text cut.text s.wrote.said cut.said;
-      so = (
-        cut.so.0,
-        Some e,
-        s.now,
-        subst (λ (v : List ℕ). TakesTicks given besides is n v (Some e) s.now)
-            (ap (λ (v : List ℕ). s.wrote.text ++ v) cut.so.1 ∙ sym (append_assoc s.wrote.text cut.text cut.so.0)) x.all,
-      );
-    }
-
 pub steps-stop : (r : Result (Option Refusal) WriteError) (given : Setup) (log : List LogRow) (besides : Besides) (is : List Input) (n : ℕ) (old new : OnCourse) (left k : ℕ) (a b c : Option (List ℕ)) (p q r' : List ℕ) (e : Refusal)
     → Stepping given log besides is n old left a b p q → left ≡ suc k
     → ((given : Setup) (log : List LogRow) (inputs : List Input) → Stands given log old inputs → Took (Err e) given log new inputs (next_tick given inputs))
     → OnOk r (r ≡ Ok (Some e)) → SaidUntilFault r b c q r' (besides.echo ++ with_feed (refused_line e)) → Done r given log new (TakesTicks given besides is n) a c p r'
-steps-stop (Ok refusal) given log besides is n old new left k a b c p q r' e s one took why said =
-    subst (λ (x : Result (Option Refusal) WriteError). Done x given log new (TakesTicks given besides is n) a c p r') (sym why) (steps-refused given log besides is n old new left k a b c p q r' e s one took said)
-steps-stop (Err f) given log besides is n old new left k a b c p q r' e s one took why said =
-    steps-refused-fault given log besides is n old new left k a b c p q r' e f s one took said
+steps-stop r given log besides is n old new left k a b c p q r' e s one took why said =
+    let line : List ℕ = besides.echo ++ with_feed (refused_line e) in
+    let x : Ends given log besides is n s.now new s.wrote.text line e = stopped given log besides is n s.now old new k left s.wrote.text e s.stands one (took given log s.now s.stands) s.wrote.so in
+    done-so r given log new (TakesTicks given besides is n) (Some e) s.now (s.wrote.text ++ line) a c p r' x.stands x.all why (until-more r a b c p q r' s.wrote.text line s.wrote.said said)
 
 pub steps-end : (given : Setup) (log : List LogRow) (besides : Besides) (is : List Input) (n : ℕ) (course : OnCourse) (k : ℕ) (a b : Option (List ℕ)) (p q : List ℕ) → Stepping given log besides is n course k a b p q → k ≡ 0
     → Done (Ok None) given log course (TakesTicks given besides is n) a b p q

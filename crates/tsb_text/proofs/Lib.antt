@@ -5,6 +5,7 @@ pub mod TextLemmas
 pub mod ObeyLemmas
 pub mod EventLemmas
 pub mod CourseLemmas
+pub mod FollowLemmas
 pub mod AnswerLemmas
 pub mod ReplyLemmas
 pub mod HeardLemmas

@@ -8,7 +8,7 @@ use Rattle.tsb_bench.specs.tsb_machine.declared.commands.MachineCommand.TheVaria
 use Rattle.tsb_bench.specs.tsb_machine.declared.commands.Answer.{Answer}
 use Rattle.tsb_bench.specs.tsb_machine.declared.commands.Answer.TheVariants.{Took, Refused, Undone, Moved, Nothing, Changed}
 use Rattle.tsb_bench.specs.tsb_step.declared.inputs.Input.{Input}
-use Rattle.tsb_bench.specs.tsb_step.Play.{Cmd, IsRight, run}
+use Rattle.tsb_bench.specs.tsb_step.Play.{Cmd, IsRight, remaining_after, run}
 use Rattle.tsb_bench.specs.tsb_step.Runs.{replay}
 use Rattle.tsb_bench.specs.tsb_step.Step.{kind_of, verdict}
 use Rattle.tsb_bench.specs.tsb_step.Watches.{TellsLastChange}
@@ -20,7 +20,7 @@ use Rattle.tsb_command_text.specs.Readings.{reading}
 use Rattle.tsb_lines.specs.Lines.{lines_of, split, ended, kept, onto_first, without_return, HasNoFeed}
 use Rattle.tsb_lines.proofs.KeptLemmas.{feedless-kept, kept-tells}
 use Rattle.tsb_lines.proofs.LineLemmas.{length-return}
-use Rattle.tsb_text.specs.Answers.{Setup, Asked, Steps, Answers, next_tick}
+use Rattle.tsb_text.specs.Answers.{Answers, Asked, GoesUnless, Leads, Setup, Steps, follower, follower_of, next_tick}
 use Rattle.tsb_text.specs.Text.{GoesOn, Says, IsAnswered, IsText}
 use Rattle.tsb_bench.proofs.tsb_step.RefusalLemmas.{refuses}
 use Rattle.tsb_text.proofs.WatchLemmas.{some-change}
@@ -34,12 +34,29 @@ right-input given is i = at (verdict (replay given.plan is) i) refl
     at None e = inl e
     at (Some x) e = inr (x, refuses (replay given.plan is) i x e)
 
+-- what follows an input is taken or refused, if something does
+pub some-leads : (given : Setup) (is : List Input) (next : Option Input) → (stop : Option Refusal) × (left : List Input) × Leads given is next stop left
+some-leads given is None = (None, is, (refl, refl))
+some-leads given is (Some i) = elim (right-input given is i) [
+  | inl took ↦ (None, i ∷ is, inl (took, refl, refl))
+  | inr refused ↦ (Some refused.0, is, inr (record { why = refused.0; right = refused.1; refused = refl; left = refl }))
+]
+
+-- more steps come only where nothing was refused
+more-steps : (given : Setup) (n : ℕ) (stop : Option Refusal) (left : List Input) → (text : List ℕ) × (new : List Input) × Steps given left n text new
+    → (text : List ℕ) × (new : List Input) × GoesUnless stop (Steps given left n text new) ((text ≡ []) × (new ≡ left))
+more-steps given n None left more = more
+more-steps given n (Some e) left more = ([], left, (refl, refl))
+
 pub some-steps : (given : Setup) (n : ℕ) (is : List Input) → (text : List ℕ) × (left : List Input) × Steps given is n text left
 some-steps given zero is = ([], is, (refl, refl))
 some-steps given (suc n) is = elim (right-input given is (next_tick given is)) [
   | inl took ↦
-      let rest : (text : List ℕ) × (left : List Input) × Steps given (next_tick given is ∷ is) n text left = some-steps given n (next_tick given is ∷ is) in
-      (_, rest.1, inl (rest.0, record { right = took; line = refl }, rest.2))
+      let after : List Input = next_tick given is ∷ is in
+      let next : Option Input = follower given is (next_tick given is) in
+      let f : (stop : Option Refusal) × (left : List Input) × Leads given after next stop left = some-leads given after next in
+      let rest : (text : List ℕ) × (new : List Input) × GoesUnless f.0 (Steps given f.1 n text new) ((text ≡ []) × (new ≡ f.1)) = more-steps given n f.0 f.1 (some-steps given n f.1) in
+      (_, rest.1, inl (rest.0, f.0, f.1, record { right = took; leads = f.2; line = refl }, rest.2))
   | inr refused ↦ (_, is, inr (record { refusal = refused.0; right = refused.1; line = refl; left = refl }))
 ]
 
@@ -74,7 +91,10 @@ some-right given is (asks.When watch) =
 asked : (given : Setup) (is : List Input) (cmd : Cmd) → (text : List ℕ) × (left : List Input) × Asked given is cmd text left
 asked given is cmd =
     let a : (a : Answer) × IsRight given.plan is cmd a = some-right given is cmd in
-    (_, _, record { answer = a.0; right = a.1; left = refl; line = refl })
+    let after : List Input = remaining_after given.plan is cmd a.0 in
+    let next : Option Input = follower_of given is cmd a.0 in
+    let f : (stop : Option Refusal) × (left : List Input) × Leads given after next stop left = some-leads given after next in
+    (_, f.1, record { answer = a.0; right = a.1; stop = f.0; left = f.2; line = refl })
 
 pub some-answer : (given : Setup) (is : List Input) (c : Command) → (text : List ℕ) × (left : List Input) × Answers given is c text left
 some-answer given is (Step n) = some-steps given n is

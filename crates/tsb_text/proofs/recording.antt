@@ -6,6 +6,7 @@ pub mod BegunLemmas
 pub mod LineLemmas
 pub mod ComeLemmas
 pub mod EndLemmas
+pub mod StartLemmas
 pub mod CommandLemmas
 pub mod ClockLemmas
 pub mod StopLemmas

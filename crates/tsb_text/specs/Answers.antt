@@ -1,5 +1,6 @@
--- What a session answers to a command, over the inputs that were not undone.
-use Rattle.std.specs.Prelude.{◌≡◌, ◌⊎◌, ℕ, zero, suc, ◌+◌, List, [], ◌∷◌, ◌++◌, Option, Some, None, option_map, codes}
+-- What a session answers to a command, over the inputs that were not undone. Where the schedule of the plan acts, a
+-- pattern follows each input by which another action comes into force: it is an input as if an operator had given it.
+use Rattle.std.specs.Prelude.{◌≡◌, ◌⊎◌, ℕ, zero, suc, ◌+◌, Bool, if◌then◌else◌, List, [], ◌∷◌, ◌++◌, Option, Some, None, option_map, codes}
 use Rattle.tsb_bench.specs.tsb_history.declared.kinds.Kind.{Kind}
 use Rattle.tsb_bench.specs.tsb_history.declared.kinds.Kind.TheVariants as kinds
 use Rattle.tsb_objects.specs.tsb_types.declared.refusal.Refusal.{Refusal}
@@ -14,6 +15,7 @@ use Rattle.tsb_bench.specs.tsb_machine.declared.commands.Answer.TheVariants.{Too
 use Rattle.tsb_bench.specs.tsb_step.declared.inputs.Input.{Input}
 use Rattle.tsb_bench.specs.tsb_step.declared.inputs.Input.TheVariants as inputs
 use Rattle.tsb_bench.specs.tsb_step.Play.{Cmd, IsRight, remaining_after}
+use Rattle.tsb_bench.specs.tsb_step.Following.{following}
 use Rattle.tsb_bench.specs.tsb_step.Runs.{replay}
 use Rattle.tsb_bench.specs.tsb_step.Signs.{display, local, stage}
 use Rattle.tsb_bench.specs.tsb_step.State.{State}
@@ -24,10 +26,11 @@ use Rattle.tsb_log_text.specs.declared.log.LogRow.{LogRow}
 use Rattle.tsb_log_text.specs.Logs.{row_at}
 use Rattle.tsb_dialog.specs.Said.{with_feed}
 
--- what a session is given: the plan, and the rows of the log
+-- what a session is given: the plan, the rows of the log, and whether the schedule of the plan acts
 pub record Setup : Type 0 where
   pub plan : Plan
   pub log : List LogRow
+  pub acts : Bool
 
 -- ## Lines, without their ends
 
@@ -103,21 +106,56 @@ told cmd (Changed tick) s = when_line tick
 -- ## Commands
 -- Inputs are piled up, the newest first, and the state is that of their replay.
 
--- a command that asks the bench once: it is answered by what tells a right answer
+-- what follows this input, which was taken
+abbrev pub follower : Setup → List Input → Input → Option Input
+follower given is i = if given.acts then following (replay given.plan is) (replay given.plan (i ∷ is)) else None
+
+-- what follows what was asked and answered so
+abbrev pub follower_of : Setup → List Input → Cmd → Answer → Option Input
+follower_of given is (asks.Apply i) Took = follower given is i
+follower_of given is cmd a = None
+
+-- what follows is refused, and leaves all as it was: out of memory, as a pattern that the schedule selects is used
+pub record Fails (given : Setup) (is : List Input) (i : Input) (stop : Option Refusal) (new : List Input) : Type 0 where
+  pub why : Refusal
+  pub right : IsRight given.plan is (asks.Apply i) (Refused why)
+  pub refused : stop ≡ Some why
+  pub left : new ≡ is
+
+-- what follows is taken, if something does, and leaves these inputs; or it is refused for this reason
+abbrev pub Leads : Setup → List Input → Option Input → Option Refusal → List Input → Type 0
+Leads given is None stop new = (stop ≡ None) × (new ≡ is)
+Leads given is (Some i) stop new =
+    (IsRight given.plan is (asks.Apply i) Took × (stop ≡ None) × (new ≡ i ∷ is)) ⊎ Fails given is i stop new
+
+-- what is said behind an answer where what follows was refused, and before that
+abbrev pub refused_after : List ℕ → Option Refusal → List ℕ
+refused_after echo None = []
+refused_after echo (Some e) = echo ++ with_feed (refused_line e)
+
+-- what goes on where nothing was refused, and else what ends
+abbrev pub GoesUnless : Option Refusal → Type 0 → Type 0 → Type 0
+GoesUnless None Rest Ending = Rest
+GoesUnless (Some e) Rest Ending = Ending
+
+-- a command that asks the bench once: it is answered by what tells a right answer, and what follows is taken
 pub record Asked (given : Setup) (is : List Input) (cmd : Cmd) (text : List ℕ) (new : List Input) : Type 0 where
   pub answer : Answer
   pub right : IsRight given.plan is cmd answer
-  pub left : new ≡ remaining_after given.plan is cmd answer
-  pub line : text ≡ with_feed (told cmd answer (replay given.plan new))
+  pub stop : Option Refusal
+  pub left : Leads given (remaining_after given.plan is cmd answer) (follower_of given is cmd answer) stop new
+  pub line : text ≡ with_feed (told cmd answer (replay given.plan (remaining_after given.plan is cmd answer))) ++ refused_after [] stop
 
 -- the next tick, with the log's row
 abbrev pub next_tick : Setup → List Input → Input
 next_tick given is = inputs.Tick (row_at given.log ((replay given.plan is).now + 1))
 
--- the tick is taken, and leaves these inputs; the display line after it, and then this
-pub record Ticked (given : Setup) (is : List Input) (text rest : List ℕ) : Type 0 where
+-- the tick is taken, and what follows it, which leaves these inputs; the display line after the tick, a refusal of what
+-- follows, and then this
+pub record Ticked (given : Setup) (is : List Input) (text rest : List ℕ) (stop : Option Refusal) (left : List Input) : Type 0 where
   pub right : IsRight given.plan is (asks.Apply (next_tick given is)) Took
-  pub line : text ≡ with_feed (display_line (replay given.plan (next_tick given is ∷ is))) ++ rest
+  pub leads : Leads given (next_tick given is ∷ is) (follower given is (next_tick given is)) stop left
+  pub line : text ≡ with_feed (display_line (replay given.plan (next_tick given is ∷ is))) ++ (refused_after [] stop ++ rest)
 
 -- the tick is refused, and leaves all as it was. Out of memory the bench may refuse any tick.
 pub record Stopped (given : Setup) (is : List Input) (text : List ℕ) (new : List Input) : Type 0 where
@@ -130,7 +168,8 @@ pub record Stopped (given : Setup) (is : List Input) (text : List ℕ) (new : Li
 abbrev pub Steps : Setup → List Input → ℕ → List ℕ → List Input → Type 0
 Steps given is zero text new = (text ≡ []) × (new ≡ is)
 Steps given is (suc n) text new =
-    ((rest : List ℕ) × Ticked given is text rest × Steps given (next_tick given is ∷ is) n rest new)
+    ((rest : List ℕ) × (stop : Option Refusal) × (left : List Input) × Ticked given is text rest stop left
+    × GoesUnless stop (Steps given left n rest new) ((rest ≡ []) × (new ≡ left)))
     ⊎ Stopped given is text new
 
 -- the answer to a command where these inputs remain, and the inputs that remain then

@@ -14,6 +14,8 @@ pub mod Stops
 pub mod Tasks
 -- what a command comes to where more may be said
 pub mod Obeys
+-- what is said where something follows an input
+pub mod Trails
 -- what has become of a bench and of a writer once a command was carried out
 pub mod Obeyed
 -- when there is no memory for an input

@@ -1,12 +1,14 @@
 -- What has become of a bench and of a writer once a command was carried out.
-use Rattle.std.specs.Prelude.{◌≡◌, ◌+◌, List, [], ◌∷◌, ◌++◌, ℕ, Bool, true, false, Option, Result, Ok, Err}
-use Rattle.tsb_bench.specs.Held.{Held, whole}
+use Rattle.std.specs.Prelude.{◌≡◌, ◌+◌, List, [], ◌∷◌, ◌++◌, ℕ, Bool, true, false, Option, Some, None, Result, Ok, Err}
+use Rattle.tsb_bench.specs.Held.{Held, state_of, whole}
 use Rattle.tsb_bench.specs.tsb_machine.declared.commands.Answer.{Answer}
 use Rattle.tsb_bench.specs.tsb_machine.declared.commands.Answer.TheVariants as answers
 use Rattle.tsb_bench.specs.tsb_machine.declared.commands.MachineCommand.TheVariants.{Apply}
 use Rattle.tsb_bench.specs.tsb_step.declared.inputs.Input.{Input}
 use Rattle.tsb_bench.specs.tsb_step.Events.{events_of, usual_after}
 use Rattle.tsb_bench.specs.tsb_step.Play.{Cmd, Follows, IsRight, remaining_after}
+use Rattle.tsb_bench.specs.tsb_step.Following.{following}
+use Rattle.tsb_bench.specs.tsb_step.Step.{step}
 use Rattle.tsb_bench.specs.tsb_step.Runs.{replay}
 use Rattle.tsb_dialog.specs.Said.{Wrote}
 use Rattle.tsb_bench.specs.tsb_history.declared.kinds.Kind.{Kind}
@@ -26,11 +28,11 @@ use Rattle.tsb_text.specs.declared.course.Mode.TheVariants.{Plain, Keeping as Ke
 use Rattle.tsb_objects.specs.tsb_types.declared.row.Row.{Row}
 use Rattle.tsb_text.specs.declared.rows.Rows.TheVariants.{Held as HeldRow}
 use Rattle.tsb_text.specs.Rows.{rows_in}
-use Rattle.tsb_text.specs.Answers.{Setup}
+use Rattle.tsb_text.specs.Answers.{Leads, Setup}
 use Rattle.tsb_text.specs.Obeys.{Besides, if_told, news_of}
 
--- a bench, the rows that its ticks take, what is kept or recorded of its inputs, what is done with them besides, and the
--- events of the newest
+-- a bench, the rows that its ticks take, what is kept or recorded of its inputs, what is done with them besides, and
+-- the events of the newest. Then whether the schedule of the plan acts, and what is yet to be taken after the newest input.
 pub record OnCourse : Type 0 where
   pub bench : Held
   pub rows : List LogRow
@@ -38,6 +40,8 @@ pub record OnCourse : Type 0 where
   pub told : Stored
   pub mode : Mode
   pub news : List Event
+  pub acts : Bool
+  pub next : Option Input
 
 -- whether inputs tell their events
 abbrev pub tells_in : Mode → Bool
@@ -107,6 +111,7 @@ pub record Stands (given : Setup) (log : List LogRow) (course : OnCourse) (input
   pub follows : Follows given.plan (whole course.bench) inputs
   pub keeps : IsKept course.mode course.kept.kept given.plan inputs
   pub tells : IsTold course.mode course.told.told given inputs
+  pub acts : course.acts ≡ given.acts
 
 -- so of a bench whose inputs are not kept, as in a session
 abbrev pub StandsPlain : Setup → List LogRow → OnCourse → List Input → Type 0
@@ -117,6 +122,27 @@ abbrev pub Took : Result (Unit {0}) Refusal → Setup → List LogRow → OnCour
 Took (Ok u) given log course is i = IsRight given.plan is (Apply i) answers.Took × Stands given log course (i ∷ is)
     × (tells_in course.mode ≡ true → course.news ≡ events_of (usual_after (last_row is)) (replay given.plan is) i)
 Took (Err e) given log course is i = IsRight given.plan is (Apply i) (answers.Refused e) × Stands given log course is
+
+-- an input of this bench brings no other action of the schedule into force
+abbrev pub FollowsNone : Held → Input → Type 0
+FollowsNone bench i = following (state_of bench) (step (state_of bench) i) ≡ None
+
+-- why a call was refused, if it was
+abbrev pub stop_of : {T : Type 0} → Result T Refusal → Option Refusal
+stop_of (Ok x) = None
+stop_of (Err e) = Some e
+
+-- whether something has followed; its events are then those of the newest input
+abbrev pub TellsNext : Result Bool Refusal → Setup → OnCourse → List Input → Option Input → Type 0
+TellsNext (Ok done) given course is None = done ≡ false
+TellsNext (Ok done) given course is (Some i) = (done ≡ true)
+    × (tells_in course.mode ≡ true → course.news ≡ events_of (usual_after (last_row is)) (replay given.plan is) i)
+TellsNext (Err e) given course is next = Unit {0}
+
+-- what follows was taken, if something does; or it was refused, and nothing has changed
+abbrev pub Followed : Result Bool Refusal → Setup → List LogRow → Option Input → OnCourse → List Input → Type 0
+Followed result given log next course is =
+    (left : List Input) × Leads given is next (stop_of result) left × Stands given log course left × TellsNext result given course is next
 
 -- the bench was asked, and answered right; an input that was taken has told its events
 pub record Answered (given : Setup) (log : List LogRow) (course : OnCourse) (is : List Input) (cmd : Cmd) (answer : Answer) : Type 0 where

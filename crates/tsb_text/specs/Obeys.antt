@@ -15,7 +15,7 @@ use Rattle.tsb_objects.specs.tsb_types.declared.event.Event.{Event}
 use Rattle.tsb_objects.specs.tsb_types.declared.refusal.Refusal.{Refusal}
 use Rattle.tsb_text.specs.declared.task.Task.{Task}
 use Rattle.tsb_text.specs.declared.task.Task.TheVariants.{Ticks, Show, Quit, Ask}
-use Rattle.tsb_text.specs.Answers.{Setup, display_line, next_tick, refused_line, told}
+use Rattle.tsb_text.specs.Answers.{GoesUnless, Leads, Setup, display_line, follower, follower_of, next_tick, refused_after, refused_line, told}
 
 -- whether inputs tell their events, and what stands before an answer that is no display line
 pub record Besides : Type 0 where
@@ -45,6 +45,11 @@ if_told tells es = if tells then events_text es else []
 abbrev pub news : Bool → Setup → List Input → Input → List ℕ
 news tells given is i = if_told tells (events_of (usual_after (last_row is)) (replay given.plan is) i)
 
+-- the lines of the events of what follows, if something does and it was not refused
+abbrev pub trail : Bool → Setup → List Input → Option Input → Option Refusal → List ℕ
+trail tells given is (Some i) None = news tells given is i
+trail tells given is next stop = []
+
 -- ## Commands
 -- Inputs are piled up, the newest first, and the state is that of their replay.
 
@@ -64,18 +69,32 @@ abbrev pub news_of : Bool → Setup → List Input → Cmd → List ℕ
 news_of tells given is (asks.Apply i) = news tells given is i
 news_of tells given is cmd = []
 
--- a command that asks the bench once: it is answered by what tells a right answer
+-- the first refusal, or where there is none the second
+abbrev pub or_refusal : Option Refusal → Option Refusal → Option Refusal
+or_refusal (Some e) stop = Some e
+or_refusal None stop = stop
+
+-- so of what follows what was asked and answered so
+abbrev pub trail_of : Bool → Setup → List Input → Cmd → Answer → Option Refusal → List ℕ
+trail_of tells given is cmd answer stop = trail tells given (remaining_after given.plan is cmd answer) (follower_of given is cmd answer) stop
+
+-- a command that asks the bench once: it is answered by what tells a right answer, and what follows is taken
 pub record AsksOnce (given : Setup) (besides : Besides) (is : List Input) (cmd : Cmd) (text : List ℕ) (refusal : Option Refusal) (new : List Input) : Type 0 where
   pub answer : Answer
   pub right : IsRight given.plan is cmd answer
-  pub left : new ≡ remaining_after given.plan is cmd answer
-  pub line : text ≡ before_line besides.echo answer (news_of besides.tells given is cmd) ++ with_feed (told cmd answer (replay given.plan new))
-  pub refused : refusal ≡ refusal_in answer
+  pub stop : Option Refusal
+  pub left : Leads given (remaining_after given.plan is cmd answer) (follower_of given is cmd answer) stop new
+  pub line : text ≡ (before_line besides.echo answer (news_of besides.tells given is cmd) ++ trail_of besides.tells given is cmd answer stop)
+      ++ (with_feed (told cmd answer (replay given.plan (remaining_after given.plan is cmd answer))) ++ refused_after besides.echo stop)
+  pub refused : refusal ≡ or_refusal (refusal_in answer) stop
 
--- the tick is taken, and leaves these inputs; what it tells, the display line after it, and then this
-pub record Ticked (given : Setup) (besides : Besides) (is : List Input) (text rest : List ℕ) : Type 0 where
+-- the tick is taken, and what follows it, which leaves these inputs; the events of both, the display line after the
+-- tick, a refusal of what follows, and then this
+pub record Ticked (given : Setup) (besides : Besides) (is : List Input) (text rest : List ℕ) (stop : Option Refusal) (left : List Input) : Type 0 where
   pub right : IsRight given.plan is (asks.Apply (next_tick given is)) Took
-  pub line : text ≡ (news besides.tells given is (next_tick given is) ++ with_feed (display_line (replay given.plan (next_tick given is ∷ is)))) ++ rest
+  pub leads : Leads given (next_tick given is ∷ is) (follower given is (next_tick given is)) stop left
+  pub line : text ≡ (news besides.tells given is (next_tick given is) ++ trail besides.tells given (next_tick given is ∷ is) (follower given is (next_tick given is)) stop)
+      ++ (with_feed (display_line (replay given.plan (next_tick given is ∷ is))) ++ (refused_after besides.echo stop ++ rest))
 
 -- the tick is refused, and leaves all as it was. Out of memory the bench may refuse any tick.
 pub record Stopped (given : Setup) (besides : Besides) (is : List Input) (text : List ℕ) (refusal : Option Refusal) (new : List Input) : Type 0 where
@@ -89,7 +108,8 @@ pub record Stopped (given : Setup) (besides : Besides) (is : List Input) (text :
 abbrev pub TakesTicks : Setup → Besides → List Input → ℕ → List ℕ → Option Refusal → List Input → Type 0
 TakesTicks given besides is zero text refusal new = (text ≡ []) × (refusal ≡ None) × (new ≡ is)
 TakesTicks given besides is (suc n) text refusal new =
-    ((rest : List ℕ) × Ticked given besides is text rest × TakesTicks given besides (next_tick given is ∷ is) n rest refusal new)
+    ((rest : List ℕ) × (stop : Option Refusal) × (left : List Input) × Ticked given besides is text rest stop left
+    × GoesUnless stop (TakesTicks given besides left n rest refusal new) ((rest ≡ []) × (refusal ≡ stop) × (new ≡ left)))
     ⊎ Stopped given besides is text refusal new
 
 -- what is said to what is asked where these inputs remain, why it was refused, if it was, and the inputs that remain then

@@ -1,14 +1,15 @@
 //! Answers to commands.
 
-ghost use Rattle.std.specs.Prelude.{◌≡◌, ◌++◌, List, Ok, OnOk, Some, false};
+ghost use Rattle.std.specs.Prelude.{◌≡◌, ◌⊎◌, ◌++◌, List, None, Ok, OnOk, Some, false};
 ghost use Rattle.tsb_bench.specs.tsb_step.declared.inputs.Input.{Input as InputValue};
 ghost use Rattle.tsb_bench.specs.Held.{state_of};
 ghost use Rattle.tsb_log_text.specs.declared.log.LogRow.{LogRow};
-ghost use Rattle.tsb_text.specs.Answers.{Setup, display_line, refused_line, told};
-ghost use Rattle.tsb_text.specs.Obeyed.{AsksNext, Done, Stands, besides_of, news_in};
+ghost use Rattle.tsb_text.specs.Answers.{Setup, display_line, refused_after, refused_line, told};
+ghost use Rattle.tsb_text.specs.Obeyed.{AsksNext, Done, Stands, besides_of, news_in, tells_in};
 ghost use Rattle.tsb_text.specs.Obeys.{AsksOnce, Obeys, TakesTicks, before_line, refusal_in};
 ghost use Rattle.tsb_text.specs.Tasks.{task_of};
-ghost use Rattle.tsb_text.specs.Wanting.{IsWanting, WantsFor, WantsTo, tick_of};
+ghost use Rattle.tsb_text.specs.Trails.{Trailing, Trails};
+ghost use Rattle.tsb_text.specs.Wanting.{IsWanting, WantsAfter, WantsFor, WantsPattern, WantsTo, tick_of};
 ghost use Rattle.tsb_objects.specs.tsb_types.declared.refusal.Refusal.TheVariants.{Memory};
 ghost use Rattle.tsb_dialog.specs.Blame.{AfterCalls};
 ghost use Rattle.tsb_dialog.specs.Said.{SaidUntilFault, with_feed};
@@ -65,34 +66,87 @@ fn step<W: Write>(
 ) -> Result<Option<Refusal>, WriteError>
     ensures done { (given : Setup) (log : List LogRow) (inputs : List InputValue) → Stands given log course.old inputs
         → Done result given log course.new (TakesTicks given (besides_of course.old echo.now) inputs ticks) (W.contents writer.old.device) (W.contents writer.new.device) pending.old pending.new }
-    ensures wanting { result ≡ Ok (Some Memory) → IsWanting course.new (tick_of course.new) }
+    ensures wanting { result ≡ Ok (Some Memory) → IsWanting course.new (tick_of course.new) ⊎ WantsPattern course.new }
     ensures rows { course.new.rows ≡ course.old.rows }
     ensures mode { course.new.mode ≡ course.old.mode }
     ensures blame { writer.old.failed ≡ false → AfterCalls result writer.new.failed }
 {
     for _i in 0..ticks {
         match course.tick() {
-            Ok(()) => say_tick(course, lines, pending, writer)?,
+            Ok(()) => match say_tick(course, lines, echo, pending, writer)? {
+                Some(refusal) => return Ok(Some(refusal)),
+                None => {}
+            },
             Err(refusal) => return say_refusal(&refusal, echo, pending, writer),
         }
     }
     Ok(None)
 }
 
-/// Says what a tick has told, and the display line after it.
-pub fn say_tick<W: Write>(
+/// Says the events of a tick, takes what follows it and says its events, and says the display line after the tick.
+/// Where what follows is refused, it says so and gives why.
+fn say_tick<W: Write>(
     course: &mut Course,
     lines: &mut LineMaker,
+    echo: &[u8],
     pending: &mut Pending,
     writer: &mut Watched<W>,
-) -> Result<(), WriteError>
-    ensures said { SaidUntilFault result (W.contents writer.old.device) (W.contents writer.new.device) pending.old pending.new (news_in course.old ++ with_feed (display_line (state_of course.old.bench))) }
-    ensures same { course.new ≡ course.old }
+) -> Result<Option<Refusal>, WriteError>
+    ensures done { (given : Setup) (log : List LogRow) (inputs : List InputValue) → Stands given log course.old inputs
+        → Done result given log course.new (Trails given (besides_of course.old echo.now) inputs course.old.next (news_in course.old) (display_line (state_of course.old.bench))) (W.contents writer.old.device) (W.contents writer.new.device) pending.old pending.new }
+    ensures wanting { result ≡ Ok (Some Memory) → WantsAfter course.new course.old.next }
+    ensures rows { course.new.rows ≡ course.old.rows }
+    ensures mode { course.new.mode ≡ course.old.mode }
+    ensures acts { course.new.acts ≡ course.old.acts }
     ensures blame { writer.old.failed ≡ false → AfterCalls result writer.new.failed }
 {
     course.say_news(pending, writer)?;
     let line = course.line_bytes(lines);
-    pending.say(writer, &line)
+    let refusal = follow(course, pending, writer)?;
+    pending.say(writer, &line)?;
+    say_if_refused(refusal, echo, pending, writer)
+}
+
+/// Takes what follows the newest input, if something does, and says its events. It gives why it was refused, if it was.
+pub fn follow<W: Write>(
+    course: &mut Course,
+    pending: &mut Pending,
+    writer: &mut Watched<W>,
+) -> Result<Option<Refusal>, WriteError>
+    ensures done { (given : Setup) (log : List LogRow) (inputs : List InputValue) → Stands given log course.old inputs
+        → Done result given log course.new (Trailing given (tells_in course.old.mode) inputs course.old.next) (W.contents writer.old.device) (W.contents writer.new.device) pending.old pending.new }
+    ensures wanting { result ≡ Ok (Some Memory) → WantsAfter course.new course.old.next }
+    ensures next { course.new.next ≡ None }
+    ensures rows { course.new.rows ≡ course.old.rows }
+    ensures mode { course.new.mode ≡ course.old.mode }
+    ensures acts { course.new.acts ≡ course.old.acts }
+    ensures blame { writer.old.failed ≡ false → AfterCalls result writer.new.failed }
+{
+    match course.follow() {
+        Ok(true) => {
+            course.say_news(pending, writer)?;
+            Ok(None)
+        }
+        Ok(false) => Ok(None),
+        Err(refusal) => Ok(Some(refusal)),
+    }
+}
+
+/// Says that what follows an input was refused, if it was, and gives why.
+fn say_if_refused<W: Write>(
+    refusal: Option<Refusal>,
+    echo: &[u8],
+    pending: &mut Pending,
+    writer: &mut Watched<W>,
+) -> Result<Option<Refusal>, WriteError>
+    ensures said { SaidUntilFault result (W.contents writer.old.device) (W.contents writer.new.device) pending.old pending.new (refused_after echo.now refusal) }
+    ensures told { OnOk result (result ≡ Ok refusal) }
+    ensures blame { writer.old.failed ≡ false → AfterCalls result writer.new.failed }
+{
+    match refusal {
+        Some(refusal) => say_refusal(&refusal, echo, pending, writer),
+        None => Ok(None),
+    }
 }
 
 /// Says that something was refused, and tells why.
@@ -111,7 +165,7 @@ pub fn say_refusal<W: Write>(
     Ok(Some(*refusal))
 }
 
-/// Asks the bench, says its answer, and tells why it refused an input, if it did.
+/// Asks the bench, takes what follows, says its answer, and tells why it refused an input, if it did.
 fn ask<W: Write>(
     course: &mut Course,
     lines: &mut LineMaker,
@@ -122,15 +176,20 @@ fn ask<W: Write>(
 ) -> Result<Option<Refusal>, WriteError>
     ensures done { (given : Setup) (log : List LogRow) (inputs : List InputValue) → Stands given log course.old inputs → AsksNext course.old.mode given inputs command
         → Done result given log course.new (AsksOnce given (besides_of course.old echo.now) inputs command) (W.contents writer.old.device) (W.contents writer.new.device) pending.old pending.new }
-    ensures wanting { result ≡ Ok (Some Memory) → WantsTo course.new command }
+    ensures wanting { result ≡ Ok (Some Memory) → WantsTo course.new command ⊎ WantsPattern course.new }
     ensures mode { course.new.mode ≡ course.old.mode }
     ensures rows { course.new.rows ≡ course.old.rows }
     ensures blame { writer.old.failed ≡ false → AfterCalls result writer.new.failed }
 {
     let answer = course.answer(command);
+    match refusal_in(&answer) {
+        Some(refusal) => return say_refusal(&refusal, echo, pending, writer),
+        None => {}
+    }
     say_before(course, &answer, echo, pending, writer)?;
+    let stop = follow(course, pending, writer)?;
     say_answer(course.bench(), lines, &command, &answer, pending, writer)?;
-    Ok(refusal_in(&answer))
+    say_if_refused(stop, echo, pending, writer)
 }
 
 /// Says what stands before the line of an answer.

@@ -1,9 +1,11 @@
 //! A bench, with what is kept and told of the inputs that it takes.
-ghost use Rattle.std.specs.Prelude.{◌≡◌, ◌≤◌, ◌+◌, ◌∷◌, Err, IfErr, List, OnErr, OnOk, false};
+ghost use Rattle.std.specs.Prelude.{◌≡◌, ◌≤◌, ◌+◌, ◌∷◌, Err, IfErr, List, None, OnErr, OnOk, false, option_map, true};
 ghost use Rattle.tsb_bench.specs.Held.{state_of, whole};
 ghost use Rattle.tsb_bench.specs.tsb_history.History.{Change};
 ghost use Rattle.tsb_bench.specs.tsb_step.Past.{earlier};
-ghost use Rattle.tsb_bench.specs.tsb_step.Step.{last_tick};
+ghost use Rattle.tsb_bench.specs.tsb_step.Following.{action, selects};
+ghost use Rattle.tsb_bench.specs.tsb_step.Step.{last_tick, step};
+ghost use Rattle.tsb_bench.specs.tsb_step.declared.inputs.Input.TheVariants.{Pattern};
 ghost use Rattle.tsb_text.specs.kept.Kept.{with_input};
 ghost use Rattle.tsb_objects.specs.tsb_types.declared.refusal.Refusal.TheVariants.{Memory};
 ghost use Rattle.tsb_bench.specs.tsb_machine.declared.commands.Answer.TheVariants.{Refused};
@@ -15,11 +17,11 @@ ghost use Rattle.tsb_text.specs.recording.Along.{Wants, with_input as with_told}
 ghost use Rattle.tsb_text.specs.recording.Told.{DropsMark, gone_back as told_back, nothing_told};
 ghost use Rattle.tsb_log_text.specs.declared.log.LogRow.{LogRow};
 ghost use Rattle.tsb_text.specs.declared.course.Mode.TheVariants as modes;
-ghost use Rattle.tsb_text.specs.Answers.{Setup, display_line, next_tick};
+ghost use Rattle.tsb_text.specs.Answers.{Setup, display_line, follower, follower_of, next_tick};
 ghost use Rattle.tsb_text.specs.Rows.{rows_in};
 ghost use Rattle.tsb_log_text.specs.Logs.{row_at};
-ghost use Rattle.tsb_text.specs.Obeyed.{Answered, AsksNext, Forgets, ForgetsNewest, IsNext, Stands, Took, holding, mode_with, news_in};
-ghost use Rattle.tsb_text.specs.Wanting.{IsWanting, WantsTo, tick_of};
+ghost use Rattle.tsb_text.specs.Obeyed.{Answered, AsksNext, Followed, FollowsNone, Forgets, ForgetsNewest, IsNext, Stands, Took, holding, mode_with, news_in};
+ghost use Rattle.tsb_text.specs.Wanting.{IsWanting, WantsAfter, WantsTo, tick_of};
 
 use crate::Kept;
 use crate::events::say_events;
@@ -51,7 +53,8 @@ pub enum Mode {
 }
 
 /// A bench, with the rows that its ticks take, what is kept or recorded of the inputs that remain, and the events that the
-/// newest.
+/// newest has. Where the schedule of its plan acts, a pattern follows each input by which another action comes into
+/// force: it is an input as any other.
 #[derive(Drop)]
 pub struct Course<'a> {
     bench: Bench,
@@ -60,25 +63,33 @@ pub struct Course<'a> {
     told: Told,
     mode: Mode,
     news: Events,
+    /// Whether the schedule of the plan acts.
+    acts: bool,
+    /// The pattern that follows the newest input, until it is taken.
+    next: Option<u32>,
 }
 
 impl<'a> Model for Course<'a> {
+    ghost use Rattle.std.specs.Prelude.{option_map};
+    ghost use Rattle.tsb_bench.specs.tsb_step.declared.inputs.Input.TheVariants.{Pattern};
     ghost use Rattle.tsb_text.specs.Obeyed.{OnCourse};
     ghost use Rattle.tsb_text.specs.Rows.{rows_in};
 
     ghost Value = { OnCourse };
 
-    ghost view = { λ a. record { bench = a.bench; rows = rows_in a.rows; kept = a.kept; told = a.told; mode = a.mode; news = a.news.items } };
+    ghost view = { λ a. record { bench = a.bench; rows = rows_in a.rows; kept = a.kept; told = a.told; mode = a.mode; news = a.news.items; acts = a.acts; next = option_map Pattern a.next } };
 }
 
 impl<'a> Course<'a> {
-    /// A bench that no input has reached, whose ticks take these rows.
-    pub fn new(alloc: Global, bench: Bench, rows: Rows<'a>, mode: Mode) -> Course<'a>
+    /// A bench that no input has reached, whose ticks take these rows; and whether the schedule of its plan acts.
+    pub fn new(alloc: Global, bench: Bench, rows: Rows<'a>, mode: Mode, acts: bool) -> Course<'a>
         ensures bench { result.bench ≡ bench }
         ensures rows { result.rows ≡ rows_in rows.entry }
         ensures kept { result.kept.kept ≡ nothing_kept }
         ensures told { result.told.told ≡ nothing_told }
         ensures mode { result.mode ≡ mode }
+        ensures acts { result.acts ≡ acts }
+        ensures next { result.next ≡ None }
     {
         Course {
             bench,
@@ -87,6 +98,8 @@ impl<'a> Course<'a> {
             told: Told::new(alloc),
             mode,
             news: Events::new(),
+            acts,
+            next: None,
         }
     }
 
@@ -141,6 +154,8 @@ impl<'a> Course<'a> {
         ensures bench { self.new.bench ≡ self.old.bench }
         ensures rows { self.new.rows ≡ self.old.rows }
         ensures kept { self.new.kept ≡ self.old.kept }
+        ensures acts { self.new.acts ≡ self.old.acts }
+        ensures next { self.new.next ≡ self.old.next }
     {
         self.mode = match self.mode {
             Mode::Plain => Mode::Plain,
@@ -159,10 +174,13 @@ impl<'a> Course<'a> {
         self.rows.row(tick)
     }
 
-    /// Takes the next tick, with its row. It is refused with E1 only where there is no room for it.
+    /// Takes the next tick, with its row. It is refused with E1 only where there is no room for it. What follows it is to
+    /// be taken by `follow`.
     #[inline(always)]
     pub fn tick(&mut self) -> Result<(), Refusal>
         ensures took { (given : Setup) (log : List LogRow) (inputs : List InputValue) → Stands given log self.old inputs → Took result given log self.new inputs (next_tick given inputs) }
+        ensures next { (given : Setup) (log : List LogRow) (inputs : List InputValue) → Stands given log self.old inputs → OnOk result (self.new.next ≡ follower given inputs (next_tick given inputs)) }
+        ensures none { OnErr result (self.new.next ≡ None) }
         ensures wanting { result ≡ Err Memory → IsWanting self.new (tick_of self.new) }
         ensures mode { self.new.mode ≡ self.old.mode }
         ensures rows { self.new.rows ≡ self.old.rows }
@@ -173,14 +191,94 @@ impl<'a> Course<'a> {
 
     /// Takes an input, keeps it, and has it tell its events. Where there is no memory to keep it, it is refused, and
     /// nothing has changed. It is refused with E1 only where there is no room: none in the bench for its record, or none
-    /// to keep it.
+    /// to keep it. What follows it is to be taken by `follow`.
     #[inline(always)]
     pub fn take(&mut self, input: Input) -> Result<(), Refusal>
         ensures took { (given : Setup) (log : List LogRow) (inputs : List InputValue) → Stands given log self.old inputs → IsNext self.old.mode given inputs input → Took result given log self.new inputs input }
+        ensures next { (given : Setup) (log : List LogRow) (inputs : List InputValue) → Stands given log self.old inputs → OnOk result (self.new.next ≡ follower given inputs input) }
+        ensures none { OnErr result (self.new.next ≡ None) }
         ensures wanting { result ≡ Err Memory → IsWanting self.new input }
         ensures still { OnErr result (whole self.new.bench ≡ whole self.old.bench) }
         ensures mode { self.new.mode ≡ self.old.mode }
         ensures rows { self.new.rows ≡ self.old.rows }
+        ensures acts { self.new.acts ≡ self.old.acts }
+    {
+        if self.may_follow(&input) {
+            return self.take_scheduled(input);
+        }
+        self.next = None;
+        self.take_alone(input)
+    }
+
+    /// Whether an input may bring another action of the schedule into force.
+    #[inline(always)]
+    fn may_follow(&self, input: &Input) -> bool
+        ensures none { result ≡ false → self.now.acts ≡ true → FollowsNone self.now.bench input.now }
+        ensures acts { result ≡ true → self.now.acts ≡ true }
+    {
+        if !self.acts {
+            return false;
+        }
+        match *input {
+            Input::Tick(_) => self.bench.ends_minute(),
+            Input::Clock(_) | Input::Commit(_) => true,
+            _ => false,
+        }
+    }
+
+    /// Takes an input that may bring another action of the schedule into force, and finds what follows it.
+    #[inline(never)]
+    fn take_scheduled(&mut self, input: Input) -> Result<(), Refusal>
+        requires acts { self.old.acts ≡ true }
+        ensures took { (given : Setup) (log : List LogRow) (inputs : List InputValue) → Stands given log self.old inputs → IsNext self.old.mode given inputs input → Took result given log self.new inputs input }
+        ensures next { (given : Setup) (log : List LogRow) (inputs : List InputValue) → Stands given log self.old inputs → OnOk result (self.new.next ≡ follower given inputs input) }
+        ensures none { OnErr result (self.new.next ≡ None) }
+        ensures wanting { result ≡ Err Memory → IsWanting self.new input }
+        ensures still { OnErr result (whole self.new.bench ≡ whole self.old.bench) }
+        ensures mode { self.new.mode ≡ self.old.mode }
+        ensures rows { self.new.rows ≡ self.old.rows }
+        ensures acts { self.new.acts ≡ self.old.acts }
+    {
+        let before = self.bench.action();
+        self.next = None;
+        match self.take_alone(input) {
+            Ok(()) => {
+                self.next = selected(&self.bench, before);
+                Ok(())
+            }
+            Err(refusal) => Err(refusal),
+        }
+    }
+
+    /// Takes what follows the newest input, if something does: `true` where it has.
+    pub fn follow(&mut self) -> Result<bool, Refusal>
+        ensures followed { (given : Setup) (log : List LogRow) (inputs : List InputValue) → Stands given log self.old inputs → Followed result given log self.old.next self.new inputs }
+        ensures next { self.new.next ≡ None }
+        ensures wanting { result ≡ Err Memory → WantsAfter self.new self.old.next }
+        ensures mode { self.new.mode ≡ self.old.mode }
+        ensures rows { self.new.rows ≡ self.old.rows }
+        ensures acts { self.new.acts ≡ self.old.acts }
+    {
+        match self.next.take() {
+            None => Ok(false),
+            Some(pattern) => match self.take_alone(Input::Pattern(pattern)) {
+                Ok(()) => Ok(true),
+                Err(refusal) => Err(refusal),
+            },
+        }
+    }
+
+    /// Takes an input, whatever follows it.
+    #[inline(always)]
+    fn take_alone(&mut self, input: Input) -> Result<(), Refusal>
+        ensures took { (given : Setup) (log : List LogRow) (inputs : List InputValue) → Stands given log self.old inputs → IsNext self.old.mode given inputs input → Took result given log self.new inputs input }
+        ensures wanting { result ≡ Err Memory → IsWanting self.new input }
+        ensures still { OnErr result (whole self.new.bench ≡ whole self.old.bench) }
+        ensures state { OnOk result (state_of self.new.bench ≡ step (state_of self.old.bench) input) }
+        ensures mode { self.new.mode ≡ self.old.mode }
+        ensures rows { self.new.rows ≡ self.old.rows }
+        ensures acts { self.new.acts ≡ self.old.acts }
+        ensures next { self.new.next ≡ self.old.next }
     {
         match self.mode {
             Mode::Plain => self.bench.apply(input),
@@ -198,8 +296,11 @@ impl<'a> Course<'a> {
         ensures took { (given : Setup) (log : List LogRow) (inputs : List InputValue) → Stands given log self.old inputs → IsNext self.old.mode given inputs input → Took result given log self.new inputs input }
         ensures wanting { result ≡ Err Memory → IsWanting self.new input }
         ensures still { OnErr result (whole self.new.bench ≡ whole self.old.bench) }
+        ensures state { OnOk result (state_of self.new.bench ≡ step (state_of self.old.bench) input) }
         ensures mode { self.new.mode ≡ self.old.mode }
         ensures rows { self.new.rows ≡ self.old.rows }
+        ensures acts { self.new.acts ≡ self.old.acts }
+        ensures next { self.new.next ≡ self.old.next }
     {
         let tick = self.bench.now();
         match self.bench.apply(input) {
@@ -215,8 +316,11 @@ impl<'a> Course<'a> {
         ensures took { (given : Setup) (log : List LogRow) (inputs : List InputValue) → Stands given log self.old inputs → IsNext self.old.mode given inputs input → Took result given log self.new inputs input }
         ensures wanting { result ≡ Err Memory → IsWanting self.new input }
         ensures still { OnErr result (whole self.new.bench ≡ whole self.old.bench) }
+        ensures state { OnOk result (state_of self.new.bench ≡ step (state_of self.old.bench) input) }
         ensures mode { self.new.mode ≡ self.old.mode }
         ensures rows { self.new.rows ≡ self.old.rows }
+        ensures acts { self.new.acts ≡ self.old.acts }
+        ensures next { self.new.next ≡ self.old.next }
     {
         let tick = self.bench.now();
         let last = self.kept.last_row();
@@ -235,8 +339,11 @@ impl<'a> Course<'a> {
         ensures took { (given : Setup) (log : List LogRow) (inputs : List InputValue) → Stands given log self.old inputs → IsNext self.old.mode given inputs input → Took result given log self.new inputs input }
         ensures wanting { result ≡ Err Memory → IsWanting self.new input }
         ensures still { OnErr result (whole self.new.bench ≡ whole self.old.bench) }
+        ensures state { OnOk result (state_of self.new.bench ≡ step (state_of self.old.bench) input) }
         ensures mode { self.new.mode ≡ self.old.mode }
         ensures rows { self.new.rows ≡ self.old.rows }
+        ensures acts { self.new.acts ≡ self.old.acts }
+        ensures next { self.new.next ≡ self.old.next }
     {
         let tick = self.bench.now();
         let row = self.rows.in_force(tick);
@@ -260,6 +367,8 @@ impl<'a> Course<'a> {
         ensures kept { self.new.kept ≡ self.old.kept }
         ensures mode { self.new.mode ≡ self.old.mode }
         ensures rows { self.new.rows ≡ self.old.rows }
+        ensures acts { self.new.acts ≡ self.old.acts }
+        ensures next { self.new.next ≡ self.old.next }
     {
         if self.told.add(input, tick, &self.news).is_err() {
             let _ = self.bench.undo();
@@ -283,6 +392,8 @@ impl<'a> Course<'a> {
         ensures mode { self.new.mode ≡ self.old.mode }
         ensures rows { self.new.rows ≡ self.old.rows }
         ensures news { self.new.news ≡ self.old.news }
+        ensures acts { self.new.acts ≡ self.old.acts }
+        ensures next { self.new.next ≡ self.old.next }
     {
         if self.kept.add(input, tick).is_err() {
             let _ = self.bench.undo();
@@ -296,8 +407,10 @@ impl<'a> Course<'a> {
     pub fn answer(&mut self, command: Cmd) -> Answer
         ensures right { (given : Setup) (log : List LogRow) (inputs : List InputValue) → Stands given log self.old inputs → AsksNext self.old.mode given inputs command → Answered given log self.new inputs command result }
         ensures wanting { result ≡ Refused Memory → WantsTo self.new command }
+        ensures next { (given : Setup) (log : List LogRow) (inputs : List InputValue) → Stands given log self.old inputs → self.new.next ≡ follower_of given inputs command result }
         ensures mode { self.new.mode ≡ self.old.mode }
         ensures rows { self.new.rows ≡ self.old.rows }
+        ensures acts { self.new.acts ≡ self.old.acts }
     {
         match command {
             Cmd::Apply(input) => match self.take(input) {
@@ -305,6 +418,7 @@ impl<'a> Course<'a> {
                 Err(refusal) => Answer::Refused(refusal),
             },
             _ => {
+                self.next = None;
                 let given = answer(&mut self.bench, command);
                 self.forget(&given);
                 given
@@ -319,6 +433,8 @@ impl<'a> Course<'a> {
         ensures bench { self.new.bench ≡ self.old.bench }
         ensures mode { self.new.mode ≡ self.old.mode }
         ensures rows { self.new.rows ≡ self.old.rows }
+        ensures acts { self.new.acts ≡ self.old.acts }
+        ensures next { self.new.next ≡ self.old.next }
     {
         let tick = self.bench.now();
         match *answer {
@@ -349,6 +465,17 @@ impl<'a> Course<'a> {
             _ => Ok(()),
         }
     }
+}
+
+/// The pattern that follows an input of a bench that has taken it, where this action was in force before.
+fn selected(bench: &Bench, before: Option<u32>) -> Option<u32>
+    ensures { option_map Pattern result ≡ selects (state_of bench.now).plan before (action (state_of bench.now)) }
+{
+    let action = bench.action()?;
+    if before == Some(action) {
+        return None;
+    }
+    Some(bench.plan().selected_by(action))
 }
 
 /// Keeps the newest input no more, which was of this kind. Without it, this tick is in force.

@@ -18,7 +18,7 @@ mod run;
 pub mod stop;
 mod task;
 
-pub use answers::{obey, say_refusal, say_tick};
+pub use answers::{follow, obey, say_refusal};
 pub use course::{Course, Mode};
 pub use error::{SessionError, fault_of};
 pub use faults::{LineFault, OnFault, fault_line, fault_words};

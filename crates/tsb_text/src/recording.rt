@@ -8,9 +8,9 @@ ghost use Rattle.tsb_step.specs.declared.inputs.Input.{Input as InputValue};
 ghost use Rattle.tsb_step.specs.declared.log_form.LogForm.{LogForm as LogFormValue};
 ghost use Rattle.tsb_text.specs.Answers.{Setup};
 ghost use Rattle.tsb_text.specs.Blame.{Blames};
-ghost use Rattle.tsb_text.specs.recording.Ended.{Ended};
+ghost use Rattle.tsb_text.specs.recording.Ended.{Ended, EndedFrom};
 ghost use Rattle.tsb_text.specs.recording.Faults.{fault_text};
-ghost use Rattle.tsb_text.specs.recording.Leaves.{first_inputs, quits};
+ghost use Rattle.tsb_text.specs.recording.Leaves.{BeginsWith, quits};
 ghost use Rattle.tsb_text.specs.Obeyed.{Stands};
 ghost use Rattle.tsb_text.specs.Stops.{stop_in};
 ghost use Rattle.tsb_text.specs.declared.course.Mode.TheVariants as modes;
@@ -47,6 +47,8 @@ pub struct RecordOptions {
     pub on_fault: OnFault,
     /// Its form.
     pub form: LogForm,
+    /// Whether the schedule of the plan acts.
+    pub acts: bool,
     /// The moment at which its tick 1 begins, to which its clock is set before that: none where it has no clock.
     pub clock: Option<ClockTime>,
 }
@@ -139,16 +141,20 @@ fn outcome_of(course: Course, stop: Option<Stop>) -> Outcome
     }
 }
 
-/// Sets the clock of a record that begins, where it has one. The error is that there is no memory for it.
+/// Sets the clock of a record that begins, where it has one, and takes what follows that. The error is that there is no
+/// memory for them.
 fn set_clock(course: &mut Course, clock: Option<ClockTime>) -> Result<(), SessionError>
-    ensures set { OnOk result ((given : Setup) (log : List LogRow) → Stands given log course.old [] → Stands given log course.new (first_inputs clock)) }
+    ensures set { OnOk result ((given : Setup) (log : List LogRow) → Stands given log course.old [] → (first : List InputValue) × BeginsWith given clock first × Stands given log course.new first) }
     ensures memory { IfErr result (λ e. e ≡ errors_of.Memory) }
     ensures mode { course.new.mode ≡ course.old.mode }
 {
     match clock {
         None => Ok(()),
         Some(time) => match course.take(Input::Clock(time)) {
-            Ok(()) => Ok(()),
+            Ok(()) => match course.follow() {
+                Ok(_) => Ok(()),
+                Err(_) => Err(SessionError::Memory),
+            },
             Err(_) => Err(SessionError::Memory),
         },
     }
@@ -195,9 +201,10 @@ fn carried_out<R: Read, E: Write>(
 /// that is asked for (`LogForm`).
 ///
 /// A fault ends the record; what was told until then is a prefix of what is to be told. `Read` comes exactly where a read
-/// has failed, and `Write` exactly where a write or a flush has. `TooLarge` comes where there is a byte after the first 16 MiB, once the whole lines within them were carried out, and `Memory` where there is none for
-/// the bench at power-up, or for its clock: nothing was read then. Where there is none for the events of an input it is
-/// refused with E1.
+/// has failed, and `Write` exactly where a write or a flush has. `TooLarge` comes where there is a byte after the first
+/// 16 MiB, once the whole lines within them were carried out, and `Memory` where there is none for the bench at
+/// power-up, or for its clock and what follows that: nothing was read then. Where there is none for the events of an
+/// input it is refused with E1.
 pub fn record<R: Read, E: Write>(
     alloc: Global,
     plan: Checked,
@@ -209,7 +216,7 @@ pub fn record<R: Read, E: Write>(
     requires reads { reader.old.failed ≡ false }
     requires writes { errors.old.failed ≡ false }
     requires flushed { errors.old.flushed ≡ true }
-    ensures ended { Ended result options.on_fault options.form (record { plan = checked_plan plan; log = log.now }) (first_inputs options.clock)
+    ensures ended { EndedFrom result options.on_fault options.form (record { plan = checked_plan plan; log = log.now; acts = options.acts }) options.clock
         (R.remaining reader.old.device) (R.remaining reader.new.device) (E.contents errors.old.device) (E.contents errors.new.device) }
     ensures blame { Blames result reader.new.failed errors.new.failed errors.new.flushed }
 {
@@ -217,7 +224,13 @@ pub fn record<R: Read, E: Write>(
         return Err(SessionError::Memory);
     };
     let rows = Rows::OfLog { log, place: 0 };
-    let mut begun = Course::new(alloc, bench, rows, Mode::Recording(options.form));
+    let mut begun = Course::new(
+        alloc,
+        bench,
+        rows,
+        Mode::Recording(options.form),
+        options.acts,
+    );
     match set_clock(&mut begun, options.clock) {
         Ok(()) => carried_out(begun, options.on_fault, reader, errors),
         Err(fault) => {

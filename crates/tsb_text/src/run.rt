@@ -92,7 +92,8 @@ fn as_session(ended: Result<(), DialogError>) -> Result<(), SessionError>
 }
 
 /// Runs a session: reads commands, and writes their answers, up to a line `quit` or the end of what is read. The bench
-/// begins at power-up with the plan, and its ticks take the rows of the log.
+/// begins at power-up with the plan, and its ticks take the rows of the log. Where `acts`, the schedule of the plan gives
+/// inputs as well.
 ///
 /// What was answered goes out and is passed on before each read, and at the end. A fault ends the session; what was
 /// written until then is a prefix of its text. `Read` is answered exactly where a read has failed, and `Write` exactly
@@ -102,13 +103,14 @@ pub fn session<R: Read, W: Write>(
     alloc: Global,
     plan: Checked,
     log: &Log,
+    acts: bool,
     reader: &mut Watched<R>,
     writer: &mut Watched<W>,
 ) -> Result<(), SessionError>
     requires reads { reader.old.failed ≡ false }
     requires writes { writer.old.failed ≡ false }
     requires flushed { writer.old.flushed ≡ true }
-    ensures ended { Ended result (record { plan = checked_plan plan; log = log.now })
+    ensures ended { Ended result (record { plan = checked_plan plan; log = log.now; acts = acts })
         (R.remaining reader.old.device) (R.remaining reader.new.device) (W.contents writer.old.device) (W.contents writer.new.device) }
     ensures blame { Blames result reader.new.failed writer.new.failed writer.new.flushed }
 {
@@ -117,7 +119,7 @@ pub fn session<R: Read, W: Write>(
     };
     let rows = Rows::OfLog { log, place: 0 };
     let mut machine = SessionRun {
-        course: Course::new(alloc, bench, rows, Mode::Plain),
+        course: Course::new(alloc, bench, rows, Mode::Plain, acts),
         lines: LineMaker::new(),
     };
     as_session(converse(&mut machine, COMMANDS, reader, writer))

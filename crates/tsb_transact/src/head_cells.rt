@@ -27,7 +27,7 @@ pub const DONE: u32 = 3;
 
 /// The rule of a number, 0 for none.
 pub fn rule_of(number: u32) -> Option<Rule>
-    requires { number ≤ 23 }
+    requires { number ≤ 27 }
     ensures { result ≡ nth_rule rules number }
 {
     match number {
@@ -54,15 +54,19 @@ pub fn rule_of(number: u32) -> Option<Rule>
         21 => Some(Rule::K21),
         22 => Some(Rule::K22),
         23 => Some(Rule::K23),
+        24 => Some(Rule::K24),
+        25 => Some(Rule::K25),
+        26 => Some(Rule::K26),
+        27 => Some(Rule::K27),
         _ => None,
     }
 }
 
-/// The number of a rule, 1 to 23.
+/// The number of a rule, 1 to 27.
 pub fn rule_number(rule: Rule) -> u32
     ensures cell { result ≡ rule_cell (Some rule) }
     ensures back { nth_rule rules result ≡ Some rule }
-    ensures within { result ≤ 23 }
+    ensures within { result ≤ 27 }
 {
     match rule {
         Rule::K1 => 1,
@@ -88,5 +92,9 @@ pub fn rule_number(rule: Rule) -> u32
         Rule::K21 => 21,
         Rule::K22 => 22,
         Rule::K23 => 23,
+        Rule::K24 => 24,
+        Rule::K25 => 25,
+        Rule::K26 => 26,
+        Rule::K27 => 27,
     }
 }

@@ -7,4 +7,5 @@ pub mod OptionLemmas
 pub mod IntervalLemmas
 pub mod NumberLemmas
 pub mod EventLemmas
+pub mod CalendarLemmas
 pub mod Examples

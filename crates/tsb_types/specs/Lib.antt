@@ -12,3 +12,5 @@ pub mod Intervals
 pub mod Flow
 -- that lists of phases and tests of phases agree
 pub mod Laws
+-- dates and their numbers
+pub mod Calendar

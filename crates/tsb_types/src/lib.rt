@@ -4,6 +4,7 @@
 //! What is marked "profile" is this project's own choice. Nothing here takes memory.
 #![tactic(auto)]
 
+pub mod calendar;
 pub mod clock_time;
 pub mod event;
 pub mod flow;
@@ -19,6 +20,7 @@ pub mod row;
 pub mod stage;
 pub mod watch;
 
+pub use calendar::ClockDate;
 pub use clock_time::{ClockTime, DAY};
 pub use event::Event;
 pub use flow::{Called, Intervals, Moves, Orders, Pedestrians, RingMoves, Timing};
@@ -26,8 +28,8 @@ pub use interval::{Interval, PedestrianInterval};
 pub use lamp::{Aspect, Lamp, PedestrianAspect, PedestrianColor, SignalColor};
 pub use number_set::NumberSet;
 pub use numbers::{
-    Detector, Number, Overlap, Pattern, PedestrianDetector, Phase, Preempt, Ring, Sequence, Side,
-    Split, Station,
+    Action, DayEvent, DayPlan, Detector, Entry, Number, Overlap, Pattern, PedestrianDetector,
+    Phase, Preempt, Ring, Sequence, Side, Split, Station,
 };
 pub use phase_set::PhaseSet;
 pub use refusal::Refusal;

@@ -44,6 +44,18 @@ pub type Sequence = Number<9, 4>;
 /// The number of a preempt: 1 to 4.
 pub type Preempt = Number<10, 4>;
 
+/// The number of an entry of a schedule: 1 to 32.
+pub type Entry = Number<12, 32>;
+
+/// The number of a day plan: 1 to 16.
+pub type DayPlan = Number<13, 16>;
+
+/// The number of an event of a day plan: 1 to 16.
+pub type DayEvent = Number<14, 16>;
+
+/// The number of an action of a schedule: 1 to 32.
+pub type Action = Number<15, 32>;
+
 impl<const KIND: u8, const MOST: u8> Model for Number<KIND, MOST> {
     ghost Value = { ℕ };
 

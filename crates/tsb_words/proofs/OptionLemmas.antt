@@ -10,7 +10,7 @@ use Rattle.tsb_event_text.specs.declared.times.Moment.{Moment}
 use Rattle.tsb_event_text.specs.declared.zones.Zone.{Zone}
 use Rattle.tsb_words.specs.declared.field_files.Manner.{Manner}
 use Rattle.tsb_words.specs.declared.field_files.RecordManner.{RecordManner}
-use Rattle.tsb_words.specs.FieldProgram.{diagram_in, diagram_with, events_in, events_with, form_said, from_said, is_set, log_in, log_with, manner_in, manner_with, moment_in, record_in, record_manner_in, record_with, review_in, review_with, seconds_said, texts_in, window_in, window_said, wires_in, zone_said}
+use Rattle.tsb_words.specs.FieldProgram.{diagram_in, diagram_with, events_in, events_with, form_said, from_said, is_set, log_in, log_with, manner_in, manner_with, moment_in, record_in, record_manner_in, record_with, review_in, review_with, schedule_in, schedule_with, seconds_said, texts_in, window_in, window_said, wires_in, zone_said}
 use Rattle.tsb_field_log.specs.declared.inputs.Wire.{Wire}
 use Rattle.tsb_words.specs.FieldWords.{Wish, log}
 
@@ -66,6 +66,14 @@ getters_diagram f asked file title seconds from events said begun file-is title-
 pub getters_review : (f : Found) (asked : Option Wish) (plan : Option Text) → plan ≡ first_value f (codes "PLAN") → asked ≡ review_with plan
     → asked ≡ review_in (rows_of f)
 getters_review f asked plan plan-is is = is ∙ ap review_with (sym (first_is f (codes "PLAN") plan plan-is))
+
+-- and what `schedule` asks for
+pub getters_schedule : (f : Found) (asked : Option Wish) (plan week : Option Text) → plan ≡ first_value f (codes "PLAN") → week ≡ first_value f (codes "week")
+    → asked ≡ schedule_with plan week → asked ≡ schedule_in (rows_of f)
+getters_schedule f asked plan week plan-is week-is is =
+    let plan-there : plan ≡ first_of (codes "PLAN") (rows_of f) = sym (first_is f (codes "PLAN") plan plan-is) in
+    let week-there : week ≡ first_of (codes "week") (rows_of f) = sym (first_is f (codes "week") week week-is) in
+    is ∙ (λ j. schedule_with (plan-there j) (week-there j))
 
 -- the values of an option, as a getter answers them
 pub texts_is : (f : Found) (id : Text) (o : Option (List Text)) → o ≡ option_map raw_values (matched_of f id) → unwrap_or o [] ≡ texts_in id (rows_of f)

@@ -16,7 +16,8 @@ use Rattle.tsb_words.specs.declared.field_files.Manner.{Manner}
 use Rattle.tsb_words.specs.declared.field_files.RecordManner.{RecordManner}
 use Rattle.tsb_words.specs.declared.error.WordsError.{WordsError}
 use Rattle.tsb_words.specs.Commands.{file_rule, flag_rule, option_rule, repeated_rule, required_rule}
-use Rattle.tsb_words.specs.FieldWords.{Wish, diagram, events, log, recording, reviewing, seconds_of, seen, window_of}
+use Rattle.tsb_words.specs.FieldWords.{Wish, diagram, events, log, midnight, recording, reviewing, seconds_of, seen, weekly, window_of}
+use Rattle.tsb_command_text.specs.clock.ClockText.{clock_of}
 use Rattle.tsb_words.specs.Words.{SpelledBy, met_by}
 use Rattle.tsb_words.specs.Wires.{joined, wires_of}
 
@@ -67,11 +68,15 @@ diagram_shape = shape_with (codes "diagram")
 abbrev pub review_shape : Shape
 review_shape = shape_with (codes "review") (file_rule (codes "PLAN") ∷ [])
 
+-- those of `schedule`
+abbrev pub schedule_shape : Shape
+schedule_shape = shape_with (codes "schedule") (file_rule (codes "PLAN") ∷ required_rule (codes "week") ∷ [])
+
 -- the program with its subcommands
 abbrev pub program : App
 program = record {
   top = record (new_shape (codes "tsb_field")) { is_leaf = false };
-  subs = log_shape ∷ record_shape ∷ events_shape ∷ diagram_shape ∷ review_shape ∷ [];
+  subs = log_shape ∷ record_shape ∷ events_shape ∷ diagram_shape ∷ review_shape ∷ schedule_shape ∷ [];
 }
 
 -- the values of an option that may come several times
@@ -209,12 +214,27 @@ review_with (Some plan) = Some (reviewing plan)
 abbrev pub review_in : List Row → Option Wish
 review_in rows = review_with (first_of (codes "PLAN") rows)
 
+-- what runs in a week from this moment on, where there is one
+abbrev pub weekly_at : Text → Option ℕ → Option Wish
+weekly_at plan None = None
+weekly_at plan (Some week) = Some (weekly plan week)
+
+-- the same, where a plan is named and a date that there is
+abbrev pub schedule_with : Option Text → Option Text → Option Wish
+schedule_with (Some plan) (Some date) = weekly_at plan (clock_of date midnight)
+schedule_with plan date = None
+
+-- what `schedule` asks for, with this file and this option
+abbrev pub schedule_in : List Row → Option Wish
+schedule_in rows = schedule_with (first_of (codes "PLAN") rows) (first_of (codes "week") rows)
+
 -- what a subcommand of this name that is not `log` asks for, with these options
 abbrev pub other_in : Text → List Row → Option Wish
 other_in name rows =
     if bytes_eq name (codes "record") then record_in rows
     else (if bytes_eq name (codes "events") then events_in rows
-    else (if bytes_eq name (codes "diagram") then diagram_in rows else review_in rows))
+    else (if bytes_eq name (codes "diagram") then diagram_in rows
+    else (if bytes_eq name (codes "schedule") then schedule_in rows else review_in rows)))
 
 -- what the subcommand asks for that was met, with its options
 abbrev pub asked_by : Option (Text × List Row) → Option Wish

@@ -1,5 +1,5 @@
 -- What words of `tsb_field` may ask for.
-use Rattle.std.specs.Prelude.{ℕ, ◌&&◌, nat_le, List, Option, Some, None, option_map, if◌then◌else◌}
+use Rattle.std.specs.Prelude.{ℕ, ◌&&◌, nat_le, List, Option, Some, None, option_map, if◌then◌else◌, codes}
 use Rattle.tsb_lines.specs.Words.{number_of}
 use Rattle.tsb_event_text.specs.declared.times.Moment.{Moment}
 use Rattle.tsb_field_log.specs.declared.inputs.Wire.{Wire}
@@ -32,6 +32,12 @@ pub data Wish : Type 0 where
   diagram : Option (List ℕ) → Option (List ℕ) → Option ℕ → Option Moment → Option (List ℕ) → Wish
   -- a review of the plan in this file
   reviewing : List ℕ → Wish
+  -- what the schedule of the plan in this file runs in the week that begins with this moment
+  weekly : List ℕ → ℕ → Wish
+
+-- the time of day at which a week begins
+abbrev pub midnight : List ℕ
+midnight = codes "00:00:00"
 
 -- so many seconds, where a line of a diagram may show them: from 1 on
 abbrev pub seconds_at : Option ℕ → Option ℕ
@@ -70,3 +76,4 @@ seen (asks.Diagram asked) =
     diagram (option_map (λ name. name.now) asked.log) (option_map (λ name. name.now) asked.title) asked.seconds_per_line asked.from
     (option_map (λ name. name.now) asked.events)
 seen (asks.Review plan) = reviewing plan.now
+seen (asks.Schedule plan week) = weekly plan.now week

@@ -77,7 +77,8 @@ words_of command =
     else (if bytes_eq command (codes "record") then map (λ right. right.now) words.RECORD
     else (if bytes_eq command (codes "events") then map (λ right. right.now) words.EVENTS
     else (if bytes_eq command (codes "diagram") then map (λ right. right.now) words.DIAGRAM
-    else (if bytes_eq command (codes "review") then (map (λ right. right.now) words.REVIEW) else []))))
+    else (if bytes_eq command (codes "review") then map (λ right. right.now) words.REVIEW
+    else (if bytes_eq command (codes "schedule") then (map (λ right. right.now) words.SCHEDULE) else [])))))
 
 -- the right word that was perhaps meant by a wrong one of `tsb_live`; the first of all words is the program's name
 abbrev pub live_near : List Text → Option Text

@@ -9,7 +9,8 @@ use Rattle.tsb_event_text.specs.declared.time_forms.TimeForm.{TimeForm}
 use Rattle.tsb_field_log.specs.Inputs.{most_inputs}
 use Rattle.tsb_field_log.specs.declared.inputs.InputKind.{InputKind}
 use Rattle.tsb_field_log.specs.declared.inputs.InputKind.TheVariants.{Vehicle, Pedestrian, Preempt}
-use Rattle.tsb_words.specs.FieldWords.{seconds_of, window_of}
+use Rattle.tsb_words.specs.FieldWords.{midnight, seconds_of, window_of}
+use Rattle.tsb_command_text.specs.clock.ClockText.{clock_of}
 use Rattle.tsb_words.specs.Near.{first_word, front_of, is_empty, is_slip, words_of}
 use Rattle.tsb_words.specs.Shown.{shown}
 use Rattle.tsb_words.specs.Wires.{parts_of, wire_of}
@@ -102,11 +103,12 @@ other_value_of name =
 abbrev pub value_of : Text → Text → OptionValue
 value_of command name =
     if bytes_eq name (codes "--from") then takes.Time
+    else (if bytes_eq name (codes "--week") then takes.Date
     else (if bytes_eq name (codes "--time-form") then takes.Form
     else (if bytes_eq name (codes "--zone") then takes.Zone
     else (if bytes_eq name (codes "--sort-within") then takes.Window
     else (if bytes_eq name (codes "--seconds-per-line") then takes.Seconds
-    else (if bytes_eq name (codes "--device") then device_of command else other_value_of name)))))
+    else (if bytes_eq name (codes "--device") then device_of command else other_value_of name))))))
 
 -- an option that takes this may come once alone
 abbrev pub is_once : OptionValue → Bool
@@ -123,6 +125,7 @@ is_flag value = false
 -- an option that takes this can have that value
 abbrev pub is_taken : OptionValue → Text → Bool
 is_taken takes.Time text = is_some (moment_of text)
+is_taken takes.Date text = is_some (clock_of text midnight)
 is_taken takes.Form text = is_some (time_form_named text)
 is_taken takes.Zone text = is_some (zone_named text)
 is_taken takes.Window text = is_some (window_of text)
@@ -210,16 +213,17 @@ wrong_in command [] = None
 wrong_in command (word ∷ behind) =
     if bytes_eq word (codes "--") then None else wrong_or (wrong_at command word behind) (wrong_in command behind)
 
--- `--from` has to be given: in each command but `review`, and in `diagram` where there is `--events`
+-- `--from` has to be given: in each command but `review` and `schedule`, and in `diagram` where there is `--events`
 abbrev pub needs_from : Text → List Text → Bool
-needs_from command words = if bytes_eq command (codes "diagram") then has_option (codes "--events") words else not (bytes_eq command (codes "review"))
+needs_from command words = if bytes_eq command (codes "diagram") then has_option (codes "--events") words else not (bytes_eq command (codes "review")) && not (bytes_eq command (codes "schedule"))
 
 -- what these words lack: an option that has to be given, or else the files of the command
 abbrev pub lacking : Text → List Text → Wrong
 lacking command words =
     if needs_from command words && not (has_option (codes "--from") words) then missing (codes "--from") takes.Time
     else (if writes_device command && not (has_option (codes "--device") words) then missing (codes "--device") takes.Device
-    else other_files command)
+    else (if bytes_eq command (codes "schedule") && not (has_option (codes "--week") words) then missing (codes "--week") takes.Date
+    else other_files command))
 
 -- a first wrong word, or else what is lacking
 abbrev pub wrong_or_lacking : Option Wrong → Wrong → Wrong
@@ -264,6 +268,7 @@ device_text = codes "a device has no double quote, no end of a line and at most 
 -- what an option takes
 abbrev pub taken_text : OptionValue → List ℕ
 taken_text takes.Time = codes "a time is YYYY-MM-DD HH:MM:SS, such as \"2026-11-22 07:00:00\""
+taken_text takes.Date = codes "a date is YYYY-MM-DD, such as 2026-11-22, of the years 2000 to 2099"
 taken_text takes.Form = codes "a form is year-first, month-first, day-first, seconds or milliseconds"
 taken_text takes.Zone = codes "a zone is an offset such as -07:00, or Z"
 taken_text takes.Window = seconds_text MOST_WINDOW
@@ -279,7 +284,8 @@ files_text command =
     if bytes_eq command (codes "log") then codes "log names no file: it reads an event log from standard input"
     else (if bytes_eq command (codes "record") then codes "record names two files, PLAN and LOG"
     else (if bytes_eq command (codes "review") then codes "review names one file, PLAN"
-    else codes "this command names files by options alone: it reads what `tsb run` answers from standard input"))
+    else (if bytes_eq command (codes "schedule") then codes "schedule names one file, PLAN"
+    else codes "this command names files by options alone: it reads what `tsb run` answers from standard input")))
 
 -- a value in double quotes
 abbrev pub quoted : Text → List ℕ
@@ -287,7 +293,7 @@ quoted text = codes " \"" ++ (shown text ++ codes "\": ")
 
 -- what is said of words with which this is wrong, without the end of the line
 abbrev pub wrong_text : Wrong → List ℕ
-wrong_text (no_command name) = codes "there is no command \"" ++ (shown name ++ codes "\": log, record, events, diagram or review")
+wrong_text (no_command name) = codes "there is no command \"" ++ (shown name ++ codes "\": log, record, events, diagram, review or schedule")
 wrong_text (unknown name) = shown name ++ codes ": the command has no such option; --help after it lists all"
 wrong_text (bare name value) = shown name ++ (codes " has no value (one that begins with a hyphen comes after =): " ++ taken_text value)
 wrong_text (bad_value name value text) = shown name ++ (quoted text ++ taken_text value)

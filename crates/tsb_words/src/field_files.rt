@@ -3,7 +3,7 @@ ghost use Rattle.std.specs.Prelude.{◌≡◌, Err, map, option_map};
 ghost use Rattle.clap.specs.Words.{found_of, rows_of};
 ghost use Rattle.clap.specs.Simple.{subcommand_rows_of};
 ghost use Rattle.tsb_words.specs.declared.error.WordsError.TheVariants.{Memory};
-ghost use Rattle.tsb_words.specs.FieldProgram.{HasWires, NeedsMemory, Spells, asked_by, diagram_in, diagram_with, events_in, events_with, is_set, is_timed, log_in, manner_in, manner_with, other_in, record_in, record_manner_in, record_with, review_in, review_with, wires_in};
+ghost use Rattle.tsb_words.specs.FieldProgram.{HasWires, NeedsMemory, Spells, asked_by, diagram_in, diagram_with, events_in, events_with, is_set, is_timed, log_in, manner_in, manner_with, other_in, record_in, record_manner_in, record_with, review_in, review_with, schedule_in, schedule_with, wires_in};
 ghost use Rattle.tsb_words.specs.FieldWords.{seen};
 ghost use Rattle.tsb_words.specs.Wires.{AreSpelled};
 ghost use Rattle.tsb_words.specs.Words.{SpelledBy};
@@ -17,12 +17,13 @@ use crate::matches::matches_of;
 use clap::ArgMatches;
 use commands::PROGRAM;
 pub use options::{MOST_SECONDS, MOST_WINDOW, USUAL_WINDOW};
-pub(crate) use options::{seconds, window};
+pub(crate) use options::{midnight_of, seconds, window};
 use options::{form_said, from_said, moment, seconds_said, window_said, zone_said};
 use std::alloc::Global;
 use std::convert::AsStr;
 use tsb_event_text::{Moment, TimeForm, Zone, can_be_written};
 use tsb_field_log::{InputKind, Wire};
+use tsb_types::ClockTime;
 use wires::add_option;
 pub(crate) use wires::{parts, wire};
 
@@ -121,6 +122,13 @@ pub enum Asked<'a> {
         /// The file of the plan.
         plan: &'a str,
     },
+    /// What the schedule of a plan runs in a week.
+    Schedule {
+        /// The file of the plan.
+        plan: &'a str,
+        /// The midnight at which the week begins.
+        week: ClockTime,
+    },
 }
 
 /// What the words ask for, the first of which is the program's name.
@@ -128,11 +136,13 @@ pub enum Asked<'a> {
 /// `log` has `--from TIME`, and may have `--device ID`, `--as-outputs PLAN`, `--time-form FORM`, `--zone OFFSET`, `--count`,
 /// `--allow-empty`, `--sort`, `--sort-within SECONDS` and any number of `--vehicle CHANNEL=DETECTOR`, `--pedestrian
 /// CHANNEL=DETECTOR` and `--preempt CHANNEL=INPUT`; `record` has `--from TIME`, `--device ID`, and the files of a plan and a
-/// log, and may have `--go-on`, `--recalls`, `--outputs` and `--no-clock`; `events` has `--from TIME` and `--device ID`, and may have `--log LOG`; `diagram` may have
-/// `--log LOG`, `--title TEXT`, `--seconds-per-line N`, and `--from TIME`, and with that `--events FILE`; `review` has the file of a plan. Options come in any order, and
-/// `--NAME=VALUE` is `--NAME VALUE`. A value that begins with a hyphen comes after `=`. All else is `Bad`, and so are a
-/// request for help and a device of `record` or `events` with a double quote, an end of a line or over 900 bytes. `Memory`
-/// may come in place of every answer, as `clap` allocates. Where it takes the words, only those of `log` may need more.
+/// log, and may have `--go-on`, `--recalls`, `--outputs` and `--no-clock`; `events` has `--from TIME` and `--device ID`,
+/// and may have `--log LOG`; `diagram` may have `--log LOG`, `--title TEXT`, `--seconds-per-line N`, and `--from TIME`,
+/// and with that `--events FILE`; `review` has the file of a plan; `schedule` has the file of a plan, and `--week DATE`.
+/// Options come in any order, and `--NAME=VALUE` is `--NAME VALUE`. A value that begins with a hyphen comes after `=`. All
+/// else is `Bad`, and so are a request for help and a device of `record` or `events` with a double quote, an end of a line
+/// or over 900 bytes. `Memory` may come in place of every answer, as `clap` allocates. Where it takes the words, only those
+/// of `log` may need more.
 pub fn read_words<'a, S: AsStr>(alloc: Global, words: &'a [S]) -> Result<Asked<'a>, WordsError>
     ensures { Spells (map S.text words.now) result }
 {
@@ -169,6 +179,8 @@ fn other_asked<'a>(name: &str, options: &ArgMatches<'a>) -> Option<Asked<'a>>
         events_asked(options)
     } else if name == "diagram" {
         diagram_asked(options)
+    } else if name == "schedule" {
+        schedule_asked(options)
     } else {
         review_asked(options)
     }
@@ -387,6 +399,23 @@ fn review_asked<'a>(options: &ArgMatches<'a>) -> Option<Asked<'a>>
     ensures { option_map seen result ≡ review_in (rows_of (found_of options.now)) }
 {
     review_with(options.get_str("PLAN"))
+}
+
+/// What `schedule` asks for, with this file and this option.
+fn schedule_asked<'a>(options: &ArgMatches<'a>) -> Option<Asked<'a>>
+    ensures { option_map seen result ≡ schedule_in (rows_of (found_of options.now)) }
+{
+    schedule_with(options.get_str("PLAN"), options.get_str("week"))
+}
+
+/// What runs in a week, where a plan and a date are named.
+fn schedule_with<'a>(plan: Option<&'a str>, week: Option<&str>) -> Option<Asked<'a>>
+    ensures { option_map seen result ≡ schedule_with (option_map (λ text. text.now) plan.entry) (option_map (λ text. text.now) week.entry) }
+{
+    let plan = plan?;
+    let week = week?;
+    let week = midnight_of(week.as_bytes())?;
+    Some(Asked::Schedule { plan, week })
 }
 
 /// A review, where a plan is named.

@@ -16,12 +16,13 @@ const HINT: usize = 80;
 const LIVE: [&str; 3] = ["--strict", "--version", "--help"];
 
 /// The commands of `tsb_field`, and its own options.
-const COMMANDS: [&str; 7] = [
+const COMMANDS: [&str; 8] = [
     "log",
     "record",
     "events",
     "diagram",
     "review",
+    "schedule",
     "--version",
     "--help",
 ];
@@ -69,6 +70,9 @@ const DIAGRAM: [&str; 6] = [
 
 /// The options of `review`.
 const REVIEW: [&str; 1] = ["--help"];
+
+/// The options of `schedule`.
+const SCHEDULE: [&str; 2] = ["--week", "--help"];
 
 /// The right word that was perhaps meant by a wrong one of `tsb_live`: one from which a word differs by a slip of the
 /// hand. That is a letter too much, too few or another, or two that have changed places. The first of all words is the
@@ -135,6 +139,8 @@ pub(crate) fn words_of(command: &str) -> &'static [&'static str]
         &DIAGRAM
     } else if command == "review" {
         &REVIEW
+    } else if command == "schedule" {
+        &SCHEDULE
     } else {
         &[]
     }

@@ -7,7 +7,7 @@ mod texts;
 use std::convert::AsStr;
 use texts::{
     DIAGRAM_HELP, EVENTS_HELP, FIELD_HELP, FIELD_VERSION, LIVE_HELP, LIVE_VERSION, LOG_HELP,
-    RECORD_HELP, REVIEW_HELP,
+    RECORD_HELP, REVIEW_HELP, SCHEDULE_HELP,
 };
 
 /// The page that words of `tsb_live` ask for, by `--version` or `--help` alone. The first word is the program's name.
@@ -80,6 +80,8 @@ fn subcommand_page(name: &str) -> Option<&'static [u8]>
         Some(DIAGRAM_HELP)
     } else if name == "review" {
         Some(REVIEW_HELP)
+    } else if name == "schedule" {
+        Some(SCHEDULE_HELP)
     } else {
         None
     }

@@ -4,7 +4,7 @@ ghost use Rattle.tsb_words.specs.Wrong.{bare_or_none, device_of, field_wrong, gi
 
 mod line;
 
-use crate::field_files::{parts, seconds, window, wire};
+use crate::field_files::{midnight_of, parts, seconds, window, wire};
 use crate::near::{first_word, front_of, is_slip, words_of};
 pub use line::{LONGEST_WRONG, WrongLine, wrong_line};
 use std::convert::AsStr;
@@ -18,6 +18,8 @@ use tsb_field_log::InputKind;
 pub enum OptionValue {
     /// A moment: `YYYY-MM-DD HH:MM:SS`.
     Time,
+    /// A date: `YYYY-MM-DD`.
+    Date,
     /// A form of times: its word.
     Form,
     /// A zone: an offset, or `Z`.
@@ -173,6 +175,8 @@ fn value_of(command: &str, name: &[u8]) -> OptionValue
 {
     if name == b"--from".as_slice() {
         OptionValue::Time
+    } else if name == b"--week".as_slice() {
+        OptionValue::Date
     } else if name == b"--time-form".as_slice() {
         OptionValue::Form
     } else if name == b"--zone".as_slice() {
@@ -331,6 +335,7 @@ fn is_taken(takes: OptionValue, value: &[u8]) -> bool
 {
     match takes {
         OptionValue::Time => read_moment(value).is_some(),
+        OptionValue::Date => midnight_of(value).is_some(),
         OptionValue::Form => time_form_named(value).is_some(),
         OptionValue::Zone => zone_named(value).is_some(),
         OptionValue::Window => window(value).is_some(),
@@ -375,15 +380,19 @@ fn lacking<'a, S: AsStr>(command: &'a str, words: &'a [S]) -> WrongWord<'a>
     if writes_device(command) && !has_option(b"--device", words) {
         return WrongWord::Missing(b"--device", OptionValue::Device);
     }
+    if command == "schedule" && !has_option(b"--week", words) {
+        return WrongWord::Missing(b"--week", OptionValue::Date);
+    }
     WrongWord::Files(command)
 }
 
-/// Whether `--from` has to be given: in each command but `review`, and in `diagram` where there is `--events`.
+/// Whether `--from` has to be given: in each command but `review` and `schedule`, and in `diagram` where there is
+/// `--events`.
 fn needs_from<S: AsStr>(command: &str, words: &[S]) -> bool
     ensures { result ≡ needs_from command.now (map S.text words.now) }
 {
     if command == "diagram" {
         return has_option(b"--events", words);
     }
-    command != "review"
+    command != "review" && command != "schedule"
 }

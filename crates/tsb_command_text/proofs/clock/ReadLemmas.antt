@@ -9,10 +9,10 @@ use Rattle.tsb_lines.proofs.DigitLemmas.{digit-next}
 use Rattle.tsb_lines.specs.Digits.{digit}
 use Rattle.tsb_lines.specs.Words.{at_most, number_of}
 use Rattle.tsb_types.specs.declared.clock_time.TheConstants.{DAY, FIRST_DAY, LAST_DAY, FIRST_MOMENT, END_OF_DAYS}
-use Rattle.tsb_command_text.specs.clock.Calendar.{day_number, date_after, is_date, is_day}
+use Rattle.tsb_types.specs.Calendar.{day_number, date_after, is_date, is_day}
 use Rattle.tsb_command_text.specs.clock.ClockText.{clock_at, clock_of, date_in_word, date_of, date_of_three, date_text, has, part, tenth_of, time_in_word, time_of_four, time_text}
-use Rattle.tsb_command_text.specs.declared.clock.calendar.ClockDate.{ClockDate}
-use Rattle.tsb_command_text.proofs.clock.CalendarLemmas.{IsDated, dated, numbered}
+use Rattle.tsb_types.specs.declared.calendar.ClockDate.{ClockDate}
+use Rattle.tsb_types.proofs.CalendarLemmas.{IsDated, dated, numbered}
 
 -- ## Digits
 

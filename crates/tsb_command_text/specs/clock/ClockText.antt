@@ -4,8 +4,8 @@ use Rattle.std.specs.Prelude.{ℕ, ◌+◌, ◌-◌, ◌*◌, ◌/◌, ◌%◌, 
 use Rattle.tsb_lines.specs.Digits.{digit}
 use Rattle.tsb_lines.specs.Words.{number_of}
 use Rattle.tsb_types.specs.declared.clock_time.TheConstants.{DAY, FIRST_DAY}
-use Rattle.tsb_command_text.specs.clock.Calendar.{day_number, date_after, is_date}
-use Rattle.tsb_command_text.specs.declared.clock.calendar.ClockDate.{ClockDate}
+use Rattle.tsb_types.specs.Calendar.{day_number, date_after, is_date}
+use Rattle.tsb_types.specs.declared.calendar.ClockDate.{ClockDate}
 
 -- ## Reading
 

@@ -1,12 +1,12 @@
 //! Reads a date and a time of day.
 ghost use Rattle.std.specs.Prelude.{◌≡◌, ◌<◌, IfSome, true};
 ghost use Rattle.tsb_types.specs.declared.clock_time.TheConstants.{DAY};
-ghost use Rattle.tsb_command_text.specs.clock.Calendar.{is_date};
+ghost use Rattle.tsb_types.specs.Calendar.{is_date};
 ghost use Rattle.tsb_command_text.specs.clock.ClockText.{clock_of, date_in_word, tenth_of, time_in_word};
 
-use crate::clock::calendar::{ClockDate, day_number, is_date};
 use tsb_lines::number;
 use tsb_types::ClockTime;
+use tsb_types::calendar::{ClockDate, day_number, is_date};
 
 /// How many bytes a date has.
 const DATE: usize = 10;

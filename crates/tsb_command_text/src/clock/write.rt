@@ -3,9 +3,9 @@ ghost use Rattle.std.specs.Prelude.{◌≡◌, ◌%◌};
 ghost use Rattle.tsb_types.specs.declared.clock_time.TheConstants.{DAY};
 ghost use Rattle.tsb_command_text.specs.clock.ClockText.{date_of, date_text, time_text};
 
-use crate::clock::calendar::date_after;
 use tsb_lines::digit;
 use tsb_types::ClockTime;
+use tsb_types::calendar::date_after;
 use tsb_types::clock_time::FIRST_DAY;
 
 /// The date of a time that a clock is set to, as `2026-11-22`.

@@ -1,5 +1,5 @@
 -- Two answers of a live run to one line are the same, or one of them is that memory ran out.
-use Rattle.std.proofs.Common.{◌≡◌, ◌⊎◌, ℕ, zero, suc, Bool, false, List, [], ◌∷◌, ◌++◌, Option, Some, Ok, Err, refl, sym, ap, subst, ◌∙◌, inl, inr}
+use Rattle.std.proofs.Common.{◌≡◌, ◌⊎◌, ℕ, zero, suc, Bool, false, List, [], ◌∷◌, ◌++◌, Option, Some, None, Ok, Err, refl, sym, ap, subst, subst₂, ◌∙◌, inl, inr}
 use Rattle.std.specs.declared.result.Result.{Result}
 use Rattle.tsb_dialog.specs.Heard.{Runs}
 use Rattle.tsb_dialog.specs.Said.{with_feed}
@@ -9,30 +9,30 @@ use Rattle.tsb_command_text.specs.declared.live_command.LiveCommand.{LiveCommand
 use Rattle.tsb_command_text.specs.declared.live_command.LiveCommand.TheVariants as live
 use Rattle.tsb_command_text.specs.declared.live_command.LiveReading.{LiveReading}
 use Rattle.tsb_command_text.specs.declared.live_command.LiveReading.TheVariants.{Skip, Bad, Tick, Ask}
-use Rattle.tsb_live_text.specs.Changes.{Changes, line_after, owed, shows_same, tick_text}
+use Rattle.tsb_live_text.specs.Changes.{Changes, Ends, Follows, line_after, owed, shows_same, tick_text}
 use Rattle.tsb_text.specs.Stops.{flow_after, stopped_at}
 use Rattle.tsb_live_text.specs.GoTo.{command_to, tick_of}
 use Rattle.tsb_live_text.specs.Live.{AsksLive, GoesTo, Leaves, Live, Reads, Says, Tells, TellsTick, besides, fault_by, present, quits, setup, with_inputs, with_row, with_stop}
-use Rattle.tsb_step.specs.Play.{Cmd, IsRight, remaining_after}
+use Rattle.tsb_step.specs.Play.{Cmd, remaining_after}
 use Rattle.tsb_step.specs.Runs.{replay}
 use Rattle.tsb_step.specs.declared.inputs.Input.{Input}
 use Rattle.tsb_step.specs.declared.inputs.Input.TheVariants as inputs
 use Rattle.tsb_step.specs.tsb_machine.declared.commands.Answer.{Answer}
 use Rattle.tsb_step.specs.tsb_machine.declared.commands.Answer.TheVariants as answers
 use Rattle.tsb_step.specs.tsb_machine.declared.commands.MachineCommand.TheVariants.{Apply}
-use Rattle.tsb_step.specs.tsb_plan.Plan.{Plan}
 use Rattle.tsb_step.specs.tsb_types.declared.refusal.Refusal.{Refusal}
 use Rattle.tsb_step.specs.tsb_types.declared.refusal.Refusal.TheVariants.{Memory}
-use Rattle.tsb_text.specs.Answers.{Setup, display_line, next_tick, refused_line, told}
+use Rattle.tsb_text.specs.Answers.{GoesUnless, Leads, Setup, display_line, follower, follower_of, next_tick, refused_after, refused_line, told}
 use Rattle.tsb_text.specs.Obeys as session
-use Rattle.tsb_text.specs.Obeys.{AsksOnce, Besides, TakesTicks, before_line, news, news_of, refusal_in}
+use Rattle.tsb_text.specs.Obeys.{AsksOnce, Besides, TakesTicks, before_line, news, news_of, or_refusal, refusal_in, trail, trail_of}
 use Rattle.tsb_text.specs.Tasks.{task_of}
 use Rattle.tsb_text.specs.declared.faults.LineFault.{LineFault}
 use Rattle.tsb_text.specs.declared.task.Task.{Task}
 use Rattle.tsb_text.specs.declared.task.Task.TheVariants as tasks
 use Rattle.tsb_types.specs.declared.row.Row.{Row}
 use Rattle.tsb_laws.specs.OneAnswer.{RanOut, RunsOut}
-use Rattle.tsb_laws.proofs.one_text.AnswerLemmas.{answers-alike, refused-same, took-refused}
+use Rattle.tsb_laws.proofs.one_text.AnswerLemmas.{answers-alike}
+use Rattle.tsb_laws.proofs.one_text.LeadLemmas.{LedAlike, ends-by, leads-alike, refused-apart, took-apart}
 
 -- ## What a session asks
 
@@ -40,45 +40,59 @@ use Rattle.tsb_laws.proofs.one_text.AnswerLemmas.{answers-alike, refused-same, t
 abbrev Same : (text other : List ℕ) (why whys : Option Refusal) (new left : List Input) → Type 0
 Same text other why whys new left = ((text ≡ other) × (why ≡ whys) × (new ≡ left)) ⊎ ((why ≡ Some Memory) ⊎ (whys ≡ Some Memory))
 
-once-text : Setup → Besides → List Input → Cmd → Answer → List Input → List ℕ
-once-text given b is cmd a new = before_line b.echo a (news_of b.tells given is cmd) ++ with_feed (told cmd a (replay given.plan new))
+once-text : Setup → Besides → List Input → Cmd → Answer → Option Refusal → List ℕ
+once-text given b is cmd a stop =
+    (before_line b.echo a (news_of b.tells given is cmd) ++ trail_of b.tells given is cmd a stop)
+    ++ (with_feed (told cmd a (replay given.plan (remaining_after given.plan is cmd a))) ++ refused_after b.echo stop)
 
-once-left : (given : Setup) (b : Besides) (is : List Input) (cmd : Cmd) (text other : List ℕ) (why whys : Option Refusal) (new left : List Input)
-    → (x : AsksOnce given b is cmd text why new) → (y : AsksOnce given b is cmd other whys left) → x.answer ≡ y.answer → new ≡ left
-once-left given b is cmd text other why whys new left x y e = x.left ∙ ap (λ (a : Answer). remaining_after given.plan is cmd a) e ∙ sym y.left
+-- what follows the same answer
+once-led : (given : Setup) (b : Besides) (is : List Input) (cmd : Cmd) (text other : List ℕ) (why whys : Option Refusal) (new left : List Input)
+    → (x : AsksOnce given b is cmd text why new) → (y : AsksOnce given b is cmd other whys left) → x.answer ≡ y.answer → LedAlike x.stop y.stop new left
+once-led given b is cmd text other why whys new left x y e =
+    leads-alike given (remaining_after given.plan is cmd y.answer) (follower_of given is cmd y.answer) x.stop y.stop new left
+    (subst (λ (a : Answer). Leads given (remaining_after given.plan is cmd a) (follower_of given is cmd a) x.stop new) e x.left) y.left
+
+-- what is refused has nothing that follows
+refused-alone : (given : Setup) (is : List Input) (cmd : Cmd) (e : Refusal) (stop : Option Refusal) (new : List Input)
+    → Leads given (remaining_after given.plan is cmd (answers.Refused e)) (follower_of given is cmd (answers.Refused e)) stop new → stop ≡ None
+refused-alone given is (Apply i) e stop new l = l.0
+refused-alone given is cmd e stop new l = l.0
+
+some-none : (e : Refusal) → Some e ≡ None → ⊥
+some-none e h = cc
+
+-- memory ran out for what follows
+once-memory : (given : Setup) (is : List Input) (cmd : Cmd) (a : Answer) (stop : Option Refusal) (new : List Input)
+    → Leads given (remaining_after given.plan is cmd a) (follower_of given is cmd a) stop new → stop ≡ Some Memory → or_refusal (refusal_in a) stop ≡ Some Memory
+once-memory given is cmd (answers.Refused e) stop new l m = absurd (some-none Memory (sym m ∙ refused-alone given is cmd e stop new l))
+once-memory given is cmd answers.Took stop new l m = m
+once-memory given is cmd (answers.Undone k) stop new l m = m
+once-memory given is cmd answers.Moved stop new l m = m
+once-memory given is cmd answers.Nothing stop new l m = m
+once-memory given is cmd (answers.Changed t) stop new l m = m
+
+-- memory ran out for what was asked
+asked-memory : (a : Answer) (stop : Option Refusal) → a ≡ answers.Refused Memory → or_refusal (refusal_in a) stop ≡ Some Memory
+asked-memory a stop m = ap (λ (b : Answer). or_refusal (refusal_in b) stop) m
 
 once-same : (given : Setup) (b : Besides) (is : List Input) (cmd : Cmd) (text other : List ℕ) (why whys : Option Refusal) (new left : List Input)
     → AsksOnce given b is cmd text why new → AsksOnce given b is cmd other whys left → Same text other why whys new left
 unfolding once-text
 once-same given b is cmd text other why whys new left x y = elim (answers-alike given.plan is cmd x.answer y.answer x.right y.right) [
-  | inl e ↦ inl (
-    x.line ∙ ap (λ (a : Answer). once-text given b is cmd a new) e ∙ ap (λ (l : List Input). once-text given b is cmd y.answer l) (once-left given b is cmd text other why whys new left x y e) ∙ sym y.line,
-    x.refused ∙ ap refusal_in e ∙ sym y.refused,
-    once-left given b is cmd text other why whys new left x y e,
-  )
-  | inr memory ↦ elim memory [
-    | inl m ↦ inr (inl (x.refused ∙ ap refusal_in m))
-    | inr m ↦ inr (inr (y.refused ∙ ap refusal_in m))
+  | inl e ↦ elim (once-led given b is cmd text other why whys new left x y e) [
+    | inl d ↦ inl (
+      x.line ∙ ap (λ (a : Answer). once-text given b is cmd a x.stop) e ∙ ap (λ (stop : Option Refusal). once-text given b is cmd y.answer stop) d.0 ∙ sym y.line,
+      x.refused ∙ ap (λ (a : Answer). or_refusal (refusal_in a) x.stop) e ∙ ap (λ (stop : Option Refusal). or_refusal (refusal_in y.answer) stop) d.0 ∙ sym y.refused,
+      d.1,
+    )
+    | inr memory ↦ elim memory [
+      | inl m ↦ inr (inl (x.refused ∙ once-memory given is cmd x.answer x.stop new x.left m))
+      | inr m ↦ inr (inr (y.refused ∙ once-memory given is cmd y.answer y.stop left y.left m))
+    ]
   ]
-]
-
--- a tick is taken, and it is refused: only since memory ran out
-took-apart : (plan : Plan) (is : List Input) (cmd : Cmd) (why : Refusal) → IsRight plan is cmd answers.Took → IsRight plan is cmd (answers.Refused why) → why ≡ Memory
-took-apart plan is cmd why x y = elim (answers-alike plan is cmd answers.Took (answers.Refused why) x y) [
-  | inl e ↦ absurd (took-refused why e)
   | inr memory ↦ elim memory [
-    | inl m ↦ absurd (took-refused Memory m)
-    | inr m ↦ refused-same why Memory m
-  ]
-]
-
--- it is refused twice
-refused-apart : (plan : Plan) (is : List Input) (cmd : Cmd) (why whys : Refusal) → IsRight plan is cmd (answers.Refused why) → IsRight plan is cmd (answers.Refused whys) → (why ≡ whys) ⊎ ((why ≡ Memory) ⊎ (whys ≡ Memory))
-refused-apart plan is cmd why whys x y = elim (answers-alike plan is cmd (answers.Refused why) (answers.Refused whys) x y) [
-  | inl e ↦ inl (refused-same why whys e)
-  | inr memory ↦ elim memory [
-    | inl m ↦ inr (inl (refused-same why Memory m))
-    | inr m ↦ inr (inr (refused-same whys Memory m))
+    | inl m ↦ inr (inl (x.refused ∙ asked-memory x.answer x.stop m))
+    | inr m ↦ inr (inr (y.refused ∙ asked-memory y.answer y.stop m))
   ]
 ]
 
@@ -94,14 +108,52 @@ more-same : (before rest more text other : List ℕ) (why whys : Option Refusal)
 more-same before rest more text other why whys new left a b (inl e) = inl (a ∙ ap (λ (l : List ℕ). before ++ l) e.0 ∙ sym b, e.1, e.2)
 more-same before rest more text other why whys new left a b (inr m) = inr m
 
-ticks-same : (given : Setup) (b : Besides) (n : ℕ) (is : List Input) (text other : List ℕ) (why whys : Option Refusal) (new left : List Input)
+-- the text of a tick that is taken
+tick-said : Setup → Besides → List Input → Option Refusal → List ℕ → List ℕ
+tick-said given b is stop rest =
+    (news b.tells given is (next_tick given is) ++ trail b.tells given (next_tick given is ∷ is) (follower given is (next_tick given is)) stop)
+    ++ (with_feed (display_line (replay given.plan (next_tick given is ∷ is))) ++ (refused_after b.echo stop ++ rest))
+
+-- two answers to so many ticks are the same, where these inputs remain
+abbrev TicksSame : Setup → Besides → ℕ → List Input → Type 0
+TicksSame given b n is = (text other : List ℕ) (why whys : Option Refusal) (new left : List Input)
     → TakesTicks given b is n text why new → TakesTicks given b is n other whys left → Same text other why whys new left
+
+-- the text after a tick, where what follows it was refused so, if it was
+abbrev MoreTicks : Setup → Besides → ℕ → Option Refusal → List Input → List ℕ → Option Refusal → List Input → Type 0
+MoreTicks given b n stop mid rest why new = GoesUnless stop (TakesTicks given b mid n rest why new) ((rest ≡ []) × (why ≡ stop) × (new ≡ mid))
+
+ticks-on : (given : Setup) (b : Besides) (n : ℕ) (stop : Option Refusal) (mid : List Input) → TicksSame given b n mid → (rest more : List ℕ) (why whys : Option Refusal) (new left : List Input)
+    → MoreTicks given b n stop mid rest why new → MoreTicks given b n stop mid more whys left → Same rest more why whys new left
+ticks-on given b n None mid on rest more why whys new left x y = on rest more why whys new left x y
+ticks-on given b n (Some e) mid on rest more why whys new left x y = inl (x.0 ∙ sym y.0, x.1 ∙ sym y.1, x.2 ∙ sym y.2)
+
+ticked-same : (given : Setup) (b : Besides) (n : ℕ) (is : List Input) (text other rest more : List ℕ) (stop stops : Option Refusal) (mid mids : List Input) (why whys : Option Refusal) (new left : List Input)
+    → ((now : List Input) → TicksSame given b n now) → session.Ticked given b is text rest stop mid → session.Ticked given b is other more stops mids
+    → MoreTicks given b n stop mid rest why new → MoreTicks given b n stops mids more whys left → Same text other why whys new left
+unfolding tick-said
+ticked-same given b n is text other rest more stop stops mid mids why whys new left on x y goes go =
+    elim (leads-alike given (next_tick given is ∷ is) (follower given is (next_tick given is)) stop stops mid mids x.leads y.leads) [
+      | inl d ↦ elim (ticks-on given b n stops mids (on mids) rest more why whys new left (subst₂ (λ (e : Option Refusal) (m : List Input). MoreTicks given b n e m rest why new) d.0 d.1 goes) go) [
+        | inl e ↦ inl (
+          x.line ∙ ap (λ (s : Option Refusal). tick-said given b is s rest) d.0 ∙ ap (λ (l : List ℕ). tick-said given b is stops l) e.0 ∙ sym y.line,
+          e.1,
+          e.2,
+        )
+        | inr m ↦ inr m
+      ]
+      | inr memory ↦ elim memory [
+        | inl m ↦ inr (inl (ends-by stop why (TakesTicks given b mid n rest why new) ((rest ≡ []) × (why ≡ stop) × (new ≡ mid)) (λ ending. ending.1) m goes))
+        | inr m ↦ inr (inr (ends-by stops whys (TakesTicks given b mids n more whys left) ((more ≡ []) × (whys ≡ stops) × (left ≡ mids)) (λ ending. ending.1) m go))
+      ]
+    ]
+
+ticks-same : (given : Setup) (b : Besides) (n : ℕ) (is : List Input) → TicksSame given b n is
 ticks-same given b zero is text other why whys new left x y = inl (x.0 ∙ sym y.0, x.1 ∙ sym y.1, x.2 ∙ sym y.2)
 ticks-same given b (suc n) is text other why whys new left (inl x) (inl y) =
-    more-same (news b.tells given is (next_tick given is) ++ with_feed (display_line (replay given.plan (next_tick given is ∷ is)))) x.0 y.0 text other why whys new left x.1.line y.1.line
-    (ticks-same given b n (next_tick given is ∷ is) x.0 y.0 why whys new left x.2 y.2)
-ticks-same given b (suc n) is text other why whys new left (inl x) (inr y) = inr (inr (y.refused ∙ ap Some (took-apart given.plan is (Apply (next_tick given is)) y.why x.1.right y.right)))
-ticks-same given b (suc n) is text other why whys new left (inr x) (inl y) = inr (inl (x.refused ∙ ap Some (took-apart given.plan is (Apply (next_tick given is)) x.why y.1.right x.right)))
+    ticked-same given b n is text other x.0 y.0 x.1 y.1 x.2 y.2 why whys new left (λ now. ticks-same given b n now) x.3 y.3 x.4 y.4
+ticks-same given b (suc n) is text other why whys new left (inl x) (inr y) = inr (inr (y.refused ∙ ap Some (took-apart given.plan is (Apply (next_tick given is)) y.why x.3.right y.right)))
+ticks-same given b (suc n) is text other why whys new left (inr x) (inl y) = inr (inl (x.refused ∙ ap Some (took-apart given.plan is (Apply (next_tick given is)) x.why y.3.right x.right)))
 ticks-same given b (suc n) is text other why whys new left (inr x) (inr y) =
     refusals-same b.echo is text other why whys new left x.why y.why (refused-apart given.plan is (Apply (next_tick given is)) x.why y.why x.right y.right) x.line y.line x.refused y.refused x.left y.left
 
@@ -114,17 +166,52 @@ task-same given b is (tasks.Ask cmd) text other why whys new left x y = once-sam
 
 -- ## Ticks whose changes alone are printed
 
-changes-same : (plan : Plan) (b : Besides) (row : Row) (n : ℕ) (is : List Input) (before : List ℕ) (is_owed : Bool) (text other : List ℕ) (why whys : Option Refusal) (new left : List Input)
-    → Changes plan b row is before is_owed n text why new → Changes plan b row is before is_owed n other whys left → Same text other why whys new left
-changes-same plan b row zero is before is_owed text other why whys new left x y = inl (x.0 ∙ sym y.0, x.1 ∙ sym y.1, x.2 ∙ sym y.2)
-changes-same plan b row (suc n) is before is_owed text other why whys new left (inl x) (inl y) =
-    more-same (tick_text plan b row is before) x.1 y.1 text other why whys new left x.2 y.2
-    (changes-same plan b row n (inputs.Tick row ∷ is) (line_after plan (inputs.Tick row ∷ is)) (shows_same (line_after plan (inputs.Tick row ∷ is)) before) x.1 y.1 why whys new left x.3 y.3)
-changes-same plan b row (suc n) is before is_owed text other why whys new left (inl x) (inr y) = inr (inr (y.refused ∙ ap Some (took-apart plan is (Apply (inputs.Tick row)) y.why x.0 y.right)))
-changes-same plan b row (suc n) is before is_owed text other why whys new left (inr x) (inl y) = inr (inl (x.refused ∙ ap Some (took-apart plan is (Apply (inputs.Tick row)) x.why y.0 x.right)))
-changes-same plan b row (suc n) is before is_owed text other why whys new left (inr x) (inr y) =
+-- the text of a tick whose changes alone are printed
+change-said : Setup → Besides → Row → List Input → List ℕ → Option Refusal → List ℕ
+change-said given b row is before stop = tick_text given.plan b row is before (trail b.tells given (inputs.Tick row ∷ is) (follower given is (inputs.Tick row)) stop)
+
+abbrev ChangesSame : Setup → Besides → Row → ℕ → List Input → List ℕ → Bool → Type 0
+ChangesSame given b row n is before is_owed = (text other : List ℕ) (why whys : Option Refusal) (new left : List Input)
+    → Changes given b row is before is_owed n text why new → Changes given b row is before is_owed n other whys left → Same text other why whys new left
+
+-- the text after a tick whose line is owed, or not
+abbrev MoreChanges : Setup → Besides → Row → ℕ → List ℕ → Bool → Option Refusal → List Input → List ℕ → Option Refusal → List Input → Type 0
+MoreChanges given b row n line is_owed stop mid rest why new =
+    GoesUnless stop (Changes given b row mid line is_owed n rest why new) (Ends b line is_owed stop mid rest why new)
+
+changes-on : (given : Setup) (b : Besides) (row : Row) (n : ℕ) (line : List ℕ) (is_owed : Bool) (stop : Option Refusal) (mid : List Input) → ChangesSame given b row n mid line is_owed
+    → (rest more : List ℕ) (why whys : Option Refusal) (new left : List Input)
+    → MoreChanges given b row n line is_owed stop mid rest why new → MoreChanges given b row n line is_owed stop mid more whys left → Same rest more why whys new left
+changes-on given b row n line is_owed None mid on rest more why whys new left x y = on rest more why whys new left x y
+changes-on given b row n line is_owed (Some e) mid on rest more why whys new left x y = inl (x.0 ∙ sym y.0, x.1 ∙ sym y.1, x.2 ∙ sym y.2)
+
+changed-same : (given : Setup) (b : Besides) (row : Row) (n : ℕ) (is : List Input) (before line : List ℕ) (is_owed : Bool) (text other told tolds rest more : List ℕ) (stop stops : Option Refusal) (mid mids : List Input) (why whys : Option Refusal) (new left : List Input)
+    → ((now : List Input) → ChangesSame given b row n now line is_owed) → Follows given b row is before told stop mid → Follows given b row is before tolds stops mids
+    → text ≡ told ++ rest → other ≡ tolds ++ more
+    → MoreChanges given b row n line is_owed stop mid rest why new → MoreChanges given b row n line is_owed stops mids more whys left → Same text other why whys new left
+unfolding change-said
+changed-same given b row n is before line is_owed text other told tolds rest more stop stops mid mids why whys new left on x y told-so told-too goes go =
+    elim (leads-alike given (inputs.Tick row ∷ is) (follower given is (inputs.Tick row)) stop stops mid mids x.leads y.leads) [
+      | inl d ↦
+          more-same told rest more text other why whys new left told-so
+          (told-too ∙ ap (λ (l : List ℕ). l ++ more) (y.told ∙ ap (λ (s : Option Refusal). change-said given b row is before s) (sym d.0) ∙ sym x.told))
+          (changes-on given b row n line is_owed stops mids (on mids) rest more why whys new left (subst₂ (λ (e : Option Refusal) (m : List Input). MoreChanges given b row n line is_owed e m rest why new) d.0 d.1 goes) go)
+      | inr memory ↦ elim memory [
+        | inl m ↦ inr (inl (ends-by stop why (Changes given b row mid line is_owed n rest why new) (Ends b line is_owed stop mid rest why new) (λ ending. ending.1) m goes))
+        | inr m ↦ inr (inr (ends-by stops whys (Changes given b row mids line is_owed n more whys left) (Ends b line is_owed stops mids more whys left) (λ ending. ending.1) m go))
+      ]
+    ]
+
+changes-same : (given : Setup) (b : Besides) (row : Row) (n : ℕ) (is : List Input) (before : List ℕ) (is_owed : Bool) → ChangesSame given b row n is before is_owed
+changes-same given b row zero is before is_owed text other why whys new left x y = inl (x.0 ∙ sym y.0, x.1 ∙ sym y.1, x.2 ∙ sym y.2)
+changes-same given b row (suc n) is before is_owed text other why whys new left (inl x) (inl y) =
+    changed-same given b row n is before (line_after given.plan (inputs.Tick row ∷ is)) (shows_same (line_after given.plan (inputs.Tick row ∷ is)) before) text other x.1 y.1 x.2 y.2 x.3 y.3 x.4 y.4 why whys new left
+    (λ now. changes-same given b row n now (line_after given.plan (inputs.Tick row ∷ is)) (shows_same (line_after given.plan (inputs.Tick row ∷ is)) before)) x.5 y.5 x.6 y.6 x.7 y.7
+changes-same given b row (suc n) is before is_owed text other why whys new left (inl x) (inr y) = inr (inr (y.refused ∙ ap Some (took-apart given.plan is (Apply (inputs.Tick row)) y.why x.0 y.right)))
+changes-same given b row (suc n) is before is_owed text other why whys new left (inr x) (inl y) = inr (inl (x.refused ∙ ap Some (took-apart given.plan is (Apply (inputs.Tick row)) x.why y.0 x.right)))
+changes-same given b row (suc n) is before is_owed text other why whys new left (inr x) (inr y) =
     more-same (owed is_owed before) (b.echo ++ with_feed (refused_line x.why)) (b.echo ++ with_feed (refused_line y.why)) text other why whys new left x.line y.line
-    (refusals-same b.echo is (b.echo ++ with_feed (refused_line x.why)) (b.echo ++ with_feed (refused_line y.why)) why whys new left x.why y.why (refused-apart plan is (Apply (inputs.Tick row)) x.why y.why x.right y.right) refl refl x.refused y.refused x.left y.left)
+    (refusals-same b.echo is (b.echo ++ with_feed (refused_line x.why)) (b.echo ++ with_feed (refused_line y.why)) why whys new left x.why y.why (refused-apart given.plan is (Apply (inputs.Tick row)) x.why y.why x.right y.right) refl refl x.refused y.refused x.left y.left)
 
 -- ## Lines
 
@@ -163,8 +250,8 @@ tick-one s t u line (Err why) text other fault faults a b = inl (a.0 ∙ sym b.0
 asks-one : (s t u : Live) (line : List ℕ) (c : LiveCommand) (text other : List ℕ) (fault faults : Option LineFault) → AsksLive s line c text fault t → AsksLive s line c other faults u → One text other fault faults t u
 asks-one s t u line (live.Session c) text other fault faults a b = obeys-one s t u line (task_of c) text other fault faults a b
 asks-one s t u line (live.Changes n) text other fault faults a b =
-    leaves-one s t u (Changes s.plan (besides s line) s.row s.inputs (display_line (present s)) false n) text other fault faults
-    (λ why whys new left x y. changes-same s.plan (besides s line) s.row n s.inputs (display_line (present s)) false text other why whys new left x y) a b
+    leaves-one s t u (Changes (setup s) (besides s line) s.row s.inputs (display_line (present s)) false n) text other fault faults
+    (λ why whys new left x y. changes-same (setup s) (besides s line) s.row n s.inputs (display_line (present s)) false text other why whys new left x y) a b
 asks-one s t u line live.Plan text other fault faults (inl a) (inl b) = inl (a.0 ∙ sym b.0, a.1 ∙ sym b.1, a.2 ∙ sym b.2)
 asks-one s t u line live.Plan text other fault faults (inl a) (inr b) = inr (inr b.1)
 asks-one s t u line live.Plan text other fault faults (inr a) b = inr (inl a.1)

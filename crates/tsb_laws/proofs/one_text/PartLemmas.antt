@@ -17,14 +17,25 @@ ends-more a b first (inr x) = inr (a ++ x.0, ap (λ (l : List ℕ). a ++ l) x.1 
 
 -- ## Where texts part
 
-pub parts-here : (text other : List ℕ) → text ≡ with_feed memory_line → PartsAtMemory text other
-parts-here text other only = record {
+pub parts-here : (text other behind : List ℕ) → text ≡ with_feed memory_line ++ behind → PartsAtMemory text other
+parts-here text other behind only = record {
   front = [];
-  behind = [];
+  behind = behind;
   others = other;
   ended = inl refl;
-  told = only ∙ sym (append-nil (with_feed memory_line));
+  told = only;
   shared = refl;
+}
+
+-- after the same line
+pub parts-next : (line text other behind others : List ℕ) → EndsLine line → text ≡ line ++ (with_feed memory_line ++ behind) → other ≡ line ++ others → PartsAtMemory text other
+parts-next line text other behind others ended told shared = record {
+  front = line;
+  behind = behind;
+  others = others;
+  ended = ended;
+  told = told;
+  shared = shared;
 }
 
 -- with more after both

@@ -17,7 +17,7 @@ use Rattle.tsb_text.specs.tsb_command_text.declared.command.Reading.{Reading}
 use Rattle.tsb_text.specs.tsb_command_text.declared.command.Reading.TheVariants.{Skip, Bad, Do}
 use Rattle.tsb_text.specs.tsb_command_text.Readings.{reading}
 use Rattle.tsb_text.specs.tsb_lines.Lines.{lines_of}
-use Rattle.tsb_text.specs.Answers.{Setup, Asked, Steps, Answers, told, next_tick, refused_line, display_line}
+use Rattle.tsb_text.specs.Answers.{Setup, Leads, GoesUnless, Asked, Steps, Answers, follower, follower_of, told, next_tick, refused_after, refused_line, display_line}
 use Rattle.tsb_text.specs.Text.{GoesOn, Says, IsAnswered}
 use Rattle.tsb_text.specs.Written.{with_feed}
 use Rattle.tsb_step.proofs.RefusalLemmas.{never-memory, refuses}
@@ -42,16 +42,7 @@ PlainSteps given is n = Plain (λ text left. Steps given is n text left)
 abbrev PlainAnswers : Setup → List Input → Command → Type 0
 PlainAnswers given is c = Plain (λ text left. Answers given is c text left)
 
--- ## What asks the bench once
-
-asked : (given : Setup) (is : List Input) (cmd : Cmd) (a : Answer) → IsRight given.plan is cmd a →
-    IsPlain (told cmd a (replay given.plan (remaining_after given.plan is cmd a))) → PlainAsked given is cmd
-asked given is cmd a right plain = record {
-  text = with_feed (told cmd a (replay given.plan (remaining_after given.plan is cmd a)));
-  left = remaining_after given.plan is cmd a;
-  answers = record { answer = a; right = right; left = refl; line = refl };
-  tells = λ rest. plain-before (told cmd a (replay given.plan (remaining_after given.plan is cmd a))) rest plain;
-}
+-- ## What follows
 
 -- the verdict's answer to an input: that memory ran out is none
 record IsRefused (given : Setup) (is : List Input) (i : Input) : Type 0 where
@@ -69,6 +60,42 @@ right-input given is i = at (verdict (replay given.plan is) i) refl
       right = refuses (replay given.plan is) i x e;
       other = λ h. never-memory (replay given.plan is) i (e ∙ ap Some h);
     })
+
+-- what follows is taken, or refused for another reason than that memory ran out
+record IsLed (given : Setup) (is : List Input) (next : Option Input) : Type 0 where
+  stop : Option Refusal
+  left : List Input
+  leads : Leads given is next stop left
+  tells : (rest : List ℕ) → tells_memory (refused_after [] stop ++ rest) ≡ tells_memory rest
+
+led : (given : Setup) (is : List Input) (next : Option Input) → IsLed given is next
+led given is None = record { stop = None; left = is; leads = (refl, refl); tells = λ rest. refl }
+led given is (Some i) = elim (right-input given is i) [
+  | inl took ↦ record { stop = None; left = i ∷ is; leads = inl (took, refl, refl); tells = λ rest. refl }
+  | inr refused ↦ record {
+    stop = Some refused.refusal;
+    left = is;
+    leads = inr (record { why = refused.refusal; right = refused.right; refused = refl; left = refl });
+    tells = λ rest. plain-before (refused_line refused.refusal) rest (refused-plain refused.refusal refused.other);
+  }
+]
+
+-- ## What asks the bench once
+
+asked : (given : Setup) (is : List Input) (cmd : Cmd) (a : Answer) → IsRight given.plan is cmd a →
+    IsPlain (told cmd a (replay given.plan (remaining_after given.plan is cmd a))) → PlainAsked given is cmd
+asked given is cmd a right plain =
+    let next : IsLed given (remaining_after given.plan is cmd a) (follower_of given is cmd a) = led given (remaining_after given.plan is cmd a) (follower_of given is cmd a) in
+    let line : List ℕ = told cmd a (replay given.plan (remaining_after given.plan is cmd a)) in
+    record {
+      text = with_feed line ++ refused_after [] next.stop;
+      left = next.left;
+      answers = record { answer = a; right = right; stop = next.stop; left = next.leads; line = refl };
+      tells = λ rest.
+          ap tells_memory (append_assoc (with_feed line) (refused_after [] next.stop) rest)
+          ∙ plain-before line (refused_after [] next.stop ++ rest) plain
+          ∙ next.tells rest;
+    }
 
 input-told : (given : Setup) (is : List Input) (i : Input) → PlainAsked given is (asks.Apply i)
 input-told given is i = elim (right-input given is i) [
@@ -109,23 +136,33 @@ stop-told given is n refused = record {
   tells = λ rest. plain-before (refused_line refused.refusal) rest (refused-plain refused.refusal refused.other);
 }
 
-tick-told : (given : Setup) (is : List Input) (n : ℕ) → IsRight given.plan is (asks.Apply (next_tick given is)) Took → PlainSteps given (next_tick given is ∷ is) n → PlainSteps given is (suc n)
-tick-told given is n took later =
+-- after a tick
+goes-told : (given : Setup) (n : ℕ) (stop : Option Refusal) (left : List Input) → PlainSteps given left n →
+    Plain (λ text new. GoesUnless stop (Steps given left n text new) ((text ≡ []) × (new ≡ left)))
+goes-told given n None left later = record { text = later.text; left = later.left; answers = later.answers; tells = later.tells }
+goes-told given n (Some e) left later = record { text = []; left = left; answers = (refl, refl); tells = λ rest. refl }
+
+tick-told : (given : Setup) (is : List Input) (n : ℕ) → IsRight given.plan is (asks.Apply (next_tick given is)) Took → ((new : List Input) → PlainSteps given new n) → PlainSteps given is (suc n)
+tick-told given is n took on =
+    let next : IsLed given (next_tick given is ∷ is) (follower given is (next_tick given is)) = led given (next_tick given is ∷ is) (follower given is (next_tick given is)) in
+    let later : Plain (λ text new. GoesUnless next.stop (Steps given next.left n text new) ((text ≡ []) × (new ≡ next.left))) = goes-told given n next.stop next.left (on next.left) in
     let line : List ℕ = display_line (replay given.plan (next_tick given is ∷ is)) in
     record {
-      text = with_feed line ++ later.text;
+      text = with_feed line ++ (refused_after [] next.stop ++ later.text);
       left = later.left;
-      answers = inl (later.text, record { right = took; line = refl }, later.answers);
+      answers = inl (later.text, next.stop, next.left, record { right = took; leads = next.leads; line = refl }, later.answers);
       tells = λ rest.
-          ap tells_memory (append_assoc (with_feed line) later.text rest)
-          ∙ plain-before line (later.text ++ rest) (display-plain (replay given.plan (next_tick given is ∷ is)))
+          ap tells_memory (append_assoc (with_feed line) (refused_after [] next.stop ++ later.text) rest)
+          ∙ plain-before line ((refused_after [] next.stop ++ later.text) ++ rest) (display-plain (replay given.plan (next_tick given is ∷ is)))
+          ∙ ap tells_memory (append_assoc (refused_after [] next.stop) later.text rest)
+          ∙ next.tells (later.text ++ rest)
           ∙ later.tells rest;
     }
 
 steps-told : (given : Setup) (n : ℕ) (is : List Input) → PlainSteps given is n
 steps-told given zero is = record { text = []; left = is; answers = (refl, refl); tells = λ rest. refl }
 steps-told given (suc n) is = elim (right-input given is (next_tick given is)) [
-  | inl took ↦ tick-told given is n took (steps-told given n (next_tick given is ∷ is))
+  | inl took ↦ tick-told given is n took (λ new. steps-told given n new)
   | inr refused ↦ stop-told given is n refused
 ]
 

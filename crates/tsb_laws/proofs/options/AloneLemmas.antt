@@ -1,6 +1,6 @@
--- What is read by an option alone does not matter while the options are 0; and the options are all objects that version 1
--- of plan texts does not have.
-use Rattle.std.proofs.Common.{◌≡◌, not, List, refl, sym, subst}
+-- What is read by an option alone does not matter while the options are 0; and the options and the objects of the
+-- schedule are all that version 1 of plan texts does not have.
+use Rattle.std.proofs.Common.{◌≡◌, not, ◌||◌, List, refl, sym, subst}
 use Rattle.tsb_step.specs.tsb_plan.declared.object.Object.{Object}
 use Rattle.tsb_step.specs.tsb_plan.declared.object.Object.TheVariants.{PhaseDynamicMaxStep}
 use Rattle.tsb_step.specs.tsb_plan.Objects.{since}
@@ -10,11 +10,11 @@ use Rattle.tsb_step.specs.State.{State}
 use Rattle.tsb_step.specs.Runs.{replay}
 use Rattle.tsb_laws.specs.Differing.{DifferIn, IsSameBut}
 use Rattle.tsb_laws.specs.PlainStep as plain
-use Rattle.tsb_laws.specs.WithoutOptions.{is_of_options, is_of_version_1, HasEachAtZero, SetNoOption, SetNoOverlapOption}
+use Rattle.tsb_laws.specs.WithoutOptions.{is_of_options, is_of_schedule, is_of_version_1, HasEachAtZero, SetNoOption, SetNoOverlapOption}
 use Rattle.tsb_laws.proofs.options.PlainRunLemmas.{runs_agree}
 use Rattle.tsb_laws.proofs.options.ReadRunLemmas.{reads_none}
 
-pub all_listed : (o : Object) → is_of_options o ≡ not (is_of_version_1 (since o))
+pub all_listed : (o : Object) → (is_of_options o || is_of_schedule o) ≡ not (is_of_version_1 (since o))
 all_listed PhaseDynamicMaxStep = refl
 all_listed o = refl
 

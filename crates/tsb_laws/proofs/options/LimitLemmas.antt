@@ -27,7 +27,7 @@ use Rattle.tsb_step.specs.tsb_phase.Ready.{needs_forced, green_is_done, is_ready
 use Rattle.tsb_laws.proofs.options.DifferLemmas.{only_limit, with_limit}
 use Rattle.tsb_laws.proofs.options.HeadLemmas.{is_on_yellow-same}
 use Rattle.tsb_laws.proofs.options.PhaseLemmas.{gap-same, initial-same, reduction_timer-same, pedestrian_now-same, maximum-same}
-use Rattle.tsb_laws.proofs.options.RuleLemmas.{fills-same, agree-same, broken_by_phases-same, broken_by_rings-same}
+use Rattle.tsb_laws.proofs.options.RuleLemmas.{fills-same, agree-same, broken_by_phases-same, broken_by_rings-same, broken_by_schedule-same}
 
 module _ (plan : Plan) (v : Object → ℕ → ℕ) where
   broken_by_extensions-same : broken_by_extensions (with_limit plan v) ≡ broken_by_extensions plan
@@ -57,6 +57,7 @@ module _ (plan : Plan) (v : Object → ℕ → ℕ) where
         broken_by_parts-same,
         broken_by_phases-same plan (only_limit plan v),
         broken_by_rings-same plan (only_limit plan v),
+        broken_by_schedule-same plan (only_limit plan v),
       ) refl
 
   maximum_in_use-same : maximum_in_use (with_limit plan v) ≡ maximum_in_use plan

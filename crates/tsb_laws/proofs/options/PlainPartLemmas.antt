@@ -18,7 +18,7 @@ use Rattle.tsb_step.specs.tsb_plan.Plan.{Plan, phases, is_enabled, minimum_green
 use Rattle.tsb_step.specs.tsb_rules.declared.rules.Rule.{Rule}
 use Rattle.tsb_step.specs.tsb_rules.declared.rules.Rule.TheVariants.{K14, K15, K16, K17, K18, K19, K20, K21, K22, K23}
 use Rattle.tsb_step.specs.tsb_rules.PatternRules.{patterns_are_whole, splits_hold_phases, splits_fill_cycles, permissive_times_end}
-use Rattle.tsb_step.specs.tsb_rules.Rules.{unless, or_rule, broken_by_rings, broken_by_phases, broken_by_parts, broken_by_extensions, first_broken, included_phases_are_enabled, preempts_are_concurrent, preempts_dwell, names_enabled, modifies_rightly, modifiers_are_right, limits_reach_minimums}
+use Rattle.tsb_step.specs.tsb_rules.Rules.{unless, or_rule, broken_by_rings, broken_by_phases, broken_by_parts, broken_by_extensions, broken_by_schedule, first_broken, included_phases_are_enabled, preempts_are_concurrent, preempts_dwell, names_enabled, modifies_rightly, modifiers_are_right, limits_reach_minimums}
 use Rattle.tsb_step.specs.tsb_heads.Heads.{Shown}
 use Rattle.tsb_step.specs.tsb_heads.Overlaps.{some_of, is_kept_green, is_on_yellow, normal_aspect, minus_green_yellow_aspect, overlap_head}
 use Rattle.tsb_step.specs.tsb_heads.Displays.{ordered}
@@ -81,16 +81,11 @@ no_extensions plan none =
     ∙ ap (λ (b : Bool). unless b K22 (unless (permissive_times_end plan) K23 None)) (limits_pass plan none)
     ∙ ap (λ (b : Bool). unless b K23 None) (options-off plan none.options).permissive
 
-or_none : (rule : Option Rule) → or_rule rule None ≡ rule
-or_none None = refl
-or_none (Some r) = refl
-
 pub rules_agree : (plan : Plan) → HasEachAtZero plan → first_broken plan ≡ plain.first_broken plan
 unfolding first_broken plain.first_broken
 rules_agree plan none =
-    ap₂ (λ (parts extensions : Option Rule). or_rule (broken_by_rings plan) (or_rule (broken_by_phases plan) (or_rule parts extensions)))
+    ap₂ (λ (parts extensions : Option Rule). or_rule (broken_by_rings plan) (or_rule (broken_by_phases plan) (or_rule parts (or_rule extensions (broken_by_schedule plan)))))
     (parts_agree plan (options-off plan none.options)) (no_extensions plan none)
-    ∙ ap (λ (parts : Option Rule). or_rule (broken_by_rings plan) (or_rule (broken_by_phases plan) parts)) (or_none (plain.broken_by_parts plan))
 
 -- ## When a green may end
 

@@ -43,7 +43,7 @@ use Rattle.tsb_laws.proofs.options.HeadLemmas.{is_on_yellow-same, green_to_red-s
 use Rattle.tsb_laws.proofs.options.HeadLemmas as head
 use Rattle.tsb_laws.proofs.options.PhaseLemmas.{gap-same, initial-same, reduction_timer-same, maximum-same}
 use Rattle.tsb_laws.proofs.options.RingLemmas as ring
-use Rattle.tsb_laws.proofs.options.RuleLemmas.{fills-same, agree-same, force_off-same, broken_by_phases-same, broken_by_rings-same}
+use Rattle.tsb_laws.proofs.options.RuleLemmas.{fills-same, agree-same, force_off-same, broken_by_phases-same, broken_by_rings-same, broken_by_schedule-same}
 
 -- ## Parts
 
@@ -64,7 +64,7 @@ module _ (plan : Plan) (v : Object → ℕ → ℕ) where
 
   pub first_broken-same : parts.first_broken (with_options plan v) ≡ parts.first_broken plan
   unfolding parts.first_broken
-  first_broken-same = rw (broken_by_parts-same, broken_by_phases-same plan v, broken_by_rings-same plan v) refl
+  first_broken-same = rw (broken_by_parts-same, broken_by_phases-same plan v, broken_by_rings-same plan v, broken_by_schedule-same plan v) refl
 
   has_maxed_out-same : parts.has_maxed_out (with_options plan v) ≡ parts.has_maxed_out plan
   unfolding parts.has_maxed_out

@@ -6,7 +6,7 @@ use Rattle.tsb_step.specs.tsb_plan.Plan.{Plan}
 use Rattle.tsb_step.specs.tsb_rules.SequenceRules.{rises}
 use Rattle.tsb_step.specs.tsb_coord.Coordinated.{force_off}
 use Rattle.tsb_step.specs.tsb_rules.PatternRules.{split_sum, side_sum, split_end, fills, coordinated_count, coordinated_agree}
-use Rattle.tsb_step.specs.tsb_rules.Rules.{broken_by_phases, broken_by_rings}
+use Rattle.tsb_step.specs.tsb_rules.Rules.{broken_by_phases, broken_by_rings, broken_by_schedule}
 use Rattle.tsb_laws.proofs.options.DifferLemmas.{with_options}
 
 module _ (plan : Plan) (v : Object → ℕ → ℕ) where
@@ -50,6 +50,10 @@ module _ (plan : Plan) (v : Object → ℕ → ℕ) where
   pub broken_by_phases-same : broken_by_phases (with_options plan v) ≡ broken_by_phases plan
   unfolding broken_by_phases
   broken_by_phases-same = refl
+
+  pub broken_by_schedule-same : broken_by_schedule (with_options plan v) ≡ broken_by_schedule plan
+  unfolding broken_by_schedule
+  broken_by_schedule-same = refl
 
   pub broken_by_rings-same : broken_by_rings (with_options plan v) ≡ broken_by_rings plan
   unfolding broken_by_rings

@@ -8,7 +8,7 @@ use Rattle.tsb_step.specs.tsb_types.Sets.{names}
 use Rattle.tsb_step.proofs.tsb_types.SetLemmas.{names-zero}
 use Rattle.tsb_step.specs.tsb_plan.declared.object.Object.TheVariants.{PhaseSide, PhaseConcurrency, OverlapIncludedPhases, OverlapModifierPhases, PreemptTrackPhase, PreemptDwellPhase, PreemptExitPhase}
 use Rattle.tsb_step.specs.tsb_plan.Plan.{Plan, phases, is_enabled, ring_of, side_of, is_concurrent}
-use Rattle.tsb_step.specs.tsb_rules.Rules.{some_enabled, is_placed, are_placed, unused_lists_are_empty, may_be_concurrent, names_across_rings, lists_name_across_rings, is_named_back, concurrency_is_symmetric, yellows_are_long, gaps_can_reduce, reaches_minimum, maximums_reach_minimums, recalled_pedestrians_walk, names_enabled, included_phases_are_enabled, goes_with_all, names_concurrent, has_concurrent_lists, preempts_are_concurrent, modifies_rightly, modifiers_are_right, limits_reach_minimums, broken_by_rings, broken_by_phases, broken_by_parts, broken_by_extensions, first_broken}
+use Rattle.tsb_step.specs.tsb_rules.Rules.{some_enabled, is_placed, are_placed, unused_lists_are_empty, may_be_concurrent, names_across_rings, lists_name_across_rings, is_named_back, concurrency_is_symmetric, yellows_are_long, gaps_can_reduce, reaches_minimum, maximums_reach_minimums, recalled_pedestrians_walk, names_enabled, included_phases_are_enabled, goes_with_all, names_concurrent, has_concurrent_lists, preempts_are_concurrent, modifies_rightly, modifiers_are_right, limits_reach_minimums, broken_by_rings, broken_by_phases, broken_by_parts, broken_by_extensions, broken_by_schedule, first_broken}
 use Rattle.tsb_laws.specs.Widened.{IsNarrow, widened}
 use Rattle.tsb_laws.proofs.versions.PlanLemmas.{any-same, all-same, beyond-narrow, not-enabled, names-none, not-concurrent}
 use Rattle.tsb_laws.proofs.versions.SequenceLemmas.{each_phase-same, first_sequence-same, other_sequences-same}
@@ -163,6 +163,10 @@ broken_by_extensions-same : (plan : Plan) → IsNarrow plan → broken_by_extens
 unfolding broken_by_extensions
 broken_by_extensions-same plan narrow = rw (modifiers-same plan narrow, limits-same plan narrow, permissive-same plan narrow) refl
 
+broken_by_schedule-same : (plan : Plan) → broken_by_schedule (widened plan) ≡ broken_by_schedule plan
+unfolding broken_by_schedule
+broken_by_schedule-same plan = refl
+
 -- ## All rules
 
 pub first_broken-same : (plan : Plan) → IsNarrow plan → first_broken (widened plan) ≡ first_broken plan
@@ -173,4 +177,5 @@ first_broken-same plan narrow =
       broken_by_phases-same plan narrow,
       broken_by_parts-same plan narrow,
       broken_by_extensions-same plan narrow,
+      broken_by_schedule-same plan,
     ) refl

@@ -1,5 +1,5 @@
 -- Live runs that meet what the laws need, and mistakes that they refuse.
-use Rattle.std.proofs.Common.{◌≡◌, ℕ, List, [], ◌∷◌, ◌++◌, None, inl, arith, refl}
+use Rattle.std.proofs.Common.{◌≡◌, ℕ, List, [], ◌∷◌, ◌++◌, false, None, inl, arith, refl}
 use Rattle.std.specs.Prelude.{codes}
 use Rattle.tsb_dialog.specs.Heard.{Runs}
 use Rattle.tsb_dialog.specs.declared.answers.Flow.TheVariants.{On}
@@ -28,7 +28,7 @@ abbrev on : Row
 on = record { vehicles = set_of_list 2; pedestrians = set_of_list 0; preempts = set_of_list 0 }
 
 abbrev before : Live
-before = begun GoOn two
+before = begun GoOn false two
 
 abbrev after : Live
 after = with_inputs (Tick on ∷ []) (with_row on before)
@@ -46,7 +46,7 @@ unfolding live_reading inputs_of verdict two
 row_was_said = record {
   fault = None;
   left = after;
-  reads = (None, Tick on ∷ [], inl ([], record { right = refl; line = refl }, (refl, refl, refl)), refl, refl);
+  reads = (None, Tick on ∷ [], inl ([], None, Tick on ∷ [], record { right = refl; leads = (refl, refl); line = refl }, (refl, refl, refl)), refl, refl);
   stops = refl;
   goes = refl;
 }
@@ -57,7 +57,7 @@ row_was_read = ([], line_after, before, (refl, refl), row_was_said, refl)
 
 -- a log that has it at tick 1
 abbrev given : Setup
-given = record { plan = two; log = record { tick = 1; row = on } ∷ [] }
+given = record { plan = two; log = record { tick = 1; row = on } ∷ []; acts = false }
 
 asks_a_step : AsksAsThere given before (live_reading on_line) (reading (codes "step 1"))
 unfolding live_reading inputs_of command_of_two

@@ -40,7 +40,7 @@ use Rattle.tsb_live_text.specs.saved.Says.{are_plain, is_plain}
 use Rattle.tsb_live_text.proofs.saved.PlainLemmas.{Plain, date-plain, name-plain, number-plain, plain-is, plain-join, time-plain}
 use Rattle.tsb_types.specs.declared.clock_time.TheConstants.{DAY, FIRST_MOMENT, END_OF_DAYS}
 use Rattle.tsb_command_text.specs.clock.ClockText.{date_of, date_text, time_text}
-use Rattle.tsb_command_text.specs.declared.clock.calendar.ClockDate.{ClockDate}
+use Rattle.tsb_types.specs.declared.calendar.ClockDate.{ClockDate}
 use Rattle.tsb_command_text.proofs.clock.ReadLemmas.{clock-read}
 use Rattle.tsb_lines.specs.Digits.{digit}
 

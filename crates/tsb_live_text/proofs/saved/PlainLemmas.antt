@@ -14,7 +14,7 @@ use Rattle.tsb_text.specs.tsb_step.tsb_plan.declared.object.Object.{Object}
 use Rattle.std.proofs.Math.Nat.{mod-lt}
 use Rattle.tsb_lines.specs.Digits.{digit}
 use Rattle.tsb_command_text.specs.clock.ClockText.{date_text, time_text}
-use Rattle.tsb_command_text.specs.declared.clock.calendar.ClockDate.{ClockDate}
+use Rattle.tsb_types.specs.declared.calendar.ClockDate.{ClockDate}
 use Rattle.tsb_live_text.specs.saved.Saved.{number_word}
 use Rattle.tsb_live_text.specs.saved.Says.{are_plain, is_plain}
 

@@ -1,4 +1,4 @@
--- What commands leave over a log, where nothing is refused: they are carried out as `tsb run` does.
+-- What commands leave over a log, where nothing is refused and no schedule acts: they are carried out as `tsb run` does.
 use Rattle.std.specs.Prelude.{◌≡◌, ℕ, zero, suc, ◌+◌, List, [], ◌∷◌, None}
 use Rattle.tsb_text.specs.tsb_step.tsb_plan.Plan.{Plan}
 use Rattle.tsb_step.specs.declared.inputs.Input.{Input}

@@ -43,7 +43,8 @@ pub fn saved_texts_are_plain()
 /// A saved run ends alike. The saved commands leave exactly the inputs that were taken, over the saved log and from
 /// power-up with the same plan. There is such a run, and no other in which nothing is refused.
 ///
-/// Needs: that each of the inputs was taken.
+/// Needs: that each of the inputs was taken; and that the schedule of the plan does not act as the commands run, since a
+/// pattern that followed an input is saved as a command.
 /// Not said: that memory suffices for them again.
 /// Mistake: ticks come before the inputs that came first, `takes_the_tick_first` (`would_come_last`).
 /// Witness: `takes_both` of Mistakes, a reset and a tick from power-up.

@@ -10,12 +10,12 @@ use Rattle.tsb_plan.specs.Quad.{quad}
 use Rattle.tsb_rules.specs.declared.rules.Rule.{Rule}
 use Rattle.tsb_rules.specs.declared.rules.Rule.TheVariants.{K1, K2, K3, K4, K5, K6, K7, K14, K15, K16, K17, K18, K19, K20, K21, K22, K23}
 use Rattle.tsb_rules.specs.PatternRules.{agrees_with_all, coordinated_agree, coordinated_count, coordinated_phases_agree, each_pattern, has_coordinated, may_coordinate, names_sequence, names_split, patterns_are_whole, some_and, split_end, split_sum, side_sum, splits_fill_cycles, splits_hold_phases}
-use Rattle.tsb_rules.specs.Rules.{are_placed, broken_by_extensions, broken_by_parts, broken_by_phases, broken_by_rings, concurrency_is_symmetric, first_broken, included_phases_are_enabled, limits_reach_minimums, lists_name_across_rings, modifiers_are_right, names_enabled, or_rule, preempts_are_concurrent, preempts_dwell, some_enabled, unless, unused_lists_are_empty}
+use Rattle.tsb_rules.specs.Rules.{are_placed, broken_by_extensions, broken_by_parts, broken_by_phases, broken_by_rings, broken_by_schedule, concurrency_is_symmetric, first_broken, included_phases_are_enabled, limits_reach_minimums, lists_name_across_rings, modifiers_are_right, names_enabled, or_rule, preempts_are_concurrent, preempts_dwell, some_enabled, unless, unused_lists_are_empty}
 use Rattle.tsb_rules.specs.SequenceRules.{first_sequence_is_ordered, lists_once, lists_only, other_sequences_are_ordered, rises, zeros_last}
 
 -- what a computed line opens
 unfoldable pub opened : Unit {0}
-unfolding quad run_from first_broken broken_by_rings broken_by_phases broken_by_parts broken_by_extensions split_sum side_sum split_end coordinated_count
+unfolding quad run_from first_broken broken_by_rings broken_by_phases broken_by_parts broken_by_extensions broken_by_schedule split_sum side_sum split_end coordinated_count
 opened = tt
 
 -- the first rule that a plan breaks, with these tests in place of K5 and K6

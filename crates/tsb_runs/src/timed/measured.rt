@@ -96,6 +96,7 @@ impl Measured<'_> {
             self.rt.alloc(),
             self.plan,
             self.log,
+            true,
             &mut reader,
             &mut writer,
         )?;

@@ -3,7 +3,6 @@ use Rattle.std.proofs.Common.{suc, ◌≡◌, ℕ, List, [], ◌∷◌, ◌++◌
 use Rattle.std.specs.declared.option.Option.{Option}
 use Rattle.tsb_bench.specs.tsb_machine.declared.commands.Answer.TheVariants.{Took}
 use Rattle.tsb_step.specs.declared.inputs.Input.{Input}
-use Rattle.tsb_step.specs.declared.inputs.Input.TheVariants as inputs
 use Rattle.tsb_step.specs.Step.{verdict}
 use Rattle.tsb_command_text.specs.declared.command.Command.TheVariants.{Clock}
 use Rattle.tsb_command_text.specs.declared.command.Reading.{Reading}
@@ -15,12 +14,12 @@ use Rattle.tsb_text.specs.declared.faults.LineFault.{LineFault}
 use Rattle.tsb_text.specs.declared.faults.OnFault.{OnFault}
 use Rattle.tsb_text.specs.declared.faults.OnFault.TheVariants.{GoOn, Stop}
 use Rattle.tsb_text.specs.recording.Faults.{fault_text}
-use Rattle.tsb_text.specs.recording.Leaves.{Come, Does, End, Ends, Follows, first_inputs, quits}
+use Rattle.tsb_text.specs.recording.Leaves.{BeginsWith, Come, Does, End, Ends, Follows, quits}
 
 -- a line that sets the clock, before any other
-sets : (given : Setup) (m : ℕ) → Does given [] (Do (Clock m)) None (first_inputs (Some m))
+sets : (given : Setup) (m : ℕ) (first : List Input) → BeginsWith given (Some m) first → Does given [] (Do (Clock m)) None first
 unfolding verdict
-sets given m = (None, (_, record { answer = Took; right = refl; left = refl; line = refl; refused = refl }), refl)
+sets given m first begins = (None, (_, record { answer = Took; right = refl; stop = None; left = begins; line = refl; refused = refl }), refl)
 
 -- what a line comes to that reads so, with those after it
 abbrev ComesAs : OnFault → Setup → End → ℕ → List ℕ → List (List ℕ) → List ℕ → Reading → Type 0
@@ -28,12 +27,12 @@ ComesAs on_fault given end n line lines told r =
     (fault : Option LineFault) × (new : List Input) × (rest : List ℕ) × Does given [] r fault new × (told ≡ fault_text n line fault ++ rest)
     × Follows (flow_after (quits r) (stopped_at on_fault n line fault)) (Come on_fault given end (suc n) new lines rest) (Ends end new (stopped_at on_fault n line fault) rest)
 
-then : (on_fault : OnFault) (given : Setup) (m : ℕ) (end : End) (n : ℕ) (line : List ℕ) (lines : List (List ℕ)) (told : List ℕ)
-    → Come on_fault given end (suc n) (first_inputs (Some m)) lines told → ComesAs on_fault given end n line lines told (Do (Clock m))
-then GoOn given m end n line lines told come = (None, first_inputs (Some m), told, sets given m, refl, come)
-then Stop given m end n line lines told come = (None, first_inputs (Some m), told, sets given m, refl, come)
+then : (on_fault : OnFault) (given : Setup) (m : ℕ) (first : List Input) (end : End) (n : ℕ) (line : List ℕ) (lines : List (List ℕ)) (told : List ℕ)
+    → BeginsWith given (Some m) first → Come on_fault given end (suc n) first lines told → ComesAs on_fault given end n line lines told (Do (Clock m))
+then GoOn given m first end n line lines told begins come = (None, first, told, sets given m first begins, refl, come)
+then Stop given m first end n line lines told begins come = (None, first, told, sets given m first begins, refl, come)
 
-pub clocks_are_first_lines : (on_fault : OnFault) (given : Setup) (m : ℕ) (end : End) (n : ℕ) (line : List ℕ) (lines : List (List ℕ)) (told : List ℕ)
-    → reading line ≡ Do (Clock m) → Come on_fault given end (suc n) (first_inputs (Some m)) lines told → Come on_fault given end n (first_inputs None) (line ∷ lines) told
-clocks_are_first_lines on_fault given m end n line lines told reads come =
-    subst (ComesAs on_fault given end n line lines told) (sym reads) (then on_fault given m end n line lines told come)
+pub clocks_are_first_lines : (on_fault : OnFault) (given : Setup) (m : ℕ) (first : List Input) (end : End) (n : ℕ) (line : List ℕ) (lines : List (List ℕ)) (told : List ℕ)
+    → reading line ≡ Do (Clock m) → BeginsWith given (Some m) first → Come on_fault given end (suc n) first lines told → Come on_fault given end n [] (line ∷ lines) told
+clocks_are_first_lines on_fault given m first end n line lines told reads begins come =
+    subst (ComesAs on_fault given end n line lines told) (sym reads) (then on_fault given m first end n line lines told begins come)

@@ -15,7 +15,8 @@ use Rattle.tsb_command_text.specs.declared.command.Reading.TheVariants.{Skip, Ba
 use Rattle.tsb_command_text.specs.Readings.{reading}
 use Rattle.tsb_dialog.specs.declared.answers.Flow.{Flow}
 use Rattle.tsb_dialog.specs.declared.answers.Flow.TheVariants.{On, Over}
-use Rattle.tsb_text.specs.Answers.{Setup, next_tick}
+use Rattle.tsb_text.specs.Answers as answers
+use Rattle.tsb_text.specs.Answers.{GoesUnless, Setup, follower, follower_of, next_tick}
 use Rattle.tsb_text.specs.Obeys.{Obeys, TakesTicks, nothing_besides}
 use Rattle.tsb_text.specs.Tasks.{task_of}
 use Rattle.tsb_text.specs.declared.task.Task.{Task}
@@ -24,7 +25,7 @@ use Rattle.tsb_text.specs.declared.task.Task.TheVariants.{Ask, Ticks}
 use Rattle.tsb_text.specs.Stops.{Stopped}
 use Rattle.tsb_text.specs.declared.faults.LineFault.{LineFault}
 use Rattle.tsb_text.specs.declared.faults.OnFault.{OnFault}
-use Rattle.tsb_text.specs.recording.Leaves.{Come, Does, End, Ends, Follows, first_inputs, quits}
+use Rattle.tsb_text.specs.recording.Leaves.{BeginsWith, Come, Does, End, Ends, Follows, quits}
 use Rattle.tsb_text.specs.Stops.{flow_after, stopped_at}
 
 -- commands with right answers lead from some inputs to others
@@ -54,17 +55,30 @@ both plan is new last (c ∷ cs) (a ∷ ans) right left rest =
 pub then : (plan : Plan) (is new last : List Input) → Leads plan is new → Leads plan new last → Leads plan is last
 then plan is new last first rest = both plan is new last first.cs first.ans first.right first.left rest
 
+-- what follows an input is one command more, if something does
+pub by-leads : (given : Setup) (is : List Input) (next : Option Input) (stop : Option Refusal) (new : List Input) → answers.Leads given is next stop new → Leads given.plan is new
+by-leads given is None stop new l = stay given.plan is new l.1
+by-leads given is (Some i) stop new (inl l) = one given.plan is new (asks.Apply i) Took l.0 l.2
+by-leads given is (Some i) stop new (inr l) = one given.plan is new (asks.Apply i) (Refused l.why) l.right l.left
+
+by-goes : (plan : Plan) (stop refusal : Option Refusal) (rest : List ℕ) (left new : List Input) (Rest : Type 0) → (Rest → Leads plan left new) → GoesUnless stop Rest ((rest ≡ []) × (refusal ≡ stop) × (new ≡ left)) → Leads plan left new
+by-goes plan None refusal rest left new Rest go g = go g
+by-goes plan (Some e) refusal rest left new Rest go g = stay plan left new g.2
+
 by-ticks : (given : Setup) (n : ℕ) (is : List Input) (text : List ℕ) (refusal : Option Refusal) (new : List Input) → TakesTicks given nothing_besides is n text refusal new → Leads given.plan is new
 by-ticks given zero is text refusal new t = stay given.plan is new t.2
 by-ticks given (suc n) is text refusal new (inl t) =
-    onto given.plan is new (asks.Apply (next_tick given is)) Took t.1.right (by-ticks given n (next_tick given is ∷ is) t.0 refusal new t.2)
+    onto given.plan is new (asks.Apply (next_tick given is)) Took t.3.right
+    (then given.plan (next_tick given is ∷ is) t.2 new (by-leads given (next_tick given is ∷ is) (follower given is (next_tick given is)) t.1 t.2 t.3.leads)
+    (by-goes given.plan t.1 refusal t.0 t.2 new (TakesTicks given nothing_besides t.2 n t.0 refusal new) (λ rest. by-ticks given n t.2 t.0 refusal new rest) t.4))
 by-ticks given (suc n) is text refusal new (inr t) = one given.plan is new (asks.Apply (next_tick given is)) (Refused t.why) t.right t.left
 
 by-task : (given : Setup) (is : List Input) (task : Task) (text : List ℕ) (refusal : Option Refusal) (new : List Input) → Obeys given nothing_besides is task text refusal new → Leads given.plan is new
 by-task given is (Ticks n) text refusal new o = by-ticks given n is text refusal new o
 by-task given is tasks.Show text refusal new o = stay given.plan is new o.2
 by-task given is tasks.Quit text refusal new o = stay given.plan is new o.2
-by-task given is (Ask cmd) text refusal new o = one given.plan is new cmd o.answer o.right o.left
+by-task given is (Ask cmd) text refusal new o =
+    onto given.plan is new cmd o.answer o.right (by-leads given (remaining_after given.plan is cmd o.answer) (follower_of given is cmd o.answer) o.stop new o.left)
 
 by-does : (given : Setup) (is : List Input) (r : Reading) (fault : Option LineFault) (new : List Input) → Does given is r fault new → Leads given.plan is new
 by-does given is Skip fault new d = stay given.plan is new d.1
@@ -83,14 +97,16 @@ by-lines on_fault given end (line ∷ lines) n is told h =
     (by-rest given (flow_after (quits (reading line)) (stopped_at on_fault n line h.0)) h.1 end (stopped_at on_fault n line h.0) (Come on_fault given end (suc n) h.1 lines h.2) h.2
     (λ rest. by-lines on_fault given end lines (suc n) h.1 h.2 rest) h.5)
 
--- a clock that is set first is left by a command as well
-by-clock : (plan : Plan) (clock : Option ℕ) → Leads plan [] (first_inputs clock)
+-- a command leaves a clock that is set first too, with what follows it
+by-clock : (given : Setup) (clock : Option ℕ) (first : List Input) → BeginsWith given clock first → Leads given.plan [] first
 unfolding verdict
-by-clock plan None = stay plan [] [] refl
-by-clock plan (Some m) = one plan [] (Clock m ∷ []) (asks.Apply (Clock m)) Took refl refl
+by-clock given None first begins = stay given.plan [] first begins
+by-clock given (Some m) first begins =
+    onto given.plan [] first (asks.Apply (Clock m)) Took refl (by-leads given (Clock m ∷ []) (follower given [] (Clock m)) None first begins)
 
-pub lines_leave_what_remains : (on_fault : OnFault) (given : Setup) (clock : Option ℕ) (end : End) (lines : List (List ℕ)) (told : List ℕ) → Come on_fault given end 1 (first_inputs clock) lines told
+pub lines_leave_what_remains : (on_fault : OnFault) (given : Setup) (clock : Option ℕ) (first : List Input) (end : End) (lines : List (List ℕ)) (told : List ℕ)
+    → BeginsWith given clock first → Come on_fault given end 1 first lines told
     → (cs : List Cmd) × (ans : List Answer) × AreRight given.plan cs ans × (end.inputs ≡ remaining given.plan cs ans)
-lines_leave_what_remains on_fault given clock end lines told h =
-    let all : Leads given.plan [] end.inputs = then given.plan [] (first_inputs clock) end.inputs (by-clock given.plan clock) (by-lines on_fault given end lines 1 (first_inputs clock) told h) in
+lines_leave_what_remains on_fault given clock first end lines told begins h =
+    let all : Leads given.plan [] end.inputs = then given.plan [] first end.inputs (by-clock given clock first begins) (by-lines on_fault given end lines 1 first told h) in
     (all.cs, all.ans, all.right, all.left)

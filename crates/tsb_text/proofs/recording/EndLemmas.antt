@@ -5,7 +5,6 @@ use Rattle.std.specs.declared.option.Option.{Option}
 use Rattle.tsb_types.specs.declared.event.Event.{Event}
 use Rattle.tsb_step.specs.declared.inputs.Input.{Input}
 use Rattle.tsb_step.specs.declared.log_form.LogForm.{LogForm}
-use Rattle.tsb_lines.proofs.StreamLemmas.{appends-nothing, consumes-nothing}
 use Rattle.tsb_log_text.specs.declared.log.LogRow.{LogRow}
 use Rattle.tsb_dialog.specs.declared.error.DialogError.{DialogError}
 use Rattle.tsb_dialog.specs.declared.error.DialogError.TheVariants as dialog
@@ -18,7 +17,6 @@ use Rattle.tsb_text.specs.Obeyed.{OnCourse, Stands}
 use Rattle.tsb_text.proofs.CourseLemmas.{is-told}
 use Rattle.tsb_text.specs.Blame.{Blames}
 use Rattle.tsb_text.specs.Replies.{fault_of}
-use Rattle.tsb_text.specs.declared.error.SessionError.TheVariants.{Memory}
 use Rattle.tsb_lines.specs.Lines.{lines_of}
 use Rattle.tsb_text.specs.Stops.{Stopped as StoppedLine, stop_in}
 use Rattle.tsb_text.specs.declared.faults.OnFault.{OnFault}
@@ -143,27 +141,6 @@ not-recorded stands w form given first dialog.TooLarge new i l o n d =
       whole = λ f. tells;
       reads = reads-on w form given first d.read d.reads;
     }
-
--- nothing was read, where there was no memory to begin with
-pub none-recorded : (w : OnFault) (form : LogForm) (given : Setup) (first : List Input) (i o : Option (List ℕ)) → Ended (Err Memory) w form given first i i o o
-none-recorded w form given first i o = record {
-  read = [];
-  taken = consumes-nothing i;
-  told = [];
-  grown = appends-nothing o;
-  so = (refl, refl);
-  large = (λ h. absurd h, λ h. absurd (omega (arith, h)));
-  most = omega arith;
-  whole = λ f. absurd f;
-  reads = record {
-    before = [];
-    last = [];
-    whole = refl;
-    short = omega arith;
-    said = [];
-    going = record { next = 1; now = first; held = []; unfinished = tt; carries = record { on = λ end more text t. t } };
-  };
-}
 
 -- what was told are the events of the inputs that remain
 pub stands-told : (given : Setup) (log : List LogRow) (course : OnCourse) (form : LogForm) (is : List Input) → course.mode ≡ Recording form → Stands given log course is → course.told.told.events ≡ told_along form given.plan is

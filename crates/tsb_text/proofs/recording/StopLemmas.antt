@@ -10,7 +10,7 @@ use Rattle.tsb_text.specs.declared.faults.LineFault.{LineFault}
 use Rattle.tsb_text.specs.declared.faults.OnFault.TheVariants.{GoOn, Stop}
 use Rattle.tsb_text.specs.recording.Faults.{fault_line, fault_text}
 use Rattle.tsb_text.specs.recording.Laws.{StoppedSo}
-use Rattle.tsb_text.specs.recording.Leaves.{Come, Does, End, Ends, Follows, first_inputs, quits}
+use Rattle.tsb_text.specs.recording.Leaves.{Come, Does, End, Ends, Follows, quits}
 use Rattle.tsb_text.specs.Stops.{flow_after, stopped_at}
 
 -- ## A strict record
@@ -65,9 +65,9 @@ stops given end (line ∷ lines) n is told h = by h.0 (quits (reading line)) (λ
     by (Some fault) false later goes does tells follows = ended-by given n is h.1 end line lines told h.2 fault does tells follows
     by (Some fault) true later goes does tells follows = ended-by given n is h.1 end line lines told h.2 fault does tells follows
 
-pub strict_records_stop_at_the_first : (given : Setup) (clock : Option ℕ) (end : End) (lines : List (List ℕ)) (told : List ℕ) → Come Stop given end 1 (first_inputs clock) lines told
-    → StoppedSo given 1 (first_inputs clock) lines told end.inputs end.stop
-strict_records_stop_at_the_first given clock end lines told h = stops given end lines 1 (first_inputs clock) told h
+pub strict_records_stop_at_the_first : (given : Setup) (first : List Input) (end : End) (lines : List (List ℕ)) (told : List ℕ) → Come Stop given end 1 first lines told
+    → StoppedSo given 1 first lines told end.inputs end.stop
+strict_records_stop_at_the_first given first end lines told h = stops given end lines 1 first told h
 
 -- ## One that goes on
 
@@ -79,5 +79,5 @@ goes given end (line ∷ lines) n is told h = by (quits (reading line)) (λ rest
     by false later follows = later follows
     by true later follows = ap (λ (e : End). e.stop) follows.1
 
-pub no_line_stops_others : (given : Setup) (clock : Option ℕ) (end : End) (lines : List (List ℕ)) (told : List ℕ) → Come GoOn given end 1 (first_inputs clock) lines told → end.stop ≡ None
-no_line_stops_others given clock end lines told h = goes given end lines 1 (first_inputs clock) told h
+pub no_line_stops_others : (given : Setup) (first : List Input) (end : End) (lines : List (List ℕ)) (told : List ℕ) → Come GoOn given end 1 first lines told → end.stop ≡ None
+no_line_stops_others given first end lines told h = goes given end lines 1 first told h

@@ -12,7 +12,7 @@ use Rattle.tsb_text.specs.declared.recording.Outcome.{Outcome}
 use Rattle.tsb_text.specs.declared.recording.Outcome.TheVariants.{Events, Stopped}
 use Rattle.tsb_text.specs.Stops.{stop_in}
 use Rattle.tsb_text.specs.recording.Along.{told_along}
-use Rattle.tsb_text.specs.recording.Leaves.{Come, End}
+use Rattle.tsb_text.specs.recording.Leaves.{BeginsWith, Come, End}
 
 -- ## What was told
 
@@ -96,3 +96,14 @@ pub record Ended (result : Result Outcome SessionError) (on_fault : OnFault) (fo
   pub whole : IsOfReading result → TellsWhole on_fault given first (take 16777216 read) told
   -- after a line that ends it, `quit` or one with which something is wrong, nothing more is read
   pub reads : ReadsOn on_fault given first read
+
+-- there was no memory to begin with: nothing was read or written
+abbrev pub HasNotBegun : Result Outcome SessionError → (input left old new : Option (List ℕ)) → Type 0
+HasNotBegun (Err Memory) input left old new = (left ≡ input) × (new ≡ old)
+HasNotBegun result input left old new = ⊥
+
+-- how a record ends that has this clock, if any
+abbrev pub EndedFrom : Result Outcome SessionError → OnFault → LogForm → Setup → Option ℕ → (input left old new : Option (List ℕ)) → Type 0
+EndedFrom result on_fault form given clock input left old new =
+    ((first : List Input) × BeginsWith given clock first × Ended result on_fault form given first input left old new)
+    ⊎ HasNotBegun result input left old new

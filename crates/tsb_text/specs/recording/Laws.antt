@@ -17,7 +17,7 @@ use Rattle.tsb_text.specs.declared.faults.OnFault.{OnFault}
 use Rattle.tsb_text.specs.declared.faults.OnFault.TheVariants.{GoOn, Stop}
 use Rattle.tsb_text.specs.Stops.{Stopped}
 use Rattle.tsb_text.specs.recording.Faults.{fault_line}
-use Rattle.tsb_text.specs.recording.Leaves.{Come, Does, End, first_inputs, quits}
+use Rattle.tsb_text.specs.recording.Leaves.{BeginsWith, Come, Does, End, quits}
 
 -- an event has the number of the tick in force after its input
 abbrev pub EventsHaveTheirTick : Type 0
@@ -25,15 +25,15 @@ EventsHaveTheirTick = (noted : Noted) (s : State) (i : Input) → All (λ e. e.t
 
 -- what lines leave are the inputs that remain of some commands with right answers, that of a clock among them
 abbrev pub LinesLeaveWhatRemains : Type 0
-LinesLeaveWhatRemains = (on_fault : OnFault) (given : Setup) (clock : Option ℕ) (end : End) (lines : List (List ℕ)) (told : List ℕ)
-    → Come on_fault given end 1 (first_inputs clock) lines told
+LinesLeaveWhatRemains = (on_fault : OnFault) (given : Setup) (clock : Option ℕ) (first : List Input) (end : End) (lines : List (List ℕ)) (told : List ℕ)
+    → BeginsWith given clock first → Come on_fault given end 1 first lines told
     → (cs : List Cmd) × (ans : List Answer) × AreRight given.plan cs ans × (end.inputs ≡ remaining given.plan cs ans)
 
 -- a record has no clock, unless one is asked for; and one that has is as one without whose first line sets it, but that each
 -- line has the number before its own
 abbrev pub ClocksAreFirstLines : Type 0
-ClocksAreFirstLines = (on_fault : OnFault) (given : Setup) (m : ℕ) (end : End) (n : ℕ) (line : List ℕ) (lines : List (List ℕ)) (told : List ℕ)
-    → reading line ≡ Do (Clock m) → Come on_fault given end (suc n) (first_inputs (Some m)) lines told → Come on_fault given end n (first_inputs None) (line ∷ lines) told
+ClocksAreFirstLines = (on_fault : OnFault) (given : Setup) (m : ℕ) (first : List Input) (end : End) (n : ℕ) (line : List ℕ) (lines : List (List ℕ)) (told : List ℕ)
+    → reading line ≡ Do (Clock m) → BeginsWith given (Some m) first → Come on_fault given end (suc n) first lines told → Come on_fault given end n [] (line ∷ lines) told
 
 -- ## Strict records
 
@@ -63,10 +63,10 @@ StoppedSo given n is lines told left (Some stop) = StoppedAt given n is lines to
 
 -- a strict record ends with the first line with which something is wrong
 abbrev pub StrictRecordsStopAtTheFirst : Type 0
-StrictRecordsStopAtTheFirst = (given : Setup) (clock : Option ℕ) (end : End) (lines : List (List ℕ)) (told : List ℕ)
-    → Come Stop given end 1 (first_inputs clock) lines told → StoppedSo given 1 (first_inputs clock) lines told end.inputs end.stop
+StrictRecordsStopAtTheFirst = (given : Setup) (first : List Input) (end : End) (lines : List (List ℕ)) (told : List ℕ)
+    → Come Stop given end 1 first lines told → StoppedSo given 1 first lines told end.inputs end.stop
 
 -- no such line ends a record that goes on
 abbrev pub NoLineStopsOthers : Type 0
-NoLineStopsOthers = (given : Setup) (clock : Option ℕ) (end : End) (lines : List (List ℕ)) (told : List ℕ)
-    → Come GoOn given end 1 (first_inputs clock) lines told → end.stop ≡ None
+NoLineStopsOthers = (given : Setup) (first : List Input) (end : End) (lines : List (List ℕ)) (told : List ℕ)
+    → Come GoOn given end 1 first lines told → end.stop ≡ None

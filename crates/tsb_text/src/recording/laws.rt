@@ -13,7 +13,7 @@ pub fn events_have_their_tick()
 /// A record is of what remains. The inputs whose events a record has are those that remain of some commands, each with
 /// a right answer. So what holds of `tsb_bench::play`, as that the state is a replay of these inputs, holds of a record.
 ///
-/// Needs: that the lines come to these inputs.
+/// Needs: that the lines come to these inputs, after those with which the record begins.
 /// Not said: that the commands are those of the lines, which the definition of what lines come to says.
 /// Mistake: an undone tick goes back to its own number, so that what it told stays (`goes_back_too_little`).
 /// Witness: `one_tick` and `taken_back` of Mistakes, a tick from power-up, and the same undone.
@@ -24,10 +24,10 @@ pub fn records_are_of_what_remains()
 /// A record's clock is a first line. A record with a clock is the record without one whose first line sets that clock, but
 /// that its lines have the numbers before theirs. So all laws of sessions hold of it.
 ///
-/// Needs: that the first line sets the clock.
+/// Needs: that the first line sets the clock, and that the record begins with that input and what follows it.
 /// Not said: that such a line is always taken, as out of memory it is refused; a record has no events then at all.
 /// Mistake: a clock that is forgotten (`forgets`, `would_leave_none`).
-/// Witness: `clock_first` of Mistakes, a line that sets a clock, and no other.
+/// Witness: `clock_first` and `pattern_next` of Mistakes, a line that sets a clock and no other, and what follows it.
 pub fn clocks_are_first_lines()
     ensures { ClocksAreFirstLines }
 {}

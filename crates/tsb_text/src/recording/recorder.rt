@@ -1,5 +1,5 @@
 //! The commands of a record: what they ask is done as in a session, and not answered.
-ghost use Rattle.std.specs.Prelude.{◌≡◌, List, Some};
+ghost use Rattle.std.specs.Prelude.{◌≡◌, ◌⊎◌, List, Some};
 ghost use Rattle.tsb_step.specs.declared.inputs.Input.{Input as InputValue};
 ghost use Rattle.tsb_log_text.specs.declared.log.LogRow.{LogRow};
 ghost use Rattle.tsb_text.specs.Answers.{Setup};
@@ -8,7 +8,7 @@ ghost use Rattle.tsb_text.specs.declared.task.Task.TheVariants as tasks;
 ghost use Rattle.tsb_text.specs.recording.Leaves.{Does, Leaves, LeavesOf};
 ghost use Rattle.tsb_text.specs.recording.Recording.{Left};
 ghost use Rattle.tsb_text.specs.Tasks.{task_of};
-ghost use Rattle.tsb_text.specs.Wanting.{IsWanting, WantsFor, WantsTo, tick_of};
+ghost use Rattle.tsb_text.specs.Wanting.{IsWanting, WantsFor, WantsPattern, WantsTo, tick_of};
 ghost use Rattle.tsb_types.specs.declared.refusal.Refusal.TheVariants.{Memory};
 
 use crate::answers::refusal_in;
@@ -50,12 +50,16 @@ fn obey(course: &mut Course, command: Command) -> Option<Refusal>
 /// So many ticks, up to one that is refused.
 fn step(course: &mut Course, ticks: u32) -> Option<Refusal>
     ensures done { (given : Setup) (log : List LogRow) (inputs : List InputValue) → Stands given log course.old inputs → Left result given log course.new (LeavesOf given inputs (tasks.Ticks ticks)) }
-    ensures wanting { result ≡ Some Memory → IsWanting course.new (tick_of course.new) }
+    ensures wanting { result ≡ Some Memory → IsWanting course.new (tick_of course.new) ⊎ WantsPattern course.new }
     ensures mode { course.new.mode ≡ course.old.mode }
 {
     for _i in 0..ticks {
         match course.tick() {
             Ok(()) => {}
+            Err(refusal) => return Some(refusal),
+        }
+        match course.follow() {
+            Ok(_) => {}
             Err(refusal) => return Some(refusal),
         }
     }
@@ -66,11 +70,14 @@ fn step(course: &mut Course, ticks: u32) -> Option<Refusal>
 fn ask(course: &mut Course, command: Cmd) -> Option<Refusal>
     ensures done { (given : Setup) (log : List LogRow) (inputs : List InputValue) → Stands given log course.old inputs → AsksNext course.old.mode given inputs command
         → Left result given log course.new (LeavesOf given inputs (tasks.Ask command)) }
-    ensures wanting { result ≡ Some Memory → WantsTo course.new command }
+    ensures wanting { result ≡ Some Memory → WantsTo course.new command ⊎ WantsPattern course.new }
     ensures mode { course.new.mode ≡ course.old.mode }
 {
     match command {
         Cmd::When(_) => None,
-        _ => refusal_in(&course.answer(command)),
+        _ => match refusal_in(&course.answer(command)) {
+            Some(refusal) => Some(refusal),
+            None => course.follow().err(),
+        },
     }
 }

@@ -5,7 +5,7 @@ use Rattle.clap.proofs.OnLiterals.{clap_on_literals}
 use Rattle.tsb_words.specs.FieldProgram.{wish_of}
 use Rattle.tsb_event_text.specs.Times.{moment_of}
 use Rattle.tsb_words.specs.declared.field_files.RecordManner.{RecordManner}
-use Rattle.tsb_words.specs.FieldWords.{Wish, diagram, recording, reviewing}
+use Rattle.tsb_words.specs.FieldWords.{Wish, diagram, recording, reviewing, weekly}
 
 -- these words after the program's name
 abbrev given : List Text → List Text
@@ -52,6 +52,19 @@ no-plan = refl
 two-files : wish_of (given (codes "review" ∷ codes "a.plan" ∷ codes "a.log" ∷ [])) ≡ None
 unfolding clap_on_literals
 two-files = refl
+
+-- `schedule` has a plan and the first day of a week, which is one that there is
+schedule-words : wish_of (given (codes "schedule" ∷ codes "--week=2026-11-22" ∷ codes "a.plan" ∷ [])) ≡ Some (weekly (codes "a.plan") 8493120000)
+unfolding clap_on_literals
+schedule-words = refl
+
+no-week : wish_of (given (codes "schedule" ∷ codes "a.plan" ∷ [])) ≡ None
+unfolding clap_on_literals
+no-week = refl
+
+no-such-day : wish_of (given (codes "schedule" ∷ codes "--week=2026-02-29" ∷ codes "a.plan" ∷ [])) ≡ None
+unfolding clap_on_literals
+no-such-day = refl
 
 -- `record` needs a plan and a log
 no-log : wish_of (given (codes "record" ∷ codes "--from=2026-11-22T07:00:00" ∷ codes "--device=7" ∷ codes "a.plan" ∷ [])) ≡ None

@@ -28,6 +28,10 @@ pub(crate) const PROGRAM: Program = Program {
             name: "review",
             arguments: &REVIEW,
         },
+        Leaf {
+            name: "schedule",
+            arguments: &SCHEDULE,
+        },
     ],
 };
 
@@ -77,3 +81,6 @@ const DIAGRAM: [Argument; 5] = [
 
 /// The file of `review`.
 const REVIEW: [Argument; 1] = [Argument::File("PLAN")];
+
+/// The file and the option of `schedule`.
+const SCHEDULE: [Argument; 2] = [Argument::File("PLAN"), Argument::Required("week")];

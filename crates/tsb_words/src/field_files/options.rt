@@ -2,11 +2,14 @@
 ghost use Rattle.std.specs.Prelude.{◌≡◌, option_map};
 ghost use Rattle.clap.specs.Words.{found_of, rows_of};
 ghost use Rattle.tsb_words.specs.FieldProgram.{form_said, from_said, moment_in, seconds_said, usual_window, window_said, zone_said};
-ghost use Rattle.tsb_words.specs.FieldWords.{seconds_of, window_of};
+ghost use Rattle.tsb_command_text.specs.clock.ClockText.{clock_of};
+ghost use Rattle.tsb_words.specs.FieldWords.{midnight, seconds_of, window_of};
 
 use clap::ArgMatches;
+use tsb_command_text::clock::read_clock;
 use tsb_event_text::{Moment, TimeForm, Zone, read_moment, time_form_named, zone_named};
 use tsb_lines::number;
+use tsb_types::ClockTime;
 
 /// The most seconds that a line of a diagram shows: a day.
 pub const MOST_SECONDS: u32 = 86_400;
@@ -16,6 +19,13 @@ pub const USUAL_WINDOW: u32 = 60;
 
 /// The most seconds that a row may be late where rows are sorted: an hour.
 pub const MOST_WINDOW: u32 = 3_600;
+
+/// The midnight of a date, as `2026-11-22`.
+pub(crate) fn midnight_of(text: &[u8]) -> Option<ClockTime>
+    ensures { result ≡ clock_of text.now midnight }
+{
+    read_clock(text, b"00:00:00")
+}
 
 /// What `--from` says.
 pub(crate) fn moment(matches: &ArgMatches<'_>) -> Option<Moment>

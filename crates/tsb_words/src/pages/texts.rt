@@ -34,11 +34,12 @@ record     from the commands of a session to a controller's event log
 events     from what `tsb run` answers to a controller's event log
 diagram    from what `tsb run` answers to a phase diagram, as SVG
 review     what can be wrong with a plan that runs
+schedule   what the schedule of a plan runs in a week
 
 --version  the version
 --help     this page; after a command, its words with their units and an example
 
-All but `review` read standard input, and all write standard output. docs/use/FIELD.md has more.
+All but `review` and `schedule` read standard input, and all write standard output. docs/use/FIELD.md has more.
 ";
 
 /// How `log` is used.
@@ -115,6 +116,20 @@ A tick is 0.1 s. Example, four minutes in one line:
 
     echo \"step 2400\" | tsb run plan.json day.log \\
         | tsb_field diagram --log day.log --seconds-per-line 240 > picture.svg
+";
+
+/// How `schedule` is used.
+pub(crate) const SCHEDULE_HELP: &[u8] = b"usage: tsb_field schedule --week DATE PLAN
+
+Writes what the schedule of the plan in this file runs from this date on, for a week: a line for each midnight and for
+each minute with which another action comes into force.
+
+PLAN         the file of the plan, as of `tsb check`
+--week DATE  the first day, such as 2026-11-22
+
+Example:
+
+    tsb_field schedule --week 2026-11-22 plan.json
 ";
 
 /// How `review` is used.

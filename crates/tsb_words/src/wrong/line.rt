@@ -62,11 +62,11 @@ fn push_word(line: &mut WrongLine, word: &[u8])
 /// Adds that there is no command of this name.
 fn push_no_command(line: &mut WrongLine, name: &[u8])
     ensures { AddsShort LONGEST_WRONG 240 line.old
-        (codes "there is no command \"" ++ (shown name.now ++ codes "\": log, record, events, diagram or review")) line.new }
+        (codes "there is no command \"" ++ (shown name.now ++ codes "\": log, record, events, diagram, review or schedule")) line.new }
 {
     line.push(b"there is no command \"");
     push_word(line, name);
-    line.push(b"\": log, record, events, diagram or review");
+    line.push(b"\": log, record, events, diagram, review or schedule");
 }
 
 /// Adds that a command has no option of this name.
@@ -152,6 +152,10 @@ fn push_taken(line: &mut WrongLine, takes: OptionValue)
             line,
             b"a time is YYYY-MM-DD HH:MM:SS, such as \"2026-11-22 07:00:00\"",
         ),
+        OptionValue::Date => push_said(
+            line,
+            b"a date is YYYY-MM-DD, such as 2026-11-22, of the years 2000 to 2099",
+        ),
         OptionValue::Form => push_said(
             line,
             b"a form is year-first, month-first, day-first, seconds or milliseconds",
@@ -214,6 +218,8 @@ fn files_text(command: &str) -> &'static [u8]
         b"record names two files, PLAN and LOG"
     } else if command == "review" {
         b"review names one file, PLAN"
+    } else if command == "schedule" {
+        b"schedule names one file, PLAN"
     } else {
         b"this command names files by options alone: it reads what `tsb run` answers from standard input"
     }

@@ -1,6 +1,6 @@
 -- What the laws refuse: for each a mistake in the definitions, and by computing what comes of it. Beside each stands
 -- what the definitions as they are make of the same.
-use Rattle.std.proofs.Common.{◌≡◌, ℕ, suc, ◌<◌, ◌≤◌, false, List, [], ◌∷◌, codes, bytes_eq, refl, arith}
+use Rattle.std.proofs.Common.{◌≡◌, ℕ, suc, ◌<◌, ◌≤◌, false, List, [], ◌∷◌, None, codes, bytes_eq, refl, arith}
 use Rattle.tsb_step.specs.tsb_history.declared.kinds.Kind.TheVariants as kinds
 use Rattle.tsb_step.specs.tsb_plan.Two.{two}
 use Rattle.tsb_step.specs.tsb_machine.declared.commands.MachineCommand.TheVariants.{Undo, Back}
@@ -68,7 +68,7 @@ all = codes "begin 1\nundo\n"
 -- each is the text of what was read then
 read_a_line : IsText given [] (codes "begin 1\n") (codes "ok\n")
 unfolding opened
-read_a_line = (codes "ok\n", [], begun, record { answer = Took; right = refl; left = refl; line = refl }, refl, refl)
+read_a_line = (codes "ok\n", [], begun, record { answer = Took; right = refl; stop = None; left = (refl, refl); line = refl }, refl, refl)
 
 read_all : IsText given [] all (codes "ok\nundone begin\n")
 unfolding opened
@@ -76,9 +76,9 @@ read_all = (
   codes "ok\n",
   codes "undone begin\n",
   begun,
-  record { answer = Took; right = refl; left = refl; line = refl },
+  record { answer = Took; right = refl; stop = None; left = (refl, refl); line = refl },
   refl,
-  (codes "undone begin\n", [], [], record { answer = Undone kinds.Begin; right = refl; left = refl; line = refl }, refl, refl),
+  (codes "undone begin\n", [], [], record { answer = Undone kinds.Begin; right = refl; stop = None; left = (refl, refl); line = refl }, refl, refl),
 )
 
 would_differ : bytes_eq (codes "ok\n") (codes "ok\nundone begin\n") ≡ false

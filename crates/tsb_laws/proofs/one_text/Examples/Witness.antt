@@ -1,7 +1,7 @@
 -- A session that meets the premises of the laws: on the built-in plan of two phases a tick, a transaction that is
 -- opened and taken back, and more ticks back than there are; and the same session where there is no memory for the
 -- tick.
-use Rattle.std.proofs.Common.{◌≡◌, ℕ, ◌<◌, true, false, List, [], ◌∷◌, Some, Result, Ok, Err, length, codes, refl, arith, inl, inr}
+use Rattle.std.proofs.Common.{◌≡◌, ℕ, ◌<◌, true, false, List, [], ◌∷◌, Some, None, Result, Ok, Err, length, codes, refl, arith, inl, inr}
 use Rattle.tsb_step.specs.tsb_history.declared.kinds.Kind.TheVariants as kinds
 use Rattle.tsb_step.specs.tsb_types.declared.refusal.Refusal.TheVariants.{Memory}
 use Rattle.tsb_step.specs.tsb_plan.Two.{two}
@@ -23,7 +23,7 @@ unfolding scenes.opened two command_of_one command_of_two line_of
 opened = tt
 
 abbrev pub given : Setup
-given = record { plan = two; log = [] }
+given = record { plan = two; log = []; acts = true }
 
 abbrev pub commands : List ℕ
 commands = codes "step 1\nbegin 1\nundo\nback 2\n"
@@ -49,21 +49,21 @@ is_text = (
   tick_line,
   codes "ok\nundone begin\nnothing\n",
   ticked,
-  inl ([], record { right = refl; line = refl }, (refl, refl)),
+  inl ([], None, ticked, record { right = refl; leads = (refl, refl); line = refl }, (refl, refl)),
   refl,
   (
     codes "ok\n",
     codes "undone begin\nnothing\n",
     inputs.Begin 1 ∷ ticked,
-    record { answer = Took; right = refl; left = refl; line = refl },
+    record { answer = Took; right = refl; stop = None; left = (refl, refl); line = refl },
     refl,
     (
       codes "undone begin\n",
       codes "nothing\n",
       ticked,
-      record { answer = Undone kinds.Begin; right = refl; left = refl; line = refl },
+      record { answer = Undone kinds.Begin; right = refl; stop = None; left = (refl, refl); line = refl },
       refl,
-      (codes "nothing\n", [], ticked, record { answer = Nothing; right = one_tick; left = refl; line = refl }, refl, refl),
+      (codes "nothing\n", [], ticked, record { answer = Nothing; right = one_tick; stop = None; left = (refl, refl); line = refl }, refl, refl),
     ),
   ),
 )
@@ -88,15 +88,15 @@ is_text_too = (
     codes "ok\n",
     codes "undone begin\nnothing\n",
     inputs.Begin 1 ∷ [],
-    record { answer = Took; right = refl; left = refl; line = refl },
+    record { answer = Took; right = refl; stop = None; left = (refl, refl); line = refl },
     refl,
     (
       codes "undone begin\n",
       codes "nothing\n",
       [],
-      record { answer = Undone kinds.Begin; right = refl; left = refl; line = refl },
+      record { answer = Undone kinds.Begin; right = refl; stop = None; left = (refl, refl); line = refl },
       refl,
-      (codes "nothing\n", [], [], record { answer = Nothing; right = no_tick; left = refl; line = refl }, refl, refl),
+      (codes "nothing\n", [], [], record { answer = Nothing; right = no_tick; stop = None; left = (refl, refl); line = refl }, refl, refl),
     ),
   ),
 )

@@ -20,9 +20,9 @@ use Rattle.tsb_live_text.proofs.run.live.Goals as goal
 -- the bench at power-up has come by no input
 pub returns-clause-ended : goal.returns-clause-ended
 returns-clause-ended g c = rw c.ended_with.ensures
-    (live-ended c.converse-ended.result c.converse-ended.new.answers.stop c.args.on_fault (checked_plan c.args.plan) _ _ _ _
-    (ended-stopped c.converse-ended.result KEPT BYTES StandsLive Says (begun c.args.on_fault (checked_plan c.args.plan)) c.converse-ended.new.answers (stop_in c.converse-ended.new.answers.stop) _ _ _ _ (λ s stands. stands.stop)
-    (c.converse-ended.ensures.ended (begun c.args.on_fault (checked_plan c.args.plan)) (run-begins c.args.on_fault (checked_plan c.args.plan) _ c.new.ensures.mode refl (subst (λ (b : Held). Follows (checked_plan c.args.plan) (whole b) []) (sym c.new.ensures.bench) (follows-start controller (start (checked_plan c.args.plan)) (whole c.in-Ok.bench) c.in-Ok.ensures)) (c.new.ensures.rows ∙ ap (λ (r : Row). rows_in (HeldRow r)) c.all_off.ensures.same) c.new.ensures.kept c.new.ensures.told refl refl))))
+    (live-ended c.converse-ended.result c.converse-ended.new.answers.stop c.args.on_fault c.args.acts (checked_plan c.args.plan) _ _ _ _
+    (ended-stopped c.converse-ended.result KEPT BYTES StandsLive Says (begun c.args.on_fault c.args.acts (checked_plan c.args.plan)) c.converse-ended.new.answers (stop_in c.converse-ended.new.answers.stop) _ _ _ _ (λ s stands. stands.stop)
+    (c.converse-ended.ensures.ended (begun c.args.on_fault c.args.acts (checked_plan c.args.plan)) (run-begins c.args.on_fault c.args.acts (checked_plan c.args.plan) _ c.new.ensures.mode refl (subst (λ (b : Held). Follows (checked_plan c.args.plan) (whole b) []) (sym c.new.ensures.bench) (follows-start controller (start (checked_plan c.args.plan)) (whole c.in-Ok.bench) c.in-Ok.ensures)) (c.new.ensures.rows ∙ ap (λ (r : Row). rows_in (HeldRow r)) c.all_off.ensures.same) c.new.ensures.kept c.new.ensures.told c.new.ensures.acts refl refl))))
 
 pub returns-clause-blame : goal.returns-clause-blame
 returns-clause-blame g c = rw c.ended_with.ensures (live-blames c.converse-ended.result c.converse-ended.new.answers.stop _ _ _ c.converse-ended.ensures.blame)

@@ -1,10 +1,18 @@
 -- Mistakes that the law of events refuses, and what is kept of a worked run, computed.
-use Rattle.std.proofs.Common.{suc, ◌≡◌, ℕ, ◌+◌, List, [], ◌∷◌, ◌++◌, length, length-append, take, get_or, codes, refl, sym, ap, subst, arith, Some, None, inl}
+use Rattle.std.proofs.Common.{suc, ◌≡◌, ℕ, ◌+◌, Bool, true, false, if◌then◌else◌, List, [], ◌∷◌, ◌++◌, length, length-append, take, get_or, codes, refl, sym, ap, subst, arith, Some, None, inl}
 use Rattle.std.specs.Fmt.{digits}
 use Rattle.tsb_types.specs.Events.{event}
 use Rattle.tsb_step.specs.tsb_history.declared.kinds.Kind.TheVariants as kinds
+use Rattle.tsb_step.specs.tsb_plan.Plan.{Plan}
+use Rattle.tsb_step.specs.Following.{action, action_from, following, selects}
+use Rattle.tsb_step.specs.Play.{IsRight}
+use Rattle.tsb_step.specs.Runs.{replay}
+use Rattle.tsb_step.specs.State.{State}
 use Rattle.tsb_step.specs.Step.{verdict}
-use Rattle.tsb_bench.specs.tsb_machine.declared.commands.Answer.TheVariants.{Undone}
+use Rattle.tsb_step.proofs.ClockLemmas.{no_clock_no_change}
+use Rattle.tsb_log_text.specs.declared.log.LogRow.{LogRow}
+use Rattle.tsb_bench.specs.tsb_machine.declared.commands.Answer.TheVariants.{Took, Undone}
+use Rattle.tsb_bench.specs.tsb_machine.declared.commands.MachineCommand.TheVariants.{Apply}
 use Rattle.tsb_command_text.specs.declared.command.Command.TheVariants.{Clock, Step, Undo}
 use Rattle.tsb_command_text.specs.declared.command.Reading.{Reading}
 use Rattle.tsb_command_text.specs.declared.command.Reading.TheVariants.{Bad, Do}
@@ -12,7 +20,7 @@ use Rattle.std.specs.declared.option.Option.{Option}
 use Rattle.tsb_step.specs.declared.inputs.Input.{Input}
 use Rattle.tsb_step.specs.declared.inputs.Input.TheVariants as inputs
 use Rattle.tsb_command_text.specs.Readings.{reading}
-use Rattle.tsb_text.specs.Answers.{Setup, next_tick}
+use Rattle.tsb_text.specs.Answers.{Leads, Setup, follower, next_tick}
 use Rattle.tsb_text.specs.declared.faults.LineFault.{LineFault}
 use Rattle.tsb_text.specs.declared.faults.LineFault.TheVariants.{BadCommand}
 use Rattle.tsb_text.specs.declared.faults.OnFault.{OnFault}
@@ -21,7 +29,7 @@ use Rattle.tsb_text.specs.recording.Ended.{BeginsLast}
 use Rattle.tsb_text.specs.Faults.{shown}
 use Rattle.tsb_text.specs.recording.Faults.{fault_line, fault_text}
 use Rattle.tsb_text.specs.recording.Laws.{StoppedSo}
-use Rattle.tsb_text.specs.recording.Leaves.{Come, Does, End, Ends, Follows, quits}
+use Rattle.tsb_text.specs.recording.Leaves.{BeginsWith, Come, Does, End, Ends, Follows, quits}
 use Rattle.tsb_text.specs.Stops.{flow_after, stopped_at}
 use Rattle.tsb_text.proofs.recording.ClockLemmas.{clocks_are_first_lines}
 use Rattle.tsb_text.proofs.recording.StopLemmas.{no_line_stops_others}
@@ -81,24 +89,41 @@ comes on_fault given end n is line lines told r reads h = subst (ComesAs on_faul
 abbrev left : List Input → End
 left is = record { inputs = is; stop = None }
 
--- a tick from power-up, of any plan and log
-one_tick : (given : Setup) (tick : List ℕ) → reading tick ≡ Do (Step 1) → Come Stop given (left (next_tick given [] ∷ [])) 1 [] (tick ∷ []) []
+-- without a clock no pattern follows
+no_action : (before after : State) → after.start_moment ≡ None → following before after ≡ None
+no_action before after none = ap (λ (m : Option ℕ). selects after.plan (action before) (action_from after.plan m after.now)) none
+
+none_follows : (given : Setup) → follower given [] (next_tick given []) ≡ None
+none_follows given = go given.acts
+  where
+    go : (acts : Bool) → (if acts then following (replay given.plan []) (replay given.plan (next_tick given [] ∷ [])) else None) ≡ None
+    go true = no_action (replay given.plan []) (replay given.plan (next_tick given [] ∷ [])) (no_clock_no_change given.plan (next_tick given [] ∷ []) (refl, tt)).start
+    go false = refl
+
+tick_leads : (given : Setup) → Leads given (next_tick given [] ∷ []) (follower given [] (next_tick given [])) None (next_tick given [] ∷ [])
+tick_leads given = subst (λ (n : Option Input). Leads given (next_tick given [] ∷ []) n None (next_tick given [] ∷ [])) (sym (none_follows given)) (refl, refl)
+
+-- a tick from power-up leaves that tick, of any plan and log
+ticks_once : (given : Setup) → Does given [] (Do (Step 1)) None (next_tick given [] ∷ [])
 unfolding verdict
+ticks_once given = (None, (_, inl ([], None, next_tick given [] ∷ [], record { right = refl; leads = tick_leads given; line = refl }, (refl, refl, refl))), refl)
+
+-- so of a line that asks for it
+one_tick : (given : Setup) (tick : List ℕ) → reading tick ≡ Do (Step 1) → Come Stop given (left (next_tick given [] ∷ [])) 1 [] (tick ∷ []) []
 one_tick given tick ticks =
-    comes Stop given (left (next_tick given [] ∷ [])) 1 [] tick [] [] (Do (Step 1)) ticks (None, next_tick given [] ∷ [], [], (None, (_, inl ([], record { right = refl; line = refl }, (refl, refl, refl))), refl), refl, (refl, refl))
+    comes Stop given (left (next_tick given [] ∷ [])) 1 [] tick [] [] (Do (Step 1)) ticks (None, next_tick given [] ∷ [], [], ticks_once given, refl, (refl, refl))
 
 -- and undone
 taken_back : (given : Setup) (tick undo : List ℕ) → reading tick ≡ Do (Step 1) → reading undo ≡ Do Undo → Come Stop given (left []) 1 [] (tick ∷ undo ∷ []) []
-unfolding verdict
 taken_back given tick undo ticks undoes =
     comes Stop given (left []) 1 [] tick (undo ∷ []) [] (Do (Step 1)) ticks (
       None,
       next_tick given [] ∷ [],
       [],
-      (None, (_, inl ([], record { right = refl; line = refl }, (refl, refl, refl))), refl),
+      ticks_once given,
       refl,
       comes Stop given (left []) 2 (next_tick given [] ∷ []) undo [] [] (Do Undo) undoes
-          (None, [], [], (None, (_, record { answer = Undone kinds.Tick; right = refl; left = refl; line = refl; refused = refl }), refl), refl, (refl, refl)),
+          (None, [], [], (None, (_, record { answer = Undone kinds.Tick; right = refl; stop = None; left = (refl, refl); line = refl; refused = refl }), refl), refl, (refl, refl)),
     )
 
 -- ## What is told of a line
@@ -124,7 +149,6 @@ stopped given bad tick reads = comes Stop given (stopped_by 1 bad) 1 [] bad (tic
 
 -- one that goes on takes the tick after it
 gone_on : (given : Setup) (bad tick : List ℕ) → reading bad ≡ Bad → reading tick ≡ Do (Step 1) → Come GoOn given (left (next_tick given [] ∷ [])) 1 [] (bad ∷ tick ∷ []) (fault_line 1 bad BadCommand ++ [])
-unfolding verdict
 gone_on given bad tick reads ticks =
     comes GoOn given (left (next_tick given [] ∷ [])) 1 [] bad (tick ∷ []) (fault_line 1 bad BadCommand ++ []) Bad reads (
       Some BadCommand,
@@ -132,7 +156,7 @@ gone_on given bad tick reads ticks =
       [],
       (refl, refl),
       refl,
-      comes GoOn given (left (next_tick given [] ∷ [])) 2 [] tick [] [] (Do (Step 1)) ticks (None, next_tick given [] ∷ [], [], (None, (_, inl ([], record { right = refl; line = refl }, (refl, refl, refl))), refl), refl, (refl, refl)),
+      comes GoOn given (left (next_tick given [] ∷ [])) 2 [] tick [] [] (Do (Step 1)) ticks (None, next_tick given [] ∷ [], [], ticks_once given, refl, (refl, refl)),
     )
 
 -- were a strict record to end with the second such line, it would tell of two
@@ -142,13 +166,23 @@ would_tell_two given bad s = let no : 49 ≡ 50 = ap (λ (v : List ℕ). get_or 
 
 -- were one that goes on to end with it, the tick after it would be left out
 would_leave_out : (given : Setup) (bad tick told : List ℕ) → Come GoOn given (stopped_by 1 bad) 1 [] (bad ∷ tick ∷ []) told → ⊥
-would_leave_out given bad tick told h = let none : (stopped_by 1 bad).stop ≡ None = no_line_stops_others given None (stopped_by 1 bad) (bad ∷ tick ∷ []) told h in absurd (let no : ⊥ = cc in no)
+would_leave_out given bad tick told h = let none : (stopped_by 1 bad).stop ≡ None = no_line_stops_others given [] (stopped_by 1 bad) (bad ∷ tick ∷ []) told h in absurd (let no : ⊥ = cc in no)
 
 -- ## Clocks
 
--- a line that sets a clock, and no other
-clock_first : (given : Setup) (m : ℕ) (clock : List ℕ) → reading clock ≡ Do (Clock m) → Come Stop given (left (inputs.Clock m ∷ [])) 1 [] (clock ∷ []) []
-clock_first given m clock sets = clocks_are_first_lines Stop given m (left (inputs.Clock m ∷ [])) 1 clock [] [] sets (refl, refl)
+-- a line that sets a clock, and no other, where no schedule acts
+clock_first : (plan : Plan) (log : List LogRow) (m : ℕ) (clock : List ℕ) → reading clock ≡ Do (Clock m)
+    → Come Stop (record { plan = plan; log = log; acts = false }) (left (inputs.Clock m ∷ [])) 1 [] (clock ∷ []) []
+clock_first plan log m clock sets =
+    clocks_are_first_lines Stop (record { plan = plan; log = log; acts = false }) m (inputs.Clock m ∷ []) (left (inputs.Clock m ∷ [])) 1 clock [] [] sets (refl, refl) (refl, refl)
+
+-- where one does, the pattern is left that follows it
+pattern_next : (given : Setup) (m n : ℕ) (clock : List ℕ) → reading clock ≡ Do (Clock m) → follower given [] (inputs.Clock m) ≡ Some (inputs.Pattern n)
+    → IsRight given.plan (inputs.Clock m ∷ []) (Apply (inputs.Pattern n)) Took → Come Stop given (left (inputs.Pattern n ∷ inputs.Clock m ∷ [])) 1 [] (clock ∷ []) []
+pattern_next given m n clock sets follows right =
+    let begins : BeginsWith given (Some m) (inputs.Pattern n ∷ inputs.Clock m ∷ []) =
+    subst (λ (o : Option Input). Leads given (inputs.Clock m ∷ []) o None (inputs.Pattern n ∷ inputs.Clock m ∷ [])) (sym follows) (inl (right, refl, refl)) in
+    clocks_are_first_lines Stop given m (inputs.Pattern n ∷ inputs.Clock m ∷ []) (left (inputs.Pattern n ∷ inputs.Clock m ∷ [])) 1 clock [] [] sets begins (refl, refl)
 
 -- were the clock of a record forgotten, it would leave no input where that line leaves one
 abbrev forgets : Option ℕ → List Input

@@ -66,7 +66,7 @@ returns-in-TickAt-clause-done g c s stands =
 pub returns-in-Events-clause-done : goal.returns-in-Events-clause-done
 returns-in-Events-clause-done g c s stands =
     does-as c.tell-in-Events-2.result s _ c.args.line.now c.args.command (asks.Events c.in-Events.on) _ _ _ _ c.in-Events.is
-    (does-tell c.tell-in-Events-2.result None _ s (with_events c.in-Events.on s) c.args.line.now c.deref-in-Events.result.now (codes "ok") (codes "ok") _ _ _ _ (events-stands c.args.self.now _ s c.in-Events.on stands c.tell-in-Events.ensures.mode c.tell-in-Events.ensures.bench c.tell-in-Events.ensures.rows c.tell-in-Events.ensures.kept refl refl refl)
+    (does-tell c.tell-in-Events-2.result None _ s (with_events c.in-Events.on s) c.args.line.now c.deref-in-Events.result.now (codes "ok") (codes "ok") _ _ _ _ (events-stands c.args.self.now _ s c.in-Events.on stands c.tell-in-Events.ensures.mode c.tell-in-Events.ensures.bench c.tell-in-Events.ensures.rows c.tell-in-Events.ensures.kept c.tell-in-Events.ensures.acts refl refl refl)
     (same-echo c.args.self.now s c.args.line.now c.deref-in-Events.result.now stands (c.deref-in-Events.ensures.0 ∙ c.echo-echo.ensures)) (refl) c.tell-in-Events-2.ensures.told)
 
 pub returns-in-Echo-clause-done : goal.returns-in-Echo-clause-done

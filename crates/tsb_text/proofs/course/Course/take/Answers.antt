@@ -1,20 +1,26 @@
-use Rattle.std.proofs.Common.{◌≡◌, OnErr, inl, refl, subst, sym}
+use Rattle.std.proofs.Common.{◌≡◌, ◌∙◌, None, OnErr, subst, sym}
+use Rattle.std.specs.Prelude.{option_map}
 use Rattle.tsb_bench.specs.Held.{whole}
+use Rattle.tsb_bench.specs.tsb_step.declared.inputs.Input.TheVariants.{Pattern}
 use Rattle.tsb_text.specs.Rows.{rows_in}
-use Rattle.tsb_text.specs.Obeyed.{OnCourse, Stands}
-use Rattle.tsb_text.proofs.CourseLemmas.{bench-took, bench-wants, plain-took, same-whole}
+use Rattle.tsb_text.specs.Obeyed.{IsNext, OnCourse, Stands}
+use Rattle.tsb_bench.proofs.TellingLemmas.{always}
+use Rattle.tsb_text.proofs.FollowLemmas.{none-follows, stands-before, where-err}
 use Rattle.tsb_text.proofs.course.Course.take.Goals as goal
 
-pub returns-in-Plain-clause-took : goal.returns-in-Plain-clause-took
-returns-in-Plain-clause-took c given log is s next =
-    let old : OnCourse = record { bench = c.self.inside.bench; rows = rows_in c.self.inside.rows; kept = c.self.inside.kept; told = c.self.inside.told; mode = c.self.inside.mode; news = c.self.inside.news.items } in
+pub returns-clause-took : goal.returns-clause-took
+returns-clause-took c given log is s next =
+    let old : OnCourse = record { bench = c.self.inside.bench; rows = rows_in c.self.inside.rows; kept = c.self.inside.kept; told = c.self.inside.told; mode = c.self.inside.mode; news = c.self.inside.news.items; acts = c.self.inside.acts; next = option_map Pattern c.self.inside.next } in
     let here : Stands given log old is = subst (λ (v : OnCourse). Stands given log v is) (sym c.self.view_is) s in
-    plain-took c.apply.result given log is old _ c.args.input here c.in-Plain.is refl
-    (bench-took c.apply.result given.plan is c.self.inside.bench c.apply.new.self c.args.input here.follows c.apply.ensures.allowed c.apply.ensures.state c.apply.ensures.records c.apply.ensures.back c.apply.ensures.refused c.apply.ensures.err)
+    let there : IsNext old.mode given is c.args.input = subst (λ (v : OnCourse). IsNext v.mode given is c.args.input) (sym c.self.view_is) next in
+    c.take_alone.ensures.took given log is (stands-before given log old None is here) there
 
-pub returns-in-Plain-clause-wanting : goal.returns-in-Plain-clause-wanting
-returns-in-Plain-clause-wanting c memory = inl (bench-wants c.apply.result c.self.inside.bench c.apply.new.self c.args.input c.apply.ensures.err c.apply.ensures.wanting memory)
+pub returns-clause-next : goal.returns-clause-next
+returns-clause-next c given log is s =
+    always c.take_alone.result (c.take_alone.ensures.next ∙ none-follows given log is c.args.self.now c.args.input s (c.may_follow.ensures.none c.if-may_follow.false))
 
-pub returns-in-Plain-clause-still : goal.returns-in-Plain-clause-still
-returns-in-Plain-clause-still c =
-    subst (λ (v : OnCourse). OnErr c.apply.result (whole c.apply.new.self ≡ whole v.bench)) c.self.view_is (same-whole c.apply.result c.self.inside.bench c.apply.new.self c.apply.ensures.err)
+pub returns-clause-none : goal.returns-clause-none
+returns-clause-none c = where-err c.take_alone.result c.take_alone.ensures.next
+
+pub returns-clause-still : goal.returns-clause-still
+returns-clause-still c = subst (λ (v : OnCourse). OnErr c.take_alone.result (whole c.take_alone.new.self.bench ≡ whole v.bench)) c.self.view_is c.take_alone.ensures.still

@@ -1,8 +1,8 @@
-use Rattle.std.proofs.Common.{◌≡◌, ◌∙◌, OnErr, ap, subst, sym}
+use Rattle.std.proofs.Common.{◌≡◌, ◌∙◌, OnErr, OnOk, ap, subst, sym}
 use Rattle.tsb_bench.specs.Held.{whole}
 use Rattle.tsb_bench.specs.tsb_step.declared.inputs.Input.{Input}
 use Rattle.tsb_bench.specs.tsb_step.declared.inputs.Input.TheVariants.{Tick}
-use Rattle.tsb_text.specs.Answers.{next_tick}
+use Rattle.tsb_text.specs.Answers.{follower, next_tick}
 use Rattle.tsb_text.specs.Obeyed.{IsNext, OnCourse, Stands, Took}
 use Rattle.tsb_text.proofs.recording.OfLogLemmas.{tick-of-log}
 use Rattle.tsb_text.proofs.CourseLemmas.{tick-next, tick-wants}
@@ -19,3 +19,8 @@ pub returns-clause-wanting : goal.returns-clause-wanting
 returns-clause-wanting c memory =
     tick-wants c.take.result c.args.self.now c.take.new.self c.next_row-row.result (c.take.ensures.rows ∙ ap (λ (v : OnCourse). v.rows) c.next_row-row.ensures.same)
     (subst (λ (v : OnCourse). OnErr c.take.result (whole c.take.new.self.bench ≡ whole v.bench)) c.next_row-row.ensures.same c.take.ensures.still) c.next_row-row.ensures.row c.take.ensures.wanting memory
+
+pub returns-clause-next : goal.returns-clause-next
+returns-clause-next c given log is s =
+    subst (λ (i : Input). OnOk c.take.result (c.take.new.self.next ≡ follower given is i)) (tick-next given log is c.args.self.now c.next_row-row.result s c.next_row-row.ensures.row)
+    (c.take.ensures.next given log is (subst (λ (v : OnCourse). Stands given log v is) (sym c.next_row-row.ensures.same) s))

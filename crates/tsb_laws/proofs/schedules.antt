@@ -1,0 +1,3 @@
+pub mod FollowLemmas
+pub mod CommandLemmas
+pub mod Examples

@@ -1,0 +1,3 @@
+-- Sessions that meet the premises, and mistakes that the laws refuse.
+pub mod Witness
+pub mod Mistakes
