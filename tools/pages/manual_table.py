@@ -31,7 +31,8 @@ KINDS = """tick pattern switch fault reset begin set verify commit abort clock""
 NOT_SHOWN = ["E1", "E11"]
 
 # How the names of objects begin, in the order in which the manual has them.
-STARTS = ["phase", "vehicle", "pedestrian", "overlap", "coord", "pattern", "split", "sequence", "preempt", "unit"]
+STARTS = ["phase", "vehicle", "pedestrian", "overlap", "coord", "pattern", "split", "sequence", "preempt", "unit",
+          "timeBase", "dayPlan", "timebase"]
 
 
 def comments(source):

@@ -8,7 +8,7 @@ from collections.abc import Callable
 from tools.programs import breach_cases, breach_rules, review_cases
 from tools.programs.review_cases import Table
 
-RULES = 23
+RULES = 27
 # What a plan has many of, with values that break rules. The number is that of the indices that are changed.
 LISTS = [0, 1, 2, 3, 8, 9, 17, 34, 42, 48, 72, 129, 136, 192, 256, 304, 65535]
 VALUES: dict[str, tuple[int, list[int]]] = {
@@ -23,6 +23,8 @@ VALUES: dict[str, tuple[int, list[int]]] = {
     "patternSequenceNumber": (3, [0, 1, 2, 4]), "splitTime": (32, [0, 9, 10, 19, 20, 25, 255]), "splitMode": (32, [0, 1, 5]),
     "splitCoordPhase": (32, [0, 1]), "phaseDynamicMaxLimit": (9, [0, 4, 5]),
     "patternPermissiveTime": (3, [0, 1, 89, 90, 91, 255]), "patternLeadLag": (3, [0, 1]),
+    "timeBaseScheduleDayPlan": (3, [0, 1, 2, 16]), "dayPlanHour": (20, [0, 7, 23]), "dayPlanMinute": (20, [0, 59]),
+    "dayPlanActionNumber": (20, [0, 1, 2, 32]), "timebaseAscPattern": (3, [0, 1, 2, 17, 253, 254]),
 }
 
 # The lines that a review says of each of some plans.

@@ -2,13 +2,13 @@
 nothing of the crates.
 
 `breaches(plan)` gives the lines that a review writes of a plan that is refused by a rule, and none of one that meets them
-all. The plan is a plan text of version 2 as Python reads its JSON, with values in range.
+all. The plan is a plan text of version 3 as Python reads its JSON, with values in range.
 """
 import itertools
 from collections.abc import Iterator
 
-from tools.programs.review_rules import (BUTTONS, DETECTORS, OMITTED, OVERLAPS, PATTERNS, PHASES, PREEMPTS, Plan,
-                                         Table, seconds)
+from tools.programs.review_rules import (ACTIONS, BUTTONS, DAY_PLANS, DETECTORS, ENTRIES, EVENTS, FREE, OMITTED, OVERLAPS,
+                                         PATTERNS, PHASES, PREEMPTS, Plan, Table, seconds)
 
 RINGS = (1, 2)
 SIDES = range(1, 5)
@@ -241,9 +241,32 @@ def patterns(plan: Plan) -> Iterator[Told]:
             yield from coordination(plan, n)
 
 
+def schedules(plan: Plan) -> Iterator[Told]:
+    """Rules K24 to K27."""
+    for d in DAY_PLANS:
+        for j, k in itertools.combinations(plan.events(d), 2):
+            if plan.minute(d, j) == plan.minute(d, k):
+                hour, minute = divmod(plan.minute(d, j), 60)
+                yield 24, 0, f"day plan {d}: events {j} and {k} both come at hour {hour}, minute {minute}"
+        for k in plan.events(d):
+            if not plan.value("timebaseAscPattern", plan.action(d, k)):
+                yield 26, 0, f"day plan {d}, event {k}: its action {plan.action(d, k)} is not defined"
+    for e in ENTRIES:
+        d = plan.value("timeBaseScheduleDayPlan", e)
+        if d and not plan.events(d):
+            yield 25, 0, f"entry {e}: its day plan {d} has no event"
+    for a in ACTIONS:
+        n = plan.value("timebaseAscPattern", a)
+        if n not in (0, FREE, *PATTERNS):
+            yield 27, 0, f"action {a}: it asks for pattern {n}, and there are 16"
+        elif n in PATTERNS and n not in plan.patterns:
+            yield 27, 1, f"action {a}: it asks for pattern {n}, which is not used"
+
+
 def breaches(text: Table) -> list[str]:
     """The lines of all places at which a plan breaks a rule, in order."""
     plan = Plan(text)
-    parts = (rings_and_sides, concurrency, sequences, times, calls, overlaps, preempts, numbers, patterns, permissive)
+    parts = (rings_and_sides, concurrency, sequences, times, calls, overlaps, preempts, numbers, patterns, permissive,
+             schedules)
     told = [it for part in parts for it in part(plan)]
     return [f"K{rule} {line}" for rule, _way, line in sorted(told, key=lambda it: it[:2])]

@@ -22,8 +22,11 @@ USAGE = (
     b"    or tsb_field events --from TIME --device ID [--log LOG]\n"
     b"    or tsb_field diagram [--log LOG] [--title TEXT] [--seconds-per-line N] [--from TIME [--events FILE]]\n"
     b"    or tsb_field review PLAN\n"
+    b"    or tsb_field schedule --week DATE PLAN\n"
 )
 A_TIME = b'a time is YYYY-MM-DD HH:MM:SS, such as "2026-11-22 07:00:00"\n'
+
+A_DATE = b"a date is YYYY-MM-DD, such as 2026-11-22, of the years 2000 to 2099"
 
 AT = "2026-11-22 07:00:00"
 FROM = ["--from", AT]
@@ -38,8 +41,8 @@ MOST_ROWS = 1_720_740
 
 # Words, and what is printed of them: written by hand from docs/use/FIELD.md.
 WRONG = [
-    (["frob"], b'there is no command "frob": log, record, events, diagram or review'),
-    (["-h"], b'there is no command "-h": log, record, events, diagram or review'),
+    (["frob"], b'there is no command "frob": log, record, events, diagram, review or schedule'),
+    (["-h"], b'there is no command "-h": log, record, events, diagram, review or schedule'),
     ([*LOG, "--title", "x"], b"--title: the command has no such option; --help after it lists all"),
     ([*LOG, "--zone", "EST"], b'--zone "EST": a zone is an offset such as -07:00, or Z'),
     ([*LOG, "--zone=-Z"], b'--zone "-Z": a zone is an offset such as -07:00, or Z'),
@@ -68,6 +71,12 @@ WRONG = [
     (RECORD, b"record names two files, PLAN and LOG"),
     ([*EVENTS, "car.log"], b"this command names files by options alone: it reads what `tsb run` answers from standard input"),
     (["review"], b"review names one file, PLAN"),
+    (["schedule", "quad.json"], b"--week has to be given: " + A_DATE),
+    (["schedule", "--week", "2026-11-22"], b"schedule names one file, PLAN"),
+    (["schedule", "--week", "2026-11-31", "quad.json"], b'--week "2026-11-31": ' + A_DATE),
+    (["schedule", "--week=2100-01-01", "quad.json"], b'--week "2100-01-01": ' + A_DATE),
+    (["schedule", "--week"], b"--week has no value (one that begins with a hyphen comes after =): " + A_DATE),
+    (["schedule", *FROM, "quad.json"], b"--from: the command has no such option; --help after it lists all"),
 ]
 
 # What is printed of what was left out, where no event is of a channel without an input, and where there are such events.
@@ -864,6 +873,7 @@ def word_runs():
         (["diagram", "--seconds-perline", "9"], b"--seconds-per-line"), (["review", "--hel"], b"--help"),
         ([*LOG, "--as-output=quad.json"], b"--as-outputs"), ([*RECORD, "empty.log", "--recall"], b"--recalls"),
         ([*RECORD, "empty.log", "--output"], b"--outputs"), ([*RECORD, "empty.log", "--no-clok"], b"--no-clock"),
+        (["schedul", "quad.json"], b"schedule"), (["schedule", "--weak", "2026-11-22"], b"--week"),
     ]:
         yield Run(words, 2, b"", HINT % right, CAR)
     yield Run(["--version"], 0, VERSION % b"tsb_field", b"", CAR)

@@ -46,6 +46,8 @@ TEXT = Taken("a name or a text has to follow", lambda it: True)
 TIME = Taken('a time is YYYY-MM-DD HH:MM:SS, such as "2026-11-22 07:00:00"', lambda it: moment(it) is not None)
 DEVICE = Taken("a device has no double quote, no end of a line and at most 900 bytes",
                lambda it: not re.search(rb'["\r\n]', it) and len(it) <= 900)
+DATE = Taken("a date is YYYY-MM-DD, such as 2026-11-22, of the years 2000 to 2099",
+             lambda it: moment(it + b" 00:00:00") is not None and b"2000" <= it < b"2100")
 DETECTOR = "CHANNEL=DETECTOR, with a detector"
 OPTIONS: dict[str, dict[str, Taken]] = {
     "log": {
@@ -58,11 +60,15 @@ OPTIONS: dict[str, dict[str, Taken]] = {
     "events": {"--from": TIME, "--device": DEVICE, "--log": TEXT},
     "diagram": {"--from": TIME, "--log": TEXT, "--title": TEXT, "--seconds-per-line": seconds(86400), "--events": TEXT},
     "review": {},
+    "schedule": {"--week": DATE},
 }
-NEEDED: dict[str, list[str]] = {"log": ["--from"], "record": ["--from", "--device"], "events": ["--from", "--device"], "diagram": [], "review": []}
+NEEDED: dict[str, list[str]] = {"log": ["--from"], "record": ["--from", "--device"], "events": ["--from", "--device"],
+          "diagram": [], "review": [],
+          "schedule": ["--week"]}
 ANSWERS = b"this command names files by options alone: it reads what `tsb run` answers from standard input"
 FILES = {"log": b"log names no file: it reads an event log from standard input", "record": b"record names two files, PLAN and LOG",
-         "review": b"review names one file, PLAN", "events": ANSWERS, "diagram": ANSWERS}
+         "review": b"review names one file, PLAN", "events": ANSWERS, "diagram": ANSWERS,
+         "schedule": b"schedule names one file, PLAN"}
 
 
 def shown(word: bytes) -> bytes:
@@ -108,7 +114,7 @@ def line(given: Sequence[Word]) -> bytes | None:
         return None
     command = words[0].decode()
     if command not in OPTIONS:
-        return b'there is no command "' + shown(words[0]) + b'": log, record, events, diagram or review\n'
+        return b'there is no command "' + shown(words[0]) + b'": log, record, events, diagram, review or schedule\n'
     front = words[1:words.index(b"--", 1)] if b"--" in words[1:] else words[1:]
     if any(word.partition(b"=")[0] == b"--help" for word in front):
         return None

@@ -57,6 +57,11 @@ OVER = "if phases stand as usual, it turns right beside phase %d over its crossi
 INTO = "if phases stand as usual, it turns right beside phase %d into the leg that phase %d goes into, and both can be green"
 # No walk but that of phase 6, which has none either.
 NO_WALKS: Change = {f"{name}.{p}": 0 for p in (2, 4, 8) for name in ("phaseWalk", "phasePedestrianClear", "pedestrianDetectorCallPhase")}
+# Pattern 1 from 7:00 on each day.
+EACH_DAY: Change = {"timeBaseScheduleMonth.1": 8190, "timeBaseScheduleDay.1": 254, "timeBaseScheduleDate.1": 65534, "timeBaseScheduleDate.33": 65535,
+                    "timeBaseScheduleDayPlan.1": 1, "dayPlanHour.1": 7, "dayPlanActionNumber.1": 1, "timebaseAscPattern.1": 1}
+OPEN = ("unit: no entry of the schedule holds on day %d of month %d where that is weekday %d, "
+        "so the action of the day before stays")
 AS_SECONDS = "as if it were given in seconds and not in tenths"
 UNUSED = "it is not enabled, so its values have no effect, such as"
 NO_CALL = "while it has an alarm no car calls phase %d, since its fail time is 0 s"
@@ -320,6 +325,25 @@ CASES = [
     Case(59, {"splitMode.25": 1, "splitTime.121": 20, "phaseDynamicMaxStep.12": 5},
          [f"phase 9: {UNUSED} splitTime.121", f"phase 12: {UNUSED} phaseDynamicMaxStep.12"],
          {"splitMode.25": 0, "splitTime.121": 0, "phaseDynamicMaxStep.12": 0, "phaseRing.12": 1, "phaseSide.12": 2}),
+    Case(60, {**EACH_DAY, "timeBaseScheduleDay.1": 124}, [OPEN % (1, 1, 1)], {"timeBaseScheduleDay.1": 254}),
+    Case(60, {**EACH_DAY, "timeBaseScheduleMonth.1": 4094}, [OPEN % (1, 12, 1)],
+         {"timeBaseScheduleMonth.2": 4096, "timeBaseScheduleDay.2": 254, "timeBaseScheduleDate.2": 65534, "timeBaseScheduleDate.34": 65535,
+          "timeBaseScheduleDayPlan.2": 1}),
+    # Of Wednesdays the 29th of February alone has no entry.
+    Case(60, {**EACH_DAY, "timeBaseScheduleDay.1": 238, "timeBaseScheduleMonth.2": 8186, "timeBaseScheduleDay.2": 16,
+              "timeBaseScheduleDate.2": 65534, "timeBaseScheduleDate.34": 65535, "timeBaseScheduleDayPlan.2": 1,
+              "timeBaseScheduleMonth.3": 4, "timeBaseScheduleDay.3": 254, "timeBaseScheduleDate.3": 65534,
+              "timeBaseScheduleDate.35": 65535 - 8192, "timeBaseScheduleDayPlan.3": 1}, [OPEN % (29, 2, 4)],
+         {"timeBaseScheduleDate.35": 8191 + 8192}),
+    Case(61, {**EACH_DAY, "timebaseAscPattern.1": 254}, ["pattern 1: it is used, and no event of a day plan selects it"],
+         {"timebaseAscPattern.1": 1}),
+    Case(61, {**EACH_DAY, "timebaseAscPattern.2": 254, "dayPlanActionNumber.1": 2},
+         ["pattern 1: it is used, and no event of a day plan selects it"], {"dayPlanActionNumber.256": 1}),
+    # The cycle is 90 s.
+    Case(62, {**EACH_DAY, "dayPlanHour.2": 7, "dayPlanMinute.2": 1, "dayPlanActionNumber.2": 2, "timebaseAscPattern.2": 254},
+         ["day plan 1, event 1: another event comes before a cycle of its pattern 1 is over"], {"dayPlanMinute.2": 2}),
+    Case(62, {**EACH_DAY, "dayPlanHour.2": 6, "dayPlanMinute.2": 59, "dayPlanActionNumber.2": 1},
+         ["day plan 1, event 2: another event comes before a cycle of its pattern 1 is over"], {"dayPlanMinute.2": 58}),
 ]
 
 

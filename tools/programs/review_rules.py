@@ -4,6 +4,7 @@ crates.
 `review(plan)` gives the lines that a review of a plan writes. The plan is a plan text of version 3 that meets the rules
 of docs/use/MANUAL.md, as Python reads its JSON. Times are kept in tenths of a second.
 """
+import calendar
 import collections
 import json
 import re
@@ -20,6 +21,14 @@ BUTTONS = range(1, 9)
 PATTERNS = range(1, 17)
 PREEMPTS = range(1, 5)
 OVERLAPS = range(1, 5)
+ENTRIES = range(1, 33)
+DAY_PLANS = range(1, 17)
+EVENTS = range(1, 17)
+ACTIONS = range(1, 33)
+# What an action asks for that selects free operation.
+FREE = 254
+# The days of the months of a leap year.
+MONTHS = {month: calendar.monthrange(2000, month)[1] for month in range(1, 13)}
 # What the modes of a split ask for.
 MINIMUM, MAXIMUM, WALK, BOTH, OMITTED = 1, 2, 3, 4, 5
 # Correction modes that need a limit.
@@ -63,6 +72,39 @@ class Plan:
     def phase(self, name: str, phase: int) -> int:
         """The value of an object of phases."""
         return self.value(f"phase{name}", phase)
+
+    def action(self, day_plan: int, event: int) -> int:
+        """The action of an event of a day plan, 0 for an event that is not used."""
+        return self.value("dayPlanActionNumber", 16 * (day_plan - 1) + event)
+
+    def events(self, day_plan: int) -> list[int]:
+        """The events of a day plan that are used."""
+        return [k for k in EVENTS if self.action(day_plan, k)]
+
+    def minute(self, day_plan: int, event: int) -> int:
+        """At how many minutes after midnight an event comes."""
+        index = 16 * (day_plan - 1) + event
+        return 60 * self.value("dayPlanHour", index) + self.value("dayPlanMinute", index)
+
+    def pattern_of(self, day_plan: int, event: int) -> int:
+        """The pattern that an event selects, 0 for free operation."""
+        asked = self.value("timebaseAscPattern", self.action(day_plan, event))
+        return 0 if asked == FREE else asked
+
+    def names_date(self, entry: int, month: int, day: int) -> bool:
+        """Whether an entry of the schedule names a month, and a day of it."""
+        half, bit = (32, day - 16) if day > 15 else (0, day)
+        dates = self.value("timeBaseScheduleDate", half + entry)
+        return bool(self.value("timeBaseScheduleMonth", entry) >> month & dates >> bit & 1)
+
+    def names_weekday(self, entry: int, weekday: int) -> bool:
+        """Whether an entry names a weekday, Sunday 1."""
+        return bool(self.value("timeBaseScheduleDay", entry) >> weekday & 1)
+
+    def entries(self, month: int, day: int, weekday: int) -> list[int]:
+        """The entries that are used and name a day."""
+        return [e for e in ENTRIES if self.value("timeBaseScheduleDayPlan", e)
+                and self.names_date(e, month, day) and self.names_weekday(e, weekday)]
 
     def together(self, phase: int, other: int) -> bool:
         """Whether two phases are concurrent."""
@@ -495,7 +537,28 @@ def unused(plan: Plan) -> Iterator[tuple[int, str]]:
             yield 59, f"phase {p}: it is not enabled, so its values have no effect, such as {given[0]}"
 
 
-PARTS = [service, pedestrians, clearance, actuation, coordination, patterns, correction, preempts, overlaps, turns, unused]
+def schedules(plan: Plan) -> Iterator[tuple[int, str]]:
+    """Advices A60 to A62."""
+    if not any(plan.value("timeBaseScheduleDayPlan", e) for e in ENTRIES):
+        return
+    days = ((m, d, w) for m, length in MONTHS.items() for d in range(1, length + 1) for w in range(1, 8))
+    is_open = next((it for it in days if not plan.entries(*it)), None)
+    if is_open is not None:
+        yield 60, ("unit: no entry of the schedule holds on day {1} of month {0} where that is weekday {2}, "
+                   "so the action of the day before stays").format(*is_open)
+    events = [(d, k) for d in DAY_PLANS for k in plan.events(d)]
+    for n in plan.patterns:
+        if all(plan.pattern_of(*it) != n for it in events):
+            yield 61, f"pattern {n}: it is used, and no event of a day plan selects it"
+    for d, k in events:
+        n = plan.pattern_of(d, k)
+        later = [plan.minute(d, j) - plan.minute(d, k) for j in plan.events(d)]
+        if n and any(0 < 60 * it < plan.value("patternCycleTime", n) for it in later):
+            yield 62, f"day plan {d}, event {k}: another event comes before a cycle of its pattern {n} is over"
+
+
+PARTS = [service, pedestrians, clearance, actuation, coordination, patterns, correction, preempts, overlaps, turns, unused,
+         schedules]
 
 
 def review(text: Table) -> list[str]:

@@ -18,7 +18,7 @@ import sys
 import tempfile
 import xml.etree.ElementTree
 
-from tools.programs import field_cases, field_rules, review_words
+from tools.programs import field_cases, field_rules, review_words, schedule_words
 from tools.programs.field_cases import BEGIN, FROM, GIB, MOST_ROWS
 from tools.programs.run_program import EXAMPLES, shown
 
@@ -501,7 +501,7 @@ def worked_runs():
         *field_cases.event_runs(), *field_cases.record_runs(), *field_cases.form_of_record_runs(), *field_cases.cycle_runs(), *field_cases.clock_runs(),
         *field_cases.record_faults(),
         *field_cases.word_runs(),
-        *field_cases.stream_runs(), *review_words.runs(),
+        *field_cases.stream_runs(), *review_words.runs(), *schedule_words.runs(),
     ]
 
 
@@ -512,10 +512,10 @@ def main(words):
     for path in (program, bench):
         if not path.is_file():
             sys.exit(f"there is no {path}")
-    runs = worked_runs()
     with tempfile.TemporaryDirectory() as name:
         folder = pathlib.Path(name)
         field_cases.fill(folder)
+        runs = [*worked_runs(), *schedule_words.at_random_runs(folder)]
         wrong = [f"{run.words} {run.places or ''}{shown(run.commands)}: {it}" for run in runs
                  for it in run.differences(program, folder)]
         wrong += [*round_trips(program, folder), *logs_of_events(program), *logs_of_exports(program)]

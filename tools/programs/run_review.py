@@ -41,7 +41,7 @@ WRONG = "is no whole number|is negative|has an exponent|is too large"
 REVIEWED, REFUSED = 0, 1
 # What `tsb check` says of a plan that breaks a rule begins so.
 RULE = "plan: rule "
-ADVICES = [n for n in range(1, 60) if n != 31]
+ADVICES = [n for n in range(1, 63) if n != 31]
 # Display lines have so many characters.
 DISPLAY = 53
 # Objects of phases, detectors and so on, with the number of their indices and values that bring advices about.
@@ -70,6 +70,8 @@ VALUES = {
     "preemptTrackGreen": (4, [0, 8]), "preemptTrackPhase": (4, LIST), "preemptDwellPhase": (4, LIST), "preemptExitPhase": (4, LIST),
     "overlapIncludedPhases": (4, [*LIST, *TURNS]), "overlapType": (4, [0, 1]), "overlapModifierPhases": (4, LIST),
     "overlapAcrossRings": (4, [0, 0, 1]),
+    "timeBaseScheduleDay": (2, [0, 124, 254]), "dayPlanMinute": (4, [0, 1, 2, 3]), "dayPlanActionNumber": (4, [0, 1, 2]),
+    "timebaseAscPattern": (2, [1, 254]),
 }
 # Objects of phases and of splits, the first and the last of them among these.
 UNUSED = ["phaseNonLock", "phaseMaxRecall", "phaseWalk", "phaseMinimumGreen", "phasePassage", "phaseCarsBeforeReduction", "phaseRing",
@@ -110,6 +112,8 @@ def at_random(source: random.Random, bases: list[Table]) -> Table:
     if source.random() < 0.1:
         # (ring 2 serves its left turn of side 1 last, and may end its coordinated split before ring 1)
         change |= {"sequenceData.17": 6, "sequenceData.18": 5, "patternLeadLag.1": 1}
+    if source.random() < 0.2:
+        change = {**review_cases.EACH_DAY, **change}
     if source.random() < 0.1:
         # (a value for a phase that is not enabled)
         name = source.choice(UNUSED)

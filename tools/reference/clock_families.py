@@ -11,7 +11,8 @@ from tools.reference.option_kit import AT_ONCE, LIMIT, MODE, a_limit, busy, chos
 from tools.reference.session_families import commit
 
 REFERENCE = "coordReference"
-EVERY = {"timeBaseScheduleMonth": 8190, "timeBaseScheduleDay": 254, "timeBaseScheduleDate": 4294967294}
+EVERY = {"timeBaseScheduleMonth": 8190, "timeBaseScheduleDay": 254}
+ALL_DATES = 4294967294
 DAYS = [datetime.date(2000, 1, 1), datetime.date(2000, 2, 29), datetime.date(2024, 2, 28), datetime.date(2024, 2, 29),
         datetime.date(2026, 12, 31), datetime.date(2027, 1, 1), datetime.date(2026, 11, 29), datetime.date(2099, 12, 31)]
 FREE = 254
@@ -92,6 +93,10 @@ def a_schedule(rng, plan, minute):
     for name, value in EVERY.items():
         count = value.bit_length() - 1
         plan[name] = {str(entry): a_list(rng, count) if rng.random() < 0.6 else value for entry in range(1, 7)}
+    plan["timeBaseScheduleDate"] = {}
+    for entry in range(1, 7):
+        dates = a_list(rng, 31) if rng.random() < 0.6 else ALL_DATES
+        plan["timeBaseScheduleDate"] |= {str(entry): dates % 65536, str(32 + entry): dates >> 16}
     plan["timeBaseScheduleDayPlan"] = {str(entry): rng.choice([1, 1, 2, 3, 0]) for entry in range(1, 7)}
     hours, minutes, actions = {}, {}, {}
     for number in range(1, 4):
@@ -103,13 +108,21 @@ def a_schedule(rng, plan, minute):
     plan["timebaseAscPattern"] = {"1": 1, "2": 2, "3": FREE, "4": rng.choice([1, 2, FREE])}
 
 
-def an_edit(rng, minute):
-    """An edit of a schedule."""
-    place = rng.randint(1, 48)
+def an_edit(rng, plan, minute):
+    """An edit of a schedule, often of an event that is used."""
+    place = rng.choice([rng.randint(1, 48), *map(int, plan["dayPlanActionNumber"])])
     return rng.choice([("dayPlanHour", place, minute // 60), ("dayPlanMinute", place, minute % 60),
                        ("dayPlanActionNumber", place, rng.randint(0, 5)), ("timebaseAscPattern", rng.randint(1, 5), rng.choice([0, 1, 2, 3, 16, FREE])),
                        ("timeBaseScheduleDayPlan", rng.randint(1, 6), rng.randint(0, 4)),
                        ("timeBaseScheduleDay", rng.randint(1, 6), a_list(rng, 7))])
+
+
+def edits(rng, plan, minute):
+    """Edits of a schedule: one to three at random, or another action for each event, so that another comes into force."""
+    if rng.random() < 0.3:
+        return [("dayPlanActionNumber", int(place), action % 4 + 1)
+                for place, action in plan["dayPlanActionNumber"].items()]
+    return [an_edit(rng, plan, minute) for _ in range(rng.randint(1, 3))]
 
 
 def schedules(rng, plan, table):
@@ -122,8 +135,8 @@ def schedules(rng, plan, table):
     found += [f"step {before + rng.choice([-1, 0, 1, 2])}", "show"]
     found += rng.choice([["undo", "show", "step 3"], [f"seek {max(before - 2, 0)}", "step 4"], ["pattern 2", "step 2"],
                          ["back 1", "step 2"], [a_moment(rng), "step 2"], ["undo", "undo", "undo", "step 5"]])
-    if rng.random() < 0.6:
-        found += commit(rng.randint(1, 4), [an_edit(rng, minute) for _ in range(rng.randint(1, 3))]) + ["show", "step 3"]
+    for _ in range(rng.choice([0, 1, 1, 3])):
+        found += commit(rng.randint(1, 4), edits(rng, plan, minute)) + ["show", "step 3"]
     return [*found, f"step {rng.randint(1, 700)}", "show", watched(rng, plan)]
 
 

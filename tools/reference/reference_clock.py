@@ -15,7 +15,7 @@ import re
 from collections.abc import Iterator
 from typing import Any
 
-from tools.reference.reference_options import OF_VERSION_3, Limits, Options, Pattern, Plan, State, with_options
+from tools.reference.reference_options import OF_VERSION_3, Limits, Options, Pattern, Plan, State, kept, with_options
 
 DAY, MINUTE = 864_000, 600
 YEARS = range(2000, 2100)
@@ -24,7 +24,7 @@ FREE = 254
 FREE_OPERATION = 0
 CLOCK_OBJECTS = {
     "coordReference": (1, 5),
-    "timeBaseScheduleMonth": (32, 8190), "timeBaseScheduleDay": (32, 254), "timeBaseScheduleDate": (32, 4294967294),
+    "timeBaseScheduleMonth": (32, 8190), "timeBaseScheduleDay": (32, 254), "timeBaseScheduleDate": (64, 65535),
     "timeBaseScheduleDayPlan": (32, 16),
     "dayPlanHour": (256, 23), "dayPlanMinute": (256, 59), "dayPlanActionNumber": (256, 32),
     "timebaseAscPattern": (32, 254),
@@ -88,20 +88,28 @@ def holds(plan: Plan, entry: int, date: datetime.date) -> bool:
     return (plan["timeBaseScheduleDayPlan"][entry] != 0
             and has(plan["timeBaseScheduleMonth"][entry], date.month)
             and has(plan["timeBaseScheduleDay"][entry], date.isoweekday() % 7 + 1)
-            and has(plan["timeBaseScheduleDate"][entry], date.day))
+            and has_date(plan, entry, date.day))
 
 
-def days_a_year(plan: Plan, entry: int, year: int) -> int:
-    """On how many days of a year an entry holds."""
-    first = datetime.date(year, 1, 1)
-    days = (first + datetime.timedelta(k) for k in range(366))
-    return sum(holds(plan, entry, it) for it in days if it.year == year)
+def has_date(plan: Plan, entry: int, day: int) -> bool:
+    """Whether an entry names a day of the month: index 32 + entry has those from 16 on."""
+    dates = plan["timeBaseScheduleDate"]
+    return has(dates[entry] | dates[32 + entry] << 16, day)
+
+
+@kept
+def days_a_year(plan: Plan, entry: int) -> int:
+    """How many days of a leap year an entry names by month and day of the month, times how many of the seven
+    weekdays it names: seven times its days of a year, on the average."""
+    days = [datetime.date(2000, 1, 1) + datetime.timedelta(k) for k in range(366)]
+    named = sum(has(plan["timeBaseScheduleMonth"][entry], it.month) and has_date(plan, entry, it.day) for it in days)
+    return named * sum(has(plan["timeBaseScheduleDay"][entry], weekday) for weekday in range(1, 8))
 
 
 def day_plan(plan: Plan, date: datetime.date) -> int:
-    """The day plan of a day: that of the entry that holds on the fewest days of the year, then of the least number; 0
-    for none."""
-    found = [(days_a_year(plan, it, date.year), it) for it in ENTRIES if holds(plan, it, date)]
+    """The day plan of a day: that of the entry that holds on the fewest days a year, then of the least number; 0 for
+    none."""
+    found = [(days_a_year(plan, it), it) for it in ENTRIES if holds(plan, it, date)]
     return plan["timeBaseScheduleDayPlan"][min(found)[1]] if found else 0
 
 
@@ -113,20 +121,22 @@ def events_of(plan: Plan, number: int) -> list[tuple[int, int]]:
     return sorted(it for it in events if it[1])
 
 
-def action_at(plan: Plan, moment: int) -> int:
-    """The action in force at a moment: that of the latest event at or before it, of this day or of one of the 365
-    before; 0 for none."""
-    today, now = divmod(moment, DAY)
+@kept
+def action_at(plan: Plan, minutes: int) -> int:
+    """The action in force so many minutes after the first midnight: that of the latest event at or before them, of this
+    day or of one of the 365 before; 0 for none."""
+    today, now = divmod(minutes, DAY // MINUTE)
     for back in range(366):
         date = datetime.date.fromordinal(today + 1 - back)
         number = day_plan(plan, date)
         events = events_of(plan, number) if number else []
-        past = [action for minute, action in events if back or MINUTE * minute <= now]
+        past = [action for minute, action in events if back or minute <= now]
         if past:
             return past[-1]
     return 0
 
 
+@kept
 def has_schedule(plan: Plan) -> bool:
     """Whether an entry of the schedule names a day plan."""
     return any(plan["timeBaseScheduleDayPlan"])
@@ -136,7 +146,7 @@ def in_force(state: State) -> int | None:
     """The action in force as the next tick begins: none without a clock or without a schedule."""
     if state.origin is None or not has_schedule(state.plan):
         return None
-    return action_at(state.plan, state.origin + state.now)
+    return action_at(state.plan, (state.origin + state.now) // MINUTE)
 
 
 def pattern_of(plan: Plan, action: int) -> int:
@@ -179,7 +189,7 @@ class Clock(Options):
         return made
 
     def clear(self, state: State, count: int) -> None:
-        """Makes a state that of power-up; its clock stays."""
+        """Makes a state that of power-up, with its clock as it was."""
         super().clear(state, count)
         state.base = 0
         state.origin = getattr(state, "origin", None)
