@@ -507,7 +507,8 @@ def test_a_run_of_a_plan(examples: Path) -> None:
 
     def of(commands: str, ticks: int | None, path: str = "quad.json") -> Run:
         log = Log.of([(10, "0001000000000000 00000000 0000")])
-        return of_plan("x", examples / path, Session(log, START, commands, ticks), "", ["more"])
+        session = Session(log, START, commands, ticks, True, True)
+        return of_plan("x", examples / path, session, "", ["more"])
 
     run = of("step 500\n", None)
     assert run.ticks == run.events["tick"].max() > 90 and run.plan is not None
@@ -516,10 +517,14 @@ def test_a_run_of_a_plan(examples: Path) -> None:
     assert of("step 500\n", 777).ticks == 777
     # its clock is that of its start, unless it has none: 7:00:10 is 10 s into a cycle of 80 s
     log, commands = Log(), "step 900\n"
-    for has_clock, zero in ((True, 700), (False, 800)):
-        session = Session(log, "2026-11-22 07:00:10", commands, 900, True, has_clock)
-        told = of_plan("x", examples / "quad.json", session, "pattern 1\n", []).events
+    for has_clock, lead, zero in ((True, 0, 700), (True, 600, 700), (False, 0, 800)):
+        start = "2026-11-22 07:00:10"
+        session = Session(log, start, commands, 900, True, has_clock, lead)
+        run = of_plan("x", examples / "quad.json", session, "pattern 1\n", [])
+        told = run.events
         assert told.query("code == 150 and parameter == 5")["tick"].to_list() == [zero]
+        assert told["tick"].min() == 1 and run.ticks == 900
+        assert run.facts[0].endswith("1 min before, by the clock" if lead else "power-up")
     none = of("", None, "first_plan.json")
     assert none.ticks == 0 and none.events.empty
     with pytest.raises(Error, match=r"quad.json: command 2: pattern 9: refused E9 \w+$"):

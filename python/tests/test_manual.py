@@ -27,7 +27,7 @@ def test_objects_are_those_of_the_source(
     monkeypatch.chdir(top)
     monkeypatch.syspath_prepend(str(top))
     source = importlib.import_module("tools.pages.manual_table").objects()
-    assert set(source) == set(OBJECTS) and len(OBJECTS) == 71
+    assert set(source) == set(OBJECTS) and len(OBJECTS) == 79
     for name, (_, _, values, unit, structural) in source.items():
         found = OBJECTS[name]
         assert found.unit == unit and found.structural == (structural == "S")
@@ -50,7 +50,7 @@ def test_each_refusal_has_its_cure(top: Path) -> None:
 def test_each_rule_has_its_cure(top: Path) -> None:
     """The rules of the manual's chapter 4."""
     text = (top / "docs/use/MANUAL.md").read_text()
-    assert list(RULES) == [f"K{it}" for it in range(1, 24)]
+    assert list(RULES) == [f"K{it}" for it in range(1, 28)]
     for name in RULES:
         fault = PlanFault(f"plan: rule {name}")
         assert fault.rule is not None

@@ -23,6 +23,9 @@ PROFILE = {
     "phaseSide", "phaseVariableInitial", "phasePedestrianRecycle", "unitMax2",
     "overlapAcrossRings", "coordCorrectionLimit", "patternPermissiveTime",
     "patternLeadLag", "preemptChoosesAnew", "coordReference",
+    "timeBaseScheduleMonth", "timeBaseScheduleDay", "timeBaseScheduleDate",
+    "timeBaseScheduleDayPlan", "dayPlanHour", "dayPlanMinute", "dayPlanActionNumber",
+    "timebaseAscPattern",
 }  # fmt: skip
 #: Objects of which any value leaves the structure of a plan as it is.
 FREE = sorted(

@@ -2,12 +2,14 @@
 
 from dataclasses import replace
 from math import sqrt
+from pathlib import Path
 
 import numpy as np
 import pandas as pd
 import pytest
 
 from tsb import Event, Plan, frames
+from tsb.report import runs
 from tsb.report.charts import greens_in_cycles, terminations
 from tsb.report.differences import (
     Difference,
@@ -359,3 +361,37 @@ def test_what_differs() -> None:
         Difference("greens", "phase 2", "", 4, 1, round(-3 / sqrt(5), 9)),
     ]
     assert differences(a, a) == []
+
+
+def test_rows_before_the_begin() -> None:
+    """The last of each code that says which pattern runs is as of the begin; others are
+    left out."""
+    seven = pd.Timestamp("2026-11-30 07:00:00")
+    rows = [
+        (-6000, 131, 1), (-3000, 131, 2), (-3000, 132, 90), (-1, 149, 7), (-1, 150, 1),
+        (-1, 130, 3), (-1, 1, 2), (0, 82, 4), (0, 133, 5), (1, 131, 3),
+    ]  # fmt: skip
+    table = pd.DataFrame(rows, columns=["tick", "code", "parameter"])
+    times = seven + pd.to_timedelta(100 * table["tick"], unit="ms")
+    export = table.drop(columns="tick").assign(time=times, device="7")
+    run = runs.of_rows(Path("street.csv"), export, str(seven), 600, None)
+    found = run.events[["tick", "code", "parameter"]]
+    kept = [(1, 131, 2), (1, 132, 90), (1, 149, 7), (1, 82, 4), (1, 133, 5), (2, 131, 3)]
+    assert list(found.itertuples(index=False, name=None)) == kept
+    later = runs.of_rows(Path("street.csv"), export[7:], str(seven), 600, None)
+    assert list(later.events["code"]) == [82, 133, 131]
+
+
+def test_ticks_before_the_begin() -> None:
+    """A bench that ran before: the same of its events."""
+    rows = [
+        (1, 131, 1), (5, 131, 2), (10, 149, 3), (10, 150, 1), (10, 130, 9), (10, 1, 2),
+        (11, 82, 4), (11, 132, 90), (12, 131, 5),
+    ]  # fmt: skip
+    events = pd.DataFrame(rows, columns=["tick", "code", "parameter"])
+    found = runs._after(events, 10)
+    kept = [(1, 131, 2), (1, 149, 3), (1, 82, 4), (1, 132, 90), (2, 131, 5)]
+    assert list(found.itertuples(index=False, name=None)) == kept
+    assert list(found.index) == [0, 1, 2, 3, 4]
+    assert runs.earlier("2026-11-30 07:00:00", 600) == "2026-11-30 06:59:00"
+    assert runs.earlier("2026-11-30 07:00:00", 0) == "2026-11-30 07:00:00"

@@ -45,7 +45,19 @@ INPUTS = frozenset(
     "pattern preempt fault reset clock begin set verify commit abort".split()
 )
 
+# The code of an event by which another pattern is selected, the first of its input.
+SELECTED = 131
+
 _EVENT = re.compile(rb"event (\d+) (\d+) (\d+)\n")
+
+
+class Mark(NamedTuple):
+    """An input that is no tick and was given here: its tick, how many events came
+    before it, and the first word of its command."""
+
+    tick: int
+    events: int
+    word: str
 
 
 class Saved(NamedTuple):
@@ -75,8 +87,7 @@ class Bench:
     ) -> None:
         self._log = log if log is None or isinstance(log, Log) else Log.read(log)
         self._told: list[Event] = []
-        # Of each input that is no tick: its tick, and how many events came before it.
-        self._marks: list[tuple[int, int]] = []
+        self._marks: list[Mark] = []
         self._talk, self._now = _started(plan), 0
         self._notes = _notes(plan)
         self._hold = Hold(self._talk.kill)
@@ -126,7 +137,7 @@ class Bench:
     @whole
     def _do(self, command: str) -> str:
         """The answer to a command that is an input and no tick."""
-        mark = (self._now, len(self._told))
+        mark = Mark(self._now, len(self._told), command.partition(" ")[0])
         answer = self._ask(command)
         self._marks.append(mark)
         return answer
@@ -254,7 +265,7 @@ class Bench:
         """Drops the events and marks of what was taken back with its ticks."""
         while self._told and self._told[-1].tick > self._now:
             self._told.pop()
-        while self._marks and self._marks[-1][0] > self._now:
+        while self._marks and self._marks[-1].tick > self._now:
             self._marks.pop()
 
     @whole
@@ -268,10 +279,31 @@ class Bench:
         if kind == "tick":
             self._now -= 1
             self._forget()
+        elif kind == "pattern" and not self._is_given():
+            self._forget_selected()
         else:
-            _, count = self._marks.pop()
-            del self._told[count:]
+            del self._told[self._marks.pop().events :]
         return kind
+
+    @property
+    def given(self) -> int:
+        """How many inputs remain that are no ticks and were given here: not those of a
+        schedule."""
+        return len(self._marks)
+
+    def _is_given(self) -> bool:
+        """Whether the newest pattern was given here, and not by the schedule."""
+        newest = self._marks[-1] if self._marks else None
+        return newest is not None and newest[::2] == (self._now, "pattern")
+
+    def _forget_selected(self) -> None:
+        """Drops the events of a pattern that the schedule gave."""
+        for at in range(len(self._told) - 1, -1, -1):
+            if self._told[at].tick < self._now:
+                return
+            if self._told[at].code == SELECTED:
+                del self._told[at:]
+                return
 
     # The clock
 

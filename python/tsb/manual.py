@@ -79,7 +79,7 @@ class Refusal:
 
 @dataclass(frozen=True)
 class Rule:
-    """A rule K1 to K23: what must hold, the usual cause where it does not, the cure."""
+    """A rule K1 to K27: what must hold, the usual cause where it does not, the cure."""
 
     name: str
     holds: str

@@ -7,10 +7,10 @@ those of chapter 3. Whether a plan breaks a rule, the bench is asked.
 import json
 import tempfile
 from collections.abc import Iterable, Iterator, MutableMapping
-from datetime import timedelta
+from datetime import date, datetime, timedelta
 from os import PathLike
 from pathlib import Path
-from typing import TYPE_CHECKING, Any
+from typing import TYPE_CHECKING, Any, NamedTuple
 
 from tsb.errors import (
     NOT_JSON,
@@ -18,6 +18,7 @@ from tsb.errors import (
     NoSuchObject,
     OutOfRange,
     PlanFault,
+    ProgramDied,
     shown,
 )
 from tsb.files import up_to
@@ -39,6 +40,17 @@ if TYPE_CHECKING:
 OK = "plan ok"
 LONGEST = 1 << 20  # bytes of a plan's text
 NOTES = "notes"  # the member that has them, in texts of the newest version
+
+
+class Turn(NamedTuple):
+    """What the schedule runs from a minute on: at a midnight, or where another action
+    comes into force. The pattern is 0 for free operation; what there is none of is 0."""
+
+    begin: datetime
+    action: int
+    pattern: int
+    entry: int
+    day_plan: int
 
 
 class Values(MutableMapping[int, int]):
@@ -108,6 +120,13 @@ def _place(fault: Exception) -> str:
         return ""
     what = "a byte order mark" if "BOM" in fault.msg else fault.msg.lower()
     return f"\nplan line {fault.lineno}, column {fault.colno}: {what}"
+
+
+def _turn(fields: list[str]) -> Turn:
+    """The turn of a row of `tsb_field schedule`: date, weekday, time, and numbers."""
+    day, _, time, *numbers = fields
+    values = (0 if it in ("-", "free") else int(it) for it in numbers)
+    return Turn(datetime.fromisoformat(f"{day} {time}"), *values)
 
 
 class Plan:
@@ -266,10 +285,27 @@ class Plan:
     def review(self) -> list[str]:
         """The lines of `tsb_field review`: where the plan breaks its first rule, or
         what can be wrong with it though it runs."""
+        return self._asked("review", statuses=(0, 1))
+
+    def week(self, first: date | str) -> list[Turn]:
+        """What the schedule runs in the week from a day on, as `tsb_field schedule`
+        says it: a turn at each midnight, and where another action comes into force.
+        `PlanFault` is a plan that is refused, `ProgramDied` a day that is none."""
+        day = first if isinstance(first, str) else f"{first:%Y-%m-%d}"
+        try:
+            _, *rows = self._asked("schedule", f"--week={day}")
+        except ProgramDied as died:
+            if died.stderr.startswith("plan: "):
+                raise PlanFault(died.stderr.strip()) from None
+            raise
+        return [_turn(it.split()) for it in rows]
+
+    def _asked(self, *words: str, statuses: tuple[int, ...] = (0,)) -> list[str]:
+        """The lines that `tsb_field` prints of this plan."""
         with tempfile.NamedTemporaryFile("w", suffix=".json") as file:
             file.write(self.text)
             file.flush()
-            done = run("tsb_field", ["review", file.name], statuses=(0, 1))
+            done = run("tsb_field", [*words, file.name], statuses=statuses)
         return done.stdout.decode().splitlines()
 
     def diff(self, other: "Plan") -> "list[Change]":

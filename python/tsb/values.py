@@ -7,13 +7,22 @@ from numbers import Integral, Real
 from tsb.errors import NoSuchObject, OutOfRange, shown
 from tsb.manual import OBJECTS, Object, meant
 
-#: A number in the object's own unit, a time, or the phases of a list.
+#: A number in the object's own unit, a time, the phases of a list, or the months,
+#: weekdays or days of the month of an entry of the schedule.
 Value = int | timedelta | Iterable[int]
-#: An index; of a split (table, phase); of a sequence (sequence, ring, place).
+#: An index; of a split (table, phase); of a sequence (sequence, ring, place); of an
+#: event (day plan, event).
 Index = int | tuple[int, int] | tuple[int, int, int]
 
 RINGS, TABLES, SEQUENCES = 2, 8, 4
 SPLITS, SEQUENCE = "16 (table", "32 (sequence"
+EVENTS, DATES = "16 (day plan", "32 (half"
+#: What a sum of powers of two is of, and which of them is the power 0.
+SUMS: dict[str, list[tuple[range, int]]] = {
+    "timeBaseScheduleMonth": [(range(1, 13), 0)],
+    "timeBaseScheduleDay": [(range(1, 8), 0)],
+    "timeBaseScheduleDate": [(range(1, 16), 0), (range(16, 32), 16)],
+}
 TENTH, SECOND = timedelta(milliseconds=100), timedelta(seconds=1)
 
 
@@ -35,6 +44,10 @@ def parts_of(what: Object, version: int = 2) -> dict[str, tuple[int, int]]:
     """The parts of an index, each with its greatest number and its step, the last
     changing fastest: (table, phase) of a split, (sequence, ring, place)."""
     phases = 8 if version == 1 else 16
+    if what.index.startswith(EVENTS):
+        return {"day plan": (16, 16), "event": (16, 1)}
+    if what.index.startswith(DATES):
+        return {"half": (2, 32), "entry": (32, 1)}
     if what.index.startswith(SPLITS):
         return {"table": (TABLES, phases), "phase": (phases, 1)}
     if what.index.startswith(SEQUENCE):
@@ -113,16 +126,27 @@ def _units(what: Object, value: timedelta) -> int:
 
 def _sum(what: Object, phases: Iterable[int], version: int) -> int:
     """The number of a list of phases."""
-    if not what.is_list:
+    if not what.is_list and what.name not in SUMS:
         raise OutOfRange(f"{what.name} is no list of phases: {what.range()}")
     try:
         members = set(map(int, phases))
     except (TypeError, ValueError):
         what_is = _said(what, version)
         raise OutOfRange(f"{what.name}: {phases!r} is no list: {what_is}") from None
+    if what.name in SUMS:
+        return _sum_of_days(what, members)
     if wrong := [it for it in members if not 1 <= it <= 16]:
         raise OutOfRange(f"{what.name}: there is no phase {wrong[0]}")
     return sum(1 << (it - 1) for it in members)
+
+
+def _sum_of_days(what: Object, members: set[int]) -> int:
+    """The number of months, weekdays or days of the month."""
+    for known, first in SUMS[what.name]:
+        if members <= set(known):
+            return sum(1 << (it - first) for it in members)
+    forms = " or ".join(f"{it[0]} to {it[-1]}" for it, _ in SUMS[what.name])
+    raise OutOfRange(f"{what.name}: {sorted(members)} are not of {forms}")
 
 
 def time_of(what: Object, number: int) -> str:

@@ -238,7 +238,7 @@ class _Request:
     """The inputs of a request, which are taken back where one of them is refused."""
 
     def __init__(self, bench: Bench) -> None:
-        self._bench, self._count = bench, 0
+        self._bench, self._begun = bench, bench.given
 
     def give(self, word: str, *more: object) -> str:
         """Gives an input of the desk."""
@@ -255,12 +255,11 @@ class _Request:
             raise NotSet(FAULTS.get(refused.number, Fault.GENERAL)) from None
         except BadCommand:
             raise NotSet(Fault.BAD_VALUE) from None
-        self._count += 1
         return answer
 
     def take_back(self) -> None:
-        """Takes all inputs back."""
-        for _ in range(self._count):
+        """Takes all inputs back, and what followed them."""
+        while self._bench.given > self._begun:
             self._bench.undo()
 
 

@@ -28,6 +28,8 @@ from tsb.values import RINGS, SEQUENCES
 
 PROGRAM = called("oids")
 PROFILE = "NTCIP 1202 v02 has no object for it"
+#: What is said of the objects of a schedule, whose names begin so.
+SCHEDULE, OF_SCHEDULES = "schedules are not exchanged", ("timeBase", "dayPlan", "timebase")
 #: Values that are written as another one: the object, the value, and what is said.
 WRITTEN_AS = {
     ("coordForceMode", 1): "it is written as fixed, as 0 is",
@@ -52,6 +54,7 @@ def without_place(plan: Plan) -> Iterator[Remark]:
         for index, value in values.items():
             why = WRITTEN_AS.get((name, value))
             why = PROFILE if name in profile else why
+            why = SCHEDULE if name.startswith(OF_SCHEDULES) else why
             if why is not None:
                 yield Remark(0, name, (index,), str(value), why)
     for phase in blank_density(plan):

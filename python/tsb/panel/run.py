@@ -151,12 +151,14 @@ class Run:
 
     def undo(self) -> str:
         """Takes the newest input back: its kind."""
+        given = self.bench.given
         kind = self.bench.undo()
         if kind is None:
             raise NoSuchTick("there is no input to take back")
         if kind != "tick":
             self._cut()
-            self.tape.given.pop()
+            if self.bench.given < given:  # (what a schedule gave is not on the tape)
+                self.tape.given.pop()
             for it in self.watched:
                 it.cut(self.now - 1)
             self._see_input()

@@ -13,8 +13,10 @@ from tsb.files import read
 from tsb.frames import gap_told, log_of_export, read_export
 from tsb.plan import Plan
 from tsb.report.runs import (
+    MINUTE,
     Run,
     Session,
+    earlier,
     moment,
     of_plan,
     of_rows,
@@ -25,20 +27,24 @@ from tsb.rows import Log
 from tsb.tasks import POWER_UP
 
 COMMANDS_LONGEST = 16 << 20  # bytes of commands
+# A bench that is compared with a street runs up to so long before.
+LEAD = pd.Timedelta(minutes=15)
 
 
 def runs_of(given: argparse.Namespace) -> list[Run]:
     """The run, or the two, that the words ask for."""
     if given.events_a is not None:
         return list(_kept(given))
-    log, rows = _inputs(given)
+    rows = pd.DataFrame() if given.export is None else _rows(given.export, given.device)
+    lead = _lead(given, rows)
+    log = _inputs(given, rows, lead)
     commands, ticks = _session(given, log, rows)
     start = given.begin or POWER_UP
     has_clock = given.begin is not None and not given.no_clock
     # (beside a street, which gives no calls of recalls, the bench gives none)
-    session = Session(log, start, commands, ticks, not given.street, has_clock)
+    session = Session(log, start, commands, ticks, not given.street, has_clock, lead)
     facts = [f"inputs of {(given.log or given.export).name}"]
-    facts += ["its clock set to --from"] * has_clock
+    facts += ["its clock set to --from"] * (has_clock and not lead)
 
     def run(plan: Path, pattern: int | None) -> Run:
         name = f"{plan.stem}, pattern {pattern}" if pattern else plan.stem
@@ -91,20 +97,26 @@ def _rows(path: Path, device: str | None) -> pd.DataFrame:
     return found
 
 
-def _inputs(given: argparse.Namespace) -> tuple[Log, pd.DataFrame]:
-    """The log that plans run on, and the rows of the export that it is of."""
+def _lead(given: argparse.Namespace, rows: pd.DataFrame) -> int:
+    """For how many ticks the bench runs before the begin: beside a street that runs
+    already, by a clock, for the whole minutes that its rows have, up to `LEAD`."""
+    if not given.street or given.no_clock or given.commands is not None:
+        return 0
+    before = pd.Timestamp(moment(given.begin)) - rows["time"].min()
+    return MINUTE * max(int(min(before, LEAD) // pd.Timedelta(minutes=1)), 0)
+
+
+def _inputs(given: argparse.Namespace, rows: pd.DataFrame, lead: int) -> Log:
+    """The log that plans run on: of an export, from so many ticks before the begin."""
     if given.log is not None:
-        return _log(given.log), pd.DataFrame()
-    start = str(moment(given.begin))
-    rows = _rows(given.export, given.device)
+        return _log(given.log)
     try:
-        log = log_of_export(
-            rows, start, vehicles=dict(given.vehicle),
+        return log_of_export(
+            rows, earlier(given.begin, lead), vehicles=dict(given.vehicle),
             pedestrians=dict(given.pedestrian), preempts=dict(given.preempt),
         )  # fmt: skip
     except Error as fault:
         raise Error(f"{given.export}: {fault}") from None
-    return log, rows
 
 
 def _log(path: Path) -> Log:
