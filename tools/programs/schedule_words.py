@@ -1,5 +1,5 @@
 """Worked runs of `tsb_field schedule`: its words, and what it has to write, found by hand from docs/use/FIELD.md and
-docs/use/MANUAL.md, and weeks at random, read a second time by tools/programs/week_rules.py.
+docs/use/MANUAL.md. Beside them are weeks at random, which tools/programs/week_rules.py reads a second time.
 
 tools/programs/run_field.py runs them with those of tools/programs/field_cases.py, in the same folder.
 """

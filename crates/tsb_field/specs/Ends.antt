@@ -238,7 +238,7 @@ Pictured status form source files path before after =
     ⊎ ((rows : List LogRow) × NamesLog files path rows × PicturedBeside source form.from status form rows files before after)
 
 -- what the schedule of the plan in this file runs in the week from a moment on is written, with 0; or the fault of the file
--- or of the plan is told
+-- or of the plan goes to the errors
 abbrev pub Scheduled : ℕ → List ℕ → ℕ → Option (List ℕ) → (old new told tells : Seen) → Type 0
 Scheduled status path week file old new told tells =
     ((plan : Plan) × HasPlan file plan × Replied status 0 (week_text plan week) old new told tells)

@@ -115,7 +115,7 @@ abbrev pub follower_of : Setup → List Input → Cmd → Answer → Option Inpu
 follower_of given is (asks.Apply i) Took = follower given is i
 follower_of given is cmd a = None
 
--- what follows is refused, and leaves all as it was: out of memory, as a pattern that the schedule selects is used
+-- what follows is refused for a right reason, and leaves all as it was
 pub record Fails (given : Setup) (is : List Input) (i : Input) (stop : Option Refusal) (new : List Input) : Type 0 where
   pub why : Refusal
   pub right : IsRight given.plan is (asks.Apply i) (Refused why)
