@@ -1,4 +1,4 @@
-use Rattle.std.proofs.Common.{◌≡◌, ℕ, ◌+◌, ◌-◌, ◌≤◌, true, false, Some, refl, sym, ap, ◌∙◌, ◌==◌, arith}
+use Rattle.std.proofs.Common.{◌≡◌, ℕ, ◌+◌, ◌-◌, ◌≤◌, true, false, Some, refl, sym, ap, ◌∙◌, ◌==◌, arith, rules}
 use Rattle.std.proofs.lemmas.Bool.{eq-eqb, ne_eqb}
 use Rattle.tsb_objects.specs.Checked.{checked_plan}
 use Rattle.tsb_objects.specs.tsb_plan.Running.{running}
@@ -55,3 +55,6 @@ returns-else-ahead_before-eq0-clause-exact c =
     ∙ ap (λ d. ahead_in (checked_plan c.args.plan.now) (Some c.in-Some.n) d (c.args.now - 1) == 0) (sym c.correction-correction.ensures.value)
     ∙ ne_eqb (ahead_in (checked_plan c.args.plan.now) (Some c.in-Some.n) c.correction-correction.result (c.args.now - 1)) 0 (λ e. c.if-ahead_before-eq0.false (c.ahead_before.ensures.value ∙ e)) in
     next_is_due (checked_plan c.args.plan.now) c.in-Some.n c.args.now (cells_of c.args.self.now) runs coming
+
+pub returns-else-ahead_before-eq0-clause-quiet : goal.returns-else-ahead_before-eq0-clause-quiet
+returns-else-ahead_before-eq0-clause-quiet c = search rules fits 100
