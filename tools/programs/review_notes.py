@@ -7,6 +7,7 @@ name, an index or a value that no object has.
 import json
 import os
 import random
+import re
 from collections.abc import Iterator
 from typing import Any
 
@@ -75,8 +76,18 @@ def is_whole(value: Any) -> bool:
     return isinstance(value, Number) and value.isdigit() and int(value) <= MOST
 
 
+def listed(text: str) -> str:
+    """The sum for phases 1 to 16 that a text lists, two or more and each once, parted by commas, spaces and plus signs."""
+    found = re.split(r"[, +]+", text.strip(", +"))
+    if not all(re.fullmatch("[1-9]|1[0-6]", it) for it in found) or len({*found}) != len(found) or len(found) < 2:
+        return ""
+    return f", {sum(2 ** (int(it) - 1) for it in found)}"
+
+
 def meant(name: str, value: Any) -> str:
-    """What a value in seconds says in tenths of a second, where it has one decimal."""
+    """What a value in seconds says in tenths of a second, where it has one decimal, and a text of phases as a sum."""
+    if unit_of(name) == UNITS["list of phases"]:
+        return listed(value) if isinstance(value, str) and not isinstance(value, Number) else ""
     whole, _, decimal = value.partition(".") if isinstance(value, Number) else ("", "", "")
     has_tenths = whole.isdigit() and decimal.isdigit() and len(decimal) == 1 and int(whole) <= MOST
     return f", {int(whole + decimal)}" if has_tenths and unit_of(name) == "tenths of a second" else ""
@@ -121,6 +132,12 @@ def of_table(name: str, entries: Pairs) -> Iterator[str]:
             yield f"{name}.{index}: {shown(value)} is out of range, 0 to {most}" + (f": {unit}" if unit else "")
 
 
+def version_of(given: list[Any]) -> int | None:
+    """The version that a text says it is of, by the last member that does."""
+    known = {"1": 1, "2": 2, "3": 3}
+    return known.get(given[-1]) if given and isinstance(given[-1], Number) else None
+
+
 # Members that are no objects.
 BESIDE = ("version", "notes")
 
@@ -129,7 +146,12 @@ def notes(text: bytes) -> list[str]:
     """What is printed of a text."""
     value = parsed(text)
     found: list[str] = []
-    for at, (name, it) in enumerate(value.pairs if isinstance(value, Table) else []):
+    pairs = value.pairs if isinstance(value, Table) else []
+    version = version_of([it for name, it in pairs if name == "version"])
+    for at, (name, it) in enumerate(pairs):
+        since = 3 if name == "notes" else OBJECTS[name]["since"] if name in OBJECTS else 1
+        if version is not None and version < since:
+            found.append(f"{name}: version {since} has it, and this text is of version {version}")
         if name in OBJECTS or name in BESIDE:
             found += again(name, at, value.pairs)
         if name in OBJECTS and isinstance(it, Table):
@@ -141,10 +163,11 @@ def notes(text: bytes) -> list[str]:
 
 
 OTHERS = ["3.2", "7.5", "0.5", "12.0", "3.25", "-1", "1e2", "32.0e0", "4294967295.9", "4294967296", "4294967295", "99999999999.5",
-          '"32"', '"a\\nb\\u00e9"', "true", "null", "[1, 2.5]", '{"a": {}}', "0", "35", "1"]
+          '"32"', '"4,7"', '"2 + 6, 1"', '"16,9,16"', '"0,4"', '"4,17"', '" 3,8,"', '"a\\nb\\u00e9"', "true", "null", "[1, 2.5]", '{"a": {}}', "0", "35", "1"]
 # Slips of the hand, short and long forms of names, and names that are near none.
 SLIPS = ["phaseMinGreen", "phaseYelowChange", "PhaseWalk", "phasePedClear", "phaseRedClearance", "phaseWlak", "phaseMaxGreen", "unknown",
-         "phase", "", "splitTimes", "pedDetectorCallPhase", "phaseMxRecall", "phaseMinimum Green", "patternOfset", "sequenceDat", "notes", "note"]
+         "phase", "", "splitTimes", "pedDetectorCallPhase", "phaseMxRecall", "phaseMinimum Green", "patternOfset", "sequenceDat", "notes", "note", "coordReference",
+         "overlapType"]
 INDICES = ["0", "01", "1", "2", "8", "16", "17", "+1", "128", "129", ""]
 
 

@@ -2,6 +2,10 @@
 pub mod Units
 -- the object that was perhaps meant by a name
 pub mod Near
+-- phases that a text lists
+pub mod PhaseLists
+-- names that a later version has
+pub mod Newer
 -- what is noted of a plan text
 pub mod Notes
 -- a number, taken apart at its point

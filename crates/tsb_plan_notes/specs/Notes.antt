@@ -1,6 +1,7 @@
 -- WHAT IS NOTED OF A PLAN TEXT, in the order of the text: of a name or an index that comes again in its table, both
 -- values, the last one counting; of a value that is no whole number, its unit; of a value and of an index out of range, the
--- range; and of a name that no object has, the object that was perhaps meant. What is no JSON has no notes. Names, indices
+-- range; of a name that no object has, the object that was perhaps meant; and of one that is newer than the version of the
+-- text, that it is. What is no JSON has no notes. Names, indices
 -- and values are those of the newest version.
 use Rattle.std.specs.Prelude.{ℕ, List, [], ◌∷◌, ◌++◌, if◌then◌else◌, Bool, true, false, ◌||◌, Option, Some, None, codes, bytes_eq, decimal, nat_le}
 use Rattle.std.specs.Str.{is_utf8}
@@ -10,10 +11,12 @@ use Rattle.json.specs.Json.{Json, object, Members, no_members, member, document}
 use Rattle.json.specs.Print.{print}
 use Rattle.json.specs.Tree.{json_tokens}
 use Rattle.tsb_plan.specs.declared.object.Object.{Object}
+use Rattle.tsb_plan.specs.declared.version.Version.{Version}
 use Rattle.tsb_plan.specs.declared.version.TheConstants.Version.{NEWEST}
 use Rattle.tsb_plan.specs.Names.{name_of, object_named}
 use Rattle.tsb_plan.specs.Objects.{greatest, indices}
 use Rattle.tsb_plan_notes.specs.Near.{near_object}
+use Rattle.tsb_plan_notes.specs.Newer.{newer_note, version_of}
 use Rattle.tsb_plan_notes.specs.Parts.{is_exponent, is_index, is_negative, is_point, meant, whole_of}
 use Rattle.tsb_plan_notes.specs.Units.{unit_of, unit_text}
 use Rattle.tsb_plan_notes.specs.declared.units.Unit.{Unit}
@@ -144,14 +147,18 @@ abbrev pub member_note : Option Object → List ℕ → Json → Members → Lis
 member_note None name d later = if is_known_member name then twice_note name d (next_of name later) else name_note name
 member_note (Some o) name d later = twice_note name d (next_of name later) ++ table_notes o d
 
--- of the members of a text
-abbrev pub members_notes : Members → List ℕ
-members_notes no_members = []
-members_notes (member name d later) = member_note (object_named NEWEST name) name d later ++ members_notes later
+-- of one in a text of this version: that a later one has it, and what is noted of it otherwise
+abbrev pub versed_note : Option Version → Option Object → List ℕ → Json → Members → List ℕ
+versed_note v o name d later = newer_note v o name ++ member_note o name d later
+
+-- of the members of a text of this version
+abbrev pub members_notes : Option Version → Members → List ℕ
+members_notes v no_members = []
+members_notes v (member name d later) = versed_note v (object_named NEWEST name) name d later ++ members_notes v later
 
 -- of a value
 abbrev pub value_notes : Json → List ℕ
-value_notes (object members) = members_notes members
+value_notes (object members) = members_notes (version_of (object members)) members
 value_notes d = []
 
 -- of what a text may be

@@ -1,12 +1,13 @@
--- A number of JSON, and what it says where it was meant in seconds and has tenths.
+-- A number of JSON, and what a value says where it was meant in another form: in seconds with tenths, or as phases.
 use Rattle.std.specs.Prelude.{ℕ, ◌+◌, ◌*◌, ◌-◌, ◌==◌, ◌&&◌, ◌||◌, nat_le, if◌then◌else◌, Bool, false, List, [], ◌∷◌, length, take, drop, slice_index, Option, Some, None, option_and_then}
-use Rattle.json.specs.Find.{as_number}
+use Rattle.json.specs.Find.{as_number, as_str}
 use Rattle.json.specs.Json.{Json}
 use Rattle.tsb_lines.specs.Words.{number_of}
 use Rattle.tsb_plan.specs.declared.object.Object.{Object}
 use Rattle.tsb_plan.specs.Objects.{indices}
 use Rattle.tsb_plan_notes.specs.declared.units.Unit.{Unit}
-use Rattle.tsb_plan_notes.specs.declared.units.Unit.TheVariants.{Tenths}
+use Rattle.tsb_plan_notes.specs.declared.units.Unit.TheVariants.{Phases, Tenths}
+use Rattle.tsb_plan_notes.specs.PhaseLists.{phases_of}
 
 -- a value that is a whole number of 32 bits: digits alone
 abbrev pub whole_of : Json → Option ℕ
@@ -36,9 +37,11 @@ tenths_of s =
     if nat_le 3 (length s) && slice_index s (length s - 2) == 46
     then joined (number_of (take (length s - 2) s)) (number_of (drop (length s - 1) s)) else None
 
--- what a value may have been meant as, in the unit of its object: 32 for 3.2, where that is tenths of a second
+-- what a value may have been meant as, in the unit of its object: 32 for 3.2, where that is tenths of a second, and 72 for
+-- "4,7", where that is a list of phases
 abbrev pub meant : Unit → Json → Option ℕ
 meant Tenths d = option_and_then tenths_of (as_number d)
+meant Phases d = option_and_then phases_of (as_str d)
 meant unit d = None
 
 -- whether a number is at most so many

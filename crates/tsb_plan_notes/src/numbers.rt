@@ -1,11 +1,13 @@
-//! Numbers of JSON, and what they say where they were meant in seconds and have tenths.
+//! Numbers of JSON, and what values say that were meant in another form: in seconds with tenths, or as phases.
 ghost use Rattle.std.specs.Prelude.{◌≡◌, nat_le, option_and_then, option_map, slice_index};
-ghost use Rattle.json.specs.Find.{as_number};
+ghost use Rattle.json.specs.Find.{as_number, as_str};
 ghost use Rattle.json.specs.Value.{value_view};
 ghost use Rattle.std.specs.List.{list_any};
 ghost use Rattle.tsb_plan_notes.specs.Notes.{fault_words, number_words, positive_words};
+ghost use Rattle.tsb_plan_notes.specs.PhaseLists.{phases_of};
 ghost use Rattle.tsb_plan_notes.specs.Parts.{is_exponent, is_index, is_negative, is_point, is_within, joined, meant, tenths_of, whole_of};
 
+use crate::phase_list::phases_of;
 use crate::units::Unit;
 use json::Value;
 use tsb_lines::number;
@@ -21,12 +23,14 @@ pub(crate) fn whole_of(value: &Value<'_>) -> Option<u32>
     }
 }
 
-/// What a value may have been meant as, in the unit of its object: 32 for 3.2, where that is tenths of a second.
+/// What a value may have been meant as, in the unit of its object: 32 for 3.2, where that is tenths of a second, and 72
+/// for "4,7", where that is a list of phases.
 pub(crate) fn meant(unit: Unit, value: &Value<'_>) -> Option<u64>
     ensures { result ≡ meant unit (value_view value.now) }
 {
     match unit {
         Unit::Tenths => tenths_in(value),
+        Unit::Phases => phases_in(value),
         _ => None,
     }
 }
@@ -37,6 +41,16 @@ fn tenths_in(value: &Value<'_>) -> Option<u64>
 {
     match value.as_number() {
         Some(text) => tenths_of(text.as_bytes()),
+        None => None,
+    }
+}
+
+/// The list of the phases that a value names, where it is a text.
+fn phases_in(value: &Value<'_>) -> Option<u64>
+    ensures { result ≡ option_and_then phases_of (as_str (value_view value.now)) }
+{
+    match value.as_str() {
+        Some(text) => phases_of(text.as_bytes()),
         None => None,
     }
 }

@@ -5,24 +5,25 @@ ghost use Rattle.json.specs.Tree.{HasNumbers, MembersHaveNumbers};
 ghost use Rattle.json.specs.Value.{members_view, value_view};
 ghost use Rattle.tsb_plan.specs.declared.version.TheConstants.Version.{NEWEST};
 ghost use Rattle.tsb_plan.specs.Names.{object_named};
-ghost use Rattle.tsb_plan_notes.specs.Notes.{member_note, members_notes, next_of, notes_of, twice_note, value_notes};
+ghost use Rattle.tsb_plan_notes.specs.Notes.{member_note, members_notes, next_of, notes_of, twice_note, value_notes, versed_note};
 
 use crate::entries::{add_table, next_of};
 use crate::lines::{add_name, add_twice};
+use crate::newer::{add_newer, version_of};
 use json::{Error, Scratch, Value};
 use std::alloc::{AllocError, Global};
 use tsb_plan::{Object, Version};
 
 /// The name of the member that gives the version.
-const VERSION: &str = "version";
+pub(crate) const VERSION: &str = "version";
 
 /// The name of the member that has the notes of a plan, in the newest version.
-const NOTES: &str = "notes";
+pub(crate) const NOTES: &str = "notes";
 
 /// What is noted of a plan text: a line, with its line feed, for each member or index that comes again later in its
 /// table, with both values, of which the last counts; one for each value that is no whole number, with its unit; one for
-/// each value or index out of range, with the range; and one for each name that no object has, with the object that was
-/// perhaps meant. The error is that memory ran out.
+/// each value or index out of range, with the range; one for each name that no object has, with the object that was
+/// perhaps meant; and one for each name that a later version than that of the text has. The error is that memory ran out.
 ///
 /// A text that is no JSON in UTF-8 has no notes. Names and ranges are those of the newest version.
 pub fn notes(alloc: Global, text: &[u8]) -> Result<Vec<u8>, AllocError>
@@ -55,24 +56,42 @@ fn notes_on(alloc: Global, value: &Value<'_>) -> Result<Vec<u8>, AllocError>
 {
     let mut notes = Vec::new(alloc);
     if let Value::Object(members) = value {
-        add_members(alloc, members.as_slice(), &mut notes)?;
+        add_members(alloc, version_of(value), members.as_slice(), &mut notes)?;
     }
     Ok(notes)
 }
 
-/// Adds what is noted of the members of a text.
+/// Adds what is noted of the members of a text of this version.
 fn add_members<'a>(
     alloc: Global,
+    version: Option<Version>,
     members: &[(&'a str, Value<'a>)],
     notes: &mut Vec<u8>,
 ) -> Result<(), AllocError>
     requires { MembersHaveNumbers (members_view members.now) }
-    ensures { OnOk result (notes.new.items ≡ notes.old.items ++ members_notes (members_view members.now)) }
+    ensures { OnOk result (notes.new.items ≡ notes.old.items ++ members_notes version (members_view members.now)) }
 {
     for at in 0..members.len() {
-        add_member(alloc, &members[at], &members[at + 1..], notes)?;
+        add_versed(alloc, version, &members[at], &members[at + 1..], notes)?;
     }
     Ok(())
+}
+
+/// Adds what is noted of a member with its value, before these, in a text of this version.
+fn add_versed<'a>(
+    alloc: Global,
+    version: Option<Version>,
+    member: &(&'a str, Value<'a>),
+    later: &[(&'a str, Value<'a>)],
+    notes: &mut Vec<u8>,
+) -> Result<(), AllocError>
+    requires value { HasNumbers (value_view member.now.1) }
+    requires later { MembersHaveNumbers (members_view later.now) }
+    ensures { OnOk result (notes.new.items
+        ≡ notes.old.items ++ versed_note version (object_named NEWEST member.now.0.now) member.now.0.now (value_view member.now.1) (members_view later.now)) }
+{
+    add_newer(version, member.0, notes)?;
+    add_member(alloc, member, later, notes)
 }
 
 /// Adds what is noted of a member with its value, before these.

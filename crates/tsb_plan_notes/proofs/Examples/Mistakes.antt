@@ -1,7 +1,9 @@
--- Mistakes in places, each with a text that tells it from the definition.
-use Rattle.std.specs.Prelude.{◌≡◌, ℕ, ◌+◌, ◌==◌, if◌then◌else◌, List, length, Option, Some, option_map, codes, refl}
+-- Mistakes in places and in lists of phases, each with a text that tells it from the definition.
+use Rattle.std.specs.Prelude.{◌≡◌, ℕ, ◌+◌, ◌==◌, ◌&&◌, nat_lt, if◌then◌else◌, List, length, Option, Some, None, option_map, codes, refl}
 use Rattle.std.specs.List.{fold}
+use Rattle.tsb_plan_notes.specs.PhaseLists.{closed, listed_in, phases_of}
 use Rattle.tsb_plan_notes.specs.Places.{column_behind, line_behind, start, stop}
+use Rattle.tsb_plan_notes.specs.declared.phase_list.PhasesRead.{PhasesRead}
 
 -- ## A carriage return begins a line as well: where both end a line, each line counts twice
 
@@ -41,3 +43,15 @@ would_be_first = refl
 
 would_move : stop_at_end (codes "] 1") ≡ Some 3
 would_move = refl
+
+-- ## One number is a list of one phase: a sum in quotes would get another sum
+
+abbrev pub sum_of_one : PhasesRead → Option ℕ
+sum_of_one s = if s.is_good && nat_lt 0 s.count then Some s.sum else None
+
+is_no_list : phases_of (codes "4") ≡ None
+unfolding phases_of
+is_no_list = refl
+
+would_be_8 : sum_of_one (closed (listed_in (codes "4"))) ≡ Some 8
+would_be_8 = refl

@@ -8,6 +8,9 @@ use Rattle.tsb_plan.specs.Objects.{objects}
 use Rattle.tsb_plan_notes.specs.Notes.{entries_notes, fault_text, greatest_end, over_text, path_of, range_end, unit_end}
 use Rattle.tsb_plan_notes.specs.Near.{near_object}
 use Rattle.tsb_plan_notes.specs.Parts.{is_index, tenths_of}
+use Rattle.tsb_plan_notes.specs.Newer.{newer_note}
+use Rattle.tsb_plan_notes.specs.PhaseLists.{phases_of}
+use Rattle.tsb_plan.specs.declared.version.Version.TheVariants.{Two, Three}
 
 -- one entry
 abbrev entry : Json → Members
@@ -39,6 +42,34 @@ tenths = refl
 two-decimals : tenths_of (codes "3.25") ≡ None
 unfolding tenths_of
 two-decimals = refl
+
+-- phases in a text, in any order and each once
+phases : phases_of (codes "4,7") ≡ Some 72
+unfolding phases_of
+phases = refl
+
+phases-apart : phases_of (codes "2 + 6, 1") ≡ Some 35
+unfolding phases_of
+phases-apart = refl
+
+phase-16 : phases_of (codes "16,9") ≡ Some 33024
+unfolding phases_of
+phase-16 = refl
+
+phase-17 : phases_of (codes "4,17") ≡ None
+unfolding phases_of
+phase-17 = refl
+
+phase-again : phases_of (codes "4,7,4") ≡ None
+unfolding phases_of
+phase-again = refl
+
+-- notes are newer than version 2
+newer : newer_note (Some Two) None (codes "notes") ≡ codes "notes: version 3 has it, and this text is of version 2\n"
+newer = refl
+
+not-newer : newer_note (Some Three) None (codes "notes") ≡ []
+not-newer = refl
 
 -- a whole number
 whole : entries_notes PhaseRing (entry (number (codes "1"))) ≡ []
