@@ -31,6 +31,8 @@ SECONDS = 600
 NAMED = 10
 # What a good plan is answered, and what the line of a log's fault begins with.
 PLAN_OK, FAULT = b"plan ok\n", b"log "
+# The line on standard error after a refused plan's.
+REVIEW = b"all faults, each with its place: tsb_field review PLAN\n"
 
 # The objects whose index counts rows, of 8 places in version 1 and of 16 later.
 IN_ROWS = {"splitTime", "splitMode", "splitCoordPhase", "sequenceData"}
@@ -170,9 +172,9 @@ def ended(done: subprocess.CompletedProcess[bytes], status: int) -> bytes:
 
 
 def checked(tsb: pathlib.Path, text: bytes) -> bytes:
-    """What `tsb check` writes of a plan text, by its status on standard output."""
+    """What `tsb check` writes of a plan text on standard output, where its status and standard error fit that."""
     done = run([tsb, "check"], [text], b"")
-    is_well = done.returncode == int(done.stdout != PLAN_OK) and not done.stderr
+    is_well = (done.returncode, done.stderr) == ((0, b"") if done.stdout == PLAN_OK else (1, REVIEW))
     return done.stdout if is_well else f"status {done.returncode}, {done.stdout!r}, {done.stderr!r}".encode()
 
 

@@ -32,6 +32,7 @@ READ, WRITE = b"read fault\n", b"write fault\n"
 INPUT = READ + b"standard input\n"
 CAUSES = {"folder": b": a folder"} | dict.fromkeys(["", "help", "none.json", "none.log"], b": no such file")
 OK, RULE, NOT_JSON = b"plan ok\n", b"plan: rule K8\n", b"plan: not JSON\n"
+REVIEW = b"all faults, each with its place: tsb_field review PLAN\n"
 # Second lines of texts that are refused.
 EMPTY = b"plan line 1, column 1, where the text ends: expected a value\n"
 IS_LOG, IS_PLAN = b"plan line 1, column 1: it looks like an input log\n", b"log line 1: it looks like a plan\n"
@@ -110,6 +111,11 @@ def shown(value):
     return repr(value if isinstance(value, int) or len(value) < 200 else value[:200] + b" ..")
 
 
+def refused(path, line):
+    """A check of a plan that is refused: of the errors a line says what lists all of them."""
+    return Run(["check", path], 1, line, REVIEW)
+
+
 def example_runs():
     """The checks and sessions of the examples, and those on the built-in plan also without words."""
     for line in (EXAMPLES / "list.txt").read_text().splitlines():
@@ -118,7 +124,7 @@ def example_runs():
             continue
         expected = (EXAMPLES / f"{name}.expected").read_bytes()
         if len(files) == 1:
-            yield Run(["check", *files], 0 if expected == OK else 1, expected)
+            yield Run(["check", *files], 0, OK) if expected == OK else refused(files[0], expected)
             continue
         commands = (EXAMPLES / f"{name}.commands").read_bytes()
         if expected.startswith(b"log "):
@@ -151,8 +157,8 @@ def word_runs():
         ["run", "--", "--help", "empty.log"],
     ]:
         yield Run(words, 0, session, b"", b"step 1\nback 1\n")
-    yield Run(["check", "two.json "], 1, RULE)
-    yield Run(["check", " two.json"], 1, RULE)
+    yield refused("two.json ", RULE)
+    yield refused(" two.json", RULE)
 
 
 def file_runs():
@@ -164,7 +170,7 @@ def file_runs():
     yield Run(["run", "none.json", "none.log"], 3, b"", not_read("none.json"), b"step 1\n")
     yield Run(["check", "longest.json"], 0, OK)
     for path in ["too_long.json", ENDLESS]:
-        yield Run(["check", path], 1, b"plan: too large\n")
+        yield refused(path, b"plan: too large\n")
         yield Run(["run", path, "empty.log"], 1, b"", b"plan: too large\n")
     yield Run(["run", "two.json", ENDLESS], 1, b"", b"log: too large\n", b"step 1\n")
     # Each refused text has a second line, where there is something to say of it.
@@ -176,13 +182,13 @@ def file_runs():
     yield Run(["run", "long.log", "two.json"], 1, b"", b"plan: too large\n" + IS_LOG, b"step 1\n")
     yield Run(["run", "blank.json", "none.log"], 1, b"", NOT_JSON + EMPTY, b"step 1\n")
     for path in ["marked.json", "same_tick.log", "blank.json"]:
-        yield Run(["check", path], 1, NOT_JSON)
+        yield refused(path, NOT_JSON)
     for path in ["many_versions.json", "many_indices.json"]:
         yield Run(["check", path], 0, OK)
-    yield Run(["check", "many_members.json"], 1, b"plan: a: no such object\n")
-    yield Run(["check", "many_values.json"], 1, b"plan: phaseWalk: not a table\n")
+    yield refused("many_members.json", b"plan: a: no such object\n")
+    yield refused("many_values.json", b"plan: phaseWalk: not a table\n")
     first, *others = SMALL_PARTS
-    yield Run(["check", f"{first}.json"], 1, b"plan: a: no such object\n")
+    yield refused(f"{first}.json", b"plan: a: no such object\n")
     for name in others:
         yield Run(["check", f"{name}.json"], 3, b"", MEMORY)
         yield Run(["run", f"{name}.json", "empty.log"], 3, b"", MEMORY, b"step 1\n")
@@ -211,6 +217,7 @@ def stream_runs():
         yield Run(words, 3, b"", b"commands: too large\n", stdin=ENDLESS)
     yield Run(["check", "two.json"], 3, b"", WRITE, stdout=FULL)
     yield Run(["check", "two_short_yellow.json"], 3, b"", WRITE, stdout=FULL)
+    yield Run(["check", "two_short_yellow.json"], 1, RULE, stderr=FULL)
     yield Run(["what"], 2, stderr=FULL)
     yield Run(["check", "none.json"], 3, stderr=FULL)
     yield Run(["run", "two_short_yellow.json", "empty.log"], 1, stderr=FULL)

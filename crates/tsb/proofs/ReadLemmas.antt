@@ -1,5 +1,5 @@
 -- What reading a file comes to, by what its text gave, and what is told of it.
-use Rattle.std.proofs.Common.{◌≡◌, ℕ, List, Option, inl, inr, refl, subst, sym, codes}
+use Rattle.std.proofs.Common.{◌≡◌, ℕ, List, Option, inl, inr, subst, sym}
 use Rattle.std.specs.Prelude.{Result, Ok, Err}
 use Rattle.tsb_text.specs.tsb_objects.Checked.{checked_plan}
 use Rattle.tsb_text.specs.tsb_objects.declared.checked.Checked.{Checked}
@@ -10,7 +10,7 @@ use Rattle.tsb_program.specs.declared.read.ReadError.{ReadError}
 use Rattle.tsb_program.specs.declared.read.ReadError.TheVariants as faults
 use Rattle.tsb_program.specs.tsb_lines.Seen.{Seen}
 use Rattle.tsb.specs.Ends.{Checks, Reported, Stops}
-use Rattle.tsb_program.specs.Lines.{Wrote, plan_line, refused_log}
+use Rattle.tsb_program.specs.Lines.{WroteRefusal, plan_line, refused_log}
 use Rattle.tsb_program.specs.Told.{Refuses, TellsNoPlan, TellsWhy}
 use Rattle.tsb_program.specs.Read.{HasNoPlan, HasPlan, LogRead, PlanRead}
 use Rattle.tsb_program.specs.declared.clue.PlanClue.{PlanClue}
@@ -37,13 +37,13 @@ stops-plan fault status plan log known old new has line = stops-by fault.why fau
 -- what was found of a plan is that of its file
 pub checks : (found : Result Checked (ReadError PlanError)) (name : List ℕ) (file : Option (List ℕ)) (status : ℕ) (old new told tells : Seen) → PlanRead found file
     → Reported name found status old new told tells → Checks name status file old new told tells
-checks (Ok plan) name file status old new told tells has judged = inl (0, codes "plan ok\n", inl (refl, refl, checked_plan plan, has), judged)
-checks (Err (faults.Refused fault)) name file status old new told tells has (inl judged) = inl (1, plan_line fault, inr (refl, fault, refl, has), judged)
-checks (Err (faults.Refused fault)) name file status old new told tells has (inr none) = inr (none.0, (files.Memory, none.1))
-checks (Err (faults.Failed why)) name file status old new told tells read stays = inr (stays.0, (why, stays.1))
+checks (Ok plan) name file status old new told tells has judged = inl (checked_plan plan, has, judged)
+checks (Err (faults.Refused fault)) name file status old new told tells has (inl judged) = inr (inl (fault, has, judged))
+checks (Err (faults.Refused fault)) name file status old new told tells has (inr none) = inr (inr (none.0, (files.Memory, none.1)))
+checks (Err (faults.Failed why)) name file status old new told tells read stays = inr (inr (stays.0, (why, stays.1)))
 
 -- what is judged of a plan that is refused is reported of it
 pub refused-so : (found : Result Checked (ReadError PlanError)) (name : List ℕ) (why : PlanError) (status : ℕ) (old new told tells : Seen) → found ≡ Err (faults.Refused why)
-    → Wrote status 1 (plan_line why) old new told tells → Reported name found status old new told tells
+    → WroteRefusal status (plan_line why) old new told tells → Reported name found status old new told tells
 refused-so found name why status old new told tells is judged =
     subst (λ (f : Result Checked (ReadError PlanError)). Reported name f status old new told tells) (sym is) (inl judged)

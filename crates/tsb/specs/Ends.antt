@@ -18,7 +18,7 @@ use Rattle.tsb_program.specs.tsb_lines.Seen.{Seen, Tells}
 use Rattle.tsb_program.specs.Runs.{TellsWords}
 use Rattle.tsb.specs.Lines.{usage}
 use Rattle.tsb_program.specs.Devices.{Devices, OnlyTells, ReadsNothing}
-use Rattle.tsb_program.specs.Lines.{TellsEnd, Wrote, log_line, plan_line}
+use Rattle.tsb_program.specs.Lines.{TellsEnd, Wrote, WroteRefusal, log_line, plan_line}
 use Rattle.tsb_program.specs.Told.{FailsFile, FailsToReadFile, RefusesAt}
 use Rattle.tsb_program.specs.Failures.{Fails}
 use Rattle.tsb_program.specs.declared.failure.Failure.TheVariants.{Memory}
@@ -28,30 +28,25 @@ use Rattle.tsb_program.specs.Read.{HasLog, HasPlan, RefusesLog, RefusesPlan, Ref
 use Rattle.tsb_program.specs.declared.clue.PlanClue.{PlanClue}
 use Rattle.tsb_program.specs.declared.read.RefusedLog.{RefusedLog}
 
--- what is found of the plan in a file: with 0 that its text gives one, with 1 the fault that it has
-abbrev pub Finds : Option (List ℕ) → ℕ → List ℕ → Type 0
-Finds file status line =
-    ((status ≡ 0) × (line ≡ codes "plan ok\n") × (plan : Plan) × HasPlan file plan)
-    ⊎ ((status ≡ 1) × (fault : PlanError) × (line ≡ plan_line fault) × RefusesPlan file fault)
-
 -- nothing was written, and this is told
 abbrev pub Stays : (ℕ → Seen → Seen → Type 0) → ℕ → (old new told tells : Seen) → Type 0
 Stays Says status old new told tells = (new ≡ old) × Says status told tells
 
 -- what was found of the plan in the file of this name is reported: what its text gives is written, where there is memory
--- for the line; why it was not read is told, with its name
+-- for the line, and of a refused one what lists all faults; why it was not read is told, with its name
 abbrev pub Reported : List ℕ → Result Checked (ReadError PlanError) → ℕ → (old new told tells : Seen) → Type 0
 Reported name (Ok plan) status old new told tells = Wrote status 0 (codes "plan ok\n") old new told tells
 Reported name (Err (faults.Refused fault)) status old new told tells =
-    Wrote status 1 (plan_line fault) old new told tells ⊎ Stays (Fails Memory) status old new told tells
+    WroteRefusal status (plan_line fault) old new told tells ⊎ Stays (Fails Memory) status old new told tells
 Reported name (Err (faults.Failed why)) status old new told tells = Stays (FailsFile name why) status old new told tells
 
--- how a check of the plan in the file of this name ended: what was found was written; or the file or memory failed, which
--- is told, and nothing was written
+-- how a check of the plan in the file of this name ended: that its text gives one was written, with 0, or the fault that it
+-- has, with 1; or the file or memory failed, which is told, and nothing was written
 abbrev pub Checks : List ℕ → ℕ → Option (List ℕ) → (old new told tells : Seen) → Type 0
 Checks name status file old new told tells =
-    ((wanted : ℕ) × (line : List ℕ) × Finds file wanted line × Wrote status wanted line old new told tells)
-    ⊎ Stays (FailsToReadFile name) status old new told tells
+    ((plan : Plan) × HasPlan file plan × Wrote status 0 (codes "plan ok\n") old new told tells)
+    ⊎ (((fault : PlanError) × RefusesPlan file fault × WroteRefusal status (plan_line fault) old new told tells)
+    ⊎ Stays (FailsToReadFile name) status old new told tells)
 
 -- a session ended well with 0 and nothing told, or by a fault, with 3 and its line
 abbrev pub EndsSo : Result (Unit {0}) SessionError → ℕ → Seen → Seen → Type 0

@@ -25,7 +25,7 @@ pub const USAGE: &[u8] = b"usage: tsb check PLAN or tsb run PLAN LOG\n";
 ///
 /// What `check` finds in a plan goes to the output, and so do the answers of a session. The fault that ends `run` goes to
 /// the errors, and so do bad words and failures. A second line names a file that was not read, or what is said of a text
-/// that is refused.
+/// that is refused; after a plan that `check` refuses, a line of the errors says what lists all faults.
 pub fn run_words<S: AsStr, F: Files, R: Read, W: Write, E: Write>(
     alloc: Global,
     words: &[S],
@@ -69,7 +69,7 @@ fn report<R: Read, W: Write, E: Write>(
     match found {
         Ok(_) => streams.write(ExitStatus::Done, b"plan ok\n"),
         Err(ReadError::Refused(fault)) => match line_of(alloc, fault.line()) {
-            Ok(line) => streams.write(ExitStatus::Refused, line.as_bytes()),
+            Ok(line) => streams.write_refusal(line.as_bytes()),
             Err(_) => streams.fail(Failure::Memory),
         },
         Err(ReadError::Failed(fault)) => streams.fail_file(path, fault),

@@ -46,3 +46,14 @@ abbrev pub Wrote : ℕ → ℕ → List ℕ → (old new told tells : Seen) → 
 Wrote status wanted text old new told tells =
     ((status ≡ wanted) × GoesOut old new text × (tells ≡ told))
     ⊎ ((new.failed ≡ true) × AppendsFront old.bytes new.bytes text × Fails Write status told tells)
+
+-- what lists all faults of a plan that is refused, with its end
+abbrev pub review_line : List ℕ
+review_line = codes "all faults, each with its place: tsb_field review PLAN\n"
+
+-- why a plan is refused was written whole, with 1, and then what lists all faults; or the writer failed, and that alone has
+-- a line, with no more than the first bytes of the answer written
+abbrev pub WroteRefusal : ℕ → List ℕ → (old new told tells : Seen) → Type 0
+WroteRefusal status text old new told tells =
+    ((status ≡ 1) × GoesOut old new text × Tells told tells review_line)
+    ⊎ ((new.failed ≡ true) × AppendsFront old.bytes new.bytes text × Fails Write status told tells)

@@ -3,7 +3,7 @@ ghost use Rattle.std.specs.Prelude.{◌≡◌, ◌++◌, option_map};
 ghost use Rattle.tsb_lines.specs.Seen.{Tells};
 ghost use Rattle.tsb_program.specs.Devices.{OnlyTells, ReadsNothing};
 ghost use Rattle.tsb_program.specs.Failures.{Fails};
-ghost use Rattle.tsb_program.specs.Lines.{TellsEnd, TellsRefusal, Wrote};
+ghost use Rattle.tsb_program.specs.Lines.{TellsEnd, TellsRefusal, Wrote, WroteRefusal};
 ghost use Rattle.tsb_program.specs.Runs.{TellsBad, TellsWords};
 ghost use Rattle.tsb_program.specs.Statuses.{number};
 ghost use Rattle.tsb_program.specs.Told.{FailsFile, Refuses, TellsInputEnd, TellsNoPlan};
@@ -22,6 +22,9 @@ use tsb_text::SessionError;
 use tsb_words::WordsError;
 use tsb_words::near::hint;
 
+/// What lists all faults of a plan that is refused.
+const REVIEW: &[u8] = b"all faults, each with its place: tsb_field review PLAN\n";
+
 impl<R: Read, W: Write, E: Write> Streams<R, W, E> {
     /// Writes an answer, and gives the status that the program ends with: this one, or where the answer was not written
     /// whole that of a failed write, which is reported.
@@ -30,6 +33,18 @@ impl<R: Read, W: Write, E: Write> Streams<R, W, E> {
     {
         match write_line(&mut self.output, text) {
             Ok(()) => status.number(),
+            Err(_) => self.fail(Failure::Write),
+        }
+    }
+
+    /// Writes why a plan is refused, reports what lists all of its faults, and gives the status that the program ends
+    /// with. Where the answer was not written whole, that is the status of a failed write, which alone is reported.
+    pub fn write_refusal(&mut self, text: &[u8]) -> u8
+        ensures { ReadsNothing (WroteRefusal result text.now) self.old self.new }
+    {
+        let written = write_line(&mut self.output, text);
+        match written {
+            Ok(()) => self.tell(ExitStatus::Refused, REVIEW),
             Err(_) => self.fail(Failure::Write),
         }
     }
