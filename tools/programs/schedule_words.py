@@ -1,5 +1,6 @@
 """Worked runs of `tsb_field schedule`: its words, and what it has to write, found by hand from docs/use/FIELD.md and
-docs/use/MANUAL.md. Beside them are weeks at random, which tools/programs/week_rules.py reads a second time.
+docs/use/MANUAL.md. Beside them are weeks at random, which tools/programs/week_rules.py reads a second time. Pictures of both are in
+tools/programs/week_pictures.py.
 
 tools/programs/run_field.py runs them with those of tools/programs/field_cases.py, in the same folder.
 """
@@ -68,13 +69,16 @@ def runs() -> Iterator[Run]:
     yield Run(asked("2024-02-25", "quad.json"), 0, NONE, b"")
     yield Run(asked("2026-12-06", "schedule.json"), 3, b"", WRITE, stdout=FULL)
     yield Run(asked("2026-12-06", "schedule.json"), 3, b"", b"", stdout=FULL, stderr=FULL)
+    yield Run(asked("2026-12-06", "--svg", "schedule.json"), 3, b"", WRITE, stdin=TORN, stdout=FULL)
     for name, line in [("two_short_yellow.json", RULE), ("car.log", NOT_JSON + IS_LOG), (ENDLESS, b"plan: too large\n")]:
         yield Run(asked("2026-12-06", name), 1, b"", line, stdin=TORN)
+        yield Run(asked("2026-12-06", name, "--svg"), 1, b"", line, stdin=TORN)
     for name in ["none.json", "folder", TORN]:
         yield Run(asked("2026-12-06", name), 3, b"", not_read(name), stdout="/dev/null")
     for day in ["2026-02-29", "1999-12-31", "2100-01-01", "2026-12-6", "2026-12-06 07:00:00", "", "Sunday", "2026-13-01"]:
         yield bad(asked(day, "quad.json"), stdout="/dev/null")
-    for more in ["", "quad.json tee.json", "--week 2026-12-06 quad.json", "quad.json --count"]:
+    for more in ["", "quad.json tee.json", "--week 2026-12-06 quad.json", "quad.json --count", "--svg",
+                 "--svg quad.json --svg", "--svg=week.svg quad.json", "--svg week.svg quad.json"]:
         yield bad(asked("2026-12-06", *more.split()), stdout="/dev/null")
 
 
@@ -102,12 +106,19 @@ def at_random(source: random.Random) -> Table:
     return changed(CLEAN, change)
 
 
-def at_random_runs(folder: pathlib.Path) -> Iterator[Run]:
-    """Weeks of plans at random, whose files are written into this folder."""
+def weeks_at_random(folder: pathlib.Path) -> list[tuple[str, Table, datetime.date]]:
+    """Plans at random, whose files are written into this folder: the name of the file, the plan, and the first day."""
     source = random.Random(1)
+    weeks = []
     for number in range(WEEKS):
         plan, day = at_random(source), source.choice(DAYS) - datetime.timedelta(source.choice([0, 0, 1, 5]))
-        day = max(day, DAYS[0])
         name = f"week_{number}.json"
         (folder / name).write_text(json.dumps({"version": 3, **plan}))
+        weeks.append((name, plan, max(day, DAYS[0])))
+    return weeks
+
+
+def at_random_runs(weeks: list[tuple[str, Table, datetime.date]]) -> Iterator[Run]:
+    """The tables of weeks at random."""
+    for name, plan, day in weeks:
         yield Run(asked(f"{day}", name), 0, week_rules.week(plan, day).encode(), b"")

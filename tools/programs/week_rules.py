@@ -3,6 +3,7 @@ the plan's JSON, and from nothing of the crates.
 """
 import datetime
 import functools
+import itertools
 
 from tools.programs.review_rules import FREE, MONTHS, Plan, Table
 
@@ -10,6 +11,10 @@ HEAD = "day            from    action  pattern  entry  day plan\n"
 MINUTES = 1440  # of a day
 WEEK = 7 * MINUTES
 DAYS = 366  # that events are sought in, with the day itself
+
+# A band of the picture of a week: its day, 0 to 6; its first minute and the minute after its last, of that day; its pattern,
+# 0 for free; its action, 0 for none.
+Band = tuple[int, int, int, int, int]
 
 
 class Schedule:
@@ -51,11 +56,15 @@ class Schedule:
                 return past[-1]
         return 0
 
+    def pattern_of(self, action: int) -> int:
+        """The pattern that an action selects, 0 for free."""
+        asked = self.plan.value("timebaseAscPattern", action)
+        return 0 if asked == FREE else asked
+
     def row(self, moment: datetime.datetime) -> str:
         """The row of a moment."""
         action = self.action_at(moment)
-        asked = self.plan.value("timebaseAscPattern", action)
-        pattern = "free" if asked in (0, FREE) else str(asked)
+        pattern = self.pattern_of(action) or "free"
         date = moment.date()
         entry, day_plan = (it or "-" for it in (self.entry_of(date), self.day_plan_of(date)))
         return f"{moment:%Y-%m-%d %a %H:%M}{action or '-':>9}{pattern:>9}{entry:>7}{day_plan:>10}\n"
@@ -70,3 +79,18 @@ def week(text: Table, first: datetime.date) -> str:
     rows = [schedule.row(it) for number, it in enumerate(moments) if number
             and ((number - 1) % MINUTES == 0 or actions[number] != actions[number - 1])]
     return HEAD + "".join(rows)
+
+
+def bands(text: Table, first: datetime.date) -> list[Band]:
+    """The bands of a week: of each day, the minutes that follow one another with one action."""
+    schedule = Schedule(text)
+    found = []
+    for day in range(7):
+        midnight = datetime.datetime.combine(first + datetime.timedelta(day), datetime.time())
+        actions = [schedule.action_at(midnight + datetime.timedelta(minutes=it)) for it in range(MINUTES)]
+        begin = 0
+        for action, run in itertools.groupby(actions):
+            end = begin + len(list(run))
+            found.append((day, begin, end, schedule.pattern_of(action), action))
+            begin = end
+    return found

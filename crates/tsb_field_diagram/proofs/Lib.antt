@@ -6,4 +6,5 @@ pub mod LineLemmas
 pub mod LawLemmas
 pub mod EndsLemmas
 pub mod LetterLemmas
+pub mod WeekLemmas
 pub mod Examples

@@ -16,5 +16,7 @@ pub mod Ends
 pub mod Given
 -- a diagram as a whole
 pub mod Page
+-- a week as a picture
+pub mod Week
 -- what holds of bars, told without how they are found
 pub mod Laws

@@ -100,7 +100,7 @@ fn append_mark(
 }
 
 /// How far from the left a second is, in a line of this many seconds that begins at a tenth of a second.
-fn place_of(seconds: u32, begin: u64, second: u128) -> u128
+pub(crate) fn place_of(seconds: u32, begin: u64, second: u128) -> u128
     requires some { 1 ≤ seconds }
     requires fits { second < 2 ^ 96 }
     ensures { result ≡ place_of seconds begin second }
@@ -109,7 +109,7 @@ fn place_of(seconds: u32, begin: u64, second: u128) -> u128
 }
 
 /// Adds the line of a mark to a text.
-fn append_grid(text: &mut Vec<u8>, bands: usize, x: u128) -> Result<(), AllocError>
+pub(crate) fn append_grid(text: &mut Vec<u8>, bands: usize, x: u128) -> Result<(), AllocError>
     ensures { OnOk result (text.new.items ≡ text.old.items ++ grid_text bands x) }
 {
     append_attribute(text, b"<line class=\"a\" x1=\"", x)?;

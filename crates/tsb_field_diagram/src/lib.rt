@@ -1,4 +1,4 @@
-//! The phase diagram of a session, as a picture in SVG.
+//! The phase diagram of a session, and what is in force in a week, as pictures in SVG.
 #![tactic(auto)]
 
 mod axis;
@@ -11,7 +11,9 @@ mod line;
 mod lit;
 mod page;
 mod title;
+mod week;
 mod write;
 
 pub use ends::{EndsError, GreenEnd, LIMIT, Why, read_ends};
 pub use page::{DiagramForm, DiagramSession, diagram_text};
+pub use week::{WeekBand, draw_week};

@@ -221,13 +221,25 @@ fn append_frame(
     ensures { OnOk result (text.new.items ≡ text.old.items ++ frame_text (height_of bands) first (10 * seconds)) }
 {
     let height = BAND * bands as u128;
+    append_frame_of(text, height, u128::from(first), 10 * u128::from(seconds))
+}
+
+/// Adds a frame of this height to a text. So many units from the first on are drawn 1000 units wide in it.
+pub(crate) fn append_frame_of(
+    text: &mut Vec<u8>,
+    height: u128,
+    first: u128,
+    units: u128,
+) -> Result<(), AllocError>
+    ensures { OnOk result (text.new.items ≡ text.old.items ++ frame_text height first units) }
+{
     append_attribute(
         text,
         b"<svg x=\"140\" width=\"1000\" preserveAspectRatio=\"none\" height=\"",
         height,
     )?;
-    append_named(text, b" viewBox=\"", u128::from(first))?;
-    append_named(text, b" 0 ", 10 * u128::from(seconds))?;
+    append_named(text, b" viewBox=\"", first)?;
+    append_named(text, b" 0 ", units)?;
     append_named(text, b" ", height)?;
     append(text, b"\">\n")
 }

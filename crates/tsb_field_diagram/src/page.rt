@@ -185,7 +185,7 @@ fn append_page_head(
 }
 
 /// Adds the head of the picture to a text.
-fn append_opening(text: &mut Vec<u8>, height: u128) -> Result<(), AllocError>
+pub(crate) fn append_opening(text: &mut Vec<u8>, height: u128) -> Result<(), AllocError>
     ensures { OnOk result (text.new.items ≡ text.old.items ++ opening_text height) }
 {
     append_named(
@@ -198,7 +198,7 @@ fn append_opening(text: &mut Vec<u8>, height: u128) -> Result<(), AllocError>
 }
 
 /// Adds the title to a text.
-fn append_titles(text: &mut Vec<u8>, title: &[u8]) -> Result<(), AllocError>
+pub(crate) fn append_titles(text: &mut Vec<u8>, title: &[u8]) -> Result<(), AllocError>
     ensures { OnOk result (text.new.items ≡ text.old.items ++ titles_text title.now) }
 {
     append(text, b"<title>")?;

@@ -42,7 +42,7 @@ pub(crate) fn append_attribute(
 }
 
 /// Adds the last two digits of a number to a text.
-fn append_two_digits(text: &mut Vec<u8>, number: u128) -> Result<(), AllocError>
+pub(crate) fn append_two_digits(text: &mut Vec<u8>, number: u128) -> Result<(), AllocError>
     ensures { OnOk result (text.new.items ≡ text.old.items ++ two_digits number) }
 {
     let tens = b'0' + (number / 10 % 10) as u8;

@@ -301,10 +301,12 @@ fn review_words(rt: HostRuntime) {
     assert!(rt; ask_for_review(rt.alloc(), &hyphen, "-a.json"));
 }
 
-/// Whether the words ask for the week of this plan from 2026-11-22 on, 9,830 days after 1999-12-24.
-fn ask_for_week(alloc: Global, words: &[&str], file: &str) -> bool {
+/// Whether the words ask for the week of this plan from 2026-11-22 on, 9,830 days after 1999-12-24, as a picture or not.
+fn ask_for_week(alloc: Global, words: &[&str], file: &str, picture: bool) -> bool {
     match read_words(alloc, words) {
-        Ok(Asked::Schedule { plan, week }) => plan == file && week.number() == 9_830 * 864_000,
+        Ok(Asked::Schedule { plan, week, svg }) => {
+            plan == file && week.number() == 9_830 * 864_000 && svg == picture
+        }
         _ => false,
     }
 }
@@ -312,15 +314,38 @@ fn ask_for_week(alloc: Global, words: &[&str], file: &str) -> bool {
 #[test]
 fn schedule_words(rt: HostRuntime) {
     let behind = ["tsb_field", "schedule", "a.json", "--week", "2026-11-22"];
-    assert!(rt; ask_for_week(rt.alloc(), &behind, "a.json"));
+    assert!(rt; ask_for_week(rt.alloc(), &behind, "a.json", false));
     let before = ["tsb_field", "schedule", "--week=2026-11-22", "a.json"];
-    assert!(rt; ask_for_week(rt.alloc(), &before, "a.json"));
+    assert!(rt; ask_for_week(rt.alloc(), &before, "a.json", false));
+    let picture = [
+        "tsb_field",
+        "schedule",
+        "--svg",
+        "--week=2026-11-22",
+        "a.json",
+    ];
+    assert!(rt; ask_for_week(rt.alloc(), &picture, "a.json", true));
+}
+
+/// Whether the words ask for the worksheet of this plan.
+fn ask_for_worksheet(alloc: Global, words: &[&str], file: &str) -> bool {
+    match read_words(alloc, words) {
+        Ok(Asked::Worksheet { plan }) => plan == file,
+        _ => false,
+    }
+}
+
+#[test]
+fn worksheet_words(rt: HostRuntime) {
+    assert!(rt; ask_for_worksheet(rt.alloc(), &["tsb_field", "worksheet", "a.json"], "a.json"));
+    let hyphen = ["tsb_field", "worksheet", "--", "-a.json"];
+    assert!(rt; ask_for_worksheet(rt.alloc(), &hyphen, "-a.json"));
 }
 
 const FROM: &str = "--from=2026-11-22T07:00:00";
 
 /// Words that ask for nothing.
-const BAD: [&[&str]; 36] = [
+const BAD: [&[&str]; 39] = [
     &["tsb_field"],
     &["tsb_field", "help"],
     &["tsb_field", "log"],
@@ -381,6 +406,9 @@ const BAD: [&[&str]; 36] = [
     &["tsb_field", "schedule", "--week=2026-11-22"],
     &["tsb_field", "schedule", "--week=2026-02-29", "a.json"],
     &["tsb_field", "schedule", "--week=1999-12-31", "a.json"],
+    &["tsb_field", "worksheet"],
+    &["tsb_field", "worksheet", "a.json", "a.log"],
+    &["tsb_field", "worksheet", "--week=2026-11-22", "a.json"],
 ];
 
 /// Whether all these words are bad.

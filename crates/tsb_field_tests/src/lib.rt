@@ -32,4 +32,6 @@ mod filter_lines;
 #[cfg(test)]
 mod log_stream;
 #[cfg(test)]
+mod week_text;
+#[cfg(test)]
 mod word_pages;

@@ -103,7 +103,7 @@ fn is_wrong(words: &[&str], line: &[u8]) -> bool {
 fn words_are_named() -> bool {
     is_wrong(
         &["tsb_field", "frob"],
-        b"there is no command \"frob\": log, record, events, diagram, review or schedule\n",
+        b"there is no command \"frob\": log, record, events, diagram, review, schedule or worksheet\n",
     ) && is_wrong(
         &["tsb_field", "review", "--zone=Z", "--zone"],
         b"--zone: the command has no such option; --help after it lists all\n",
