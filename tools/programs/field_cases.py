@@ -22,7 +22,8 @@ USAGE = (
     b"    or tsb_field events --from TIME --device ID [--log LOG]\n"
     b"    or tsb_field diagram [--log LOG] [--title TEXT] [--seconds-per-line N] [--from TIME [--events FILE]]\n"
     b"    or tsb_field review PLAN\n"
-    b"    or tsb_field schedule --week DATE PLAN\n"
+    b"    or tsb_field schedule [--svg] --week DATE PLAN\n"
+    b"    or tsb_field worksheet PLAN\n"
 )
 A_TIME = b'a time is YYYY-MM-DD HH:MM:SS, such as "2026-11-22 07:00:00"\n'
 
@@ -41,8 +42,8 @@ MOST_ROWS = 1_720_740
 
 # Words, and what is printed of them: written by hand from docs/use/FIELD.md.
 WRONG = [
-    (["frob"], b'there is no command "frob": log, record, events, diagram, review or schedule'),
-    (["-h"], b'there is no command "-h": log, record, events, diagram, review or schedule'),
+    (["frob"], b'there is no command "frob": log, record, events, diagram, review, schedule or worksheet'),
+    (["-h"], b'there is no command "-h": log, record, events, diagram, review, schedule or worksheet'),
     ([*LOG, "--title", "x"], b"--title: the command has no such option; --help after it lists all"),
     ([*LOG, "--zone", "EST"], b'--zone "EST": a zone is an offset such as -07:00, or Z'),
     ([*LOG, "--zone=-Z"], b'--zone "-Z": a zone is an offset such as -07:00, or Z'),
@@ -76,6 +77,8 @@ WRONG = [
     (["schedule", "--week", "2026-11-31", "quad.json"], b'--week "2026-11-31": ' + A_DATE),
     (["schedule", "--week=2100-01-01", "quad.json"], b'--week "2100-01-01": ' + A_DATE),
     (["schedule", "--week"], b"--week has no value (one that begins with a hyphen comes after =): " + A_DATE),
+    (["worksheet"], b"worksheet names one file, PLAN"),
+    (["worksheet", "--week", "quad.json"], b"--week: the command has no such option; --help after it lists all"),
     (["schedule", *FROM, "quad.json"], b"--from: the command has no such option; --help after it lists all"),
 ]
 
@@ -152,7 +155,7 @@ def form_runs():
     yield from (logged(text, CAR_LOG) for text in [
         CAR, usual, CAR[:-1], CAR.replace(b"\n", b"\r\n"), usual.replace(b"\n", b"\r\n"), MARK + CAR, MARK + usual,
         MARK + b"\n" + usual, b"\n  \n# a car\n" + usual + b"\n#\n", b"#" + b"x" * 999 + b"\n" + CAR,
-        CAR.replace(b",82,", b',"82",').replace(b"7,", b'"7, Main",', 1), CAR.replace(b"22 07", b"22T07"),
+        CAR.replace(b",82,", b',"82",').replace(b"7,", b'"7, Main",'), CAR.replace(b"22 07", b"22T07"),
         CAR.replace(b",82,2", b",0000000082,02"), CAR.replace(b"\n", b",and,more,\n"), CAR.replace(b"\n", b',""\n'),
         # The return before a line feed does not count, and one after the last line feed is a byte of its line.
         b"#" + b"x" * 999 + b"\r\n" + CAR, CAR + b"#\r", CAR.replace(b"\n", b",more\n")[:-1] + b"\r",
@@ -469,7 +472,11 @@ def manner_runs():
         yield logged(text, CAR_LOG)
     devices = b"devices: %b in these rows:%b (name one by --device)\n"
     other = CAR + b"8,2026-11-22 07:00:30,1,1\n" + told("07:01:04 1 1")
-    yield logged(other, CAR_LOG, "--count", errors=read % (4, b"07:00:01.0", b"07:01:04.0", 1) + devices % (b"2", b' "7" "8"'))
+    two = devices % (b"2", b' "7" "8"')
+    yield refused(other, two, CAR_LOG)
+    yield refused(other, two, CAR_LOG, EMPTY)
+    yield refused(other, read % (4, b"07:00:01.0", b"07:01:04.0", 1) + two, CAR_LOG, "--count")
+    yield refused(CAR_FIRST.replace(b",82,", b",1,") + b"8,2026-11-22 07:00:30,1,1\n", two + NO_EVENT, b"")
     yield logged(other, CAR_LOG, "--count", "--device=7",
                  errors=LEFT % (1, 0, 0) + read % (3, b"07:00:01.0", b"07:01:04.0", 1) + gaps % (1, b"07:00:03.0", b"07:01:04.0"))
     # Devices are named as they come, the first eight of them, by their first 40 bytes as a fault shows them.
@@ -483,9 +490,9 @@ def manner_runs():
         line = devices % (number, b"".join(b' "%b"' % it for it in named)) if named else b""
         text = CAR + b"".join(b"%b,2026-11-22 07:00:05,1,1\n" % it for it in of)
         counted = read % (2 + len(of), b"07:00:01.0", b"07:00:05.0", 1) + line
-        yield logged(text, CAR_LOG, "--count", errors=counted)
-        yield logged(text, CAR_LOG, "--count", "--sort", errors=counted)
-        yield logged(text, CAR_LOG)
+        for words in [[], ["--sort"]]:
+            yield Run([*LOG, "--count", *words], 1 if line else 0, CAR_LOG, counted, text)
+            yield Run([*LOG, *words], 1 if line else 0, CAR_LOG, line, text)
     headed = b"Timestamp,EventId,Parameter\n2026-11-22 07:00:01,82,2\n2026-11-22 07:00:03,81,2\n"
     yield logged(headed, CAR_LOG, "--count", errors=read % (2, b"07:00:01.0", b"07:00:03.0", 1))
     late = told("07:01:03 1 1") + CAR
@@ -873,7 +880,9 @@ def word_runs():
         (["diagram", "--seconds-perline", "9"], b"--seconds-per-line"), (["review", "--hel"], b"--help"),
         ([*LOG, "--as-output=quad.json"], b"--as-outputs"), ([*RECORD, "empty.log", "--recall"], b"--recalls"),
         ([*RECORD, "empty.log", "--output"], b"--outputs"), ([*RECORD, "empty.log", "--no-clok"], b"--no-clock"),
-        (["schedul", "quad.json"], b"schedule"), (["schedule", "--weak", "2026-11-22"], b"--week"),
+        (["schedul", "quad.json"], b"schedule"), (["worksheets", "quad.json"], b"worksheet"),
+        (["schedule", "--weak", "2026-11-22"], b"--week"),
+        (["schedule", "--swg", "--week=2026-11-22", "quad.json"], b"--svg"),
     ]:
         yield Run(words, 2, b"", HINT % right, CAR)
     yield Run(["--version"], 0, VERSION % b"tsb_field", b"", CAR)

@@ -505,8 +505,8 @@ def of_channels(lost):
     return f" ({', '.join(found[:NAMED] + ['..'] * (len(found) > NAMED))})" if found else ""
 
 
-def counted(read, device):
-    """The lines of how much was read, of the gaps in it, and of several devices where none is asked for."""
+def counted(read):
+    """The lines of how much was read, and of the gaps in it."""
     if not read.moments:
         return b"read: 0 rows\n"
     channels = {(kind, channel) for _, kind, channel, _ in read.events}
@@ -516,7 +516,7 @@ def counted(read, device):
     if gaps:
         longest = max(gaps, key=lambda pair: pair[1] - pair[0])
         told += GAPS % (len(gaps), *map(time_text, longest))
-    return told + (of_devices(read.devices) if device is None else b"")
+    return told
 
 
 def log(text, begin, device=None, mapped=(), form=None, zone=None, is_counted=False, may_be_empty=False, window=None):
@@ -531,10 +531,11 @@ def log(text, begin, device=None, mapped=(), form=None, zone=None, is_counted=Fa
     if read.others or read.lost or read.passed:
         told += f"left out: {read.others} rows of other devices, {len(read.lost)} events of channels without an input" \
                 f"{of_channels(read.lost)}, {read.passed} lines that are no rows\n".encode()
-    told += counted(read, device) if is_counted else b""
+    told += counted(read) if is_counted else b""
+    several = of_devices(read.devices) if device is None else b""
     is_heard = may_be_empty or any(at >= begin for at, *_ in read.events)
-    told += b"" if is_heard else NO_EVENT if read.moments else NO_ROW
-    return 0 if is_heard else 1, log_of_events(begin, wires, read.events), told
+    told += several + (b"" if is_heard else NO_EVENT if read.moments else NO_ROW)
+    return 0 if is_heard and not several else 1, log_of_events(begin, wires, read.events), told
 
 
 def begun_log(text, begin, device=None, mapped=(), window=None):

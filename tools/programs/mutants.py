@@ -69,6 +69,7 @@ TESTS = {
         "test_the_last_tick_of_a_run", "test_anything_after_anything"))],
     "diff": DIFF,
     "patterns": DIFF,
+    "worksheet": ["tests/test_worksheet.py"],
     "sheet.spreadsheet": [f"tests/test_timing_sheet.py::{it}" for it in (
         "test_out_and_in_is_the_plan", "test_the_tables", "test_a_cell_that_is_wrong",
         "test_all_wrong_cells_are_listed", "test_what_a_hand_may_change", "test_texts_of_strangers",
@@ -105,7 +106,6 @@ ANYWAY = "it is written over, or none, in any case"
 BELOW = "numpy takes any number below 0 as -1"
 AGAIN = "marks that are known are found again"
 LATER = "all of them are sorted afterwards"
-LONGER_RUN = "a longer run of a pattern has the same instants"
 EQUAL = {
     "measures walk_waits: 1 -> 2": "no event has a code below 0",
     "measures arriving: 'stable' -> 'quicksort'": SORTED,
@@ -150,6 +150,7 @@ EQUAL = {
     "tasks _measured: if not measures: return -> if False: return": "it gives nothing in any case",
     "tasks one_run: True -> False": "rows are written without their numbers",
     "tasks _log: 2 -> 3": "it names a line of the package in any case",
+    "tasks _warn_of_weekday: 3 -> 4": "it names a line of the package in any case",
     "sweep run: done.close() -> pass": "what it left off has nothing to put away",
     "report.numbers _cycle_lengths: False -> True": NAMED,
     "report.numbers _cycle_lengths: ticks < it.end -> ticks <= it.end": ANYWAY,
@@ -160,9 +161,6 @@ EQUAL = {
     "report.differences _pairs: sorted({int(k) for it in known for k in it[name].unique()}) -> list({int(k) for it in "
     "known for k in it[name].unique()})": LATER,
     "report.runs with_inputs_of: True -> False": "rows are numbered anew afterwards",
-    "patterns : 3 -> 4": LONGER_RUN,
-    "patterns _run: 10 -> 11": LONGER_RUN,
-    "patterns : 1 -> 2": "either force mode ends a late green, and neither moves an instant",
     "panel.tape _with_hands: if not hands: return row -> if False: return row": SHORTER,
     "panel.run : 500 -> 501": PIECES,
     "panel.run : 20000 -> 20001": PIECES,

@@ -19,13 +19,14 @@ import tempfile
 
 HERE = pathlib.Path(__file__).resolve().parent
 PLAN, LOG = "examples/quad.json", "examples/one_row.log"
+REFUSED_PLAN = "examples/two_short_yellow.json"
 RUN = ["run", PLAN, LOG]
 MEMORY, READ, WRITE = b"memory\n", b"read fault\n", b"write fault\n"
 USAGE = b"usage: tsb check PLAN or tsb run PLAN LOG\n"
 REFUSED = "refused E1 Memory"
 
 # Words of each kind, and those of them that are bad.
-GOOD = [["check", PLAN], ["check", "examples/two_short_yellow.json"], RUN, ["run", PLAN, "examples/same_tick.log"], [],
+GOOD = [["check", PLAN], ["check", REFUSED_PLAN], RUN, ["run", PLAN, "examples/same_tick.log"], [],
         ["check", "none.json"]]
 BAD = [["what"], ["run", PLAN], ["check", PLAN, "--what"]]
 
@@ -213,18 +214,17 @@ def reads(program, wrong, words=RUN, lines=INPUTS + WAY_BACK, files=RUN[1:], tol
                 wrong.compare(what, ended, *of_file[error])
 
 
-def writes(program, wrong, runs=(RUN, ["check", PLAN], ["what"]), lines=INPUTS + WAY_BACK):
-    """Fails each write; one that is interrupted is not tried again."""
+def writes(program, wrong, runs=(RUN, ["check", PLAN], ["check", REFUSED_PLAN], ["what"]), lines=INPUTS + WAY_BACK):
+    """Fails each write; one that is interrupted is not tried again. A line of the errors that is not written changes
+    nothing."""
     text = text_of(lines)
     for words in runs:
         whole = program.run(words, text)
         for error in [errno.EIO, errno.EINTR, 0]:
             for number, ended in program.sweep(words, text, kind="write", error=error, piece=PIECE):
                 what = f"{words}, write {number}, error {error}"
-                if words == ["what"]:
-                    wrong.compare(what, ended, *((2, b"", whole.errors[:k]) for k in range(len(whole.errors))))
-                else:
-                    wrong.compare(what, ended, *((3, whole.output[:k], WRITE) for k in range(len(whole.output))))
+                cut = [(whole.status, whole.output, whole.errors[:k]) for k in range(len(whole.errors))]
+                wrong.compare(what, ended, *cut, *((3, whole.output[:k], WRITE) for k in range(len(whole.output))))
 
 
 def pieces(program, wrong, runs=GOOD + BAD, lines=INPUTS + WAY_BACK):

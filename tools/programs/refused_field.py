@@ -57,6 +57,11 @@ OTHERS = [
     (["review", "examples/main_and_oak.json"], b""),
     (["review", "examples/two_short_yellow.json"], b""),
     (["review", "none.json"], b""),
+    (["worksheet", "examples/main_and_oak.json"], b""),
+    (["worksheet", "examples/two_short_yellow.json"], b""),
+    (["worksheet", "none.json"], b""),
+    (["schedule", "--week=2026-12-06", "examples/schedule.json"], b""),
+    (["schedule", "--week=2026-12-06", "--svg", "examples/schedule.json"], b""),
     (["what"], b""),
 ]
 RUNS = [*((words, text) for words, text, *_ in LOGS), *OTHERS]

@@ -55,6 +55,9 @@ LATE_GREENS = "its permissive time of %d s lets greens begin late, and one that 
 SHUT_OUT = "it has calls of its own, and each used pattern omits it, so in coordination they have no effect"
 OVER = "if phases stand as usual, it turns right beside phase %d over its crossing, and is green with its walk"
 INTO = "if phases stand as usual, it turns right beside phase %d into the leg that phase %d goes into, and both can be green"
+# No phase has dual entry.
+NO_ENTRY: Change = {f"phaseDualEntry.{p}": 0 for p in (2, 4, 6, 8)}
+NO_ENTRY_LINE = "unit: no phase has dual entry, so a ring rests in red while the other serves a phase alone"
 # No walk but that of phase 6, which has none either.
 NO_WALKS: Change = {f"{name}.{p}": 0 for p in (2, 4, 8) for name in ("phaseWalk", "phasePedestrianClear", "pedestrianDetectorCallPhase")}
 # Pattern 1 from 7:00 on each day.
@@ -281,7 +284,7 @@ CASES = [
     # A phase that is concurrent with none has to dwell alone.
     Case(51, {"preemptDwellPhase.3": 128}, [f"preempt 3: {ALONE % 8}"],
          {f"phaseConcurrency.{p}": 0 for p in (3, 4, 7, 8)} | {"preemptTrackPhase.1": 8, "preemptExitPhase.1": 8}),
-    Case(52, {"phaseDualEntry.2": 1}, [f"ring 2, side 1: {ENTRIES % 0}"], {"phaseDualEntry.6": 1}),
+    Case(52, {"phaseDualEntry.6": 0}, [f"ring 2, side 1: {ENTRIES % 0}"], {"phaseDualEntry.6": 1}),
     Case(52, {"phaseDualEntry.3": 1, "phaseDualEntry.4": 1, "phaseDualEntry.8": 1}, [f"ring 1, side 2: {ENTRIES % 2}"], {"phaseDualEntry.3": 0}),
     Case(52, {f"phaseDualEntry.{p}": 1 for p in (1, 2, 5, 6)}, [f"ring {r}, side 1: {ENTRIES % 2}" for r in (1, 2)],
          {"phaseDualEntry.1": 0, "phaseDualEntry.5": 0}),
@@ -320,11 +323,13 @@ CASES = [
     # Phase 9 is not enabled. Values come object by object, and those of splits table by table.
     Case(59, {"phaseWalk.9": 7}, [f"phase 9: {UNUSED} phaseWalk.9"], {"phaseWalk.9": 0, "phaseWalk.8": 8}),
     Case(59, {"splitTime.9": 20, "phasePassage.16": 20, "phasePedestrianRecycle.16": 1},
-         [f"phase 9: {UNUSED} splitTime.9", f"phase 16: {UNUSED} phasePassage.16"],
+         [f"phase 9: {UNUSED} splitTime.9 of split table 1", f"phase 16: {UNUSED} phasePassage.16"],
          {"splitTime.9": 0, "phasePassage.16": 0, "phasePedestrianRecycle.16": 0}),
     Case(59, {"splitMode.25": 1, "splitTime.121": 20, "phaseDynamicMaxStep.12": 5},
-         [f"phase 9: {UNUSED} splitTime.121", f"phase 12: {UNUSED} phaseDynamicMaxStep.12"],
+         [f"phase 9: {UNUSED} splitTime.121 of split table 8", f"phase 12: {UNUSED} phaseDynamicMaxStep.12"],
          {"splitMode.25": 0, "splitTime.121": 0, "phaseDynamicMaxStep.12": 0, "phaseRing.12": 1, "phaseSide.12": 2}),
+    # Index 32 is phase 16 of table 2, and 33 phase 1 of table 3.
+    Case(59, {"splitMode.32": 1}, [f"phase 16: {UNUSED} splitMode.32 of split table 2"], {"splitMode.32": 0, "splitMode.33": 1}),
     Case(60, {**EACH_DAY, "timeBaseScheduleDay.1": 124}, [OPEN % (1, 1, 1)], {"timeBaseScheduleDay.1": 254}),
     Case(60, {**EACH_DAY, "timeBaseScheduleMonth.1": 4094}, [OPEN % (1, 12, 1)],
          {"timeBaseScheduleMonth.2": 4096, "timeBaseScheduleDay.2": 254, "timeBaseScheduleDate.2": 65534, "timeBaseScheduleDate.34": 65535,
@@ -344,6 +349,11 @@ CASES = [
          ["day plan 1, event 1: another event comes before a cycle of its pattern 1 is over"], {"dayPlanMinute.2": 2}),
     Case(62, {**EACH_DAY, "dayPlanHour.2": 6, "dayPlanMinute.2": 59, "dayPlanActionNumber.2": 1},
          ["day plan 1, event 2: another event comes before a cycle of its pattern 1 is over"], {"dayPlanMinute.2": 58}),
+    # A single phase with it is enough; where no phases are concurrent, none needs it.
+    Case(63, NO_ENTRY, [NO_ENTRY_LINE], {"phaseDualEntry.1": 1}),
+    Case(63, {**NO_ENTRY, "phaseDualEntry.9": 1}, [NO_ENTRY_LINE],
+         {f"phaseConcurrency.{p}": 0 for p in range(1, 9)} | {f"preempt{it}Phase.1": 8 for it in ("Track", "Dwell", "Exit")}
+         | {"patternCycleTime.1": 0}),
 ]
 
 

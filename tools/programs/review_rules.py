@@ -230,7 +230,7 @@ class Plan:
 
 
 def service(plan: Plan) -> Iterator[tuple[int, str]]:
-    """Advices A1 to A7, A52 and A55."""
+    """Advices A1 to A7, A52, A55 and A63."""
     for p in plan.enabled:
         called = plan.detectors(p) or plan.has_button(p) or plan.own_recall(p) or plan.phase("SoftRecall", p)
         if not called and not any(plan.recall(n, p) for n in plan.patterns):
@@ -275,6 +275,8 @@ def service(plan: Plan) -> Iterator[tuple[int, str]]:
             own = [p for p in entries if plan.phase("Ring", p) == r]
             if any(plan.phase("Ring", p) == r for p in here) and len(own) != 1 and own != entries:
                 yield 52, f"ring {r}, side {s}: {len(own)} of its phases have dual entry, not 1, and the other ring has one there"
+    if any(plan.phase("Concurrency", p) for p in plan.enabled) and not any(plan.phase("DualEntry", p) for p in plan.enabled):
+        yield 63, "unit: no phase has dual entry, so a ring rests in red while the other serves a phase alone"
     for p in plan.enabled:
         called = plan.detectors(p) or plan.has_button(p) or plan.any_recall(p)
         if called and {plan.mode(n, p) for n in plan.patterns} == {OMITTED}:
@@ -532,7 +534,8 @@ def unused(plan: Plan) -> Iterator[tuple[int, str]]:
     indices = {name: 128 if name.startswith("split") else 16 for name in OBJECTS
                if re.match("phase|split", name) and name not in ("phaseEnabled", "phaseRing", "phaseSide", "phaseConcurrency")}
     for p in PHASES:
-        given = [f"{name}.{index}" for name, most in indices.items() for index in range(p, most + 1, 16) if plan.value(name, index)]
+        given = [f"{name}.{index}" + (f" of split table {(index + 15) // 16}" if most > 16 else "")
+                 for name, most in indices.items() for index in range(p, most + 1, 16) if plan.value(name, index)]
         if p not in plan.enabled and given:
             yield 59, f"phase {p}: it is not enabled, so its values have no effect, such as {given[0]}"
 

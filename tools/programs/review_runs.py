@@ -5,7 +5,7 @@ it, worked by hand from docs/use/REVIEW.md. Display lines are left out, but for 
 """
 import dataclasses
 
-from tools.programs.review_cases import CLEAN, Change, Table, changed, example
+from tools.programs.review_cases import CLEAN, NO_ENTRY, Change, Table, changed, example
 
 
 @dataclasses.dataclass(frozen=True)
@@ -173,9 +173,9 @@ RUNS = [
     Run(51, False, with_recalls("26", {"preemptDwellPhase.2": 34}), row(1, 6), ["preempt 2 on", "step 1000", "when interval 6"],
         ["ok", "tick 0000001"]),
     # A car comes to detector 4, and one to detector 2 later. The rings cross back for phase 2, and ring 2 has none.
-    Run(52, True, with_recalls("", {"phaseDualEntry.2": 1}), row(1, 4) + row(2) + row(200, 2), ["step 1000", "when interval 2", "when interval 6"],
+    Run(52, True, with_recalls("", {"phaseDualEntry.6": 0}), row(1, 4) + row(2) + row(200, 2), ["step 1000", "when interval 2", "when interval 6"],
         ["tick 0000250", "never"]),
-    Run(52, False, with_recalls("", {"phaseDualEntry.2": 1, "phaseDualEntry.6": 1}), row(1, 4) + row(2) + row(200, 2),
+    Run(52, False, with_recalls("", {}), row(1, 4) + row(2) + row(200, 2),
         ["step 1000", "when interval 2", "when interval 6"], ["tick 0000250", "tick 0000250"]),
     # Cars hold phases 2 and 6. One comes over detector 3 in 6 s, of which its call lasts 1 s. With a call that is remembered
     # phase 2 has its maximum from tick 150 on.
@@ -209,4 +209,9 @@ RUNS = [
     # A recall of a phase that is not enabled brings nothing.
     Run(59, True, with_recalls("9", {}), "", ["step 1000", "when interval 9"], ["never"]),
     Run(59, False, with_recalls("1", {}), "", ["step 1", "when interval 1"], ["tick 0000001"]),
+    # As for A52: a car comes to detector 4, and one to detector 2 later, and ring 2 is red beside both.
+    Run(63, True, with_recalls("", NO_ENTRY), row(1, 4) + row(2) + row(200, 2),
+        ["step 1000", "when interval 2", "when interval 6", "when interval 8"], ["tick 0000250", "never", "never"]),
+    Run(63, False, with_recalls("", {}), row(1, 4) + row(2) + row(200, 2),
+        ["step 1000", "when interval 2", "when interval 6", "when interval 8"], ["tick 0000250", "tick 0000250", "tick 0000250"]),
 ]

@@ -12,12 +12,13 @@ APART = b"A39 overlap 1: it includes phases 1 and 8 of two rings that are not co
 REST = b"A14 phase %d: it rests in walk, and its clearance of 12 s can end after the force-off of phase 3 in pattern 1\n"
 YIELD = (b"A32 pattern 1: its coordinated phases yield in one tick of each cycle of 90 s, "
          b"so a later call waits for the next one\n")
+LONE = b"A63 unit: no phase has dual entry, so a ring rests in red while the other serves a phase alone\n"
 SHORT_YELLOW = b"K8 phase 2: its yellow is 2.9 s, under 3 s\n"
 REVIEWS = {
     "first_plan.json": NO_REVERT % 2,
     "one_way_pair.json": NO_REVERT % 2,
     "main_and_oak.json": REST % 2 + YIELD,
-    "tee.json": NO_REVERT % 1 + APART,
+    "tee.json": NO_REVERT % 1 + APART + LONE,
 }
 
 

@@ -18,7 +18,7 @@ import sys
 import tempfile
 import xml.etree.ElementTree
 
-from tools.programs import field_cases, field_rules, review_words, schedule_words
+from tools.programs import field_cases, field_rules, review_words, schedule_words, week_pictures, worksheet_words
 from tools.programs.field_cases import BEGIN, FROM, GIB, MOST_ROWS
 from tools.programs.run_program import EXAMPLES, shown
 
@@ -501,7 +501,7 @@ def worked_runs():
         *field_cases.event_runs(), *field_cases.record_runs(), *field_cases.form_of_record_runs(), *field_cases.cycle_runs(), *field_cases.clock_runs(),
         *field_cases.record_faults(),
         *field_cases.word_runs(),
-        *field_cases.stream_runs(), *review_words.runs(), *schedule_words.runs(),
+        *field_cases.stream_runs(), *review_words.runs(), *schedule_words.runs(), *worksheet_words.runs(),
     ]
 
 
@@ -515,13 +515,16 @@ def main(words):
     with tempfile.TemporaryDirectory() as name:
         folder = pathlib.Path(name)
         field_cases.fill(folder)
-        runs = [*worked_runs(), *schedule_words.at_random_runs(folder)]
+        weeks = schedule_words.weeks_at_random(folder)
+        runs = [*worked_runs(), *schedule_words.at_random_runs(weeks),
+                *worksheet_words.at_random_runs(folder)]
         wrong = [f"{run.words} {run.places or ''}{shown(run.commands)}: {it}" for run in runs
                  for it in run.differences(program, folder)]
         wrong += [*round_trips(program, folder), *logs_of_events(program), *logs_of_exports(program)]
         wrong += sorted_exports(program)
         wrong += events_of_displays(program, folder)
         wrong += [*diagrams(program, folder), *closed_pipes(program), *one_stream(program)]
+        wrong += [*week_pictures.worked(program, folder), *week_pictures.at_random(program, folder, weeks)]
         wrong += [*long_session(program), *greatest(program)]
     wrong += [*hour(program, bench), *four_minutes(program, bench), *option_pictures(program, bench)]
     of_sessions, count = sessions(program)

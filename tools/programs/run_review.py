@@ -29,19 +29,21 @@ from tools.programs import (breach_cases, breach_checks, breach_rules, review_ca
 from tools.programs.review_cases import Table
 
 # The text of which the manual tells, the first fault, and what is printed.
-NOTED = re.compile(r"^```\n(\"phase.*)\n```\n\n.* `(plan: [^`]+)`.*\n\n```notes\n((?:.*\n)*?)```$", re.M)
+NOTED = re.compile(r"^```\n(\"phase(?:.*\n)*?.*)\n```\n\n.* `(plan: [^`]+)`.*\n\n```notes\n((?:.*\n)*?)```$", re.M)
 # The plans that the manual reviews.
 REVIEWED_PLANS = ["first_plan.json", "main_and_oak.json", "tee.json"]
 # What notes on a text say.
 KINDS = ["it stands twice", "is no whole number: seconds", "is no whole number: tenths of a second, ", "is no whole number: minutes",
          "is negative", "has an exponent", "is too large", ": list of phases, ", "is out of range", "no such index",
-         "no such object, did you mean"]
+         "no such object, did you mean", "phases, a sum of 2^(phase-1), ", ": version 3 has it, and this text is of version 2",
+         ": version 3 has it, and this text is of version 1", ": version 2 has it, and this text is of version 1"]
 WRONG = "is no whole number|is negative|has an exponent|is too large"
 # What a review ends with.
 REVIEWED, REFUSED = 0, 1
-# What `tsb check` says of a plan that breaks a rule begins so.
+# What `tsb check` says of a plan that breaks a rule begins so, and what its errors have of each refused one.
 RULE = "plan: rule "
-ADVICES = [n for n in range(1, 63) if n != 31]
+LISTED = "all faults, each with its place: tsb_field review PLAN\n"
+ADVICES = [n for n in range(1, 64) if n != 31]
 # Display lines have so many characters.
 DISPLAY = 53
 # Objects of phases, detectors and so on, with the number of their indices and values that bring advices about.
@@ -153,7 +155,7 @@ class Programs:
         if status == REVIEWED:
             return status, lines
         checked = self.told(self.tsb, "check", text=text)
-        assert (status, f"{lines[0]}\n", "") == checked and status == REFUSED, (text, status, written)
+        assert (status, f"{lines[0]}\n", LISTED) == checked and status == REFUSED, (text, status, written)
         assert lines[0] == f"plan: rule {lines[1].split(' ')[0]}", (text, lines)
         return status, lines[1:]
 
@@ -217,23 +219,25 @@ def note_faults(programs: Programs, texts: int, seed: int) -> list[str]:
     faults: list[str] = []
     drawn = [review_notes.written(source, source.choice(bases)).decode() for _ in range(texts)]
     drawn.append(json.dumps({"version": 2, **{name: {"1": 1.5} for name in review_notes.OBJECTS}}))
+    drawn.append(json.dumps({"version": 1, "notes": {}, "overlapType": {"1": 1}}))
     with concurrent.futures.ThreadPoolExecutor() as pool:
         answered = list(pool.map(lambda text: programs.told(programs.field, "review", text=text), drawn))
         checked = list(pool.map(lambda text: programs.told(programs.tsb, "check", text=text), drawn))
-    for text, answer, (status, line, _) in zip(drawn, answered, checked):
+    for text, answer, (status, line, errors) in zip(drawn, answered, checked):
         told = review_notes.notes(text.encode())
         counted.update(kind for kind in KINDS for it in told if kind in it)
         advices = review_rules.review(review_notes.counting(text)) if status == REVIEWED else []
         breaches = breach_rules.breaches(review_notes.counting(text)) if line.startswith(RULE) else []
         lines = [*told, *advices] if status == REVIEWED else [*line.splitlines(), *told, *breaches]
+        if errors != ("" if status == REVIEWED else LISTED):
+            faults.append(f"{text}: the errors of `check` are {errors}")
         if answer != (status, "".join(f"{it}\n" for it in lines), ""):
             faults.append(f"{text}: {answer}, by the reading {lines}")
         where = re.fullmatch(r"plan: (.*): not a whole number\n", line)
         if where and not any(re.match(rf"{re.escape(where[1])}: .* (?:{WRONG})", it) for it in told):
             faults.append(f"{text}: nothing is told of {where[1]}")
         where = re.fullmatch(r"plan: (.*): (?:no such object|out of range)\n", line, re.S)
-        # (these lines go by the newest version, which has notes)
-        if where and where[1] not in review_notes.BESIDE and not any(it.startswith(f"{where[1]}: ") for it in told):
+        if where and not any(it.startswith(f"{where[1]}: ") for it in told):
             faults.append(f"{text}: nothing is told of {where[1]}")
     print(f"texts with each line: {', '.join(f'{kind} {count}' for kind, count in counted.items())}")
     return [*faults, *(f"no text has `{kind}`" for kind in KINDS if not counted[kind])]

@@ -55,7 +55,7 @@ use Rattle.tsb_field_streams.specs.declared.filter.Summary.{Summary}
 use Rattle.tsb_field.specs.LogEnds.{IsPassedOn, Logged, LoggedBeside, LoggedBy, LoggedWith, NoPlan, TellsFault}
 use Rattle.tsb_words.specs.FieldWords.{LogWish}
 use Rattle.tsb_field.specs.ReviewEnds.{Answered}
-use Rattle.tsb_field.specs.Ends.{Drawn, Draws, IsDiagram, LogNamed, NamesLog, NoRun, NotDrawn, RanSo, Recorded, RecordedOn, Scheduled, Stops, Told, ToldOn, Writes, WritesEnd, WritesMade, failure_by, name_of}
+use Rattle.tsb_field.specs.Ends.{Drawn, Draws, IsDiagram, LogNamed, NamesLog, NoRun, NotDrawn, RanSo, Recorded, RecordedOn, Scheduled, Stops, Told, ToldOn, Worked, Writes, WritesEnd, WritesMade, failure_by, name_of}
 
 -- there is no log
 pub stops : (fault : ReadError RefusedLog) (known : List ℕ → Option (List ℕ)) (path : Option (List ℕ)) (name : List ℕ) (status : ℕ) (told tells : Seen) → name ≡ name_of path → LogNamed (Err fault) known path
@@ -256,11 +256,23 @@ answer-failed status wanted answer before after new failed front fails = (
 -- ## Schedules
 
 -- there is no plan whose schedule is asked for
-no-week-by : (why : ReadError PlanError) (clue : Option PlanClue) (status : ℕ) (path : List ℕ) (week : ℕ) (file : Option (List ℕ)) (old new told tells : Seen) → HasNoPlan why clue file → new ≡ old
-    → TellsWhy path why clue status told tells → Scheduled status path week file old new told tells
-no-week-by (faults.Failed why) clue status path week file old new told tells has same line = inr (inr (same, (why, line)))
-no-week-by (faults.Refused fault) clue status path week file old new told tells has same line = inr (inl (fault, clue, has, same, line))
+no-week-by : (why : ReadError PlanError) (clue : Option PlanClue) (status : ℕ) (path : List ℕ) (week : ℕ) (svg : Bool) (file : Option (List ℕ)) (old new told tells : Seen) → HasNoPlan why clue file → new ≡ old
+    → TellsWhy path why clue status told tells → Scheduled status path week svg file old new told tells
+no-week-by (faults.Failed why) clue status path week svg file old new told tells has same line = inr (inr (same, (why, line)))
+no-week-by (faults.Refused fault) clue status path week svg file old new told tells has same line = inr (inl (fault, clue, has, same, line))
 
-pub no-week : (fault : PlanFault) (status : ℕ) (path : List ℕ) (week : ℕ) (file : Option (List ℕ)) (old new told tells : Seen) → HasNoPlan fault.why fault.clue file → new ≡ old
-    → TellsNoPlan path fault status told tells → Scheduled status path week file old new told tells
-no-week fault status path week file old new told tells has same line = no-week-by fault.why fault.clue status path week file old new told tells has same line
+pub no-week : (fault : PlanFault) (status : ℕ) (path : List ℕ) (week : ℕ) (svg : Bool) (file : Option (List ℕ)) (old new told tells : Seen) → HasNoPlan fault.why fault.clue file → new ≡ old
+    → TellsNoPlan path fault status told tells → Scheduled status path week svg file old new told tells
+no-week fault status path week svg file old new told tells has same line = no-week-by fault.why fault.clue status path week svg file old new told tells has same line
+
+-- ## Worksheets
+
+-- there is no plan whose worksheet is asked for
+no-worksheet-by : (why : ReadError PlanError) (clue : Option PlanClue) (status : ℕ) (path : List ℕ) (file : Option (List ℕ)) (old new told tells : Seen) → HasNoPlan why clue file → new ≡ old
+    → TellsWhy path why clue status told tells → Worked status path file old new told tells
+no-worksheet-by (faults.Failed why) clue status path file old new told tells has same line = inr (inr (same, (why, line)))
+no-worksheet-by (faults.Refused fault) clue status path file old new told tells has same line = inr (inl (fault, clue, has, same, line))
+
+pub no-worksheet : (fault : PlanFault) (status : ℕ) (path : List ℕ) (file : Option (List ℕ)) (old new told tells : Seen) → HasNoPlan fault.why fault.clue file → new ≡ old
+    → TellsNoPlan path fault status told tells → Worked status path file old new told tells
+no-worksheet fault status path file old new told tells has same line = no-worksheet-by fault.why fault.clue status path file old new told tells has same line

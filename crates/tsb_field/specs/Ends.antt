@@ -5,6 +5,8 @@
 use Rattle.std.specs.Prelude.{◌≡◌, ◌⊎◌, ℕ, Bool, not, false, true, List, [], IsSome, Option, Some, None, Result, Ok, Err, Vec, option_map, unwrap_or, codes}
 use Rattle.std.specs.Io.KnownBytes.{Consumes, IsAtEnd}
 use Rattle.tsb_review_text.specs.Week.{week_text}
+use Rattle.tsb_review_text.specs.Worksheet.{worksheet_text}
+use Rattle.tsb_review_text.specs.WeekPicture.{week_picture}
 use Rattle.tsb_program.specs.Read.{HasLog, HasPlan, RefusesLog, RefusesPlanAt}
 use Rattle.tsb_program.specs.Failures.{Fails}
 use Rattle.tsb_program.specs.Lines.{Wrote}
@@ -44,7 +46,7 @@ use Rattle.tsb_text.specs.tsb_plan_text.declared.error.PlanError.{PlanError}
 use Rattle.tsb_words.specs.FieldProgram.{Spells}
 use Rattle.tsb_words.specs.Near.{field_near}
 use Rattle.tsb_words.specs.Wrong.{Wrong, field_wrong}
-use Rattle.tsb_words.specs.FieldWords.{Wish, diagram, events, log, recording, reviewing, seen, weekly}
+use Rattle.tsb_words.specs.FieldWords.{Wish, diagram, events, log, recording, reviewing, seen, weekly, worksheet}
 use Rattle.tsb_words.specs.declared.field_files.Asked.{Asked}
 use Rattle.tsb_words.specs.declared.field_files.DiagramAsked.{DiagramAsked}
 use Rattle.tsb_words.specs.declared.field_files.RecordManner.{RecordManner}
@@ -237,11 +239,22 @@ Pictured status form source files path before after =
     OnlyTells (Stops files path status) before after
     ⊎ ((rows : List LogRow) × NamesLog files path rows × PicturedBeside source form.from status form rows files before after)
 
--- what the schedule of the plan in this file runs in the week from a moment on is written, with 0; or the fault of the file
--- or of the plan goes to the errors
-abbrev pub Scheduled : ℕ → List ℕ → ℕ → Option (List ℕ) → (old new told tells : Seen) → Type 0
-Scheduled status path week file old new told tells =
-    ((plan : Plan) × HasPlan file plan × Replied status 0 (week_text plan week) old new told tells)
+-- what the schedule of a plan runs in the week from a moment on is written as a picture, or else as a table
+abbrev pub RunsWeek : Bool → ℕ → Plan → ℕ → (old new told tells : Seen) → Type 0
+RunsWeek true status plan week old new told tells = Draws (week_picture plan week) status old new told tells
+RunsWeek false status plan week old new told tells = Replied status 0 (week_text plan week) old new told tells
+
+-- what the schedule of the plan in this file runs is written; or the fault of the file or of the plan goes to the errors
+abbrev pub Scheduled : ℕ → List ℕ → ℕ → Bool → Option (List ℕ) → (old new told tells : Seen) → Type 0
+Scheduled status path week svg file old new told tells =
+    ((plan : Plan) × HasPlan file plan × RunsWeek svg status plan week old new told tells)
+    ⊎ (((fault : PlanError) × (clue : Option PlanClue) × RefusesPlanAt file fault clue × (new ≡ old) × RefusesAt fault clue status told tells)
+    ⊎ ((new ≡ old) × FailsToReadFile path status told tells))
+
+-- the worksheet of the plan in this file is written, with 0; or the fault of the file or of the plan goes to the errors
+abbrev pub Worked : ℕ → List ℕ → Option (List ℕ) → (old new told tells : Seen) → Type 0
+Worked status path file old new told tells =
+    ((plan : Plan) × HasPlan file plan × Replied status 0 (worksheet_text plan) old new told tells)
     ⊎ (((fault : PlanError) × (clue : Option PlanClue) × RefusesPlanAt file fault clue × (new ≡ old) × RefusesAt fault clue status told tells)
     ⊎ ((new ≡ old) × FailsToReadFile path status told tells))
 
@@ -255,7 +268,8 @@ DidWish (recording from device plan file manner) status files before after =
 DidWish (events from device path) status files before after = Told status from device files path before after
 DidWish (diagram path title seconds from told_by) status files before after =
     Pictured status (form_of title seconds from) told_by files path before after
-DidWish (weekly plan week) status files before after = ReadsNothing (Scheduled status plan week (files plan)) before after
+DidWish (weekly plan week svg) status files before after = ReadsNothing (Scheduled status plan week svg (files plan)) before after
+DidWish (worksheet plan) status files before after = ReadsNothing (Worked status plan (files plan)) before after
 DidWish (reviewing plan) status files before after = ReadsNothing (Reviewed status plan (files plan)) before after
 
 -- what was done for what the words ask, where this right word is near a bad one, or this is wrong with them

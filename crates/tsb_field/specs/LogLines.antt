@@ -6,7 +6,7 @@ use Rattle.tsb_event_text.specs.Written.{IsWritten}
 use Rattle.tsb_event_text.specs.declared.time_forms.TimeForm.{TimeForm}
 use Rattle.tsb_event_text.specs.declared.time_forms.TimeForm.TheVariants.{YearFirst}
 use Rattle.tsb_field_streams.specs.Channels.{channels_text}
-use Rattle.tsb_field_streams.specs.Devices.{devices_text}
+use Rattle.tsb_field_streams.specs.Devices.{are_several, devices_text}
 use Rattle.tsb_field_streams.specs.declared.filter.channels.Channels.{Channels}
 use Rattle.tsb_field_streams.specs.declared.filter.gaps.Gaps.{Gaps}
 use Rattle.tsb_field_streams.specs.declared.filter.LeftOut.{LeftOut}
@@ -121,9 +121,10 @@ verdict_line manner summary =
     else if summary.rows == 0 then codes "events: no row counts (give --allow-empty where that is right)\n"
     else codes "events: no event of an input from --from on (give --allow-empty where that is right)\n"
 
--- and the program ends with 1
+-- and the program ends with 1, as it does where rows of several devices counted and none was asked for: the log mixes
+-- their events
 abbrev pub status_of : Manner → Summary → ℕ
-status_of manner summary = if manner.may_be_empty || summary.heard then 0 else 1
+status_of manner summary = if (manner.may_be_empty || summary.heard) && not (are_several summary.devices) then 0 else 1
 
 -- ## All of it
 
@@ -134,4 +135,4 @@ IsReport manner summary text =
     × (text
     ≡ form_line manner.times summary.times
     ++ (zones_line summary.zoned
-    ++ (left_out_text summary.left_out summary.unwired ++ (counted ++ (gaps ++ (devices_text manner.counts summary.devices ++ verdict_line manner summary))))))
+    ++ (left_out_text summary.left_out summary.unwired ++ (counted ++ (gaps ++ (devices_text summary.devices ++ verdict_line manner summary))))))

@@ -24,7 +24,8 @@ pub(crate) const USAGE: &[u8] =
     or tsb_field events --from TIME --device ID [--log LOG]
     or tsb_field diagram [--log LOG] [--title TEXT] [--seconds-per-line N] [--from TIME [--events FILE]]
     or tsb_field review PLAN
-    or tsb_field schedule --week DATE PLAN
+    or tsb_field schedule [--svg] --week DATE PLAN
+    or tsb_field worksheet PLAN
 ";
 
 /// Reports why words ask for nothing: for bad words the right word that was perhaps meant, or what is wrong with them, or

@@ -1,6 +1,7 @@
 //! Field files in, events and pictures out: `tsb_field log` makes a log for `tsb` from a controller's event log, and
 //! `tsb_field events` and `tsb_field diagram` make an event log and a phase diagram from what `tsb` answers. `tsb_field
-//! review` says what can be wrong with a plan that runs, and `tsb_field schedule` what its schedule runs in a week.
+//! review` says what can be wrong with a plan that runs, `tsb_field schedule` what its schedule runs in a week, and
+//! `tsb_field worksheet` which times follow of it.
 #![tactic(auto)]
 
 mod clock;
@@ -17,6 +18,7 @@ mod review_run;
 mod run;
 mod schedule_run;
 mod twice;
+mod worksheet_run;
 
 use crate::end::USAGE;
 use crate::run::run_words;

@@ -5,7 +5,9 @@ ghost use Rattle.tsb_field.specs.LogLines.{AreGaps, IsCount, IsCounted, IsGapsLi
 
 use std::alloc::{AllocError, Global};
 use tsb_event_text::{Moment, TimeForm, time_form_word, time_text};
-use tsb_field_streams::{Channels, Gaps, LeftOut, Summary, append_channels, append_devices};
+use tsb_field_streams::{
+    Channels, Gaps, LeftOut, Summary, append_channels, append_devices, are_several,
+};
 use tsb_program::ExitStatus;
 use tsb_words::field_files::Manner;
 
@@ -27,11 +29,12 @@ pub(crate) fn is_lost(left_out: LeftOut) -> bool
     left_out.passed > 0 && !left_out.found
 }
 
-/// What the program ends with, where a header or a row was found.
+/// What the program ends with, where a header or a row was found: rows of several devices are refused, as their log is of
+/// no signal.
 pub(crate) fn status_of(manner: Manner, summary: Summary) -> ExitStatus
     ensures { number result ≡ status_of manner summary }
 {
-    if manner.may_be_empty || summary.heard {
+    if (manner.may_be_empty || summary.heard) && !are_several(&summary.devices) {
         ExitStatus::Done
     } else {
         ExitStatus::Refused
@@ -50,7 +53,7 @@ pub(crate) fn report(alloc: Global, manner: Manner, summary: Summary) -> Result<
     append_left_out(alloc, &mut text, summary.left_out, &summary.unwired)?;
     text.extend_from_slice(&counted)?;
     text.extend_from_slice(&gaps)?;
-    append_devices(&mut text, manner.counts, &summary.devices)?;
+    append_devices(&mut text, &summary.devices)?;
     text.extend_from_slice(verdict_line(manner, summary))?;
     Ok(text)
 }

@@ -16,6 +16,7 @@ use crate::outputs_run::run_log;
 use crate::record_run::write_record;
 use crate::review_run::review_plan;
 use crate::schedule_run::write_schedule;
+use crate::worksheet_run::write_worksheet_of;
 use std::alloc::Global;
 use std::convert::AsStr;
 use std::io::{Read, Write};
@@ -27,7 +28,7 @@ use tsb_words::pages::field_page;
 /// with: 0 where all was done, 1 for bad input, 2 for bad words, 3 where a read, a write or memory failed, 4 where a line
 /// ended a strict record.
 ///
-/// The log, the events, the diagram, the review or the week go to the output. What was left out, faults, bad words and failures go
+/// The log, the events, the diagram, the review, the week or the worksheet go to the output. What was left out, faults, bad words and failures go
 /// to the errors. A second line has where the text of a plan stops being JSON, or what was not read. The version and the
 /// help, where the words ask for one of them, go to the output.
 pub fn run_words<S: AsStr, F: Files, R: Read, W: Write, E: Write>(
@@ -86,6 +87,9 @@ fn run_wish<F: Files, R: Read, W: Write, E: Write>(
         }
         Asked::Diagram(asked) => write_diagram(alloc, asked, files, streams),
         Asked::Review { plan } => review_plan(alloc, plan, files, streams),
-        Asked::Schedule { plan, week } => write_schedule(alloc, plan, *week, files, streams),
+        Asked::Schedule { plan, week, svg } => {
+            write_schedule(alloc, plan, *week, *svg, files, streams)
+        }
+        Asked::Worksheet { plan } => write_worksheet_of(alloc, plan, files, streams),
     }
 }

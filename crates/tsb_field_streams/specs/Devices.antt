@@ -66,6 +66,6 @@ devices_line devices =
     codes "devices: " ++ (how_many_devices devices ++ (codes " in these rows:" ++ (devices_from devices 0 MOST_NAMED
     ++ codes " (name one by --device)\n")))
 
--- it is written where it is asked for how much was read, and there are two or more
-abbrev pub devices_text : Bool → Devices → List ℕ
-devices_text counts devices = if counts && are_several devices then devices_line devices else []
+-- it is written where there are two or more
+abbrev pub devices_text : Devices → List ℕ
+devices_text devices = if are_several devices then devices_line devices else []

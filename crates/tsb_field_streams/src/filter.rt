@@ -22,7 +22,7 @@ use crate::Held;
 use crate::error::{Disorder, FilterError};
 pub use channels::{Channel, Channels, append_channels};
 use channels::{NO_CHANNELS, with_channel};
-pub use devices::{Devices, MOST_NAMED, append_devices};
+pub use devices::{Devices, MOST_NAMED, append_devices, are_several};
 use devices::{NO_DEVICES, with_device};
 pub use gaps::Gaps;
 use gaps::{NO_GAPS, first_moment, gaps_before};

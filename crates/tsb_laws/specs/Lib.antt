@@ -32,6 +32,8 @@ pub mod PreemptTurns
 pub mod PreemptStages
 -- within what shorter time it has them where it chooses anew
 pub mod PreemptChoices
+-- that the longest entry of a worksheet holds
+pub mod PreemptWorksheets
 -- that nothing is Green in a crossing, nor in a ring that is committed
 pub mod CrossingGreens
 -- what enters under a preempt

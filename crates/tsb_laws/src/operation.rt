@@ -12,6 +12,7 @@ ghost use Rattle.tsb_laws.specs.PreemptEntries.{PreemptsLetInTheirOwn};
 ghost use Rattle.tsb_laws.specs.PreemptChoices.{ChosenDwellsAreReached, ChosenStagesAreReached};
 ghost use Rattle.tsb_laws.specs.PreemptStages.{DwellsAreReached, ExitsEnd, StagesAreReached};
 ghost use Rattle.tsb_laws.specs.PreemptTurns.{PreemptsGiveWay, ServicesEnd};
+ghost use Rattle.tsb_laws.specs.PreemptWorksheets.{PrintedEntriesHold};
 ghost use Rattle.tsb_laws.specs.RecycledWalks.{RecycledCallsWalk, RecycledWalksEndInTime};
 ghost use Rattle.tsb_laws.specs.RunningMaximum.{MaximumsAreBounded, MaximumsMoveByAStep, OthersLeaveMaximums};
 ghost use Rattle.tsb_laws.specs.UnwantedGreens.{UnwantedGreensEnd};
@@ -244,6 +245,18 @@ pub fn preempts_reach_dwell_in_time()
 pub fn preempts_that_choose_come_sooner()
     ensures stages { ChosenStagesAreReached }
     ensures dwells { ChosenDwellsAreReached }
+{}
+
+/// The longest entry of a worksheet holds. A preempt that stays in the stage in which its service began has all phases of
+/// it Green within the time that `tsb_field worksheet` prints for it, whatever inputs come.
+///
+/// Needs: an untripped stretch in which the plan in effect stays; at most 16 phases.
+/// Not said: that its input leads to a service, and when; how long its delay lasts.
+/// Mistake: an entry without the clearance of an older commitment, `one_clearance` of WorksheetRuns (`would_print_45`,
+/// `would_be_late`).
+/// Witness: `a_printed_entry` of WorksheetRuns, which takes 69 ticks of 75; `a_chosen_entry` 29 of 45 (`prints_45`).
+pub fn printed_entries_hold()
+    ensures { PrintedEntriesHold }
 {}
 
 /// A green that has had a conflict for long enough may end. In free operation and with no preempt in service, once it

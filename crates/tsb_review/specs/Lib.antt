@@ -29,6 +29,8 @@ pub mod Advices
 pub mod Findings
 -- the numbers that the line of a finding shows
 pub mod Numbers
+-- THE WORKSHEET: the longest entry of a preempt, and what patterns give phases
+pub mod Worksheet
 -- the names of crates below, for those above
 pub use Rattle.tsb_plan.specs as tsb_plan
 pub use Rattle.tsb_types.specs as tsb_types

@@ -2,12 +2,12 @@
 use Rattle.std.specs.Prelude.{ℕ, Bool}
 use Rattle.tsb_plan.specs.Plan.{Plan, is_concurrent}
 use Rattle.tsb_review.specs.declared.sought.SoughtPhase.{SoughtPhase}
-use Rattle.tsb_review.specs.declared.sought.SoughtPhase.TheVariants.{InConflict, Across, InRing, Rival, SplitFrom, Beside, Actuated, SoonReverting, ServedApart, Passed, LeftShort, EndingApart, Concurrent, DwellBeside, On, EnteringBeside}
+use Rattle.tsb_review.specs.declared.sought.SoughtPhase.TheVariants.{InConflict, Across, InRing, Rival, SplitFrom, Beside, Actuated, SoonReverting, ServedApart, Passed, LeftShort, EndingApart, Concurrent, DwellBeside, On, EnteringBeside, Partnered, Entering}
 use Rattle.tsb_review.specs.Calls.{conflicts}
 use Rattle.tsb_review.specs.Clearance.{is_across, reverts_soon}
 use Rattle.tsb_review.specs.Coordination.{is_actuated, ends_apart_from}
 use Rattle.tsb_rules.specs.PatternRules.{is_on}
-use Rattle.tsb_review.specs.Entry.{enters_beside}
+use Rattle.tsb_review.specs.Entry.{enters, enters_beside, has_partners}
 use Rattle.tsb_review.specs.Overlaps.{is_beside, is_split_from}
 use Rattle.tsb_review.specs.Preempts.{dwells_beside}
 use Rattle.tsb_review.specs.Service.{is_in_ring, is_rival, is_served_apart}
@@ -31,3 +31,5 @@ is_sought (Concurrent p) plan = is_concurrent plan p
 is_sought (DwellBeside m p) plan = dwells_beside plan m p
 is_sought (On r s) plan = is_on plan r s
 is_sought (EnteringBeside r s) plan = enters_beside plan r s
+is_sought Partnered plan = has_partners plan
+is_sought Entering plan = enters plan

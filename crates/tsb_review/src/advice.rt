@@ -135,11 +135,13 @@ pub enum Advice {
     A61,
     /// An action is in force for under a cycle of the pattern that it selects.
     A62,
+    /// Phases of two rings may be in service together, and no phase has dual entry.
+    A63,
 }
 
 impl Advice {
     /// All advices, in order.
-    pub const ALL: [Advice; 61] = [
+    pub const ALL: [Advice; 62] = [
         Advice::A1,
         Advice::A2,
         Advice::A3,
@@ -201,6 +203,7 @@ impl Advice {
         Advice::A60,
         Advice::A61,
         Advice::A62,
+        Advice::A63,
     ];
 
     /// What the advice is given for.
@@ -244,7 +247,7 @@ impl Advice {
             | Advice::A46 => Shape::PatternPhase,
             Advice::A5 => Shape::Ring,
             Advice::A52 => Shape::RingSide,
-            Advice::A16 | Advice::A47 | Advice::A60 => Shape::Unit,
+            Advice::A16 | Advice::A47 | Advice::A60 | Advice::A63 => Shape::Unit,
             Advice::A61 => Shape::Pattern,
             Advice::A62 => Shape::DayEvent,
             Advice::A30 | Advice::A32 | Advice::A44 | Advice::A54 => Shape::Pattern,

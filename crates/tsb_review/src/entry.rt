@@ -1,11 +1,11 @@
-//! Advices on dual entry: A52.
+//! Advices on dual entry: A52 and A63.
 #![tactic(auto, unfolding(tsb_plan::specs::PlanOf::plan_of))]
 
 ghost use Rattle.std.specs.Prelude.{◌≡◌};
 ghost use Rattle.tsb_plan.specs.PlanOf.{plan_of};
 ghost use Rattle.tsb_plan.specs.Plan.{has_dual_entry};
 ghost use Rattle.tsb_rules.specs.PatternRules.{is_on, has_phases};
-ghost use Rattle.tsb_review.specs.Entry.{may_enter, entry_count, enters_beside, has_unlike_entry};
+ghost use Rattle.tsb_review.specs.Entry.{may_enter, entry_count, enters_beside, has_unlike_entry, has_partners, enters, lacks_entry};
 
 use crate::sought::{SoughtPhase, some_phase};
 use tsb_plan::{Object, Plan};
@@ -67,4 +67,25 @@ pub(crate) fn has_unlike_entry(plan: &Plan, ring: Ring, side: Side) -> bool
     some_phase(plan, SoughtPhase::On(ring, side))
         && some_phase(plan, SoughtPhase::EnteringBeside(ring, side))
         && entry_count(plan, ring, side) != 1
+}
+
+/// Whether the phase is enabled, and may be in service together with others.
+pub(crate) fn has_partners(plan: &Plan, phase: Phase) -> bool
+    ensures { result ≡ has_partners (plan_of plan.now) phase }
+{
+    plan.is_enabled(phase) && plan.at(Object::PhaseConcurrency, u32::from(phase.number())) > 0
+}
+
+/// Whether the phase is enabled, and has dual entry.
+pub(crate) fn enters(plan: &Plan, phase: Phase) -> bool
+    ensures { result ≡ enters (plan_of plan.now) phase }
+{
+    plan.is_enabled(phase) && has_dual_entry(plan, phase)
+}
+
+/// A63: whether phases of two rings may be in service together, and no phase has dual entry.
+pub(crate) fn lacks_entry(plan: &Plan) -> bool
+    ensures { result ≡ lacks_entry (plan_of plan.now) }
+{
+    some_phase(plan, SoughtPhase::Partnered) && !some_phase(plan, SoughtPhase::Entering)
 }

@@ -121,6 +121,7 @@ fn of_unit(plan: &Plan, advice: Advice) -> bool
         Advice::A16 => clearance::has_short_revert(plan),
         Advice::A47 => coordination::corrects_nothing(plan),
         Advice::A60 => schedules::leaves_day_open(plan),
+        Advice::A63 => entry::lacks_entry(plan),
         _ => false,
     }
 }

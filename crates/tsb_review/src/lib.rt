@@ -24,9 +24,11 @@ mod service;
 mod sought;
 mod splits;
 mod unused;
+mod worksheet;
 
 pub use advice::Advice;
 pub use alike::is_also_in;
 pub use finding::{Finding, crosses_walk, ends_walk_for_track, finding_at, holds, unused_value};
 pub use numbers::{Numbers, numbers_of};
 pub use place::{Listing, Place, Shape, place_of};
+pub use worksheet::{SplitShare, entry_of, share_of};

@@ -13,7 +13,7 @@ use tsb_plan::{Object, Plan};
 use tsb_types::{Phase, Preempt};
 
 /// Whether the preempt has a dwell phase.
-fn has_dwell(plan: &Plan, preempt: Preempt) -> bool
+pub(crate) fn has_dwell(plan: &Plan, preempt: Preempt) -> bool
     ensures { result ≡ has_dwell (plan_of plan.now) preempt }
 {
     plan.at(Object::PreemptDwellPhase, u32::from(preempt.number())) != 0

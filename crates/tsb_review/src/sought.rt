@@ -11,7 +11,7 @@ ghost use Rattle.tsb_review.specs.Sought.{is_sought};
 use crate::calls::conflicts;
 use crate::clearance::{is_across, reverts_soon};
 use crate::coordination::{ends_apart_from, is_actuated};
-use crate::entry::{enters_beside, is_on};
+use crate::entry::{enters, enters_beside, has_partners, is_on};
 use crate::overlaps::{is_beside, is_split_from};
 use crate::preempts::dwells_beside;
 use crate::service::{is_in_ring, is_rival, is_served_apart};
@@ -54,6 +54,10 @@ pub(crate) enum SoughtPhase {
     On(Ring, Side),
     /// It is an enabled phase of the other ring on this side, and has dual entry.
     EnteringBeside(Ring, Side),
+    /// It is enabled, and may be in service together with others.
+    Partnered,
+    /// It is enabled, and has dual entry.
+    Entering,
 }
 
 /// Whether the phase is so.
@@ -77,6 +81,8 @@ fn is_sought(plan: &Plan, sought: SoughtPhase, phase: Phase) -> bool
         SoughtPhase::DwellBeside(preempt, other) => dwells_beside(plan, preempt, other, phase),
         SoughtPhase::On(ring, side) => is_on(plan, ring, side, phase),
         SoughtPhase::EnteringBeside(ring, side) => enters_beside(plan, ring, side, phase),
+        SoughtPhase::Partnered => has_partners(plan, phase),
+        SoughtPhase::Entering => enters(plan, phase),
     }
 }
 

@@ -60,7 +60,7 @@ pub(crate) fn end_of(plan: &Plan, pattern: Pattern, phase: Phase) -> u32
 }
 
 /// How long after the end of the split of the phase the force-off instant of the next one is, within the cycle.
-fn instant_from(plan: &Plan, pattern: Pattern, phase: Phase, next: Phase) -> u32
+pub(crate) fn instant_from(plan: &Plan, pattern: Pattern, phase: Phase, next: Phase) -> u32
     requires used { is_used (plan_of plan.now) pattern ≡ true }
     ensures { result ≡ instant_from (plan_of plan.now) pattern phase next }
 {

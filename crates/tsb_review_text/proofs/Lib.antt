@@ -1,3 +1,5 @@
 pub mod LineLemmas
 pub mod WriteLemmas
 pub mod WeekLemmas
+pub mod RowLemmas
+pub mod PictureLemmas

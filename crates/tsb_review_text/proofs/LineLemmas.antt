@@ -17,7 +17,7 @@ use Rattle.tsb_breaches.specs.declared.fault.RuleFault.{RuleFault}
 use Rattle.tsb_review_text.specs.declared.line.TheConstants.{LONGEST}
 use Rattle.tsb_lines.specs.ShortLines.{Adds, fitting}
 use Rattle.tsb_review_text.specs.Bytes.{ended}
-use Rattle.tsb_review_text.specs.Lines.{also, filled, fraction, part, seconds, value_name}
+use Rattle.tsb_review_text.specs.Lines.{also, filled, fraction, id_name, part, seconds, table_name, value_name}
 use Rattle.tsb_review_text.specs.BreachTemplates.{breach_template}
 use Rattle.tsb_review_text.specs.Templates.{template, wording}
 use Rattle.tsb_lines.proofs.ShortLemmas.{all-of, onto-fitting, said, then}
@@ -131,17 +131,24 @@ short-name o i digits =
     let letters : length (name_of o) ≤ 28 = search rules in
     omega (arith, letters, digits, length-append (name_of o) (46 ∷ decimal i))
 
+-- and that of a split its table
+pub short-table : (table : ℕ) → length (decimal table) ≤ 10 → length (codes " of split table " ++ decimal table) ≤ 26
+short-table table digits = omega (arith, digits, length-append (codes " of split table ") (decimal table))
+
+pub short-value : (id : ObjectId) → length (id_name id) ≤ 41 → length (table_name id) ≤ 26 → length (id_name id ++ table_name id) ≤ 67
+short-value id name table = omega (arith, name, table, length-append (id_name id) (table_name id))
+
 -- each text has room, and that of an advice for the name of a value, later patterns and a line feed too
-template-room : (x : Advice) → sum_by cost (template x) + 106 ≤ LONGEST
+template-room : (x : Advice) → sum_by cost (template x) + 132 ≤ LONGEST
 unfolding cost
 template-room x = search rules
 
-wording-room : (plan : Plan) (f : Finding) → sum_by cost (wording plan f) + 106 ≤ LONGEST
+wording-room : (plan : Plan) (f : Finding) → sum_by cost (wording plan f) + 132 ≤ LONGEST
 unfolding cost
 wording-room plan f = go (ends_walk_for_track plan f) (crosses_walk plan f)
   where
     go : (b c : Bool) → sum_by cost (if b then codes "A36 preempt P: it can end a walk of phase Q at once, as is allowed where a track has to be cleared" else
-        if c then codes "A56 overlap P: if phases stand as usual, it turns right beside phase Q over its crossing, and is green with its walk" else template f.advice) + 106 ≤ LONGEST
+        if c then codes "A56 overlap P: if phases stand as usual, it turns right beside phase Q over its crossing, and is green with its walk" else template f.advice) + 132 ≤ LONGEST
     go true c = search rules
     go false true = search rules
     go false false = template-room f.advice
@@ -152,7 +159,7 @@ breach-room f = search rules
 
 -- the line of a finding
 pub line-done : (n : Numbers) (plan : Plan) (f : Finding) (id : Option ObjectId) (items mid named text empty ms : List ℕ) → AreSmall n → empty ≡ [] → text ≡ wording plan f
-    → id ≡ unused_value plan f → length (value_name id) ≤ 41 → ms ≡ run_from 1 16
+    → id ≡ unused_value plan f → length (value_name id) ≤ 67 → ms ≡ run_from 1 16
     → Adds LONGEST empty (ended (part n) [] text) mid → Adds LONGEST mid (value_name id) named → Adds LONGEST named (ended (also plan f) (10 ∷ []) ms) items →
     items ≡ filled n (wording plan f) ++ (value_name (unused_value plan f) ++ (flat_map (also plan f) (run_from 1 16) ++ 10 ∷ []))
 unfolding filled
@@ -166,9 +173,9 @@ line-done n plan f id items mid named text empty ms small none is value called a
     let both : Adds LONGEST empty ((front ++ []) ++ (name ++ (patterns ++ 10 ∷ []))) items = (then) (said starts first) rest in
     let same : (front ++ []) ++ (name ++ (patterns ++ 10 ∷ [])) ≡ front ++ (name ++ (patterns ++ 10 ∷ [])) = append_assoc front [] (name ++ (patterns ++ 10 ∷ [])) in
     let few : length front ≤ sum_by cost (wording plan f) = short-filled n small (wording plan f) in
-    let here : length name ≤ 41 = subst (λ (o : Option ObjectId). length (value_name o) ≤ 41) value called in
+    let here : length name ≤ 67 = subst (λ (o : Option ObjectId). length (value_name o) ≤ 67) value called in
     let others : length patterns ≤ 64 = short-patterns plan f 1 16 (omega arith) in
-    let room : sum_by cost (wording plan f) + 106 ≤ LONGEST = wording-room plan f in
+    let room : sum_by cost (wording plan f) + 132 ≤ LONGEST = wording-room plan f in
     all-of none (omega (arith, few, here, others, room, length-append front (name ++ (patterns ++ 10 ∷ [])), length-append name (patterns ++ 10 ∷ []), length-append patterns (10 ∷ []))) (said same both)
 
 -- the line of a breach

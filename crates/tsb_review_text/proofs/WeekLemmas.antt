@@ -15,7 +15,8 @@ use Rattle.tsb_types.specs.Lists.{run_from}
 use Rattle.tsb_plan.specs.Plan.{Plan}
 use Rattle.tsb_plan.specs.Schedule.{selected_by}
 use Rattle.tsb_plan.specs.Acting.{in_force}
-use Rattle.tsb_review_text.specs.Week.{date_text, day_plan_at, entry_at, name_of, number_text, pattern_text, row_at, time_text, two}
+use Rattle.tsb_review_text.specs.Week.{date_text, day_plan_at, day_text, entry_at, moment_of, number_text, pattern_text, row_at, time_text, two, weekday_name}
+use Rattle.tsb_review_text.specs.WeekPicture.{title_of}
 use Rattle.tsb_review_text.specs.Written.{Wrote}
 use Rattle.tsb_review_text.proofs.WriteLemmas.{Went}
 
@@ -100,12 +101,12 @@ new-century n day from to is =
 
 -- ## The length of a row
 
-length-name : (days : ℕ) → length (name_of days) ≡ 5
-length-name days = go (days % 7 == 0) (days % 7 == 1) (days % 7 == 2) (days % 7 == 3) (days % 7 == 4) (days % 7 == 5)
+length-weekday : (days : ℕ) → length (weekday_name days) ≡ 3
+length-weekday days = go (days % 7 == 0) (days % 7 == 1) (days % 7 == 2) (days % 7 == 3) (days % 7 == 4) (days % 7 == 5)
   where
     go : (a b c d e f : Bool) →
-        length (if a then codes " Fri " else (if b then codes " Sat " else (if c then codes " Sun " else (if d then codes " Mon "
-        else (if e then codes " Tue " else (if f then codes " Wed " else codes " Thu ")))))) ≡ 5
+        length (if a then codes "Fri" else (if b then codes "Sat" else (if c then codes "Sun" else (if d then codes "Mon"
+        else (if e then codes "Tue" else (if f then codes "Wed" else codes "Thu")))))) ≡ 3
     go true b c d e f = refl
     go false true c d e f = refl
     go false false true d e f = refl
@@ -113,6 +114,9 @@ length-name days = go (days % 7 == 0) (days % 7 == 1) (days % 7 == 2) (days % 7 
     go false false false false true f = refl
     go false false false false false true = refl
     go false false false false false false = refl
+
+length-day : (m : ℕ) → length (day_text m) ≡ 14
+length-day m = omega (arith, length-weekday (m / DAY))
 
 length-number : (n : ℕ) → length (number_text n) ≡ 2
 length-number n = go (n == 0) (nat_lt n 10)
@@ -129,10 +133,17 @@ length-pattern n = go (n == 0)
     go true = refl
     go false = length-append (codes "       ") (number_text n) ∙ ap (λ (k : ℕ). 7 + k) (length-number n)
 
+-- a label and the title of the picture fit a row
+pub day-fits : (m : ℕ) → length (day_text m) ≤ 64
+day-fits m = omega (arith, length-day m)
+
+pub title-fits : (first : ℕ) → length (title_of first) ≤ 64
+title-fits first = omega (arith, length-day (moment_of first 0))
+
 length-time : (m : ℕ) → length (time_text m) ≡ 20
 length-time m =
-    let clock : List ℕ = two (m % DAY / 600 / 60) ++ (58 ∷ two (m % DAY / 600 % 60)) in
-    omega (arith, length-append (name_of (m / DAY)) clock, length-name (m / DAY))
+    let clock : List ℕ = 32 ∷ (two (m % DAY / 600 / 60) ++ (58 ∷ two (m % DAY / 600 % 60))) in
+    omega (arith, length-append (day_text m) clock, length-day m)
 
 pub row-fits : (plan : Plan) (m : ℕ) → length (row_at plan m) ≤ 64
 row-fits plan m =

@@ -10,3 +10,7 @@ pub mod Bytes
 pub mod Written
 -- what a schedule runs in a week
 pub mod Week
+-- the same as a picture
+pub mod WeekPicture
+-- the lines of a worksheet
+pub mod Worksheet

@@ -1,8 +1,9 @@
 -- The line of a finding or of a breach, byte by byte, and the text of a review.
-use Rattle.std.specs.Prelude.{ℕ, ◌/◌, ◌%◌, ◌==◌, if◌then◌else◌, List, [], ◌∷◌, ◌++◌, decimal, flat_map, Option, Some, None}
+use Rattle.std.specs.Prelude.{ℕ, ◌+◌, ◌-◌, ◌/◌, ◌%◌, ◌==◌, if◌then◌else◌, List, [], ◌∷◌, ◌++◌, decimal, flat_map, codes, Option, Some, None}
 use Rattle.tsb_plan.specs.declared.object.ObjectId.{ObjectId}
 use Rattle.tsb_plan.specs.Names.{name_of}
 use Rattle.tsb_plan.specs.Plan.{Plan}
+use Rattle.tsb_plan.specs.Versions.{is_split}
 use Rattle.tsb_review.specs.declared.finding.Finding.{Finding}
 use Rattle.tsb_review.specs.declared.numbers.Numbers.{Numbers}
 use Rattle.tsb_types.specs.Lists.{run_from}
@@ -36,9 +37,21 @@ unfoldable pub filled : Numbers → List ℕ → List ℕ
 filled n text = flat_map (part n) text
 
 -- a space and the name of a value: its object and its index
+abbrev pub id_name : ObjectId → List ℕ
+id_name id = 32 ∷ (name_of id.object ++ 46 ∷ decimal id.index)
+
+-- the split table that an index is of: each has 16 phases
+abbrev pub table_of : ℕ → ℕ
+table_of index = (index - 1) / 16 + 1
+
+-- the split table of a value, where it is one of splits
+abbrev pub table_name : ObjectId → List ℕ
+table_name id = if is_split id.object then codes " of split table " ++ decimal (table_of id.index) else []
+
+-- the name of a value, with its split table
 abbrev pub value_name : Option ObjectId → List ℕ
 value_name None = []
-value_name (Some id) = 32 ∷ (name_of id.object ++ 46 ∷ decimal id.index)
+value_name (Some id) = id_name id ++ table_name id
 
 -- a later pattern of which a finding is also told, behind those before it
 abbrev pub also : Plan → Finding → ℕ → List ℕ

@@ -26,24 +26,27 @@ begins plan m minute = minute % 1440 == 0 || not (in_force plan m == in_force pl
 abbrev pub two : ℕ → List ℕ
 two n = digit n 10 ∷ digit n 1 ∷ []
 
--- the name of the weekday of a day from 1999-12-24 on, a Friday, between spaces
-abbrev pub name_of : ℕ → List ℕ
-name_of days =
-    if days % 7 == 0 then codes " Fri "
-    else (if days % 7 == 1 then codes " Sat "
-    else (if days % 7 == 2 then codes " Sun "
-    else (if days % 7 == 3 then codes " Mon "
-    else (if days % 7 == 4 then codes " Tue "
-    else (if days % 7 == 5 then codes " Wed " else codes " Thu ")))))
+-- the name of the weekday of a day from 1999-12-24 on, a Friday
+abbrev pub weekday_name : ℕ → List ℕ
+weekday_name days =
+    if days % 7 == 0 then codes "Fri"
+    else (if days % 7 == 1 then codes "Sat"
+    else (if days % 7 == 2 then codes "Sun"
+    else (if days % 7 == 3 then codes "Mon"
+    else (if days % 7 == 4 then codes "Tue"
+    else (if days % 7 == 5 then codes "Wed" else codes "Thu")))))
 
 -- a date
 abbrev pub date_text : ClockDate → List ℕ
 date_text d = two (d.year / 100) ++ (two (d.year % 100) ++ (45 ∷ (two d.month ++ (45 ∷ two d.day))))
 
--- the time of a moment: its date, weekday, hour and minute
+-- the day of a moment: its date and weekday
+abbrev pub day_text : ℕ → List ℕ
+day_text m = date_text (date_after (m / DAY - FIRST_DAY)) ++ (32 ∷ weekday_name (m / DAY))
+
+-- the time of a moment: its day, hour and minute
 abbrev pub time_text : ℕ → List ℕ
-time_text m = date_text (date_after (m / DAY - FIRST_DAY)) ++ (name_of (m / DAY)
-    ++ (two (m % DAY / 600 / 60) ++ (58 ∷ two (m % DAY / 600 % 60))))
+time_text m = day_text m ++ (32 ∷ (two (m % DAY / 600 / 60) ++ (58 ∷ two (m % DAY / 600 % 60))))
 
 -- a number of up to two digits, `-` for 0
 abbrev pub number_text : ℕ → List ℕ

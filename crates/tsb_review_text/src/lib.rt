@@ -4,10 +4,14 @@
 
 mod breach_template;
 mod line;
+mod picture;
 mod review;
 mod template;
 mod week;
+mod worksheet;
 
 pub use line::{LONGEST, Line, breach_line, line_of};
+pub use picture::week_picture;
 pub use review::{write_breaches, write_review};
 pub use week::write_week;
+pub use worksheet::write_worksheet;

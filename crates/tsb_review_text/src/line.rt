@@ -1,10 +1,11 @@
 //! The line of a finding, or of a breach.
-ghost use Rattle.std.specs.Prelude.{◌≡◌, ◌≤◌, [], ◌∷◌, ◌++◌, decimal, length};
+ghost use Rattle.std.specs.Prelude.{◌≡◌, ◌≤◌, [], ◌∷◌, ◌++◌, codes, decimal, length};
 ghost use Rattle.tsb_lines.specs.ShortLines.{Adds};
 ghost use Rattle.tsb_plan.specs.Names.{name_of};
 ghost use Rattle.tsb_plan.specs.PlanOf.{plan_of};
+ghost use Rattle.tsb_plan.specs.Versions.{is_split};
 ghost use Rattle.tsb_review_text.specs.Bytes.{ended};
-ghost use Rattle.tsb_review_text.specs.Lines.{seconds, fraction, part, value_name, also, line_of, breach_line};
+ghost use Rattle.tsb_review_text.specs.Lines.{seconds, fraction, part, id_name, table_name, table_of, value_name, also, line_of, breach_line};
 
 use crate::breach_template::breach_template;
 use crate::template::wording;
@@ -16,6 +17,9 @@ use tsb_types::Pattern;
 
 /// The most bytes that a line can have, with its line feed.
 pub const LONGEST: usize = 320;
+
+/// How many phases a split table has.
+const PHASES: u32 = 16;
 
 /// The bytes of a line.
 pub type Line = ShortLine<LONGEST>;
@@ -52,21 +56,68 @@ fn push_parts(line: &mut Line, text: &[u8], numbers: &Numbers, end: &[u8])
     line.push(end);
 }
 
-/// Adds the name of a value, where there is one.
+/// Adds the name of a value, where there is one; that of a split with its table.
 fn push_value_name(line: &mut Line, id: Option<ObjectId>)
     ensures line { Adds LONGEST line.old (value_name id) line.new }
-    ensures short { length (value_name id) ≤ 41 }
+    ensures short { length (value_name id) ≤ 67 }
 {
     match id {
-        Some(id) => push_id(line, id),
+        Some(id) => push_value(line, id),
         None => line.push(b""),
     }
 }
 
+/// Adds the name of a value, with its split table.
+fn push_value(line: &mut Line, id: ObjectId)
+    ensures line { Adds LONGEST line.old (id_name id ++ table_name id) line.new }
+    ensures short { length (id_name id ++ table_name id) ≤ 67 }
+{
+    push_id(line, id);
+    push_table_name(line, id);
+}
+
+/// Adds the split table of a value, where it is one of splits.
+fn push_table_name(line: &mut Line, id: ObjectId)
+    ensures line { Adds LONGEST line.old (table_name id) line.new }
+    ensures short { length (table_name id) ≤ 26 }
+{
+    if is_split(id.object) {
+        push_table(line, table_of(id.index));
+    } else {
+        line.push(b"");
+    }
+}
+
+/// Adds a split table.
+fn push_table(line: &mut Line, table: u32)
+    ensures line { Adds LONGEST line.old (codes " of split table " ++ decimal table) line.new }
+    ensures short { length (codes " of split table " ++ decimal table) ≤ 26 }
+{
+    line.push(b" of split table ");
+    line.push_number(table);
+}
+
+/// The split table that an index is of.
+fn table_of(index: u32) -> u32
+    ensures { result ≡ table_of index }
+{
+    index.saturating_sub(1) / PHASES + 1
+}
+
+/// Whether the object says what a phase has in a split table.
+fn is_split(object: Object) -> bool
+    ensures { result ≡ is_split object }
+{
+    matches!(
+        object,
+        Object::SplitTime | Object::SplitMode | Object::SplitCoordPhase
+    )
+}
+
 /// Adds a space, an object and an index.
 fn push_id(line: &mut Line, id: ObjectId)
-    ensures line { Adds LONGEST line.old (32 ∷ (name_of id.object ++ 46 ∷ decimal id.index)) line.new }
-    ensures short { length (32 ∷ (name_of id.object ++ 46 ∷ decimal id.index)) ≤ 41 }
+    ensures line { Adds LONGEST line.old (id_name id) line.new }
+    ensures short { length (id_name id) ≤ 41 }
 {
     line.push(b" ");
     push_name(line, id.object);

@@ -176,5 +176,7 @@ fn template(advice: Advice) -> &'static [u8]
         Advice::A61 => b"A61 pattern P: it is used, and no event of a day plan selects it",
         Advice::A62 =>
             b"A62 day plan P, event Q: another event comes before a cycle of its pattern R is over",
+        Advice::A63 =>
+            b"A63 unit: no phase has dual entry, so a ring rests in red while the other serves a phase alone",
     }
 }

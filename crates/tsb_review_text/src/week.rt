@@ -8,7 +8,7 @@ ghost use Rattle.tsb_types.specs.declared.clock_time.TheConstants.{DAY};
 ghost use Rattle.tsb_plan.specs.PlanOf.{plan_of};
 ghost use Rattle.tsb_lines.specs.Seen.{seen};
 ghost use Rattle.tsb_lines.specs.ShortLines.{Adds};
-ghost use Rattle.tsb_review_text.specs.Week.{begins, date_text, day_plan_at, moment_of, name_of, number_text, pattern_text, row_at, row_of, time_text, two, week_text};
+ghost use Rattle.tsb_review_text.specs.Week.{begins, date_text, day_plan_at, day_text, moment_of, number_text, pattern_text, row_at, row_of, time_text, two, week_text, weekday_name};
 ghost use Rattle.tsb_review_text.specs.Written.{Wrote};
 
 use std::io::Write;
@@ -24,13 +24,13 @@ const HEAD: &[u8] = b"day            from    action  pattern  entry  day plan\n"
 /// The most bytes of a row, with its line feed.
 const ROW: usize = 64;
 
-/// The bytes of a row.
-type Row = ShortLine<ROW>;
+/// The bytes of a row, or of a part of one.
+pub(crate) type Row = ShortLine<ROW>;
 
 /// The minutes of a week, and of a day.
-const WEEK: u32 = 10_080;
+pub(crate) const WEEK: u32 = 10_080;
 
-const DAY_MINUTES: u32 = 1_440;
+pub(crate) const DAY_MINUTES: u32 = 1_440;
 
 /// The days from 2000-01-01 to 2100-01-01.
 const NEW_CENTURY: u32 = 36_525;
@@ -96,7 +96,7 @@ fn row_of(plan: &Plan, first: ClockTime, minute: u32) -> Row
 }
 
 /// The moment so many minutes after the midnight of a day.
-fn moment_of(first: ClockTime, minute: u32) -> u64
+pub(crate) fn moment_of(first: ClockTime, minute: u32) -> u64
     requires { minute < 10080 }
     ensures value { result ≡ moment_of first minute }
     ensures from { 600 ≤ result }
@@ -107,7 +107,7 @@ fn moment_of(first: ClockTime, minute: u32) -> u64
 }
 
 /// Whether a row begins with a minute of the week: at midnight, and where another action is in force than before.
-fn begins(plan: &Plan, moment: u64, minute: u32) -> bool
+pub(crate) fn begins(plan: &Plan, moment: u64, minute: u32) -> bool
     requires within { moment ≤ 31580000000 }
     requires from { 600 ≤ moment }
     ensures { result ≡ begins (plan_of plan.now) moment minute }
@@ -152,10 +152,20 @@ fn push_time(line: &mut Row, moment: u64)
     requires { moment ≤ 31580000000 }
     ensures { Adds ROW line.old (time_text moment) line.new }
 {
+    push_day(line, moment);
+    line.push(b" ");
+    push_minute(line, minute_of(moment));
+}
+
+/// Adds the date and the weekday of a moment.
+pub(crate) fn push_day(line: &mut Row, moment: u64)
+    requires { moment ≤ 31580000000 }
+    ensures { Adds ROW line.old (day_text moment) line.new }
+{
     let days = day_of(moment);
     push_date(line, &date_of(days.saturating_sub(FIRST_DAY)));
+    line.push(b" ");
     line.push(weekday_name(days));
-    push_minute(line, minute_of(moment));
 }
 
 /// The day of a moment, counted from 1999-12-24.
@@ -202,18 +212,18 @@ fn push_date(line: &mut Row, date: &ClockDate)
     push_two(line, date.day);
 }
 
-/// The name of the weekday of a day, between spaces. Days are counted from 1999-12-24, a Friday.
+/// The name of the weekday of a day. Days are counted from 1999-12-24, a Friday.
 fn weekday_name(days: u32) -> &'static [u8]
-    ensures { result.now ≡ name_of days }
+    ensures { result.now ≡ weekday_name days }
 {
     match days % 7 {
-        0 => b" Fri ",
-        1 => b" Sat ",
-        2 => b" Sun ",
-        3 => b" Mon ",
-        4 => b" Tue ",
-        5 => b" Wed ",
-        _ => b" Thu ",
+        0 => b"Fri",
+        1 => b"Sat",
+        2 => b"Sun",
+        3 => b"Mon",
+        4 => b"Tue",
+        5 => b"Wed",
+        _ => b"Thu",
     }
 }
 

@@ -10,7 +10,7 @@ use Rattle.tsb_event_text.specs.declared.times.Moment.{Moment}
 use Rattle.tsb_event_text.specs.declared.zones.Zone.{Zone}
 use Rattle.tsb_words.specs.declared.field_files.Manner.{Manner}
 use Rattle.tsb_words.specs.declared.field_files.RecordManner.{RecordManner}
-use Rattle.tsb_words.specs.FieldProgram.{diagram_in, diagram_with, events_in, events_with, form_said, from_said, is_set, log_in, log_with, manner_in, manner_with, moment_in, record_in, record_manner_in, record_with, review_in, review_with, schedule_in, schedule_with, seconds_said, texts_in, window_in, window_said, wires_in, zone_said}
+use Rattle.tsb_words.specs.FieldProgram.{diagram_in, diagram_with, events_in, events_with, form_said, from_said, is_set, log_in, log_with, manner_in, manner_with, moment_in, record_in, record_manner_in, record_with, review_in, review_with, schedule_in, schedule_with, seconds_said, texts_in, window_in, window_said, wires_in, worksheet_in, worksheet_with, zone_said}
 use Rattle.tsb_field_log.specs.declared.inputs.Wire.{Wire}
 use Rattle.tsb_words.specs.FieldWords.{Wish, log}
 
@@ -68,12 +68,18 @@ pub getters_review : (f : Found) (asked : Option Wish) (plan : Option Text) → 
 getters_review f asked plan plan-is is = is ∙ ap review_with (sym (first_is f (codes "PLAN") plan plan-is))
 
 -- and what `schedule` asks for
-pub getters_schedule : (f : Found) (asked : Option Wish) (plan week : Option Text) → plan ≡ first_value f (codes "PLAN") → week ≡ first_value f (codes "week")
-    → asked ≡ schedule_with plan week → asked ≡ schedule_in (rows_of f)
-getters_schedule f asked plan week plan-is week-is is =
+pub getters_schedule : (f : Found) (asked : Option Wish) (plan week flag : Option Text) (svg : Bool) → plan ≡ first_value f (codes "PLAN")
+    → week ≡ first_value f (codes "week") → flag ≡ first_value f (codes "svg") → svg ≡ is_set flag → asked ≡ schedule_with plan week svg → asked ≡ schedule_in (rows_of f)
+getters_schedule f asked plan week flag svg plan-is week-is flag-is svg-is is =
     let plan-there : plan ≡ first_of (codes "PLAN") (rows_of f) = sym (first_is f (codes "PLAN") plan plan-is) in
     let week-there : week ≡ first_of (codes "week") (rows_of f) = sym (first_is f (codes "week") week week-is) in
-    is ∙ (λ j. schedule_with (plan-there j) (week-there j))
+    let svg-there : svg ≡ is_set (first_of (codes "svg") (rows_of f)) = flag_is f (codes "svg") flag svg flag-is svg-is in
+    is ∙ (λ j. schedule_with (plan-there j) (week-there j) (svg-there j))
+
+-- and what `worksheet` asks for
+pub getters_worksheet : (f : Found) (asked : Option Wish) (plan : Option Text) → plan ≡ first_value f (codes "PLAN") → asked ≡ worksheet_with plan
+    → asked ≡ worksheet_in (rows_of f)
+getters_worksheet f asked plan plan-is is = is ∙ ap worksheet_with (sym (first_is f (codes "PLAN") plan plan-is))
 
 -- the values of an option, as a getter answers them
 pub texts_is : (f : Found) (id : Text) (o : Option (List Text)) → o ≡ option_map raw_values (matched_of f id) → unwrap_or o [] ≡ texts_in id (rows_of f)

@@ -16,7 +16,7 @@ use Rattle.tsb_words.specs.declared.field_files.Manner.{Manner}
 use Rattle.tsb_words.specs.declared.field_files.RecordManner.{RecordManner}
 use Rattle.tsb_words.specs.declared.error.WordsError.{WordsError}
 use Rattle.tsb_words.specs.Commands.{file_rule, flag_rule, option_rule, repeated_rule, required_rule}
-use Rattle.tsb_words.specs.FieldWords.{Wish, diagram, events, log, midnight, recording, reviewing, seconds_of, seen, weekly, window_of}
+use Rattle.tsb_words.specs.FieldWords.{Wish, diagram, events, log, midnight, recording, reviewing, seconds_of, seen, weekly, window_of, worksheet}
 use Rattle.tsb_command_text.specs.clock.ClockText.{clock_of}
 use Rattle.tsb_words.specs.Words.{SpelledBy, met_by}
 use Rattle.tsb_words.specs.Wires.{joined, wires_of}
@@ -70,13 +70,17 @@ review_shape = shape_with (codes "review") (file_rule (codes "PLAN") ∷ [])
 
 -- those of `schedule`
 abbrev pub schedule_shape : Shape
-schedule_shape = shape_with (codes "schedule") (file_rule (codes "PLAN") ∷ required_rule (codes "week") ∷ [])
+schedule_shape = shape_with (codes "schedule") (file_rule (codes "PLAN") ∷ required_rule (codes "week") ∷ flag_rule (codes "svg") ∷ [])
+
+-- those of `worksheet`
+abbrev pub worksheet_shape : Shape
+worksheet_shape = shape_with (codes "worksheet") (file_rule (codes "PLAN") ∷ [])
 
 -- the program with its subcommands
 abbrev pub program : App
 program = record {
   top = record (new_shape (codes "tsb_field")) { is_leaf = false };
-  subs = log_shape ∷ record_shape ∷ events_shape ∷ diagram_shape ∷ review_shape ∷ schedule_shape ∷ [];
+  subs = log_shape ∷ record_shape ∷ events_shape ∷ diagram_shape ∷ review_shape ∷ schedule_shape ∷ worksheet_shape ∷ [];
 }
 
 -- the values of an option that may come several times
@@ -214,19 +218,29 @@ review_with (Some plan) = Some (reviewing plan)
 abbrev pub review_in : List Row → Option Wish
 review_in rows = review_with (first_of (codes "PLAN") rows)
 
--- what runs in a week from this moment on, where there is one
-abbrev pub weekly_at : Text → Option ℕ → Option Wish
-weekly_at plan None = None
-weekly_at plan (Some week) = Some (weekly plan week)
+-- what runs in a week from this moment on, where there is one, as a picture or not
+abbrev pub weekly_at : Text → Option ℕ → Bool → Option Wish
+weekly_at plan None svg = None
+weekly_at plan (Some week) svg = Some (weekly plan week svg)
 
 -- the same, where a plan is named and a date that there is
-abbrev pub schedule_with : Option Text → Option Text → Option Wish
-schedule_with (Some plan) (Some date) = weekly_at plan (clock_of date midnight)
-schedule_with plan date = None
+abbrev pub schedule_with : Option Text → Option Text → Bool → Option Wish
+schedule_with (Some plan) (Some date) svg = weekly_at plan (clock_of date midnight) svg
+schedule_with plan date svg = None
 
--- what `schedule` asks for, with this file and this option
+-- what `schedule` asks for, with this file and these options
 abbrev pub schedule_in : List Row → Option Wish
-schedule_in rows = schedule_with (first_of (codes "PLAN") rows) (first_of (codes "week") rows)
+schedule_in rows =
+    schedule_with (first_of (codes "PLAN") rows) (first_of (codes "week") rows) (is_set (first_of (codes "svg") rows))
+
+-- a worksheet, where a plan is named
+abbrev pub worksheet_with : Option Text → Option Wish
+worksheet_with None = None
+worksheet_with (Some plan) = Some (worksheet plan)
+
+-- what `worksheet` asks for, with this file
+abbrev pub worksheet_in : List Row → Option Wish
+worksheet_in rows = worksheet_with (first_of (codes "PLAN") rows)
 
 -- what a subcommand of this name that is not `log` asks for, with these options
 abbrev pub other_in : Text → List Row → Option Wish
@@ -234,7 +248,8 @@ other_in name rows =
     if bytes_eq name (codes "record") then record_in rows
     else (if bytes_eq name (codes "events") then events_in rows
     else (if bytes_eq name (codes "diagram") then diagram_in rows
-    else (if bytes_eq name (codes "schedule") then schedule_in rows else review_in rows)))
+    else (if bytes_eq name (codes "schedule") then schedule_in rows
+    else (if bytes_eq name (codes "worksheet") then worksheet_in rows else review_in rows))))
 
 -- what the subcommand asks for that was met, with its options
 abbrev pub asked_by : Option (Text × List Row) → Option Wish

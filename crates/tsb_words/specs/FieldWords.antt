@@ -1,5 +1,5 @@
 -- What words of `tsb_field` may ask for.
-use Rattle.std.specs.Prelude.{ℕ, ◌&&◌, nat_le, List, Option, Some, None, option_map, if◌then◌else◌, codes}
+use Rattle.std.specs.Prelude.{ℕ, ◌&&◌, nat_le, Bool, List, Option, Some, None, option_map, if◌then◌else◌, codes}
 use Rattle.tsb_lines.specs.Words.{number_of}
 use Rattle.tsb_event_text.specs.declared.times.Moment.{Moment}
 use Rattle.tsb_field_log.specs.declared.inputs.Wire.{Wire}
@@ -32,8 +32,10 @@ pub data Wish : Type 0 where
   diagram : Option (List ℕ) → Option (List ℕ) → Option ℕ → Option Moment → Option (List ℕ) → Wish
   -- a review of the plan in this file
   reviewing : List ℕ → Wish
-  -- what the schedule of the plan in this file runs in the week that begins with this moment
-  weekly : List ℕ → ℕ → Wish
+  -- what the schedule of the plan in this file runs in the week that begins with this moment: a picture, or else a table
+  weekly : List ℕ → ℕ → Bool → Wish
+  -- the worksheet of the plan in this file
+  worksheet : List ℕ → Wish
 
 -- the time of day at which a week begins
 abbrev pub midnight : List ℕ
@@ -76,4 +78,5 @@ seen (asks.Diagram asked) =
     diagram (option_map (λ name. name.now) asked.log) (option_map (λ name. name.now) asked.title) asked.seconds_per_line asked.from
     (option_map (λ name. name.now) asked.events)
 seen (asks.Review plan) = reviewing plan.now
-seen (asks.Schedule plan week) = weekly plan.now week
+seen (asks.Schedule plan week svg) = weekly plan.now week svg
+seen (asks.Worksheet plan) = worksheet plan.now

@@ -213,9 +213,12 @@ wrong_in command [] = None
 wrong_in command (word ∷ behind) =
     if bytes_eq word (codes "--") then None else wrong_or (wrong_at command word behind) (wrong_in command behind)
 
--- `--from` has to be given: in each command but `review` and `schedule`, and in `diagram` where there is `--events`
+-- `--from` has to be given: in each command but `review`, `schedule` and `worksheet`, and in `diagram` where there is
+-- `--events`
 abbrev pub needs_from : Text → List Text → Bool
-needs_from command words = if bytes_eq command (codes "diagram") then has_option (codes "--events") words else not (bytes_eq command (codes "review")) && not (bytes_eq command (codes "schedule"))
+needs_from command words =
+    if bytes_eq command (codes "diagram") then has_option (codes "--events") words
+    else not (bytes_eq command (codes "review")) && (not (bytes_eq command (codes "schedule")) && not (bytes_eq command (codes "worksheet")))
 
 -- what these words lack: an option that has to be given, or else the files of the command
 abbrev pub lacking : Text → List Text → Wrong
@@ -285,7 +288,8 @@ files_text command =
     else (if bytes_eq command (codes "record") then codes "record names two files, PLAN and LOG"
     else (if bytes_eq command (codes "review") then codes "review names one file, PLAN"
     else (if bytes_eq command (codes "schedule") then codes "schedule names one file, PLAN"
-    else codes "this command names files by options alone: it reads what `tsb run` answers from standard input")))
+    else (if bytes_eq command (codes "worksheet") then codes "worksheet names one file, PLAN"
+    else codes "this command names files by options alone: it reads what `tsb run` answers from standard input"))))
 
 -- a value in double quotes
 abbrev pub quoted : Text → List ℕ
@@ -293,7 +297,7 @@ quoted text = codes " \"" ++ (shown text ++ codes "\": ")
 
 -- what is said of words with which this is wrong, without the end of the line
 abbrev pub wrong_text : Wrong → List ℕ
-wrong_text (no_command name) = codes "there is no command \"" ++ (shown name ++ codes "\": log, record, events, diagram, review or schedule")
+wrong_text (no_command name) = codes "there is no command \"" ++ (shown name ++ codes "\": log, record, events, diagram, review, schedule or worksheet")
 wrong_text (unknown name) = shown name ++ codes ": the command has no such option; --help after it lists all"
 wrong_text (bare name value) = shown name ++ (codes " has no value (one that begins with a hyphen comes after =): " ++ taken_text value)
 wrong_text (bad_value name value text) = shown name ++ (quoted text ++ taken_text value)

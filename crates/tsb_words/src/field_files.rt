@@ -3,7 +3,7 @@ ghost use Rattle.std.specs.Prelude.{◌≡◌, Err, map, option_map};
 ghost use Rattle.clap.specs.Words.{found_of, rows_of};
 ghost use Rattle.clap.specs.Simple.{subcommand_rows_of};
 ghost use Rattle.tsb_words.specs.declared.error.WordsError.TheVariants.{Memory};
-ghost use Rattle.tsb_words.specs.FieldProgram.{HasWires, NeedsMemory, Spells, asked_by, diagram_in, diagram_with, events_in, events_with, is_set, is_timed, log_in, manner_in, manner_with, other_in, record_in, record_manner_in, record_with, review_in, review_with, schedule_in, schedule_with, wires_in};
+ghost use Rattle.tsb_words.specs.FieldProgram.{HasWires, NeedsMemory, Spells, asked_by, diagram_in, diagram_with, events_in, events_with, is_set, is_timed, log_in, manner_in, manner_with, other_in, record_in, record_manner_in, record_with, review_in, review_with, schedule_in, schedule_with, wires_in, worksheet_in, worksheet_with};
 ghost use Rattle.tsb_words.specs.FieldWords.{seen};
 ghost use Rattle.tsb_words.specs.Wires.{AreSpelled};
 ghost use Rattle.tsb_words.specs.Words.{SpelledBy};
@@ -128,6 +128,13 @@ pub enum Asked<'a> {
         plan: &'a str,
         /// The midnight at which the week begins.
         week: ClockTime,
+        /// Whether it is a picture, and not a table.
+        svg: bool,
+    },
+    /// The worksheet of a plan.
+    Worksheet {
+        /// The file of the plan.
+        plan: &'a str,
     },
 }
 
@@ -138,7 +145,8 @@ pub enum Asked<'a> {
 /// CHANNEL=DETECTOR` and `--preempt CHANNEL=INPUT`; `record` has `--from TIME`, `--device ID`, and the files of a plan and a
 /// log, and may have `--go-on`, `--recalls`, `--outputs` and `--no-clock`; `events` has `--from TIME` and `--device ID`,
 /// and may have `--log LOG`; `diagram` may have `--log LOG`, `--title TEXT`, `--seconds-per-line N`, and `--from TIME`,
-/// and with that `--events FILE`; `review` has the file of a plan; `schedule` has the file of a plan, and `--week DATE`.
+/// and with that `--events FILE`; `review` has the file of a plan; `schedule` has the file of a plan, and `--week DATE`,
+/// and may have `--svg`; `worksheet` has the file of a plan.
 /// Options come in any order, and `--NAME=VALUE` is `--NAME VALUE`. A value that begins with a hyphen comes after `=`. All
 /// else is `Bad`, and so are a request for help and a device of `record` or `events` with a double quote, an end of a line
 /// or over 900 bytes. `Memory` may come in place of every answer, as `clap` allocates. Where it takes the words, only those
@@ -181,6 +189,8 @@ fn other_asked<'a>(name: &str, options: &ArgMatches<'a>) -> Option<Asked<'a>>
         diagram_asked(options)
     } else if name == "schedule" {
         schedule_asked(options)
+    } else if name == "worksheet" {
+        worksheet_asked(options)
     } else {
         review_asked(options)
     }
@@ -401,21 +411,22 @@ fn review_asked<'a>(options: &ArgMatches<'a>) -> Option<Asked<'a>>
     review_with(options.get_str("PLAN"))
 }
 
-/// What `schedule` asks for, with this file and this option.
+/// What `schedule` asks for, with this file and these options.
 fn schedule_asked<'a>(options: &ArgMatches<'a>) -> Option<Asked<'a>>
     ensures { option_map seen result ≡ schedule_in (rows_of (found_of options.now)) }
 {
-    schedule_with(options.get_str("PLAN"), options.get_str("week"))
+    let svg = is_set(options.get_str("svg"));
+    schedule_with(options.get_str("PLAN"), options.get_str("week"), svg)
 }
 
 /// What runs in a week, where a plan and a date are named.
-fn schedule_with<'a>(plan: Option<&'a str>, week: Option<&str>) -> Option<Asked<'a>>
-    ensures { option_map seen result ≡ schedule_with (option_map (λ text. text.now) plan.entry) (option_map (λ text. text.now) week.entry) }
+fn schedule_with<'a>(plan: Option<&'a str>, week: Option<&str>, svg: bool) -> Option<Asked<'a>>
+    ensures { option_map seen result ≡ schedule_with (option_map (λ text. text.now) plan.entry) (option_map (λ text. text.now) week.entry) svg }
 {
     let plan = plan?;
     let week = week?;
     let week = midnight_of(week.as_bytes())?;
-    Some(Asked::Schedule { plan, week })
+    Some(Asked::Schedule { plan, week, svg })
 }
 
 /// A review, where a plan is named.
@@ -424,4 +435,19 @@ fn review_with<'a>(plan: Option<&'a str>) -> Option<Asked<'a>>
 {
     let plan = plan?;
     Some(Asked::Review { plan })
+}
+
+/// What `worksheet` asks for, with this file.
+fn worksheet_asked<'a>(options: &ArgMatches<'a>) -> Option<Asked<'a>>
+    ensures { option_map seen result ≡ worksheet_in (rows_of (found_of options.now)) }
+{
+    worksheet_with(options.get_str("PLAN"))
+}
+
+/// A worksheet, where a plan is named.
+fn worksheet_with<'a>(plan: Option<&'a str>) -> Option<Asked<'a>>
+    ensures { option_map seen result ≡ worksheet_with (option_map (λ text. text.now) plan.entry) }
+{
+    let plan = plan?;
+    Some(Asked::Worksheet { plan })
 }

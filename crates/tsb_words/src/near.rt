@@ -16,13 +16,14 @@ const HINT: usize = 80;
 const LIVE: [&str; 3] = ["--strict", "--version", "--help"];
 
 /// The commands of `tsb_field`, and its own options.
-const COMMANDS: [&str; 8] = [
+const COMMANDS: [&str; 9] = [
     "log",
     "record",
     "events",
     "diagram",
     "review",
     "schedule",
+    "worksheet",
     "--version",
     "--help",
 ];
@@ -72,7 +73,10 @@ const DIAGRAM: [&str; 6] = [
 const REVIEW: [&str; 1] = ["--help"];
 
 /// The options of `schedule`.
-const SCHEDULE: [&str; 2] = ["--week", "--help"];
+const SCHEDULE: [&str; 3] = ["--week", "--svg", "--help"];
+
+/// The options of `worksheet`.
+const WORKSHEET: [&str; 1] = ["--help"];
 
 /// The right word that was perhaps meant by a wrong one of `tsb_live`: one from which a word differs by a slip of the
 /// hand. That is a letter too much, too few or another, or two that have changed places. The first of all words is the
@@ -141,6 +145,8 @@ pub(crate) fn words_of(command: &str) -> &'static [&'static str]
         &REVIEW
     } else if command == "schedule" {
         &SCHEDULE
+    } else if command == "worksheet" {
+        &WORKSHEET
     } else {
         &[]
     }

@@ -386,13 +386,13 @@ fn lacking<'a, S: AsStr>(command: &'a str, words: &'a [S]) -> WrongWord<'a>
     WrongWord::Files(command)
 }
 
-/// Whether `--from` has to be given: in each command but `review` and `schedule`, and in `diagram` where there is
-/// `--events`.
+/// Whether `--from` has to be given: in each command but `review`, `schedule` and `worksheet`, and in `diagram` where
+/// there is `--events`.
 fn needs_from<S: AsStr>(command: &str, words: &[S]) -> bool
     ensures { result ≡ needs_from command.now (map S.text words.now) }
 {
     if command == "diagram" {
         return has_option(b"--events", words);
     }
-    command != "review" && command != "schedule"
+    command != "review" && command != "schedule" && command != "worksheet"
 }

@@ -78,11 +78,11 @@ fn with_new_device(devices: Devices, name: ShownField) -> Devices
     }
 }
 
-/// Adds the line of devices to a text, where it is asked for and there are two or more.
-pub fn append_devices(text: &mut Vec<u8>, counts: bool, devices: &Devices) -> Result<(), AllocError>
-    ensures { OnOk result (text.new.items ≡ text.old.items ++ devices_text counts devices.now) }
+/// Adds the line of devices to a text, where there are two or more.
+pub fn append_devices(text: &mut Vec<u8>, devices: &Devices) -> Result<(), AllocError>
+    ensures { OnOk result (text.new.items ≡ text.old.items ++ devices_text devices.now) }
 {
-    if counts && are_several(devices) {
+    if are_several(devices) {
         append_devices_line(text, devices)
     } else {
         Ok(())
@@ -90,7 +90,7 @@ pub fn append_devices(text: &mut Vec<u8>, counts: bool, devices: &Devices) -> Re
 }
 
 /// Whether there are two devices or more.
-fn are_several(devices: &Devices) -> bool
+pub fn are_several(devices: &Devices) -> bool
     ensures { result ≡ are_several devices.now }
 {
     devices.count > 1

@@ -154,7 +154,7 @@ four-alone o shows sees from within above = elim (cases_Bool (nat_le o 4)) [
 
 -- ## Flash
 
-some-enabled : (plan : Plan) → first_broken plan ≡ None → some_enabled plan ≡ true
+pub some-enabled : (plan : Plan) → first_broken plan ≡ None → some_enabled plan ≡ true
 unfolding first_broken broken_by_rings
 some-enabled plan none = elim (cases_Bool (some_enabled plan)) [
   | inl h ↦ h

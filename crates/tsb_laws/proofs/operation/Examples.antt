@@ -9,6 +9,7 @@ pub mod UnwantedGreenRuns
 pub mod WantedPhaseRuns
 pub mod PreemptStageRuns
 pub mod PreemptChoiceRuns
+pub mod WorksheetRuns
 pub mod ServedRuns
 pub mod ServedMistakes
 pub mod CoordinatedRuns

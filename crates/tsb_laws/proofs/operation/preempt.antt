@@ -18,3 +18,4 @@ pub mod StageRunLemmas
 pub mod StageTrackLemmas
 pub mod StageServiceLemmas
 pub mod ChosenStageLemmas
+pub mod WorksheetLemmas

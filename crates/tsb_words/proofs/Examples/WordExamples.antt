@@ -5,7 +5,7 @@ use Rattle.clap.proofs.OnLiterals.{clap_on_literals}
 use Rattle.tsb_words.specs.FieldProgram.{wish_of}
 use Rattle.tsb_event_text.specs.Times.{moment_of}
 use Rattle.tsb_words.specs.declared.field_files.RecordManner.{RecordManner}
-use Rattle.tsb_words.specs.FieldWords.{Wish, diagram, recording, reviewing, weekly}
+use Rattle.tsb_words.specs.FieldWords.{Wish, diagram, recording, reviewing, weekly, worksheet}
 
 -- these words after the program's name
 abbrev given : List Text → List Text
@@ -54,9 +54,14 @@ unfolding clap_on_literals
 two-files = refl
 
 -- `schedule` has a plan and the first day of a week, which is one that there is
-schedule-words : wish_of (given (codes "schedule" ∷ codes "--week=2026-11-22" ∷ codes "a.plan" ∷ [])) ≡ Some (weekly (codes "a.plan") 8493120000)
+schedule-words : wish_of (given (codes "schedule" ∷ codes "--week=2026-11-22" ∷ codes "a.plan" ∷ [])) ≡ Some (weekly (codes "a.plan") 8493120000 false)
 unfolding clap_on_literals
 schedule-words = refl
+
+-- a flag asks for a picture of it
+picture-words : wish_of (given (codes "schedule" ∷ codes "--week=2026-11-22" ∷ codes "--svg" ∷ codes "a.plan" ∷ [])) ≡ Some (weekly (codes "a.plan") 8493120000 true)
+unfolding clap_on_literals
+picture-words = refl
 
 no-week : wish_of (given (codes "schedule" ∷ codes "a.plan" ∷ [])) ≡ None
 unfolding clap_on_literals
@@ -65,6 +70,15 @@ no-week = refl
 no-such-day : wish_of (given (codes "schedule" ∷ codes "--week=2026-02-29" ∷ codes "a.plan" ∷ [])) ≡ None
 unfolding clap_on_literals
 no-such-day = refl
+
+-- `worksheet` has a plan
+worksheet-words : wish_of (given (codes "worksheet" ∷ codes "a.plan" ∷ [])) ≡ Some (worksheet (codes "a.plan"))
+unfolding clap_on_literals
+worksheet-words = refl
+
+no-worksheet : wish_of (given (codes "worksheet" ∷ [])) ≡ None
+unfolding clap_on_literals
+no-worksheet = refl
 
 -- `record` needs a plan and a log
 no-log : wish_of (given (codes "record" ∷ codes "--from=2026-11-22T07:00:00" ∷ codes "--device=7" ∷ codes "a.plan" ∷ [])) ≡ None

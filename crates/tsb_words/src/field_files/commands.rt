@@ -32,6 +32,10 @@ pub(crate) const PROGRAM: Program = Program {
             name: "schedule",
             arguments: &SCHEDULE,
         },
+        Leaf {
+            name: "worksheet",
+            arguments: &WORKSHEET,
+        },
     ],
 };
 
@@ -82,5 +86,12 @@ const DIAGRAM: [Argument; 5] = [
 /// The file of `review`.
 const REVIEW: [Argument; 1] = [Argument::File("PLAN")];
 
-/// The file and the option of `schedule`.
-const SCHEDULE: [Argument; 2] = [Argument::File("PLAN"), Argument::Required("week")];
+/// The file and the options of `schedule`.
+const SCHEDULE: [Argument; 3] = [
+    Argument::File("PLAN"),
+    Argument::Required("week"),
+    Argument::Flag("svg"),
+];
+
+/// The file of `worksheet`.
+const WORKSHEET: [Argument; 1] = [Argument::File("PLAN")];

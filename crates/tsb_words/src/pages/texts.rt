@@ -34,12 +34,14 @@ record     from the commands of a session to a controller's event log
 events     from what `tsb run` answers to a controller's event log
 diagram    from what `tsb run` answers to a phase diagram, as SVG
 review     what can be wrong with a plan that runs
-schedule   what the schedule of a plan runs in a week
+schedule   what the schedule of a plan runs in a week, as a table or a picture
+worksheet  the longest entry of each preempt, and what each split leaves over walk and clearance
 
 --version  the version
 --help     this page; after a command, its words with their units and an example
 
-All but `review` and `schedule` read standard input, and all write standard output. docs/use/FIELD.md has more.
+`review`, `schedule` and `worksheet` read a plan, all others standard input. All write standard output.
+docs/use/FIELD.md has more.
 ";
 
 /// How `log` is used.
@@ -119,17 +121,19 @@ A tick is 0.1 s. Example, four minutes in one line:
 ";
 
 /// How `schedule` is used.
-pub(crate) const SCHEDULE_HELP: &[u8] = b"usage: tsb_field schedule --week DATE PLAN
+pub(crate) const SCHEDULE_HELP: &[u8] = b"usage: tsb_field schedule [--svg] --week DATE PLAN
 
 Writes what the schedule of the plan in this file runs from this date on, for a week: a line for each midnight and for
 each minute with which another action comes into force.
 
 PLAN         the file of the plan, as of `tsb check`
 --week DATE  the first day, such as 2026-11-22
+--svg        a picture in SVG in place of the lines: a row for each day, with a band for each line
 
-Example:
+Examples:
 
     tsb_field schedule --week 2026-11-22 plan.json
+    tsb_field schedule --week 2026-11-22 --svg plan.json > week.svg
 ";
 
 /// How `review` is used.
@@ -143,4 +147,25 @@ PLAN  the file of the plan, as of `tsb check`
 Example:
 
     tsb_field review plan.json
+";
+
+/// How `worksheet` is used.
+pub(crate) const WORKSHEET_HELP: &[u8] = b"usage: tsb_field worksheet PLAN
+
+Writes the times that follow of the plan in this file. Times are in seconds.
+
+A preempt with dwell phases has a line with its delay and its longest entry: so long after the preempt
+enters service all track phases are green at the latest, or all dwell phases where it has no others. That
+is proved of every run and all inputs, while the preempt stays in this stage, no commit changes the plan
+and the controller does not trip.
+
+A phase that a used pattern serves has a line with its split, the green that yellow and red clearance leave
+of it, and its force-off on the local counter. Where it has a walk, the margin is what this green has over
+walk and clearance; a margin below 0 is what it lacks.
+
+PLAN  the file of the plan, as of `tsb check`
+
+Example:
+
+    tsb_field worksheet plan.json
 ";

@@ -13,7 +13,7 @@ returns c = (
   seven-pieces c.new-text.result.items c.append_form.new.text.items c.extend_from_slice.new.self.items c.append_left_out.new.text.items c.extend_from_slice-2.new.self.items
       c.extend_from_slice-3.new.self.items c.append_devices.new.text.items c.extend_from_slice-4.new.self.items
       (form_line c.args.manner.times c.args.summary.times) (zones_line c.args.summary.zoned) (left_out_text c.args.summary.left_out c.args.summary.unwired) c.in_ok-counted.counted.items
-      c.in_ok-gaps.gaps.items (devices_text c.args.manner.counts c.args.summary.devices) (verdict_line c.args.manner c.args.summary)
+      c.in_ok-gaps.gaps.items (devices_text c.args.summary.devices) (verdict_line c.args.manner c.args.summary)
       c.new-text.ensures.items c.in_ok-append_form.ensures
       (c.in_ok-extend_from_slice.ensures.items ∙ ap (λ (v : List ℕ). c.append_form.new.text.items ++ v) c.zones_line.ensures)
       c.in_ok-append_left_out.ensures

@@ -11,3 +11,6 @@ returns-in-Review g c = rw c.in-Review.is c.review_plan.ensures
 
 pub returns-in-Schedule : goal.returns-in-Schedule
 returns-in-Schedule g c = rw c.in-Schedule.is c.write_schedule.ensures
+
+pub returns-in-Worksheet : goal.returns-in-Worksheet
+returns-in-Worksheet g c = rw c.in-Worksheet.is c.write_worksheet_of.ensures

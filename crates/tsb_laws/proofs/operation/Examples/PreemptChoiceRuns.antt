@@ -41,18 +41,18 @@ anew_fits : Fits limit anew.value
 unfolding anew
 anew_fits = values_alone_fit limit ((PreemptChoosesAnew, 1, 1) ∷ engine_values) refl
 
-one_anew : AnEngine anew
+pub one_anew : AnEngine anew
 one_anew = record {
   consistent = consistent limit anew anew_count anew_breaks_none anew_fits;
   few = (let count = anew_count in omega (arith, count));
   fits = anew_fits;
 }
 
-begun_anew : Begun anew began
+pub begun_anew : Begun anew began
 unfolding opened anew
 begun_anew = record { known = one_anew; taken = ((((tt, refl), refl), refl), refl); unlit = refl; now = refl; plan_is = refl }
 
-begins_anew : BeginsService anew asked all_off 1
+pub begins_anew : BeginsService anew asked all_off 1
 unfolding opened anew
 begins_anew = refl
 
@@ -60,7 +60,7 @@ no_track_anew : has_track (replay anew asked).plan 1 ≡ false
 unfolding opened anew
 no_track_anew = refl
 
-dwells_anew : (gone (λ s i. is_in_stage 1 Dwell s.preempts.service) (replay anew began) (ticks all_off 30)).1 ≡ true
+pub dwells_anew : (gone (λ s i. is_in_stage 1 Dwell s.preempts.service) (replay anew began) (ticks all_off 30)).1 ≡ true
 unfolding opened anew
 dwells_anew = refl
 

@@ -81,7 +81,7 @@ engine_fits : Fits limit engine.value
 unfolding engine
 engine_fits = values_alone_fit limit engine_values refl
 
-an_engine : AnEngine engine
+pub an_engine : AnEngine engine
 an_engine = record {
   consistent = consistent limit engine engine_count engine_breaks_none engine_fits;
   few = (let count = engine_count in omega (arith, count));
@@ -165,7 +165,7 @@ pub begun_engine : Begun engine began
 unfolding opened engine
 begun_engine = record { known = an_engine; taken = ((((tt, refl), refl), refl), refl); unlit = refl; now = refl; plan_is = refl }
 
-begins : BeginsService engine asked all_off 1
+pub begins : BeginsService engine asked all_off 1
 unfolding opened engine
 begins = refl
 
@@ -174,7 +174,7 @@ unfolding opened engine
 no_track = refl
 
 -- it is in its dwell from then on, and 4 is Green after 69 ticks and not before
-dwells_on : (gone (λ s i. is_in_stage 1 Dwell s.preempts.service) (replay engine began) (ticks all_off 70)).1 ≡ true
+pub dwells_on : (gone (λ s i. is_in_stage 1 Dwell s.preempts.service) (replay engine began) (ticks all_off 70)).1 ≡ true
 unfolding opened engine
 dwells_on = refl
 

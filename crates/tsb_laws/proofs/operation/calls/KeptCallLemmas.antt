@@ -78,7 +78,7 @@ vehicle_then s row p good dark h = go (is_started (moves s row) p) refl
         let stands : (next s row).memories.vehicle p ≡ true = rw (k, h) refl in
         inl (ap (λ (m : Memories). m.vehicle p) (memories_then s row dark) ∙ stands)
 
-kept_unless : (memory walks : Bool) → memory ≡ true → walks ≡ false → (memory && not walks) ≡ true
+pub kept_unless : (memory walks : Bool) → memory ≡ true → walks ≡ false → (memory && not walks) ≡ true
 kept_unless memory walks h k = rw (h, k) refl
 
 pedestrian_stays : (s : State) (row : Row) (p : ℕ) → s.trip ≡ None → (set s row).pedestrian p ≡ true →

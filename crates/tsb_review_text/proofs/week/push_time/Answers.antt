@@ -1,12 +1,8 @@
-use Rattle.std.proofs.Common.{◌∙◌, ℕ, ◌/◌, ◌%◌, ◌-◌, ◌∷◌, ◌++◌, ap}
-use Rattle.tsb_types.specs.Calendar.{date_after}
-use Rattle.tsb_types.specs.declared.clock_time.TheConstants.{FIRST_DAY}
+use Rattle.std.proofs.Common.{ℕ, ◌/◌, ◌%◌, ◌∷◌, ◌++◌, ap}
 use Rattle.tsb_lines.proofs.ShortLemmas.{said, then}
-use Rattle.tsb_review_text.specs.Week.{date_text, name_of, two}
+use Rattle.tsb_review_text.specs.Week.{two}
 use Rattle.tsb_review_text.proofs.week.push_time.Goals as goal
 
 pub returns : goal.returns
 returns c =
-    then (said (ap date_text (c.date_of.ensures ∙ ap date_after (c.saturating_sub.ensures ∙ ap (λ (n : ℕ). n - FIRST_DAY) c.day_of-days.ensures.value))) c.push_date.ensures)
-    (then (said (c.weekday_name.ensures ∙ ap name_of c.day_of-days.ensures.value) c.push.ensures.line)
-    (said (ap (λ (m : ℕ). two (m / 60) ++ 58 ∷ two (m % 60)) c.minute_of.ensures) c.push_minute.ensures))
+    then c.push_day.ensures (then c.push.ensures.line (said (ap (λ (m : ℕ). two (m / 60) ++ 58 ∷ two (m % 60)) c.minute_of.ensures) c.push_minute.ensures))
