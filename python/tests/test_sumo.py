@@ -11,12 +11,23 @@ import sys
 import time
 from collections.abc import Callable
 from dataclasses import replace
+from datetime import datetime
 from pathlib import Path
 from typing import Any
 
 import pytest
 
-from tsb import Display, Error, NoSuchTick, Plan, programs, seconds
+from tsb import (
+    Bench,
+    Display,
+    Error,
+    Event,
+    NoSuchTick,
+    OutOfRange,
+    Plan,
+    programs,
+    seconds,
+)
 from tsb.sumo import (
     Diverged,
     Intersection,
@@ -38,8 +49,10 @@ from tsb.sumo.nema import NemaFault, nema_of
 from tsb.sumo.net import light, read_net
 from tsb.sumo.propose import zones
 from tsb.sumo.simulation import binary
+from tsb.tasks import recorded
 
 SECONDS = 200
+SELECTED = 131
 
 
 @pytest.fixture(scope="session")
@@ -232,6 +245,70 @@ def test_a_loop_is_a_session_on_its_rows(cars: Path, tmp_path: Path) -> None:
     assert len(set(states)) > 5
 
 
+def scheduled(weekdays: set[int], hour: int, minute: int) -> Plan:
+    """The plan whose schedule selects its pattern on these weekdays alone, up to noon."""
+    plan = crossroads.plan(pattern=True).wide(3)
+    plan["timeBaseScheduleMonth"][1] = range(1, 13)
+    plan["timeBaseScheduleDay"][1] = weekdays
+    plan["timeBaseScheduleDate"] = {(1, 1): range(1, 16), (2, 1): range(16, 32)}
+    plan["timeBaseScheduleDayPlan"] = {1: 1}
+    plan["dayPlanHour"], plan["dayPlanMinute"] = {1: hour, 2: 12}, {1: minute}
+    plan["dayPlanActionNumber"], plan["timebaseAscPattern"] = {1: 1, 2: 2}, {1: 1, 2: 254}
+    return plan
+
+
+BEFORE_SEVEN = "2026-11-30 06:59:30"  # a Monday
+
+
+def test_a_schedule_acts_in_a_loop(cars: Path, tmp_path: Path) -> None:
+    """At its minute, by the clock of tick 1: so it does in the replay of the rows, in their
+    record, and after the way back. A cycle of 110 s with an offset of 44 s is at 76.1 s at
+    7:00:00.1, as 252001 - 440 is 228 cycles and 761 tenths."""
+    plan, log = scheduled({2}, 7, 0), tmp_path / "rows.log"
+    with loop_of(cars, plan, begin=BEFORE_SEVEN) as loop:
+        shown = [loop.step()["C"] for _ in range(1500)]
+        bench, at = loop.benches["C"], loop.intersections[0]
+        events, states, rows = bench.events, loop.states("C"), loop.rows("C")
+        loop.back(1400)
+        loop.run(200)
+        loop.checkpoint()
+        loop.run(1200)
+        loop.back(1200)
+        assert [loop.step()["C"] for _ in range(1200)] == shown[300:]
+        assert (loop.states("C"), bench.events) == (states, events)
+        loop.seek(0)
+        assert bench.time == datetime.fromisoformat(BEFORE_SEVEN)
+    assert [it for it in events if it.code == SELECTED] == [Event(300, SELECTED, 1)]
+    assert [it.local for it in shown[:300]] == [None] * 300
+    assert [it.local for it in shown[300:302]] == [761, 762]
+    plan.write(tmp_path / "plan.json")
+    log_of(rows).write(log)
+    words = ["run", str(tmp_path / "plan.json"), str(log)]
+    done = programs.run("tsb", words, f"clock {BEFORE_SEVEN}\nstep 1500\n".encode())
+    assert done.stdout.decode().splitlines() == ["ok", *(it.line for it in shown)]
+    heads = [at.heads(it) for it in states]
+    assert heads == peers.answers(rows, plan, begin=BEFORE_SEVEN)
+    assert heads != peers.answers(rows, plan)
+    kept = recorded(tmp_path / "plan.json", log_of(rows), "step 1500\n", begin=BEFORE_SEVEN)
+    assert [tuple(it) for it in kept.to_numpy().tolist()] == [tuple(it) for it in events]
+
+
+def test_a_loop_without_a_clock(cars: Path) -> None:
+    """Nothing is selected, and its bench is as one of the plan without a schedule. What is
+    no time of a clock is refused, and leaves no program."""
+    found = []
+    for plan in (scheduled({2}, 7, 0), crossroads.plan(pattern=True)):
+        with loop_of(cars, plan) as loop:
+            loop.run(400)
+            bench = loop.benches["C"]
+            found.append((loop.rows("C"), loop.states("C"), bench.events))
+            assert bench.time is None and bench.given == 0
+    assert found[0] == found[1]
+    for begin in ("7:00", "1999-12-31 23:59:59"):
+        with pytest.raises(OutOfRange):
+            loop_of(cars, begin=begin)
+
+
 def test_trips_are_the_same_after_going_back(cars: Path, tmp_path: Path) -> None:
     def run(name: str, *ways: tuple[str, int]) -> tuple[list[str], list[str], str]:
         trips = tmp_path / f"{name}.xml"
@@ -362,8 +439,13 @@ def test_two_intersections_in_one_loop(tmp_path: Path) -> None:
         )
         + "</routes>"
     )
-    with Loop(net, tmp_path / "routes.xml", at, additional=files, seed=1) as loop:
+    with Loop(
+        net, tmp_path / "routes.xml", at,
+        additional=files, seed=1, begin="2026-11-30 07:00:00",
+    ) as loop:  # fmt: skip
         loop.run(500)
+        times = {it: bench.time for it, bench in loop.benches.items()}
+        assert times == dict.fromkeys(("A0", "B0"), datetime(2026, 11, 30, 7, 0, 50))
         loop.checkpoint()
         loop.run(300)
         told = [(loop.rows(it), loop.states(it)) for it in ("A0", "B0")]
@@ -725,6 +807,118 @@ def test_the_command_runs_a_plan(
     trips = read_trips(tmp_path / "out" / "trips.xml")
     assert len(trips) == len((tmp_path / "out" / "trips.csv").open().readlines()) - 1
     assert summary(trips).loc["car", "ended"] == told["trips"]["car"]["ended"]
+
+
+Called = Callable[..., tuple[int, str, str]]
+
+
+@pytest.fixture
+def called(
+    cars: Path, tmp_path: Path, capsys: pytest.CaptureFixture[str]
+) -> Called:
+    """Runs the command on a plan: its status, and what it prints."""
+
+    def call(plan: Plan, *words: str) -> tuple[int, str, str]:
+        plan.write(tmp_path / "plan.json")
+        asked = [str(cars / "net.xml"), str(cars / "routes.xml"), "--plan"]
+        asked += [str(tmp_path / "plan.json"), "--mapping", str(cars / "mapping.json")]
+        asked += ["--additional", str(cars / "detectors.xml"), "--seed", "1"]
+        status = main([*asked, "--out", str(tmp_path / "out"), *words])
+        said = capsys.readouterr()
+        return status, said.out, said.err
+
+    return call
+
+
+def selections(out: Path) -> list[str]:
+    """When each pattern was selected, and its number."""
+    rows = (out / "C.events.csv").read_text().splitlines()
+    return [it.removeprefix("C,") for it in rows if f",{SELECTED}," in it]
+
+
+def shown_again(out: Path, *commands: str) -> list[Display]:
+    """What a bench shows on the log that a run wrote, after these commands."""
+    with Bench(out.parent / "plan.json", out / "C.log") as bench:
+        for it in commands:
+            bench.give(it)
+        return list(bench.step(700))
+
+
+def test_the_command_sets_the_clock(called: Called, tmp_path: Path) -> None:
+    """With `--from`; the schedule then has the last word after its minute."""
+    words = ("--seconds", "70", "--from", "2026-11-30 06:59:10")
+    status, printed, _ = called(scheduled({2}, 7, 0), *words)
+    assert status == 0 and printed.startswith("70 s; of the trips")
+    out = tmp_path / "out"
+    assert selections(out) == ["2026-11-30 06:59:59.9,131,1"]
+    assert json.loads((out / "summary.json").read_text())["from"] == words[-1]
+    local = [it.local for it in shown_again(out, "clock 2026-11-30 06:59:10")]
+    assert local[:500] == [None] * 500 and local[500] == 761
+    # another pattern holds up to the minute
+    plan = scheduled({2}, 7, 0)
+    plan["timebaseAscPattern"][1] = 254
+    assert called(plan, *words, "--pattern", "1")[0] == 0
+    found = ["2026-11-30 06:59:10.0,131,1", "2026-11-30 06:59:59.9,131,254"]
+    assert selections(out) == found
+
+
+def test_a_schedule_needs_no_word(called: Called, tmp_path: Path) -> None:
+    """Without one tick 1 begins at midnight, on a Saturday, which a line says."""
+    out, begin = tmp_path / "out", "2000-01-01 00:00:00"
+    status, printed, _ = called(scheduled({7}, 0, 1), "--seconds", "70")
+    first, second = printed.splitlines()[:2]
+    assert status == 0 and second.startswith("70 s; of the trips")
+    assert first == (
+        f"plan.json has a schedule, and no day is named: tick 1 begins on a Saturday,"
+        f" {begin}; --from names another, --no-clock none"
+    )
+    assert selections(out) == ["2000-01-01 00:00:59.9,131,1"]
+    local = [it.local for it in shown_again(out, f"clock {begin}")]
+    assert local[599:602] == [None, 161, 162]
+    # on Fridays alone there is none
+    assert called(scheduled({6}, 0, 1), "--seconds", "70")[0] == 0
+    assert selections(out) == []
+
+
+@pytest.mark.parametrize("more", [(), ("--from", "1999-11-30 07:00:00", "--no-clock")])
+@pytest.mark.parametrize("pattern", [0, 1])
+def test_a_command_without_a_clock(
+    called: Called, cars: Path, tmp_path: Path, more: tuple[str, ...], pattern: int
+) -> None:
+    """Its files are those of a loop and of a record that have none."""
+    out = tmp_path / "out"
+    plan = scheduled({7}, 0, 0) if more else crossroads.plan(pattern=True)
+    words = ["--seconds", "70", *more, "--pattern", str(pattern)]
+    status, printed, _ = called(plan, *words)
+    assert status == 0 and printed.startswith("70 s; of the trips")
+    assert "from" not in json.loads((out / "summary.json").read_text())
+    asked = ["record", "--no-clock", f"--from={more[1] if more else '2000-01-01 00:00:00'}"]
+    asked += ["--device=C", str(tmp_path / "plan.json"), str(out / "C.log")]
+    commands = f"pattern {pattern}\n" * bool(pattern) + "step 700\n"
+    wanted = programs.run("tsb_field", asked, commands.encode()).stdout
+    assert (out / "C.events.csv").read_bytes() == wanted
+    with loop_of(cars, plan) as loop:
+        if pattern:
+            loop.benches["C"].set_pattern(pattern)
+        loop.run(700)
+        assert log_of(loop.rows("C")).text == (out / "C.log").read_text()
+
+
+@pytest.mark.parametrize(
+    "begin, fault",
+    [
+        ("7:00", "--from: '7:00' is no time as 2026-11-22 07:00:00"),
+        ("1999-11-30 07:00", "years 2000 to 2099; with --no-clock any time will do"),
+        ("2026-11-30 07:00:00.05", "'2026-11-30 07:00:00.05' is no time of the clock"),
+    ],
+)
+def test_a_time_that_no_clock_has(
+    called: Called, tmp_path: Path, begin: str, fault: str
+) -> None:
+    """It is refused before SUMO begins."""
+    status, printed, said = called(crossroads.plan(), "--from", begin)
+    assert (status, printed) == (1, "") and fault in said and said.count("\n") == 1
+    assert not (tmp_path / "out").exists()
 
 
 def test_a_run_that_is_stopped(cars: Path, tmp_path: Path) -> None:

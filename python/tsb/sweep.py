@@ -30,6 +30,7 @@ from tsb.options import Words, called
 from tsb.processes import RETRIES, Processes, local
 from tsb.progress import progress
 from tsb.tasks import (
+    MIDNIGHT,
     TRIPS,
     AnyPath,
     Day,
@@ -65,7 +66,7 @@ def sweep(
     client: Any = None,
     *,
     out: AnyPath | None = None,
-    begin: str = "00:00:00",
+    begin: str | None = None,
     seconds: int = 86400,
     device: str | None = None,
     pattern: int = 0,
@@ -77,8 +78,9 @@ def sweep(
     measures.
 
     `logs` are files of days or of inputs, and `begin`, `seconds`, `device`, `pattern`,
-    `no_clock` what `Day` says of them. The table has the columns `plan`, `day`, `measure` and
-    those of the measures, empty where a measure has no such column. `client` is Dask's,
+    `no_clock` what `Day` and `Seed` say of them; a day begins at midnight without a
+    `begin`. The table has the columns `plan`, `day`, `measure` and those of the
+    measures, empty where a measure has no such column. `client` is Dask's,
     or what `local` gives; without one, processes of this machine do the runs. Results
     are kept in the folder `out`, and taken from there. Files are read and written by
     the workers, so those of other machines have to see them under the same names.
@@ -106,7 +108,7 @@ def tasks_of(
     plans: Iterable[AnyPath],
     logs: Iterable[AnyPath],
     *,
-    begin: str,
+    begin: str | None,
     seconds: int,
     device: str | None,
     pattern: int,
@@ -117,13 +119,13 @@ def tasks_of(
     """The runs of a sweep."""
     files = [_path(it) for it in plans]
     tasks: list[Task] = [
-        Day(plan, _path(log), begin, seconds, device, pattern, no_clock)
+        Day(plan, _path(log), begin or MIDNIGHT, seconds, device, pattern, no_clock)
         for plan, log in itertools.product(files, list(logs))
     ]
     if traffic is not None:
         whole = _whole(traffic)
         tasks += [
-            Seed(plan, whole, seed, seconds, pattern)
+            Seed(plan, whole, seed, seconds, pattern, begin, no_clock)
             for plan, seed in itertools.product(files, list(seeds))
         ]
     return tasks
@@ -343,9 +345,7 @@ def _words() -> argparse.ArgumentParser:
     )
     words.add_argument("--out", type=Path, required=True, metavar="FOLDER")
     words.add_argument("--measure", action="append", choices=[*MEASURES, TRIPS])
-    words.add_argument(
-        "--begin", default="00:00:00", help="when tick 1 begins; the clock is set to it"
-    )
+    words.add_argument("--begin", help="when tick 1 begins; the clock is set to it")
     words.add_argument(
         "--no-clock", action="store_true", help="offsets count from tick 0, not midnight"
     )

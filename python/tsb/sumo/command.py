@@ -7,9 +7,12 @@ from collections.abc import Sequence
 from pathlib import Path
 from typing import Any
 
-from tsb.errors import Error, shown
+from tsb.clock import words as clock_words
+from tsb.errors import Error, OutOfRange, shown
 from tsb.files import word
+from tsb.frames import moment, spelled
 from tsb.options import Words, called
+from tsb.plan import Plan
 from tsb.programs import run
 from tsb.progress import progress
 from tsb.rows import Log
@@ -21,11 +24,11 @@ from tsb.sumo.mapping import Mapping
 from tsb.sumo.nema import read_nema
 from tsb.sumo.propose import propose, zones
 from tsb.sumo.trips import read_trips, summary
+from tsb.tasks import POWER_UP, weekday_told
 
 PROGRAM = called("sumo")
 OTHERS = ("propose", "nema", "example")  # commands beside a run
 SOME = 100  # ticks, after which it is asked whether trips are left
-FROM = "2000-01-01 00:00:00"  # of the events, where no other time is given
 
 
 def main(words: Sequence[str]) -> int:
@@ -62,6 +65,7 @@ def _run(words: Sequence[str]) -> int:
     ]
     for it in at:
         _file(out, it.tls, ".log")
+    clock = _clock(given)
     out.mkdir(parents=True, exist_ok=True)
     with Loop(
         given.net, given.routes.split(","), at,
@@ -70,6 +74,7 @@ def _run(words: Sequence[str]) -> int:
         trips=out / "trips.xml",
         program="sumo-gui" if given.gui else "sumo",
         api=given.api,
+        begin=clock,
     ) as loop:  # fmt: skip
         if given.pattern:
             for bench in loop.benches.values():
@@ -77,9 +82,32 @@ def _run(words: Sequence[str]) -> int:
         ticks = _ticks(loop, 10 * given.seconds)
         logs = {it.tls: log_of(loop.rows(it.tls)) for it in at}
     for it, plan in zip(at, given.plan, strict=True):
-        _events(out, it.tls, plan, logs[it.tls], given.pattern, ticks, given.begin)
-    _summary(out, given, ticks)
+        _events(given, it.tls, plan, logs[it.tls], ticks, clock)
+    _summary(given, ticks, clock)
     return 0
+
+
+def _start(given: argparse.Namespace) -> str:
+    """The time at which tick 1 begins."""
+    return spelled(moment(POWER_UP if given.begin is None else given.begin, "--from"))
+
+
+def _clock(given: argparse.Namespace) -> str | None:
+    """The time to which the clocks of the benches are set, if they are: where one is
+    named, or where a plan has a schedule."""
+    start = _start(given)
+    if given.no_clock:
+        return None
+    if given.begin is None:
+        of = next((it for it in given.plan if Plan.read(it).has_schedule), None)
+        if of is None:
+            return None
+        print(f"{weekday_told(of, start)}; --from names another, --no-clock none")
+    try:
+        clock_words(start, dated=True)
+    except OutOfRange as fault:
+        raise Error(f"--from: {fault}; with --no-clock any time will do") from None
+    return start
 
 
 def _words() -> Words:
@@ -98,7 +126,13 @@ def _words() -> Words:
     words.add_argument("--seed", type=int)
     words.add_argument("--pattern", type=int, default=0)
     words.add_argument("--out", type=Path, default=Path("sumo_out"), metavar="FOLDER")
-    words.add_argument("--from", dest="begin", default=FROM, metavar="TIME")
+    words.add_argument(
+        "--from", dest="begin", metavar="TIME",
+        help="when tick 1 begins; the clocks of the benches are set to it",
+    )  # fmt: skip
+    words.add_argument(
+        "--no-clock", action="store_true", help="offsets count from tick 0, not midnight"
+    )
     words.add_argument("--api", choices=["libsumo", "traci"])
     words.add_argument("--gui", action="store_true", help="show it in sumo-gui")
     return words
@@ -122,21 +156,26 @@ def log_of(rows: list[str]) -> Log:
 
 
 def _events(
-    out: Path, tls: str, plan: str, log: Log, pattern: int, ticks: int, begin: str
+    given: argparse.Namespace,
+    tls: str,
+    plan: str,
+    log: Log,
+    ticks: int,
+    clock: str | None,
 ) -> None:
     """Writes the log of an intersection, and the events of a run on it."""
-    path = _file(out, tls, ".log")
+    path = _file(given.out, tls, ".log")
     log.write(path)
-    commands = f"pattern {pattern}\n" if pattern else ""
-    # (the benches of a loop have no clock)
-    words = ["record", "--no-clock", f"--from={begin}", f"--device={tls}"]
-    words += [word(plan), word(path)]
+    commands = f"pattern {given.pattern}\n" if given.pattern else ""
+    words = ["record", f"--from={_start(given)}", f"--device={tls}", word(plan)]
+    words += [word(path), *["--no-clock"] * (clock is None)]
     done = run("tsb_field", words, f"{commands}step {ticks}\n".encode())
-    _file(out, tls, ".events.csv").write_bytes(done.stdout)
+    _file(given.out, tls, ".events.csv").write_bytes(done.stdout)
 
 
-def _summary(out: Path, given: argparse.Namespace, ticks: int) -> None:
+def _summary(given: argparse.Namespace, ticks: int, clock: str | None) -> None:
     """Writes trips and summary, and shows the summary."""
+    out: Path = given.out
     trips = read_trips(out / "trips.xml")
     trips.to_csv(out / "trips.csv", index=False)
     table = summary(trips)
@@ -147,6 +186,7 @@ def _summary(out: Path, given: argparse.Namespace, ticks: int) -> None:
         "pattern": given.pattern,
         "seed": given.seed,
         "seconds": ticks / 10,
+        **({} if clock is None else {"from": clock}),
         "trips": table.to_dict(orient="index"),
     }
     (out / "summary.json").write_text(json.dumps(told, indent=1) + "\n")

@@ -2,6 +2,7 @@
 react to the cars, a tenth of a second at a time."""
 
 from collections.abc import Callable, Iterable, Sequence
+from datetime import datetime
 from importlib.util import find_spec
 from os import PathLike, fspath
 from types import TracebackType
@@ -43,6 +44,10 @@ class Loop:
     tick: it is given the tick, the traffic light and the row that was read, and gives
     the row that the bench takes. A step is a tenth of a second.
 
+    `begin` is the time at which tick 1 begins, to which the clocks of all benches are
+    set: offsets count from its midnight, and schedules act. Without it no bench has a
+    clock. SUMO's own time is none of it, and begins where `options` have it begin.
+
     Tick k + 1 of a bench takes the row that was read after k steps, and step k + 1
     shows what it answers.
     """
@@ -60,6 +65,7 @@ class Loop:
         program: str = "sumo",
         options: Sequence[str] = (),
         change: Change | None = None,
+        begin: datetime | str | None = None,
     ) -> None:
         if isinstance(intersections, Intersection):
             intersections = [intersections]
@@ -74,6 +80,7 @@ class Loop:
         if api is None:
             api = "libsumo" if find_spec("libsumo") else "traci"
         self._api, self._program, self._change = api, program, change
+        self._begin = begin
         #: The bench of each traffic light that has one.
         self.benches: dict[str, Bench] = {}
         self._open()
@@ -81,8 +88,11 @@ class Loop:
     def _open(self) -> None:
         try:
             for it in self.intersections:
-                if it.plan is not None:
-                    self.benches[it.tls] = Bench(it.plan)
+                if it.plan is None:
+                    continue
+                bench = self.benches[it.tls] = Bench(it.plan)
+                if self._begin is not None:
+                    bench.set_clock(self._begin)
             self._simulation = self._started()
         except BaseException:
             for bench in self.benches.values():

@@ -8,6 +8,7 @@ Heads are texts of a letter for each of phases 1 to 8, one for each tick, as
 from collections import Counter
 from collections.abc import Iterator, Sequence
 from dataclasses import dataclass, replace
+from datetime import datetime
 from itertools import groupby
 
 from tsb.bench import Bench
@@ -52,9 +53,17 @@ def longest_without(heads: Sequence[str], phases: Sequence[int]) -> int:
     return max((len(list(of)) for is_dark, of in groupby(dark) if is_dark), default=0)
 
 
-def answers(rows: Sequence[str], plan: Plan, pattern: int = 0) -> list[str]:
-    """The heads of a bench that is given these rows, which react to nothing."""
+def answers(
+    rows: Sequence[str],
+    plan: Plan,
+    pattern: int = 0,
+    begin: datetime | str | None = None,
+) -> list[str]:
+    """The heads of a bench that is given these rows, which react to nothing. Its clock
+    is set to `begin`, the time at which tick 1 begins; without one it has none."""
     with Bench(plan, events=False) as bench:
+        if begin is not None:
+            bench.set_clock(begin)
         if pattern:
             bench.set_pattern(pattern)
         whole = [it + ALL_OFF[len(it) :] for it in rows]
