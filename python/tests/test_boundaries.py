@@ -383,7 +383,7 @@ def test_an_export_from_a_start_on() -> None:
     assert list(every.index) == [0, 1, 2, 3]
     with pytest.raises(Error, match="rows of 2 devices: name one"):
         frames.events_of_export(export, START)
-    with pytest.warns(UserWarning, match="rows of 2 devices are taken as one"):
+    with pytest.raises(Error, match="devices: 2 in these rows: .*: name one"):
         frames.log_of_export(export, START, allow_empty=True)
     assert rows(frames.events_of_export(export, START, "8")) == [(2, 4, 1)]
     assert rows(frames.events_of_export(export, START, "9")) == []

@@ -17,15 +17,24 @@ READ = """a01 a02 a05 a06 a07 a08 a09 a10 a11 a12 a13 a14 a15 a16 a17 a18 a20 a2
 RANDOM = 60
 
 
-def logs_of(path: Path) -> tuple[Log | None, Log | None]:
+def logs_of(path: Path, device: str | None = None) -> tuple[Log | None, Log | None]:
     """The logs of a file: by the program alone, and by a table; None where refused."""
     found: list[Log | None] = []
     for read in (lambda it: it, frames.read_export):
         try:
-            found.append(frames.log_of_export(read(path), START, allow_empty=True))
+            log = frames.log_of_export(read(path), START, device, allow_empty=True)
+            found.append(log)
         except Error:
             found.append(None)
     return found[0], found[1]
+
+
+def first_device(path: Path) -> str | None:
+    """The device of a file's first row, if it is read and has one."""
+    try:
+        return next(iter(frames.read_export(path)["device"]), None)
+    except Error:
+        return None
 
 
 @pytest.mark.filterwarnings("ignore:left out", "ignore:times: ")
@@ -51,7 +60,7 @@ def test_exports_at_random(
     path, both = tmp_path / "export.csv", 0
     for number in range(RANDOM):
         path.write_bytes(export_of(random.Random(f"export {number}")))
-        program, table = logs_of(path)
+        program, table = logs_of(path, first_device(path))
         assert program is None or table == program, number
         both += program is not None
     assert both > RANDOM / 3

@@ -146,9 +146,6 @@ def test_what_is_left_out_is_told() -> None:
         assert {it.filename for it in warned} == {__file__} and len(found) == 1
     two = frames.export_of_table(table.iloc[:1].assign(Time="2026-11-22 07:00:03"))
     two = pd.concat([two.assign(device="7", code=82), two.assign(device="8")])
-    with pytest.warns(UserWarning, match="^rows of 2 devices are taken as one$") as warned:
-        frames.log_of_export(two, START)
-    assert [it.filename for it in warned] == [__file__]
     with pytest.warns(UserWarning, match="^left out: 1 rows of other devices") as warned:
         frames.log_of_export(two, START, "7")
     assert [it.filename for it in warned] == [__file__]
@@ -282,13 +279,14 @@ def test_words_that_lead_nowhere(tmp_path: Path) -> None:
 
 
 def test_a_file_of_several_devices(tmp_path: Path) -> None:
-    """A warning says that they are taken as one, of a file as of a table. There is none
-    for one device, or for a file without devices."""
+    """They are refused by their names, in a file as in a table. One device is not, and
+    neither is a file without devices."""
     path = tmp_path / "e.csv"
     text = "SignalID,Timestamp,EventCode,EventParam\n7,2026-11-22 07:00:00,82,4\n"
     path.write_text(f"{text}8,2026-11-22 07:00:01,81,4\n")
-    with pytest.warns(UserWarning, match="^rows of 2 devices are taken as one$"):
-        assert frames.log_of_export(path, START).ticks == (1, 11)
+    for export in (path, frames.read_export(path)):
+        with pytest.raises(Error, match='^devices: 2 in these rows: "7" "8": name one$'):
+            frames.log_of_export(export, START)
     path.write_text("Time,Code,Param\n2026-11-22 07:00:00,82,4\n")
     with warnings.catch_warnings():
         warnings.simplefilter("error")

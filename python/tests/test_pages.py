@@ -259,7 +259,7 @@ def test_help_names_what_the_page_does(name: str, room: Path) -> None:
 
 
 @pytest.mark.parametrize(
-    "words", ["tsb_live", *(f"tsb_field {it}" for it in [*HELPED, "review"])]
+    "words", ["tsb_live", *(f"tsb_field {it}" for it in [*HELPED, "review", "worksheet"])]
 )
 def test_examples_of_help(words: str, room: Path) -> None:
     """Each page of help ends with an example that can be typed."""

@@ -749,19 +749,26 @@ def test_what_each_did_in_the_first_tick() -> None:
     assert (found.ticks, found.cause) == (2, "later")
 
 
+@pytest.mark.parametrize("begin", [None, "2026-11-30 07:00:00"])
 @pytest.mark.parametrize("pattern", [0, 1])
-def test_answers_are_those_of_a_bench(pattern: int) -> None:
-    """By the first eight inputs; what is beside them is off."""
+def test_answers_are_those_of_a_bench(pattern: int, begin: str | None) -> None:
+    """By the first eight inputs; what is beside them is off. With a begin it has a clock."""
     plan = crossroads.plan(pattern=True)
     rows = ["0001000000"] * 400 + ["1000000000"] * 900
     with Bench(plan) as bench:
+        if begin is not None:
+            bench.set_clock(begin)
         if pattern:
             bench.set_pattern(pattern)
         shown = bench.ticks(it + ALL_OFF[10:] for it in rows)
         wanted = [it.vehicles[:8] for it in shown]
-    assert peers.answers(rows, plan, pattern) == wanted
+    assert peers.answers(rows, plan, pattern, begin) == wanted
     if not pattern:
         assert peers.answers(rows, plan) == wanted
+    elif begin is None:
+        assert peers.answers(rows, plan, 1) == wanted
+    else:
+        assert peers.answers(rows, plan, 1) != wanted
     assert (peers.answers(rows, plan, 1 - pattern) != wanted) and len(wanted[0]) == 8
 
 

@@ -222,13 +222,19 @@ def test_numbers_of_tables_are_values() -> None:
         ("spliTtime", "splitTime"),
         ("Walk", None),
         ("overlapAcrossRing", None),  # (an object of another version)
+        ("overlapAcrossRings", 3),
+        ("notes", 3),
     ],
 )
-def test_an_object_that_is_misspelt(name: str, meant: str | None, tmp_path: Path) -> None:
-    """The nearest right name is given, by the package and for a file too."""
+def test_an_object_that_is_misspelt(
+    name: str, meant: str | int | None, tmp_path: Path
+) -> None:
+    """The nearest right name is given, by the package and for a file too; of a name that
+    only later texts have, their version."""
     with pytest.raises(tsb.NoSuchObject) as told:
         Plan()[name]
     question = f": did you mean {meant}?" if meant else f"has no object {name}"
+    question = f": texts have it from version {meant} on" if meant == 3 else question
     assert str(told.value).endswith(question)
     path = tmp_path / "p.json"
     path.write_text(json.dumps({"version": 2, name: {}}))

@@ -33,6 +33,8 @@ def test_the_worst_moment_of_a_train(
     with Bench(path, examples / "railroad.log", events=False) as bench:
         found = tries(bench, 1, frozenset({4, 7}), 900, WITHIN)
     assert found.worst == (longest, at) and not found.in_service
+    entry = Plan.read(path).worksheet().entries[1]
+    assert longest <= entry.delay + entry.longest == (122 if option else 171)
     assert found.waits[171] == (59 if option else 163)
     assert sorted(found.waits) == list(range(1, 901))
 
@@ -63,6 +65,7 @@ delay                       0.0 s
 conflicting vehicle        10.8 s  phase 2: green 5.0, yellow 4.3, red clearance 1.5
 conflicting pedestrian     11.8 s  phase 2: walk 0.0, clearance 6.0, yellow 4.3, red clearance 1.5
 sum by hand                11.8 s  delay and the longer one
+proved bound               17.1 s  delay 0.0, longest entry 17.1
 worst found                16.3 s  from tick 171
 300 moments tried, 300 with the green
 the worst found is longer than the sum by hand: see preemptChoosesAnew, docs/use/MANUAL.md
@@ -79,7 +82,7 @@ def test_moments_in_service_and_moments_without_a_green(
     assert main(["preempt", *files, "--within", "1"]) == 1
     told = capsys.readouterr().out.splitlines()[-4:]
     assert told == [
-        "sum by hand                11.8 s  delay and the longer one",
+        "proved bound               17.1 s  delay 0.0, longest entry 17.1",
         "100 moments tried, 0 with the green",
         "not within 1 s: 100 moments, as tick 1",
         "left out, as a preempt was in service: 11 moments, as tick 101",
@@ -98,13 +101,15 @@ def test_a_pattern_and_a_delay(
     assert told[0].endswith("preempt 1: the wait for the green of dwell phases 4 and 7")
     assert told[1] == "delay                       1.0 s"
     assert told[4] == "sum by hand                18.5 s  delay and the longer one"
+    bound = "proved bound               18.9 s  delay 1.0, longest entry 17.9"
+    assert told[5] == bound
     with Bench(files[0], files[1], events=False) as bench:
         bench.set_pattern(1)
         found = tries(bench, 1, frozenset({4, 7}), 100, WITHIN)
     assert found.worst is not None
     wait, at = found.worst
     said = f"worst found             {wait // 10:>5}.{wait % 10} s  from tick {at}"
-    assert told[5] == said
+    assert told[6] == said and wait <= 189
 
 
 def test_seconds_within_which_a_green_has_to_come(
@@ -160,7 +165,7 @@ def test_rows_of_a_plan_without_conflicts() -> None:
     plan["phaseEnabled"] = {1: 1, 8: 1}
     plan["preemptDwellPhase"][1] = {1, 8}
     plan["preemptDelay"][1] = 2
-    first, *others = rows(plan, 1, Tries({77: 20}, []), WITHIN)
+    first, *others = rows(plan, 1, Tries({77: 20}, []), WITHIN, None)
     assert first.endswith("preempt 1: the wait for the green of dwell phases 1 and 8")
     assert others == [
         "delay                       2.0 s",
@@ -171,7 +176,7 @@ def test_rows_of_a_plan_without_conflicts() -> None:
     assert preempt.WITHIN == 600
     # a tenth longer, in a plan that has the option already
     plan["preemptChoosesAnew"][1] = 1
-    *_, last = rows(plan, 1, Tries({77: 21}, []), WITHIN)
+    *_, last = rows(plan, 1, Tries({77: 21}, []), WITHIN, None)
     assert last == "the worst found is longer than the sum by hand"
 
 
@@ -231,3 +236,29 @@ def test_rows_of_the_log_act_in_each_try(examples: Path, tmp_path: Path) -> None
         with Bench(examples / "railroad.json", log, events=False) as bench:
             found = tries(bench, 1, frozenset({4, 7}), at, WITHIN)
         assert found.waits[at] == whole.waits[at]
+
+
+DEPOT = Path(__file__).parent / "data" / "depot.json"
+
+
+@pytest.mark.parametrize(
+    ("name", "number", "log", "pattern"),
+    [
+        ("quad", 1, "hour_of_traffic", 0), ("quad", 2, "hour_of_traffic", 1),
+        ("main_and_oak", 1, "main_and_oak", 0), (DEPOT, 2, "main_and_oak", 0),
+    ],
+)  # fmt: skip
+def test_no_moment_is_worse_than_what_is_proved(
+    examples: Path, name: str | Path, number: int, log: str, pattern: int
+) -> None:
+    """Plans with times of pedestrians, with a delay, in a pattern and in free operation.
+    Tries count from the input on, so the delay is part of them."""
+    plan = Plan.read(name if isinstance(name, Path) else examples / f"{name}.json")
+    _, phases = first_stage(plan, number)
+    with Bench(plan, examples / f"{log}.log", events=False) as bench:
+        if pattern:
+            bench.set_pattern(pattern)
+        found = tries(bench, number, phases, 300, 600)
+    entry = plan.worksheet().entries[number]
+    assert found.worst is not None and None not in found.waits.values()
+    assert entry.delay < found.worst[0] <= entry.delay + entry.longest

@@ -324,6 +324,98 @@ def test_a_run_of_traffic(traffic: Traffic, tmp_path: Path, pattern: int) -> Non
     assert list(alone) == ["terminations"]
 
 
+def with_schedule(path: Path, weekdays: set[int], hour: int) -> Path:
+    """The same plan with a schedule: on these weekdays its pattern 1 from an hour on, and
+    free operation from 12:00 on, which lasts over the other days."""
+    plan = Plan.read(path).wide(3)
+    plan["timeBaseScheduleMonth"][1] = range(1, 13)
+    plan["timeBaseScheduleDay"][1] = weekdays
+    plan["timeBaseScheduleDate"] = {(1, 1): range(1, 16), (2, 1): range(16, 32)}
+    plan["timeBaseScheduleDayPlan"] = {1: 1}
+    plan["dayPlanHour"] = {1: hour, 2: 12}
+    plan["dayPlanActionNumber"], plan["timebaseAscPattern"] = {1: 1, 2: 2}, {1: 1, 2: 254}
+    scheduled = path.with_name("scheduled.json")
+    plan.write(scheduled)
+    return scheduled
+
+
+def selected(events: pd.DataFrame, plan: Plan) -> pd.DataFrame:
+    """A measure: the patterns that were selected."""
+    return events[events["code"] == 131]
+
+
+SATURDAY = "scheduled.json has a schedule, and no day is named: tick 1 begins on a Saturday,"
+FRIDAYS, ALL_DAYS = {6}, set(range(1, 8))
+
+
+@pytest.mark.parametrize(
+    "weekdays, hour, more, patterns, notes",
+    [
+        (ALL_DAYS, 0, {}, 1, (f"{SATURDAY} 2000-01-01 00:00:00",)),
+        (FRIDAYS, 0, {}, 0, (f"{SATURDAY} 2000-01-01 00:00:00",)),
+        (ALL_DAYS, 7, {"begin": "07:00"}, 1, (f"{SATURDAY} 2000-01-01 07:00:00",)),
+        (ALL_DAYS, 7, {"begin": "2026-11-30 07:00:00"}, 1, ()),
+        (ALL_DAYS, 7, {"begin": "2026-11-30 06:00:00"}, 0, ()),
+        (FRIDAYS, 7, {"begin": "2026-11-27 06:59:59"}, 1, ()),
+        (ALL_DAYS, 0, {"no_clock": True}, 0, ()),
+        (ALL_DAYS, 7, {"begin": "2026-11-30 07:00:00", "no_clock": True}, 0, ()),
+    ],
+)
+def test_a_schedule_in_traffic(
+    traffic: Traffic,
+    tmp_path: Path,
+    weekdays: set[int],
+    hour: int,
+    more: dict[str, Any],
+    patterns: int,
+    notes: tuple[str, ...],
+) -> None:
+    """It acts with no more words, and by the day that is named. A note says which day it
+    is where none is."""
+    plan = with_schedule(tmp_path / "free.json", weekdays, hour)
+    seed = Seed(str(plan), traffic, 1, 5, 0, **more)
+    assert tried(seed, str(tmp_path), "x", [selected, "trips"]) == (None, notes)
+    kept = pd.read_csv(next(tmp_path.glob("x*.csv")))
+    assert (kept["measure"] == "selected").sum() == patterns
+
+
+def test_the_clock_of_traffic(traffic: Traffic, tmp_path: Path) -> None:
+    """With a begin it is that of the loop and of its record: with an offset of 44 s local zero
+    comes 34 s after 7:00, as 25200 s are 229 cycles of 110 s and 10 s. Without one there
+    is none, and the run is named as it was."""
+    seed = Seed(str(tmp_path / "free.json"), traffic, 1, 45, 1)
+    begun = replace(seed, begin="07:00:00")
+    zeros = []
+    for it in (seed, begun, replace(begun, no_clock=True)):
+        (events,) = dict(it.tables([told])).values()
+        zeros.append(events.query("code == 150 and parameter == 5")["tick"].to_list())
+    assert zeros == [[440], [340], [440]]
+    assert tried(begun, str(tmp_path), "x", ["trips"]) == (None, ())
+    assert seed.asked == [1, 45, 1]
+    names = {key_of(it, []) for it in (seed, begun, replace(seed, no_clock=True))}
+    assert len(names) == 3
+
+
+def test_the_weekday_of_a_log(day: Day, plan: Path, tmp_path: Path) -> None:
+    """A log of inputs that is named by no day has that of power-up, which a note says of
+    a plan with a schedule."""
+    copy = tmp_path / "quad.json"
+    copy.write_bytes(plan.read_bytes())
+    scheduled = with_schedule(copy, {7}, 0)
+    unnamed = tmp_path / "some.log"
+    unnamed.write_bytes(Path(day.source).read_bytes())
+    of = replace(day, plan=str(scheduled), source=str(unnamed), seconds=5)
+    note = (f"{SATURDAY} 2000-01-01 00:00:00",)
+    sunday = {"begin": "2026-11-22 00:00:00"}
+    for it, found, notes in (
+        (of, 1, note), (replace(of, plan=str(copy)), 0, ()), (replace(of, **sunday), 0, ()),
+        (replace(of, source=day.source), 0, ()), (replace(of, no_clock=True), 0, ()),
+    ):  # fmt: skip
+        assert tried(it, str(tmp_path), "x", [selected, "splits"]) == (None, notes)
+        kept = pd.read_csv(next(tmp_path.glob("x*.csv")))
+        assert (kept["measure"] == "selected").sum() == found
+
+
 # A sweep
 
 
@@ -410,10 +502,18 @@ def test_the_traffic_of_a_sweep(traffic: Traffic, tmp_path: Path) -> None:
     assert [(Path(it.plan).stem, it.name) for it in found] == [
         ("free", "seed1"), ("free", "seed2"), ("other", "seed1"), ("other", "seed2")
     ]  # fmt: skip
+    assert {it.no_clock for it in found} == {False}
+    assert inspect.signature(sweep).parameters["no_clock"].default is False
     whole = found[0].traffic  # type: ignore[union-attr]
     assert whole.routes == str(tmp_path / "{seed}.rou.xml")
     assert whole.additional == str(tmp_path / "detectors.xml")
     assert tasks_of(plans, [], traffic=None, seeds=[1, 2], **asked) == []
+    asked |= {"begin": "07:00", "no_clock": True}
+    clocked = tasks_of(plans, ["x.log"], traffic=traffic, seeds=[1], **asked)
+    assert [(it.begin, it.no_clock) for it in clocked] == [("07:00", True)] * 4
+    asked["begin"] = None
+    unsaid = tasks_of(plans[:1], ["x.log"], traffic=traffic, seeds=[1], **asked)
+    assert [it.begin for it in unsaid] == ["00:00:00", None]
 
 
 ALL = [
@@ -436,7 +536,7 @@ def test_the_words_of_a_sweep(capsys: pytest.CaptureFixture[str]) -> None:
     }  # fmt: skip
     assert vars(_words().parse_args(["a.json", "--out", "o"])) == {
         "plans": ["a.json"], "days": [], "out": Path("o"), "measure": None,
-        "begin": "00:00:00", "seconds": 86400, "device": None, "pattern": 0,
+        "begin": None, "seconds": 86400, "device": None, "pattern": 0,
         "no_clock": False, "sumo": None, "routes": "", "mapping": "", "additional": "", "seeds": [],
         "scheduler": None, "workers": None,
     }  # fmt: skip

@@ -12,6 +12,7 @@ from typing import Any
 import pytest
 import tsb
 from hypothesis import given, settings
+from hypothesis import strategies as st
 from test_diff import called, plans
 from tsb import Plan
 from tsb.__main__ import main
@@ -33,6 +34,59 @@ def test_out_and_in_is_the_plan(plan: Plan) -> None:
     assert is_sheet(text) and plan_of(text) == plan
     for saved in (quoted(text), with_semicolons(text)):
         assert is_sheet(saved) and plan_of(saved) == plan
+
+
+@settings(max_examples=60, deadline=None)
+@given(
+    st.dictionaries(st.sampled_from(["site", "phaseWalk.2", "unitMax2.1"]), st.text()),
+    st.booleans(),
+)
+def test_notes_are_kept(notes: dict[str, str], is_more: bool) -> None:
+    """They are the last rows, and keep their spaces and ends of lines. A table may come
+    after them. A spreadsheet computes no cell of a note."""
+    plan = Plan(3)
+    plan["phaseWalk"][2] = 7
+    plan.notes = notes
+    text = text_of(plan)
+    more = "Unit,of,unit,1\nunitMax2,,,1\n" if is_more else ""
+    found = plan_of(text.replace("unitMax2,,yes or no,\n", "") + more if more else text)
+    assert found.notes == notes and found["phaseWalk"][2] == 7
+    assert found["unitMax2"][1] == is_more
+    rows = csv.reader(io.StringIO(text, newline=""))
+    assert not any(cell[:1] in {"=", "+", "-", "@"} for row in rows for cell in row)
+
+
+def test_notes_that_are_wrong() -> None:
+    """An earlier version has none, and a name has one."""
+    with pytest.raises(tsb.Error, match=r"^cell A\d+: version 2 has no notes$"):
+        plan_of(text_of(Plan(2)) + "\nNotes\nsite,x\n")
+    with pytest.raises(tsb.Error, match=r"^cell A\d+: site has a note already$"):
+        plan_of(text_of(Plan(3)) + "\nNotes\nsite,x\nsite,y\n")
+
+
+def test_a_schedule_and_notes(examples: Path, tmp_path: Path) -> None:
+    """Days have their names and events their times; a note is a text, and no markup."""
+    plan, path = Plan.read(examples / "schedule.json"), tmp_path / "sheet.html"
+    plan.notes = {"site": "by <b> the school", "phaseWalk.2": "slow"}
+    plan["timeBaseScheduleMonth"][4] = {1, 2, 11}
+    plan["timeBaseScheduleDate"][1, 4] = {1, 2, 3, 9}
+    plan["timeBaseScheduleDate"][2, 4] = {16, 17}
+    plan["timeBaseScheduleDay"][4] = {1, 7}
+    plan["timeBaseScheduleDayPlan"][4] = 2
+    plan.write(tmp_path / "plan.json")
+    assert main(["sheet", str(tmp_path / "plan.json"), "--out", str(path)]) == 0
+    found = Tables(path.read_text())
+    days = [it for it in found.rows if len(it) == 5 and it[0] in {"1", "2", "3", "4"}]
+    assert days[-4:] == [
+        ["1", "all", "Mon, Tue, Wed, Thu, Fri", "all", "1"],
+        ["2", "all", "Sun, Sat", "all", "2"],
+        ["3", "Dec", "all", "9", "2"],
+        ["4", "Jan, Feb, Nov", "Sun, Sat", "1–3, 9, 16, 17", "2"],
+    ]
+    assert found.row("1, 1") == ["7:00", "1", "pattern 1"]
+    assert found.row("2, 2") == ["18:00", "3", "free operation"]
+    assert found.row("site") == ["by <b> the school"]
+    assert "Schedule" in found.texts["h2"] and "Notes" in found.texts["h2"]
 
 
 def quoted(text: str) -> str:
@@ -303,6 +357,11 @@ def test_advices_and_preempts(
     assert found.row("walk + clearance (s)") == [
         "", "7 + 12", "", "7 + 12", "", "", "", "7 + 12"
     ]  # fmt: skip
+    assert found.row("left of that green (s)") == [
+        "", "10.5", "", "0.9", "", "", "", "0.9"
+    ]  # fmt: skip
+    assert found.row("longest entry, proved (s)") == ["17.9"]
+    assert found.row("delay (s)") == ["1.0"]
 
 
 def test_split_tables_of_no_pattern(

@@ -45,8 +45,9 @@ INPUTS = frozenset(
     "pattern preempt fault reset clock begin set verify commit abort".split()
 )
 
-# The code of an event by which another pattern is selected, the first of its input.
-SELECTED = 131
+# The code of an event by which another pattern is selected, and its parameter for free
+# operation, which a command calls pattern 0.
+SELECTED, FREE = 131, 254
 
 _EVENT = re.compile(rb"event (\d+) (\d+) (\d+)\n")
 
@@ -88,6 +89,7 @@ class Bench:
         self._log = log if log is None or isinstance(log, Log) else Log.read(log)
         self._told: list[Event] = []
         self._marks: list[Mark] = []
+        self._missed = ""  # what a pattern of the schedule was last refused by
         self._talk, self._now = _started(plan), 0
         self._notes = _notes(plan)
         self._hold = Hold(self._talk.kill)
@@ -127,6 +129,9 @@ class Bench:
         if not command.isascii() or "\n" in command:
             raise BadCommand(command)
         *told, answer = self._talk.ask(command).split("\n")
+        # (what is refused comes alone, unless it is a pattern that follows what was taken)
+        is_followed = bool(told) and answer.startswith("refused")
+        self._missed, answer = (answer, told.pop()) if is_followed else ("", answer)
         self._told += [Event(*map(int, it.split(" ")[1:])) for it in told]
         if answer == "bad command":
             raise BadCommand(command)
@@ -140,7 +145,14 @@ class Bench:
         mark = Mark(self._now, len(self._told), command.partition(" ")[0])
         answer = self._ask(command)
         self._marks.append(mark)
+        self._follow_up()
         return answer
+
+    def _follow_up(self) -> None:
+        """Raises what the pattern was refused by that the schedule would have given after
+        the input last asked for, which was taken."""
+        if self._missed:
+            raise Refused(self._missed, "the schedule's pattern", "all before it remains")
 
     def _block(self, lines: str) -> Lines:
         """The display lines that answer many lines, sent ahead of them."""
@@ -191,7 +203,9 @@ class Bench:
                 was if on is None else digits(on, count)
                 for was, (on, count) in zip(row.split(" "), given, strict=True)
             )
-        return self._shown(self._ask(row))
+        shown = self._shown(self._ask(row))
+        self._follow_up()
+        return shown
 
     @whole
     def ticks(self, rows: Iterable[str]) -> Lines:
@@ -280,7 +294,7 @@ class Bench:
             self._now -= 1
             self._forget()
         elif kind == "pattern" and not self._is_given():
-            self._forget_selected()
+            self._forget_scheduled()
         else:
             del self._told[self._marks.pop().events :]
         return kind
@@ -296,14 +310,16 @@ class Bench:
         newest = self._marks[-1] if self._marks else None
         return newest is not None and newest[::2] == (self._now, "pattern")
 
-    def _forget_selected(self) -> None:
-        """Drops the events of a pattern that the schedule gave."""
-        for at in range(len(self._told) - 1, -1, -1):
-            if self._told[at].tick < self._now:
-                return
-            if self._told[at].code == SELECTED:
-                del self._told[at:]
-                return
+    def _forget_scheduled(self) -> None:
+        """Drops the events of a pattern that the schedule gave and that was taken back.
+        No answer says how many it had: it is given again, and taken back again."""
+        if not self._tells:
+            return
+        newest = (it.parameter for it in reversed(self._told) if it.code == SELECTED)
+        before = len(self._told)
+        self._ask(f"pattern {next(newest, FREE) % FREE}")
+        self._ask("undo")
+        del self._told[2 * before - len(self._told) :]
 
     # The clock
 
@@ -443,8 +459,8 @@ class Transaction:
     def __setitem__(self, place: tuple[str, Index], value: Value) -> None:
         name, index = place
         what = object_of(name, NEWEST)
-        number = number_of(what, value)
-        self._say("set", name, index_of(what, index), number)
+        number = number_of(what, value, NEWEST)
+        self._say("set", name, index_of(what, index, NEWEST), number)
 
     def verify(self) -> None:
         """Judges the plan with the edits; `PlanFault` names the rule it breaks."""

@@ -72,7 +72,8 @@ class Refused(Error):
 
     `number` is 1 to 12, `name` as `NoSuchPattern`; `meaning`, `cause` and `cure` are
     the manual's. `command` is what was asked, and `line` the answer. `station` is the
-    station that has the desk, of a refusal E4. Nothing has changed.
+    station that has the desk, of a refusal E4. Nothing has changed. Where memory runs out
+    for a pattern of the schedule, the input that it was to follow remains.
     """
 
     def __init__(self, line: str, command: str, more: str = "") -> None:

@@ -302,7 +302,7 @@ def log_of_export(
     Without an event of an input from the start on it is an error, unless it may be
     empty. Where the events are those of detector outputs, `as_outputs` is the file of
     the session's plan: a warning tells each detector whose delay or extension acts
-    twice. So does one of rows of several devices, where none is named."""
+    twice. Rows of several devices are an `Error` where none is named."""
     words = ["log", f"--from={spelled(moment(start))}"]
     words += ["--allow-empty"] if allow_empty else []
     words += [] if device is None else [f"--device={device}"]
@@ -323,9 +323,10 @@ def log_of_export(
 def _refused(words: list[str], died: ProgramDied) -> str:
     """What `tsb_field log` says of an export, or of these words."""
     if died.status != BAD_WORDS:
-        # (that is a word of the program, and none of Python's commands)
+        # (these are words of the program, and none of Python's commands)
         allowed = " (give --allow-empty where that is right)"
-        return died.stderr.strip().removesuffix(allowed)
+        told = died.stderr.strip().replace(" (name one by --device)", ": name one")
+        return told.removesuffix(allowed)
     return f"{' '.join(words)}: docs/use/FIELD.md has the ranges of these words"
 
 
@@ -340,26 +341,14 @@ def _logged(
 ) -> CompletedProcess[bytes]:
     """The run of `tsb_field log` on an export: on the bytes of a file as they are,
     unless it is Parquet or its rows are not in the order of time."""
-    names_one = any(it.startswith("--device=") for it in words)
     if not isinstance(export, pd.DataFrame):
         if Path(export).suffix != ".parquet":
             try:
-                done = programs.run("tsb_field", words, read(export, LONGEST))
-                if not names_one:
-                    with suppress(Error):  # (the program has read it)
-                        _tell_devices(read_export(export))
-                return done
+                return programs.run("tsb_field", words, read(export, LONGEST))
             except ProgramDied as died:
                 if ": time order: " not in died.stderr:
                     raise
         export = read_export(export)
-    if not names_one:
-        _tell_devices(export)
     ordered = export.sort_values("time", kind="stable")
     return programs.run("tsb_field", words, _csv(ordered))
 
-
-def _tell_devices(export: pd.DataFrame) -> None:
-    """Tells of rows of several devices."""
-    if (several := export["device"].nunique()) > 1:
-        warnings.warn(f"rows of {several} devices are taken as one", stacklevel=4)

@@ -101,6 +101,7 @@ OBJECTS: Mapping[str, Object] = {
 }
 # The version of plan texts that has all objects, as `set` knows them.
 NEWEST: int = max(it.since for it in OBJECTS.values())
+NOTES = "notes"  # the member of texts of the newest version that is no object
 REFUSALS: Mapping[int, Refusal] = {
     int(number): Refusal(number=int(number), **said)
     for number, said in _TOLD["refusals"].items()
@@ -127,8 +128,12 @@ NEAR = 0.8
 
 
 def meant(name: str, version: int | None = None) -> str:
-    """A question for the object that a wrong name may mean, if it is near one that
-    texts of a version have, or of any version."""
+    """The version from which on texts have a name that this version has not; else a
+    question for the object that it may mean, if it is near one that texts of the
+    version have, or of any version."""
+    since = NEWEST if name == NOTES else OBJECTS[name].since if name in OBJECTS else 0
+    if since > (version or 1):
+        return f": texts have it from version {since} on"
     known = {
         it.lower(): it
         for it, what in OBJECTS.items()

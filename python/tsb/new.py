@@ -202,7 +202,8 @@ def _detect(plan: Plan, choice: Choice) -> None:
     plan["pedestrianDetectorCallPhase"] = {it: it for it in choice.throughs}
     plan["phaseNonLock"] = dict.fromkeys(choice.lefts, 1)
     plan["phaseMinRecall"] = dict.fromkeys(choice.main, 1)
-    for side in {side_of(it) for it in choice.throughs}:
+    # (a plan of lefts alone has dual entry for these)
+    for side in {side_of(it) for it in choice.throughs or choice.phases}:
         for phase in choice.last_of(side):
             plan["phaseDualEntry"][phase] = 1
 

@@ -22,7 +22,7 @@ from tsb.errors import (
     shown,
 )
 from tsb.files import up_to
-from tsb.manual import NEWEST, OBJECTS
+from tsb.manual import NEWEST, NOTES, OBJECTS
 from tsb.programs import run
 from tsb.values import (
     Index,
@@ -33,13 +33,14 @@ from tsb.values import (
     phases_of,
     wide_index,
 )
+from tsb.worksheet import Worksheet, worksheet_of
 
 if TYPE_CHECKING:
     from tsb.diff import Change
 
 OK = "plan ok"
 LONGEST = 1 << 20  # bytes of a plan's text
-NOTES = "notes"  # the member that has them, in texts of the newest version
+DAY_PLANS = "timeBaseScheduleDayPlan"  # what an entry of a schedule has that is used
 
 
 class Turn(NamedTuple):
@@ -236,6 +237,11 @@ class Plan:
         """The phases that are enabled."""
         return frozenset(self["phaseEnabled"])
 
+    @property
+    def has_schedule(self) -> bool:
+        """Whether it has an entry of a schedule, which acts by a clock alone."""
+        return any(name == DAY_PLANS for name, _ in self.items())
+
     def sequence(self, number: int, ring: int) -> list[int]:
         """The phases of a ring in the order of a sequence."""
         count = 8 if self.version == 1 else 16
@@ -292,13 +298,23 @@ class Plan:
         says it: a turn at each midnight, and where another action comes into force.
         `PlanFault` is a plan that is refused, `ProgramDied` a day that is none."""
         day = first if isinstance(first, str) else f"{first:%Y-%m-%d}"
+        _, *rows = self._asked_if_checked("schedule", f"--week={day}")
+        return [_turn(it.split()) for it in rows]
+
+    def worksheet(self) -> Worksheet:
+        """The times that follow of the plan, as `tsb_field worksheet` prints them: the
+        longest entry of each preempt, and what used patterns give the phases that they
+        serve. `PlanFault` is a plan that is refused."""
+        return worksheet_of(self._asked_if_checked("worksheet"))
+
+    def _asked_if_checked(self, *words: str) -> list[str]:
+        """The lines that `tsb_field` prints of a plan that `tsb check` takes."""
         try:
-            _, *rows = self._asked("schedule", f"--week={day}")
+            return self._asked(*words)
         except ProgramDied as died:
             if died.stderr.startswith("plan: "):
                 raise PlanFault(died.stderr.strip()) from None
             raise
-        return [_turn(it.split()) for it in rows]
 
     def _asked(self, *words: str, statuses: tuple[int, ...] = (0,)) -> list[str]:
         """The lines that `tsb_field` prints of this plan."""

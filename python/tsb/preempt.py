@@ -2,7 +2,8 @@
 
 Each moment is tried: the bench goes there, switches the preempt on, lets time pass
 until all phases of its first stage are green, and takes all of it back. Beside it comes
-what a worksheet adds up of the plan's values. docs/use/FIELD.md has an example.
+what a worksheet adds up of the plan's values, and the bound that is proved of the bench.
+docs/use/FIELD.md has an example.
 """
 
 import argparse
@@ -18,6 +19,7 @@ from tsb.plan import Plan
 from tsb.programs import marked
 from tsb.progress import progress
 from tsb.rows import PREEMPTS, Log
+from tsb.worksheet import Entry
 
 PROGRAM = called("preempt")
 PIECE = 100  # ticks that pass between two looks at the heads
@@ -137,8 +139,10 @@ def sums(plan: Plan, number: int, phases: frozenset[int]) -> dict[str, Sum]:
     }
 
 
-def rows(plan: Plan, number: int, found: Tries, within: int) -> Iterator[str]:
-    """The lines that are printed."""
+def rows(
+    plan: Plan, number: int, found: Tries, within: int, entry: Entry | None
+) -> Iterator[str]:
+    """The lines that are printed, with an entry that is proved if there is one."""
     stage, phases = first_stage(plan, number)
     named = " and ".join(map(str, sorted(phases)))
     kind = "phase" if len(phases) == 1 else "phases"
@@ -150,6 +154,8 @@ def rows(plan: Plan, number: int, found: Tries, within: int) -> Iterator[str]:
         yield _row(name, it.total, str(it))
     by_hand = delay + max((it.total for it in of.values()), default=0)
     yield _row("sum by hand", by_hand, "delay and the longer one")
+    if entry is not None:
+        yield _row("proved bound", entry.delay + entry.longest, _parts(entry))
     worst = found.worst
     if worst is not None:
         yield _row("worst found", worst[0], f"from tick {worst[1]}")
@@ -170,6 +176,11 @@ def notes(plan: Plan, number: int, found: Tries, within: int) -> Iterator[str]:
     if found.in_service:
         count, first = len(found.in_service), min(found.in_service)
         yield f"left out, as a preempt was in service: {count} moments, as tick {first}"
+
+
+def _parts(entry: Entry) -> str:
+    """The parts of a proved bound."""
+    return f"delay {_seconds(entry.delay)}, longest entry {_seconds(entry.longest)}"
 
 
 def _row(name: str, tenths: int, more: str = "") -> str:
@@ -220,7 +231,8 @@ def main(words: Sequence[str]) -> int:
         if given.pattern:
             bench.set_pattern(given.pattern)
         found = tries(bench, given.number, phases, last, within)
-    for line in rows(plan, given.number, found, within):
+    entry = plan.worksheet().entries.get(given.number)
+    for line in rows(plan, given.number, found, within, entry):
         print(line)
     return 1 if None in found.waits.values() else 0
 

@@ -47,7 +47,8 @@ class Talk:
         return self._process.pid
 
     def ask(self, line: str) -> str:
-        """The answer to a line that has one: its last line, behind lines of events."""
+        """The answer to a line that has one: lines of events, and a last one, or two where
+        a pattern that was to follow is refused. (They come by one write, up to 8 KiB.)"""
         left = memoryview(line.encode() + b"\n")
         self._begin()
         told = b""

@@ -37,6 +37,7 @@ Measure = str | Callable[[pd.DataFrame, Plan], pd.DataFrame]
 Told = tuple[str | None, tuple[str, ...]]
 
 POWER_UP = "2000-01-01 00:00:00"  # when tick 1 begins, where no day says it
+MIDNIGHT = POWER_UP[11:]
 DATE = re.compile(r"\d{4}-\d{2}-\d{2}")
 TRIPS = "trips"  # the measure of trips, which traffic alone has
 
@@ -48,9 +49,9 @@ class Day:
 
     `begin` is the time at which tick 1 begins, to which the clock of the run is set,
     unless it has `no_clock`; without a date, the day is the file's name, as
-    `2026-11-22.csv`, and that of a log of inputs need have none. A log of inputs begins
-    with its tick 1. The run takes `seconds`, in `pattern` (0 is free), on the rows of
-    `device`, or of all.
+    `2026-11-22.csv`. A log of inputs may be named by none, and then has that of
+    power-up, a Saturday. It begins with its tick 1. The run takes `seconds`, in
+    `pattern` (0 is free), on the rows of `device`, or of all.
     """
 
     plan: str
@@ -79,7 +80,11 @@ class Day:
     def tables(self, measures: Sequence[Measure]) -> Iterator[tuple[str, pd.DataFrame]]:
         """The table of each measure."""
         log, begin = self._log(), None if self.no_clock else self._start()
-        return _measured(self.plan, log, self.seconds, self.pattern, measures, begin)
+        yield from _measured(
+            self.plan, log, self.seconds, self.pattern, measures, begin
+        )
+        if begin is not None and not self._day:
+            _warn_of_weekday(self.plan, begin)
 
     @property
     def _is_log(self) -> bool:
@@ -95,14 +100,34 @@ class Day:
             warnings.warn(f"{Path(self.source).name}: {it}", stacklevel=2)
         return log
 
+    @property
+    def _day(self) -> str | None:
+        """The day that is named, by the begin or by the file."""
+        named = DATE.match(self.begin) or DATE.fullmatch(self.name)
+        return None if named is None else named[0]
+
     def _start(self) -> str:
-        start = self.begin
-        if not DATE.match(start):
-            day = self.name if DATE.fullmatch(self.name) else None
-            if day is None and not self._is_log:
-                raise Error(f"{self.source}: name it by its day, or begin with a date")
-            start = f"{day or POWER_UP[:10]} {start}"
-        return str(moment(start, "--begin"))
+        if self._day is None and not self._is_log:
+            raise Error(f"{self.source}: name it by its day, or begin with a date")
+        return _start(self.begin, self._day)
+
+
+def _start(begin: str, day: str | None) -> str:
+    """The moment of a begin, on this day where it has none, or on that of power-up."""
+    dated = begin if DATE.match(begin) else f"{day or POWER_UP[:10]} {begin}"
+    return spelled(moment(dated, "--begin"))
+
+
+def _warn_of_weekday(plan: AnyPath, start: str) -> None:
+    """Says on which weekday a schedule runs, if the plan has one."""
+    if Plan.read(plan).has_schedule:
+        warnings.warn(weekday_told(plan, start), stacklevel=3)
+
+
+def weekday_told(plan: AnyPath, start: str) -> str:
+    """On which weekday the schedule of a plan runs where no day is named."""
+    said = f"{Path(plan).name} has a schedule, and no day is named: tick 1 begins on a"
+    return f"{said} {pd.Timestamp(start).day_name()}, {start}"
 
 
 @lru_cache(maxsize=4)
@@ -143,13 +168,21 @@ class Traffic:
 @dataclass(frozen=True)
 class Seed:
     """A run of a plan on traffic of SUMO with a seed, for so many seconds, in a pattern
-    (0 is free)."""
+    (0 is free).
+
+    `begin` is the time at which tick 1 begins, to which the clock is set; without a
+    date the day is that of power-up, a Saturday. Without it, and with `no_clock`, there
+    is no clock; but a plan with a schedule then begins at midnight, unless it has
+    `no_clock`.
+    """
 
     plan: str
     traffic: Traffic
     seed: int
     seconds: int
     pattern: int
+    begin: str | None = None
+    no_clock: bool = False
 
     def _files(self, names: str) -> list[str]:
         return [it.format(seed=self.seed) for it in names.split(",") if it]
@@ -169,7 +202,14 @@ class Seed:
     @property
     def asked(self) -> list[object]:
         """What is asked beside the files."""
-        return [self.seed, self.seconds, self.pattern]
+        clock = [self.begin, self.no_clock]
+        return [self.seed, self.seconds, self.pattern, *(clock if any(clock) else [])]
+
+    def _clock(self) -> str | None:
+        """The time to which the clock is set, if it is."""
+        if self.no_clock or not (self.begin or Plan.read(self.plan).has_schedule):
+            return None
+        return _start(self.begin or MIDNIGHT, None)
 
     def tables(self, measures: Sequence[Measure]) -> Iterator[tuple[str, pd.DataFrame]]:
         """The table of each measure; `trips` is that of the trips."""
@@ -178,11 +218,15 @@ class Seed:
 
         of = self.traffic
         at = Intersection.of(of.net, None, of.mapping, self.plan)
+        clock = self._clock()
+        if clock is not None and not DATE.match(self.begin or ""):
+            _warn_of_weekday(self.plan, clock)
         with tempfile.TemporaryDirectory() as folder:
             trips = Path(folder) / "trips.xml"
             with Loop(
                 of.net, self._files(of.routes), at,
                 additional=self._files(of.additional), seed=self.seed, trips=trips,
+                begin=clock,
             ) as loop:  # fmt: skip
                 if self.pattern:
                     loop.benches[at.tls].set_pattern(self.pattern)
@@ -192,8 +236,7 @@ class Seed:
                 table = summary(read_trips(trips))
                 yield TRIPS, table.rename_axis("kind").reset_index()
         others = [it for it in measures if it != TRIPS]
-        # (the benches of a loop have no clock)
-        yield from _measured(self.plan, log, self.seconds, self.pattern, others, None)
+        yield from _measured(self.plan, log, self.seconds, self.pattern, others, clock)
 
 
 Task = Day | Seed

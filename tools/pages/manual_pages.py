@@ -28,7 +28,8 @@ PAGES = {
         ("docs/use/MANUAL.md", it) for it in ("2 ", "3 ", "4 ", "5 ", "6 ", "7 ", "9 ")]),
     "tsb_live": Page("live runs of the bench: inputs as they come", ["PLAN"], [("docs/use/LIVE.md", "")]),
     "tsb_field": Page("event logs, phase diagrams and reviews of plans for the bench",
-                      ["log WORD ..", "record WORD .. PLAN LOG", "events WORD ..", "diagram WORD ..", "review PLAN"],
+                      ["log WORD ..", "record WORD .. PLAN LOG", "events WORD ..", "diagram WORD ..", "review PLAN",
+                       "schedule WORD .. PLAN"],
                       [("docs/use/FIELD.md", "`"), ("docs/use/FIELD.md", "Faults"), ("docs/use/REVIEW.md", "")]),
 }
 ITEM = re.compile(r" *(-|\d+\.) (.*)")

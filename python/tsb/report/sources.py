@@ -24,7 +24,7 @@ from tsb.report.runs import (
     with_inputs_of,
 )
 from tsb.rows import Log
-from tsb.tasks import POWER_UP
+from tsb.tasks import POWER_UP, weekday_told
 
 COMMANDS_LONGEST = 16 << 20  # bytes of commands
 # A bench that is compared with a street runs up to so long before.
@@ -40,11 +40,12 @@ def runs_of(given: argparse.Namespace) -> list[Run]:
     log = _inputs(given, rows, lead)
     commands, ticks = _session(given, log, rows)
     start = given.begin or POWER_UP
-    has_clock = given.begin is not None and not given.no_clock
+    has_clock = _has_clock(given)
     # (beside a street, which gives no calls of recalls, the bench gives none)
     session = Session(log, start, commands, ticks, not given.street, has_clock, lead)
     facts = [f"inputs of {(given.log or given.export).name}"]
-    facts += ["its clock set to --from"] * (has_clock and not lead)
+    named = start if given.begin is None else "--from"
+    facts += [f"its clock set to {named}"] * (has_clock and not lead)
 
     def run(plan: Path, pattern: int | None) -> Run:
         name = f"{plan.stem}, pattern {pattern}" if pattern else plan.stem
@@ -59,6 +60,26 @@ def runs_of(given: argparse.Namespace) -> list[Run]:
         street = of_rows(given.export, rows, start, runs[0].ticks, None, "street")
         runs.insert(0, with_inputs_of(street, runs[0]))
     return runs
+
+
+def _has_clock(given: argparse.Namespace) -> bool:
+    """Whether the clocks of the benches are set: where a begin is named, or where a
+    plan has a schedule, which acts by a clock alone."""
+    if given.no_clock or given.begin is not None:
+        return not given.no_clock
+    plans = (it for it in (given.plan_a, given.plan_b) if it is not None)
+    of = next(filter(_has_schedule, plans), None)
+    if of is not None:
+        warnings.warn(weekday_told(of, POWER_UP), stacklevel=3)
+    return of is not None
+
+
+def _has_schedule(path: Path) -> bool:
+    """Whether a plan has a schedule; of one that is refused its run says why."""
+    try:
+        return Plan.read(path).has_schedule
+    except (Error, OSError):
+        return False
 
 
 def _kept(given: argparse.Namespace) -> Iterator[Run]:

@@ -14,12 +14,14 @@ from tsb.patterns import Timing, timings_of
 from tsb.plan import OK, Plan
 from tsb.programs import marked
 from tsb.sheet.drawing import drawing
-from tsb.sheet.tables import Table, index_of, tables, unit_in
+from tsb.sheet.schedule import schedule_of
+from tsb.sheet.tables import SCHEDULE, Table, index_of, tables, unit_in
 from tsb.values import SEQUENCES, phases_of, time_of
+from tsb.worksheet import Worksheet
 
 PHASES, SPLITS, SEQUENCE, PATTERNS = "Phases", "Splits", "Sequences", "Patterns"
 # Tables that have places of their own; all others follow one another.
-IN_PLACES = (PHASES, SPLITS, SEQUENCE, PATTERNS)
+IN_PLACES = (PHASES, SPLITS, SEQUENCE, PATTERNS, *SCHEDULE)
 SAME = "–"  # of a phase and itself
 
 
@@ -62,6 +64,9 @@ def page_of(name: str, text: bytes, plan: Plan, title: str | None) -> str:
         other_splits=_other_splits(by_title[SPLITS], wide),
         intergreens=intergreens(wide),
         others=[it for table in others if (it := grid_of(table, wide)).rows],
+        entries=entries(plan.worksheet()),
+        schedule=schedule_of(wide),
+        notes=Grid("Notes", ["of", "note"], [[*it] for it in plan.notes.items()]),
         advices=plan.review(),
     )
     return found
@@ -157,6 +162,7 @@ def _timings(plan: Plan, timings: Mapping[int, Timing]) -> Iterator[Grid]:
             },
             "green of the split (s)": _tenths(timing.greens),
             "walk + clearance (s)": _pedestrians(plan),
+            "left of that green (s)": _tenths(timing.margins),
             "force-off at (s)": _tenths(timing.force_offs),
             "yield from (s)": _tenths(timing.yields),
             "permissive time (s)": {it: str(permissive) for it in timing.yields},
@@ -171,7 +177,13 @@ def _timings(plan: Plan, timings: Mapping[int, Timing]) -> Iterator[Grid]:
 
 def _tenths(times: Mapping[int, int]) -> dict[int, str]:
     """Times in seconds."""
-    return {it: f"{tenths // 10}.{tenths % 10}" for it, tenths in times.items()}
+    return {it: _seconds(tenths) for it, tenths in times.items()}
+
+
+def _seconds(tenths: int) -> str:
+    """A time in seconds, with a minus where it is below 0."""
+    sign, tenths = "-" if tenths < 0 else "", abs(tenths)
+    return f"{sign}{tenths // 10}.{tenths % 10}"
 
 
 def _mode(plan: Plan, table: int, phase: int) -> str:
@@ -184,6 +196,17 @@ def _pedestrians(plan: Plan) -> dict[int, str]:
     """Walk and clearance of phases that have a walk."""
     walks, clearances = plan["phaseWalk"], plan["phasePedestrianClear"]
     return {it: f"{walks[it]} + {clearances[it]}" for it in walks if it in plan.phases}
+
+
+def entries(worksheet: Worksheet) -> Grid:
+    """The preempts that are ever served, as columns, with their longest entries."""
+    of = worksheet.entries
+    rows = {
+        "delay (s)": {it: entry.delay for it, entry in of.items()},
+        "longest entry, proved (s)": {it: entry.longest for it, entry in of.items()},
+    }
+    shown = [[name, *_tenths(cells).values()] for name, cells in rows.items() if cells]
+    return Grid("Preempts: the longest entry", ["preempt", *map(str, of)], shown)
 
 
 def _other_splits(table: Table, plan: Plan) -> Grid:

@@ -14,6 +14,9 @@ from tsb.values import TENTH, number_of, phases_of, time_of, unit_of
 
 FIRST = "tsb timing sheet"
 OF, UNIT, LEFT = "of", "unit", 3  # cells at the left of the values
+# With these a text begins that a spreadsheet computes; and what is put before them.
+COMPUTED = ("=", "+", "-", "@", "\t", "\r", "'")
+NOTES = "Notes"  # the title of the last table, of rows with a name and its note
 LONGEST = 1 << 20  # characters of a text
 FAULTS_MOST = 20  # faults that are listed
 SIGNS_MOST = 40  # characters of a cell that are shown
@@ -47,7 +50,17 @@ def text_of(plan: Plan) -> str:
             values = plan[what.name]
             cells = [_cell(what, values[index_of(of, it)]) for it in table.columns]
             out.writerow([what.name, table.of(of), unit_in(what), *cells])
+    if plan.notes:
+        out.writerows([[], [NOTES]])
+        # (a return alone parts rows, unless it is between quotes)
+        quoted = csv.writer(text, lineterminator="\n", quoting=csv.QUOTE_ALL)
+        quoted.writerows([name, _kept(note)] for name, note in plan.notes.items())
     return text.getvalue()
+
+
+def _kept(note: str) -> str:
+    """A note as its cell has it: after a quote where a spreadsheet would compute it."""
+    return f"'{note}" if note.startswith(COMPUTED) else note
 
 
 def _cell(what: Object, number: int) -> str:
@@ -74,7 +87,7 @@ def plan_of(text: str) -> Plan:
         raise Error(f"no CSV: {fault}") from None
     reading = _Reading(_version(rows[0]), has_commas=begun[1] != ",")
     for number, cells in enumerate(rows[1:], 2):
-        reading.take(number, [it.strip() for it in cells])
+        reading.take(number, cells)
     if faults := reading.faults:
         more = len(faults) - FAULTS_MOST
         rest = [f"and {more} more"] if more > 0 else []
@@ -108,12 +121,19 @@ class _Reading:
         self._table: Table | None = None
         self._columns: dict[int, int] = {}
         self._known: set[tuple[str, tuple[int, ...]]] = set()
+        self._are_notes = False
 
-    def take(self, row: int, cells: Sequence[str]) -> None:
+    def take(self, row: int, given: Sequence[str]) -> None:
         """Takes a row, whose number is that of a spreadsheet."""
+        cells = [it.strip() for it in given]
         name = cells[0] if cells else ""
         try:
-            if name in self._tables:
+            if self._are_notes and not (name in self._tables and OF in cells[1:2]):
+                self._note(name, given)
+            elif name == NOTES:
+                self._are_notes = True
+            elif name in self._tables:
+                self._are_notes = False
                 self._begin(self._tables[name], row, cells)
             elif name:
                 self._values(row, cells)
@@ -122,6 +142,17 @@ class _Reading:
         except _Fault as fault:
             place, _, said = str(fault).partition(": ")
             self.faults.append(f"cell {place}{row}: {said}")
+
+    def _note(self, name: str, cells: Sequence[str]) -> None:
+        """Takes a note, which keeps its spaces and ends of lines."""
+        if not any(cells):
+            return
+        if self.plan.version != NEWEST:
+            raise _Fault(f"A: version {self.plan.version} has no notes")
+        if name in self.plan.notes:
+            raise _Fault(f"A: {_shown(name)} has a note already")
+        note = cells[1] if len(cells) > 1 else ""
+        self.plan.notes[name] = note.removeprefix("'")
 
     def _begin(self, table: Table, row: int, cells: Sequence[str]) -> None:
         """Begins a table: the row above its values has the number of each column."""

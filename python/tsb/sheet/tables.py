@@ -5,11 +5,16 @@ from dataclasses import dataclass
 from itertools import product
 
 from tsb.manual import OBJECTS, Object
-from tsb.values import SEQUENCE, SPLITS, TENTH, Index, parts_of
+from tsb.values import DATES, EVENTS, SEQUENCE, SPLITS, TENTH, Index, parts_of
 
 #: The titles of tables, by what the index of their objects counts. A table of another
 #: index is called by that.
-TITLES = {"": "Unit", SPLITS: "Splits", SEQUENCE: "Sequences"}
+TITLES = {
+    "": "Unit", SPLITS: "Splits", SEQUENCE: "Sequences", "entry": "Schedule",
+    DATES: "Days of the month", EVENTS: "Day plans",
+}  # fmt: skip
+#: The titles of the tables that are the schedule.
+SCHEDULE = ("Schedule", "Days of the month", "Day plans", "Actions")
 
 
 @dataclass(frozen=True)
