@@ -78,7 +78,7 @@ Ran status plan log files before after =
 
 -- how the built-in plan of two phases was run with an empty log
 abbrev pub RanBuiltIn : ℕ → (before after : Devices) → Type 0
-RanBuiltIn status before after = Talked status (record { plan = two; log = []; acts = true }) before after
+RanBuiltIn status before after = Talked status (record { plan = two; log = []; acts = true; is_wide = false }) before after
 
 -- what was done for what the words ask, where files has the known bytes of each path
 abbrev pub Did : Result Asked WordsError → ℕ → (List ℕ → Option (List ℕ)) → (before after : Devices) → Type 0

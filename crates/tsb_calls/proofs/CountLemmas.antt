@@ -91,12 +91,12 @@ and-whole false = refl
 abbrev pub taken : (ℕ → Bool) → (ℕ → Bool) → (ℕ → Bool) → ℕ → Bool
 taken test all left d = test d && (all d && not (left d))
 
-pub count-taken : (test all left now : ℕ → Bool) (k : ℕ) → 1 ≤ k → k ≤ 16 → all k ≡ true → left k ≡ true → now k ≡ false →
+pub count-taken : (n : ℕ) (test all left now : ℕ → Bool) (k : ℕ) → 1 ≤ k → k ≤ n → all k ≡ true → left k ≡ true → now k ≡ false →
     ((d : ℕ) → d ≢ k → now d ≡ left d) →
-    count_by (taken test all left) (run_from 1 16) + (if test k then 1 else 0) ≡ count_by (taken test all now) (run_from 1 16)
-count-taken test all left now k from within had was gone others =
+    count_by (taken test all left) (run_from 1 n) + (if test k then 1 else 0) ≡ count_by (taken test all now) (run_from 1 n)
+count-taken n test all left now k from within had was gone others =
     let same : one (taken test all now) k ≡ one test k = ap (λ (b : Bool). if b then 1 else 0) last in
-    let e = count-more (taken test all left) (taken test all now) k 1 16 from (omega (arith, within)) before rest in
+    let e = count-more (taken test all left) (taken test all now) k 1 n from (omega (arith, within)) before rest in
     omega (arith, e, same)
   where
     before : taken test all left k ≡ false
@@ -108,10 +108,10 @@ count-taken test all left now k from within had was gone others =
     rest : (d : ℕ) → d ≢ k → taken test all now d ≡ taken test all left d
     rest d other = ap (λ (b : Bool). test d && (all d && not b)) (others d other)
 
-pub count-all : (test all left : ℕ → Bool) → ((d : ℕ) → left d ≡ false) →
-    count_by (taken test all left) (run_from 1 16) ≡ count_by (λ d. test d && all d) (run_from 1 16)
-count-all test all left gone =
-    count-same (taken test all left) (λ d. test d && all d) 1 16 (λ d from below. rw (gone d) (and-always (test d) (all d)))
+pub count-all : (n : ℕ) (test all left : ℕ → Bool) → ((d : ℕ) → left d ≡ false) →
+    count_by (taken test all left) (run_from 1 n) ≡ count_by (λ d. test d && all d) (run_from 1 n)
+count-all n test all left gone =
+    count-same (taken test all left) (λ d. test d && all d) 1 n (λ d from below. rw (gone d) (and-always (test d) (all d)))
 
-pub count-begun : (test all : ℕ → Bool) → count_by (taken test all all) (run_from 1 16) ≡ 0
-count-begun test all = count-none (taken test all all) 1 16 (λ d. and-not (test d) (all d))
+pub count-begun : (n : ℕ) (test all : ℕ → Bool) → count_by (taken test all all) (run_from 1 n) ≡ 0
+count-begun n test all = count-none (taken test all all) 1 n (λ d. and-not (test d) (all d))

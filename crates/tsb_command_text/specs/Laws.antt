@@ -8,18 +8,20 @@ use Rattle.tsb_command_text.specs.declared.command.Command.{Command}
 use Rattle.tsb_command_text.specs.declared.command.Command.TheVariants.{Step}
 use Rattle.tsb_command_text.specs.declared.command.Reading.TheVariants as session
 use Rattle.tsb_log_text.specs.tsb_types.declared.row.Row.{Row}
-use Rattle.tsb_log_text.specs.Rows.{row_of, tick_of}
+use Rattle.tsb_log_text.specs.Forms.{row_in}
+use Rattle.tsb_log_text.specs.Rows.{tick_of}
+use Rattle.tsb_log_text.specs.declared.form.RowForm.{RowForm}
 use Rattle.tsb_command_text.specs.LiveCommands.{live_command_in}
 use Rattle.tsb_command_text.specs.LiveReadings.{live_reading}
 use Rattle.tsb_command_text.specs.declared.live_command.LiveCommand.{LiveCommand}
 use Rattle.tsb_command_text.specs.declared.live_command.LiveCommand.TheVariants.{Session, Changes}
 use Rattle.tsb_command_text.specs.declared.live_command.LiveReading.TheVariants.{Skip, Bad, Tick, Ask}
 
--- a line is a row exactly where it is a row of a log once a tick of 7 digits and a space come before it, and both have
--- the same inputs
+-- a line of at most 200 bytes is a row exactly where it is a row of a log, in one of its forms, once a tick of 7 digits and
+-- a space come before it, and both have the same inputs
 abbrev pub AreRowsOfLogs : Type 0
-AreRowsOfLogs = (digits line : List ℕ) (tick : ℕ) (r : Row) → length digits ≡ 7 → tick_of digits ≡ Some tick →
-    ((live_reading line ≡ Tick r) ↔ (row_of (digits ++ 32 ∷ line) ≡ Some (record { tick = tick; row = r })))
+AreRowsOfLogs = (digits line : List ℕ) (tick : ℕ) (r : Row) → length digits ≡ 7 → tick_of digits ≡ Some tick → length line ≤ 200 →
+    ((live_reading line ≡ Tick r) ↔ ((form : RowForm) × (row_in form (digits ++ 32 ∷ line) ≡ Some (record { tick = tick; row = r }))))
 
 -- a command of `tsb run` is read exactly where it is read there
 abbrev pub AskTheSame : Type 0

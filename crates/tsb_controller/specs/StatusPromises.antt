@@ -198,7 +198,7 @@ TellsPreempt entered rows n result = (now : ℕ) (b : Beside) →
 
 -- of each preempt in turn
 abbrev pub TellsPreempts : Plan → Rows → List PreemptState → Type 0
-TellsPreempts plan rows result = (n : ℕ) → 1 ≤ n → n ≤ 4 → (now : ℕ) (b : Beside) → b.plan ≡ plan →
+TellsPreempts plan rows result = (n : ℕ) → 1 ≤ n → n ≤ PREEMPTS → (now : ℕ) (b : Beside) → b.plan ≡ plan →
     get_or result (n - 1) NotActive ≡ preempt_state (state_of now b rows) (state_of now b rows).preempts.service n
 
 -- ## The pattern that runs

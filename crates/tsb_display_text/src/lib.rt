@@ -2,7 +2,7 @@
 //! local counter.
 //!
 //! The line is the profile's own. `line` gives it as text and `line_bytes` as bytes; neither takes memory, and both
-//! give the same bytes. It is written once a tick, so its letters are found by sets of heads, a colour at a time, and a
+//! give the same bytes. A wide line has a field more, with overlaps 1 to 16. It is written once a tick, so its letters are found by sets of heads, a colour at a time, and a
 //! `LineMaker` takes them from the line before where no head has changed.
 #![tactic(auto)]
 
@@ -11,5 +11,5 @@ mod letters;
 mod maker;
 mod numbers;
 
-pub use display_line::{LineBytes, WIDTH, line, line_bytes};
-pub use maker::LineMaker;
+pub use display_line::{LineBytes, WIDE, WIDTH, line, line_bytes};
+pub use maker::{LineMaker, LineText};

@@ -17,14 +17,15 @@ pub(crate) fn write_events<F: Files, R: Read, W: Write, E: Write>(
     from: Moment,
     device: &str,
     path: Option<&str>,
+    is_wide: bool,
     files: &F,
     streams: &mut Streams<R, W, E>,
 ) -> u8
     requires reads { streams.old.input.failed ≡ false }
-    ensures { Told result from device.now (F.bytes files.now) (option_map (λ path. path.now) path.entry) streams.old streams.new }
+    ensures { Told is_wide result from device.now (F.bytes files.now) (option_map (λ path. path.now) path.entry) streams.old streams.new }
 {
     match log_named(alloc, files, path) {
-        Ok(rows) => write_events_of(alloc, from, device, &rows, streams),
+        Ok(rows) => write_events_of(alloc, from, device, &rows, is_wide, streams),
         Err(fault) => streams.refuse(alloc, name_of(path), fault),
     }
 }
@@ -35,12 +36,13 @@ fn write_events_of<R: Read, W: Write, E: Write>(
     from: Moment,
     device: &str,
     rows: &Log,
+    is_wide: bool,
     streams: &mut Streams<R, W, E>,
 ) -> u8
     requires reads { streams.old.input.failed ≡ false }
-    ensures { ToldOn result from device.now rows.now streams.old streams.new }
+    ensures { ToldOn is_wide result from device.now rows.now streams.old streams.new }
 {
-    match read_replay(alloc, &mut streams.input) {
+    match read_replay(alloc, is_wide, &mut streams.input) {
         Ok(replay) => {
             let made = events_text(
                 alloc,

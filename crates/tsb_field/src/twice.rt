@@ -10,9 +10,10 @@ ghost use Rattle.tsb_field.specs.Twice.{acts_twice, both_line, delay_line, exten
 use std::alloc::{AllocError, Global};
 use tsb_field_log::{InputKind, Wire, wires};
 use tsb_text::{Detector, Plan};
+use tsb_types::limits::VEHICLE_DETECTORS;
 
 /// How many vehicle detectors there are.
-const DETECTORS: u8 = 16;
+const DETECTORS: u8 = VEHICLE_DETECTORS;
 
 /// The lines of the vehicle detectors with a delay or an extension that a wire leads to, one that is mapped or one that
 /// is there without. The error is that memory ran out.

@@ -21,8 +21,8 @@ pub record Tells (shown : Shown) (now : ℕ) (heads : Heads) (served : Option �
 
 -- what is read of a display line is what it shows
 abbrev pub AreRead : Type 0
-AreRead = (now : ℕ) (heads : Heads) (preempt local : Option ℕ) → now < 10000000 → IfSome preempt (λ n. (1 ≤ n) × (n ≤ 4)) →
-    (shown : Shown) × (shown_of (line_of now heads preempt local) ≡ Some shown) × Tells shown now heads preempt
+AreRead = (now : ℕ) (heads : Heads) (preempt local : Option ℕ) → now < 10000000 → IfSome preempt (λ n. (1 ≤ n) × (n ≤ 8)) →
+    (shown : Shown) × (shown_of false (line_of now heads preempt local) ≡ Some shown) × Tells shown now heads preempt
 
 -- lines that show the same as the line before have no events
 abbrev pub ComeOfChanges : Type 0

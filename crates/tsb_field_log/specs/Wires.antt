@@ -1,6 +1,6 @@
 -- Inputs that a bench has, and the wires that lead to them.
 use Rattle.std.specs.Prelude.{ℕ, ◌==◌, ◌&&◌, nat_le, Bool}
-use Rattle.tsb_types.specs.Sets.{has_number}
+use Rattle.tsb_types.specs.Sets.{has_detector, has_number}
 use Rattle.tsb_types.specs.declared.row.Row.{Row}
 use Rattle.tsb_field_log.specs.Inputs.{is_same_kind, most_inputs}
 use Rattle.tsb_field_log.specs.declared.inputs.InputKind.{InputKind}
@@ -13,7 +13,7 @@ is_input kind number = nat_le 1 number && nat_le number (most_inputs kind)
 
 -- the row has this input on
 abbrev pub has_input : Row → InputKind → ℕ → Bool
-has_input row Vehicle number = has_number row.vehicles number
+has_input row Vehicle number = has_detector row.vehicles number
 has_input row Pedestrian number = has_number row.pedestrians number
 has_input row Preempt number = has_number row.preempts number
 

@@ -1,13 +1,13 @@
 //! The wires of a bench: those that are mapped, and from each other channel to the input of its own number.
 ghost use Rattle.std.specs.Prelude.{◌≡◌, ◌++◌, IfOk, OnOk};
-ghost use Rattle.tsb_field_log.specs.Inputs.{most_inputs};
+ghost use Rattle.tsb_field_log.specs.Inputs.{inputs_in_digits};
 ghost use Rattle.tsb_field_log.specs.Mapping.{is_wired, leads_from, own_wires, wires_of};
 
 use crate::inputs::{InputKind, Wire};
 use std::alloc::{AllocError, Global};
 
-/// The wires that are mapped, and then for each kind a wire from channel n to input n, from 1 to the most inputs of the
-/// kind, except where channel n is mapped: that channel leads only where it is mapped. The error is that memory ran
+/// The wires that are mapped, and then for each kind a wire from channel n to input n, from 1 to as many as a row in digits
+/// has, except where channel n is mapped: that channel leads only where it is mapped. The error is that memory ran
 /// out.
 pub fn wires(alloc: Global, mapped: &[Wire]) -> Result<Vec<Wire>, AllocError>
     ensures { IfOk result (λ all. all.items ≡ wires_of mapped.now) }
@@ -36,10 +36,9 @@ fn leads_from(wire: Wire, kind: InputKind, channel: u32) -> bool
 
 /// Pushes the wires of a kind from the channels that are not mapped to the inputs of their own numbers.
 fn push_own_wires(all: &mut Vec<Wire>, mapped: &[Wire], kind: InputKind) -> Result<(), AllocError>
-    ensures { OnOk result (all.new.items ≡ all.old.items ++ own_wires mapped.now kind 1 (most_inputs kind)) }
+    ensures { OnOk result (all.new.items ≡ all.old.items ++ own_wires mapped.now kind 1 (inputs_in_digits kind)) }
 {
-    let most = kind.most();
-    for before in 0..most {
+    for before in 0..kind.digits() {
         let input = before + 1;
         let channel = input as u32;
         if !is_wired(mapped, kind, channel) {

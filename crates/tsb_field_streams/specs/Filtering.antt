@@ -1,7 +1,10 @@
 -- What lines of events come to, one after another: the events of inputs that they tell, what they leave out, or the first
 -- fault.
 use Rattle.std.specs.Prelude.{ℕ, zero, suc, ◌+◌, ◌-◌, ◌*◌, ◌==◌, ◌&&◌, ◌||◌, min, max, nat_le, filter, nat_lt, not, position, replicate, set, Bool, true, false, List, [], ◌∷◌, ◌++◌, length, if◌then◌else◌, Option, Some, None, Result, Ok, Err}
+use Rattle.std.specs.List.{list_any}
 use Rattle.tsb_log_text.specs.tsb_types.declared.limits.TheConstants.{TICKS}
+use Rattle.tsb_log_text.specs.declared.form.RowForm.{RowForm}
+use Rattle.tsb_log_text.specs.declared.form.RowForm.TheVariants.{Digits, Lists}
 use Rattle.tsb_lines.specs.Lines.{is_skipped}
 use Rattle.tsb_event_text.specs.declared.columns.Columns.{Columns}
 use Rattle.tsb_event_text.specs.declared.rows.EventRow.{EventRow}
@@ -21,7 +24,7 @@ use Rattle.tsb_field_log.specs.declared.inputs.InputKind.{InputKind}
 use Rattle.tsb_field_log.specs.declared.inputs.Signal.{Signal}
 use Rattle.tsb_field_log.specs.declared.inputs.Wire.{Wire}
 use Rattle.tsb_field_log.specs.declared.inputs.InputEvent.{InputEvent}
-use Rattle.tsb_field_log.specs.Inputs.{signal_of}
+use Rattle.tsb_field_log.specs.Inputs.{inputs_in_digits, signal_of}
 use Rattle.tsb_field_log.specs.Mapping.{leads_from}
 use Rattle.tsb_field_log.specs.Streets.{tick_at}
 use Rattle.tsb_field_log.specs.Pushed.{last_tick, rows_before}
@@ -381,3 +384,7 @@ summary_at g s = record {
   channels = how_many s.used;
   heard = is_heard g.from s.events;
 }
+
+-- the form of a log by these wires: lists, where one leads to an input for which rows in digits have none
+abbrev pub form_of_wires : List Wire → RowForm
+form_of_wires wires = if list_any (λ w. nat_lt (inputs_in_digits w.kind) w.input) wires then Lists else Digits

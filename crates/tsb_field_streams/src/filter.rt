@@ -7,7 +7,7 @@ ghost use Rattle.tsb_field_log.specs.Pushed.{rows_before};
 ghost use Rattle.tsb_field_log.specs.Ticks.{row_in};
 ghost use Rattle.tsb_field_log.specs.Taken.{HasTaken};
 ghost use Rattle.tsb_field_streams.specs.Holding.{held_rows, most_rows};
-ghost use Rattle.tsb_field_streams.specs.Filtering.{Given, Stand, how_many, may_be_plain, most_held, parameter_of, start, summary_at, text_of, time_place, with_count, with_counted, with_first, with_formed, with_header, with_in_order, with_line, with_noted, with_other_line, with_passed, with_row, with_row_line, with_text, with_wide, without_mark};
+ghost use Rattle.tsb_field_streams.specs.Filtering.{Given, Stand, form_of_wires, how_many, may_be_plain, most_held, parameter_of, start, summary_at, text_of, time_place, with_count, with_counted, with_first, with_formed, with_header, with_in_order, with_line, with_noted, with_other_line, with_passed, with_row, with_row_line, with_text, with_wide, without_mark};
 ghost use Rattle.tsb_field_streams.specs.Blame.{IsOfText};
 ghost use Rattle.tsb_field_streams.specs.declared.error.FilterError.TheVariants.{LogTooLarge};
 
@@ -34,6 +34,7 @@ use tsb_event_text::{
 };
 use tsb_field_log::{KnownRows, Signal, Street, Wire};
 use tsb_lines::is_skipped;
+use tsb_log_text::RowForm;
 
 /// The greatest length of a line, in bytes.
 pub const LINE: usize = 1000;
@@ -448,6 +449,17 @@ impl<'a> Filter<'a> {
         ensures { result ≡ nat_le (length (rows_in rows)) (MOST_ROWS - self.now.rows) }
     {
         count_of(rows) <= MOST_ROWS.saturating_sub(self.rows)
+    }
+
+    /// The form of the log: lists, where a wire leads to an input for which rows in digits have none.
+    pub(crate) fn form(&self) -> RowForm
+        ensures { (g : Given) (s : Stand) → StandsAt g s self.now → result ≡ form_of_wires g.wires }
+    {
+        if self.wires.iter().any(|wire| wire.input > wire.kind.digits()) {
+            RowForm::Lists
+        } else {
+            RowForm::Digits
+        }
     }
 
     /// What was read so far, before `finish`.

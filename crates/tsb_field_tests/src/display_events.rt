@@ -30,7 +30,7 @@ fn told(
     line: &[u8],
 ) -> Result<Vec<(u32, u8, u8)>, AllocError> {
     let mut all = Vec::new(alloc);
-    let Some(now) = read_line(line) else {
+    let Some(now) = read_line(line, false) else {
         return Ok(all);
     };
     let signals = match before {
@@ -70,7 +70,7 @@ fn shows_last(shown: &Shown) -> bool {
 
 #[test]
 fn lines_show_their_heads(rt: HostRuntime) {
-    let (Some(clearing), Some(last)) = (read_line(CLEARING), read_line(LAST)) else {
+    let (Some(clearing), Some(last)) = (read_line(CLEARING, false), read_line(LAST, false)) else {
         panic!(rt; "nothing is shown");
     };
     assert!(rt; shows_clearing(&clearing) && shows_last(&last));
@@ -95,7 +95,7 @@ const OTHERS: [&[u8]; 12] = [
 /// Whether none of the answers shows anything.
 fn show_nothing(all: &[&[u8]]) -> bool {
     for line in all {
-        if read_line(line) != None {
+        if read_line(line, false) != None {
             return false;
         }
     }
@@ -109,7 +109,7 @@ fn other_answers_show_nothing(rt: HostRuntime) {
 
 /// Whether these are the ticks, codes and parameters of the events of a change between two lines.
 fn tells(alloc: Global, before: &[u8], line: &[u8], wanted: &[(u32, u8, u8)]) -> bool {
-    match told(alloc, read_line(before), line) {
+    match told(alloc, read_line(before, false), line) {
         Ok(all) => all.as_slice() == wanted,
         Err(_) => false,
     }
@@ -158,7 +158,7 @@ fn changes_have_their_events(rt: HostRuntime) {
 fn at(tick: u32, line: &[u8]) -> Shown {
     Shown {
         tick,
-        signals: match read_line(line) {
+        signals: match read_line(line, false) {
             Some(shown) => shown.signals,
             None => Signals::nothing_lit(),
         },

@@ -1,4 +1,5 @@
 //! What the heads of all overlaps show, as sets of overlaps.
+ghost use Rattle.tsb_objects.specs.tsb_types.declared.limits.TheConstants.{OVERLAPS};
 ghost use Rattle.std.specs.Prelude.{◌≡◌, ◌≢◌, ◌<◌, ◌≤◌, ℕ, false};
 ghost use Rattle.tsb_objects.specs.tsb_types.declared.lamp.Aspect.TheVariants.{FlashingRed};
 ghost use Rattle.tsb_objects.specs.tsb_types.Sets.{has_number};
@@ -9,6 +10,7 @@ ghost use Rattle.tsb_heads.specs.Served.{IsServed};
 ghost use Rattle.tsb_heads.specs.OverlapSets.{HasNone, IsInOne, IsSameAt, aspect_of_overlap};
 
 use crate::overlaps::{ServedPhases, overlap_head};
+use tsb_objects::limits::OVERLAPS;
 use tsb_objects::{Aspect, Checked, NumberSet, Overlap};
 
 /// The sets of overlaps whose heads show each colour.
@@ -60,13 +62,13 @@ fn with_overlap(heads: Overlaps, o: Overlap, aspect: Aspect) -> Overlaps
 /// What the heads of overlaps show.
 #[inline(always)]
 pub(crate) fn overlaps_of(plan: &Checked, served: &ServedPhases) -> Overlaps
-    ensures heads { (s : Shown) → IsServed (checked_plan plan.now) s served.now → (o : ℕ) → 1 ≤ o → o ≤ 4 →
+    ensures heads { (s : Shown) → IsServed (checked_plan plan.now) s served.now → (o : ℕ) → 1 ≤ o → o ≤ OVERLAPS →
         aspect_of_overlap result o ≡ overlap_head (checked_plan plan.now) s o }
     ensures apart { (n : ℕ) → IsInOne result n }
-    ensures few { (o : ℕ) → 4 < o → HasNone result o }
+    ensures few { (o : ℕ) → OVERLAPS < o → HasNone result o }
 {
     let mut heads = no_overlaps();
-    for number in 1..5u8 {
+    for number in 1..OVERLAPS + 1 {
         let o = Overlap::of(number);
         heads = with_overlap(heads, o, overlap_head(plan, o, served));
     }

@@ -2,7 +2,7 @@
 
 use crate::fault::Fault;
 use tsb_lines::{next_word, number};
-use tsb_objects::{Intervals, NumberSet, Pattern, Pedestrians, Phase, PhaseSet, Preempt, Refusal};
+use tsb_objects::{Intervals, DetectorSet, NumberSet, Pattern, Pedestrians, Phase, PhaseSet, Preempt, Refusal};
 
 /// What is left of a line.
 #[derive(Clone, Copy)]
@@ -53,7 +53,12 @@ impl<'a> Numbers<'a> {
         Ok(PhaseSet::from_list(self.list()?))
     }
 
-    /// The next number, a list of detectors or of preempts.
+    /// The next number, a list of vehicle detectors 1 to 16.
+    pub fn detectors(&mut self) -> Result<DetectorSet, Fault> {
+        Ok(DetectorSet::from_list(u64::from(self.list()?)))
+    }
+
+    /// The next number, a list of pedestrian detectors or of preempts.
     pub fn set(&mut self) -> Result<NumberSet, Fault> {
         Ok(NumberSet::from_list(self.list()?))
     }

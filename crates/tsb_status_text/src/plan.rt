@@ -1,14 +1,12 @@
 //! The line of a plan.
 ghost use Rattle.std.specs.List.{list_all};
-ghost use Rattle.std.specs.Prelude.{◌≡◌, ◌||◌, ◌++◌, IfOk, None, Ok, OnOk};
+ghost use Rattle.std.specs.Prelude.{◌≡◌, ◌++◌, IfOk, None, Ok, OnOk};
 ghost use Rattle.json.specs.Json.{Members, object};
 ghost use Rattle.json.specs.Tree.{json_tokens, members_tokens};
 ghost use Rattle.tsb_objects.specs.tsb_rules.Rules.{first_broken};
-ghost use Rattle.tsb_plan.specs.declared.version.Version.TheVariants.{Two};
 ghost use Rattle.tsb_plan.specs.PlanOf.{plan_of};
-ghost use Rattle.tsb_plan.specs.Versions.{has_object};
 ghost use Rattle.tsb_plan_text.specs.PlanText.{reading};
-ghost use Rattle.tsb_status_text.specs.PlanLine.{is_all_zeros, members_of, plan_text, table, version_for, with_entry, with_object};
+ghost use Rattle.tsb_status_text.specs.PlanLine.{first_untold, is_all_zeros, is_told, members_of, plan_text, table, version_for, with_entry, with_object};
 
 use crate::laws::lines_are_read_back;
 use itoa::Buffer;
@@ -20,7 +18,7 @@ use tsb_objects::{Object, Plan, Version};
 const VERSION: &str = "version";
 
 /// The plan as one plan text, without spaces and without a line feed. The text is of version 2, or of version 3 where an
-/// object that version 2 has not is not all zeros.
+/// object is not 0 at an index that version 2 has not.
 ///
 /// `version` comes first, then each object that is not all zeros, in the order of `Object::ALL`, and of each object the
 /// indices at which it is not 0, in ascending order. So two plans are the same exactly where their lines are. An `Err`
@@ -53,11 +51,34 @@ fn version_for(plan: &Plan) -> Version
     }
 }
 
-/// Whether version 2 has each of these objects that is not all zeros.
+/// Whether version 2 tells all of each of these objects.
 fn are_told(plan: &Plan, objects: &[Object]) -> bool
-    ensures { result ≡ list_all (λ o. has_object Two o || is_all_zeros (plan_of plan.now) o) objects.now }
+    ensures { result ≡ list_all (is_told (plan_of plan.now)) objects.now }
 {
-    objects.iter().all(|object| Version::Two.has(*object) || is_all_zeros(plan, *object))
+    objects.iter().all(|object| is_told(plan, *object))
+}
+
+/// Whether the object is 0 at each index that version 2 has not.
+#[tactic(auto, unfolding(crate::specs::PlanLine::is_told))]
+fn is_told(plan: &Plan, object: Object) -> bool
+    ensures { result ≡ is_told (plan_of plan.now) object }
+{
+    for index in first_untold(object)..object.indices() + 1 {
+        if plan.at(object, index) != 0 {
+            return false;
+        }
+    }
+    true
+}
+
+/// The first index of an object that version 2 has not.
+fn first_untold(object: Object) -> u32
+    ensures { result ≡ first_untold object }
+{
+    match object.range_in(Version::Two) {
+        Some(range) => range.indices + 1,
+        None => 1,
+    }
 }
 
 /// Writes those of these objects that are not all zeros, each with its table, and closes what they are of.

@@ -9,7 +9,7 @@ use Rattle.tsb_types.specs.declared.row.Row.{Row}
 use Rattle.tsb_types.specs.Intervals.{in_service, is_green}
 use Rattle.tsb_objects.specs.tsb_plan.declared.object.Object.{Object}
 use Rattle.tsb_objects.specs.tsb_plan.declared.plan.Plan as memory
-use Rattle.tsb_objects.specs.tsb_plan.Plan.{Plan, is_concurrent}
+use Rattle.tsb_objects.specs.tsb_plan.Plan.{Plan, all_counts, is_concurrent}
 use Rattle.tsb_objects.specs.tsb_plan.declared.object.ObjectId.{ObjectId}
 use Rattle.tsb_objects.specs.tsb_plan.PlanOf.{plan_of, put_refusal}
 use Rattle.tsb_objects.specs.tsb_rules.Consistent.{AreCompatible}
@@ -35,6 +35,12 @@ use Rattle.tsb_step.specs.Quiet.{IsQuiet}
 pub record IsConsistent (plan : Plan) : Type 0 where
   pub rules : first_broken plan ≡ None
   pub placed : (o : Object) (i : ℕ) → has_place plan o i ≡ false → plan.value o i ≡ 0
+
+-- a plan has as many phases, sides, detectors, overlaps and preempts as a plan in memory
+pub record IsWide (plan : Plan) : Type 0 where
+  pub phases : plan.phase_count ≡ 16
+  pub sides : plan.side_count ≡ 4
+  pub counts : plan.counts ≡ all_counts
 
 -- what is said of every state of every run
 abbrev pub OfEveryRun : (State → Type 0) → Type 0
@@ -130,10 +136,9 @@ FaultsAloneTrip = (plan : Plan) (is : List Input) → IsConsistent plan → AreT
 abbrev pub MemoryIsConsistent : Type 0
 MemoryIsConsistent = (plan : memory.Plan) → first_broken (plan_of plan) ≡ None → IsConsistent (plan_of plan)
 
--- With 16 phases and 4 sides, as such a plan has, a value is refused exactly when a plan in memory refuses it.
+-- With as many of each thing as such a plan has, a value is refused exactly when a plan in memory refuses it.
 abbrev pub MemoryRefusesTheSame : Type 0
-MemoryRefusesTheSame = (plan : Plan) (id : ObjectId) (v : ℕ) → plan.phase_count ≡ 16 → plan.side_count ≡ 4 →
-    place_refusal plan id v ≡ put_refusal id v
+MemoryRefusesTheSame = (plan : Plan) (id : ObjectId) (v : ℕ) → IsWide plan → place_refusal plan id v ≡ put_refusal id v
 
 -- ## Quiet ticks
 

@@ -13,7 +13,7 @@ fn number_sets_are_lists(odd: NumberSet, low: NumberSet) -> bool {
         && odd.difference(low).first() == Some(5)
         && !odd.is_empty()
         && NumberSet::empty().is_empty()
-        && Row::all_off().vehicles == NumberSet::empty()
+        && Row::all_off().vehicles == DetectorSet::empty()
 }
 
 /// Whether sets of phases are their lists.

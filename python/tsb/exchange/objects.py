@@ -516,8 +516,15 @@ def row_of(leaf: Leaf) -> Row:
 
 
 def values_of(plan: Plan) -> Iterator[tuple[Oid, Value]]:
-    """All values of a plan, by their OIDs in ascending order."""
+    """All values that a plan has in its version, by their OIDs in ascending order."""
     for oid, leaf in plan_leaves().items():
         form = leaf.column.form
         assert form is not None
-        yield oid, form.written(plan, row_of(leaf))
+        if has_row(plan, form, row_of(leaf)):
+            yield oid, form.written(plan, row_of(leaf))
+
+
+def has_row(plan: Plan, form: Form, row: Row) -> bool:
+    """Whether a plan of this version has a row."""
+    of_rows = len(row) == 1
+    return not of_rows or all(row[0] <= plan[it].count for it in form.names)

@@ -21,7 +21,7 @@ from tsb.exchange.objects import (
 from tsb.exchange.remarks import Remark, warn
 from tsb.exchange.sides import sides_of
 from tsb.exchange.walk import Line, dotted, printed
-from tsb.manual import OBJECTS
+from tsb.manual import NEWEST, OBJECTS
 from tsb.options import Words, called
 from tsb.plan import Plan
 from tsb.values import RINGS, SEQUENCES
@@ -69,7 +69,7 @@ class Reading:
     """A plan that is made of the lines of a walk, and what it has no place for."""
 
     def __init__(self) -> None:
-        self.plan = Plan()
+        self.plan = Plan(NEWEST)
         self.remarks: list[Remark] = []
         self.lines = 0
         #: Lines of which a plan has all or some.
@@ -139,6 +139,7 @@ class Reading:
             self.plan["phaseVariableInitial"][phase] = 1
             why = f"given, as phaseAddedInitial is {value}"
             self._leave_out("phaseVariableInitial", phase, 1, why)
+        self.plan = self.plan.wide()
 
     def _only_enabled(self) -> None:
         """Takes phases out of lists and sequences that are not enabled, as the rules

@@ -55,7 +55,9 @@ class Source:
         with tempfile.NamedTemporaryFile(suffix=".json") as file:
             file.write(self.plan)
             file.flush()
-            return Bench(file.name, events=False)
+            bench = Bench(file.name, events=False)
+        bench.wide()
+        return bench
 
 
 class Keep:

@@ -18,7 +18,9 @@ use Rattle.tsb_command_text.specs.Readings.{reading}
 use Rattle.tsb_log_text.specs.Logs.{log_of}
 use Rattle.tsb_log_text.specs.Rows.{inputs_of}
 use Rattle.tsb_text.specs.tsb_types.declared.row.Row.{Row}
-use Rattle.tsb_log_text.specs.LogText.{IsFit, log_text}
+use Rattle.tsb_log_text.specs.Forms.{form_for}
+use Rattle.tsb_log_text.specs.ListText.{text_in}
+use Rattle.tsb_log_text.specs.LogText.{IsFit}
 use Rattle.tsb_text.specs.declared.kept.Other.{Other}
 use Rattle.tsb_text.specs.kept.Kept.{Keeping, kept_of}
 use Rattle.tsb_live_text.specs.saved.Saved.{commands_text, saved_json, saved_text}
@@ -40,8 +42,8 @@ AreFit (i ∷ is) = AreFit is
 
 -- the text of the log is read as the rows that are kept, where it has at most 64 MiB
 abbrev pub LogsAreRead : Type 0
-LogsAreRead = (plan : Plan) (is : List Input) → AreFit is → (replay plan is).now ≤ TICKS → length (log_text (kept_of plan is).rows) ≤ 67108864
-    → log_of (log_text (kept_of plan is).rows) ≡ Ok (kept_of plan is).rows
+LogsAreRead = (plan : Plan) (is : List Input) → AreFit is → (replay plan is).now ≤ TICKS → length (text_in (form_for (kept_of plan is).rows) (kept_of plan is).rows) ≤ 67108864
+    → log_of (text_in (form_for (kept_of plan is).rows) (kept_of plan is).rows) ≡ Ok (kept_of plan is).rows
 
 -- ## The commands
 
@@ -116,7 +118,7 @@ is_easy b = (b == 10) || is_plain b
 -- both texts have such bytes alone, so that no byte but a line feed needs an escape; and the line has no line feed
 abbrev pub AreEasy : Type 0
 AreEasy = (kept : Keeping) (now : ℕ) → now < 2 ^ 32 → AreSpelled kept.others
-    → (list_all is_easy (log_text kept.rows) ≡ true) × (list_all is_easy (commands_text kept now) ≡ true) × HasNoFeed (saved_text kept now)
+    → (list_all is_easy (text_in (form_for kept.rows) kept.rows) ≡ true) × (list_all is_easy (commands_text kept now) ≡ true) × HasNoFeed (saved_text kept now)
 
 -- ## What was read
 
