@@ -176,7 +176,7 @@ def made(kinds: Sequence[str], values: Sequence[tuple[str, int, int]]) -> Plan:
     plan = plan_of(Choice(throughs, lefts))
     for name, index, value in values:
         what = OBJECTS[name]
-        plan[name][1 + index % what.count] = value % (what.greatest + 1)
+        plan[name][1 + index % what.counts(plan.version)] = value % (what.greatest + 1)
     return plan
 
 
@@ -473,7 +473,7 @@ def test_remarks_that_follow_one_another() -> None:
 
 def test_what_forms_read_back(examples: Path) -> None:
     """Each value that a plan has asks for the values that it is of, and no others."""
-    plan = Plan.read(examples / "main_and_oak.json")
+    plan = Plan.read(examples / "main_and_oak.json").wide(3)
     for leaf in objects.plan_leaves().values():
         form = leaf.column.form
         assert form is not None

@@ -96,7 +96,7 @@ class Bench:
         self._tells = events
         if events:
             self._ask("events on")
-        if _has_many_overlaps(plan):
+        if has_many_overlaps(plan):
             self.wide()
 
     def __enter__(self) -> Self:
@@ -214,8 +214,6 @@ class Bench:
         """A tick for each row (`tsb.row`), all sent ahead: what the heads showed."""
         given = list(rows)
         for row in given:
-            if not isinstance(row, str):
-                raise OutOfRange(f"{row!r} is no row of digits or of lists")
             fields(row)
         # (a row of lists with nothing on would be a blank line)
         return self._block("".join(f"{row or ALL_OFF}\n" for row in given))
@@ -494,7 +492,7 @@ class Transaction:
                 self._say("abort")
 
 
-def _has_many_overlaps(plan: Plan | str | PathLike[str]) -> bool:
+def has_many_overlaps(plan: Plan | str | PathLike[str]) -> bool:
     """Whether a plan has overlaps beyond those of display lines that are not wide."""
     if not isinstance(plan, Plan):
         if not Path(plan).is_file():

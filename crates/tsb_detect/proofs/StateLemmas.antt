@@ -1,5 +1,5 @@
 -- Laws of states: the table of detectors is read as they were, and a tick looks only at what is its own.
-use Rattle.std.proofs.Common.{zero, suc, ◌≡◌, ℕ, ◌+◌, ◌-◌, ◌*◌, ◌/◌, ◌%◌, ◌<◌, ◌≤◌, ◌==◌, Bool, true, false, List, [], ◌∷◌, ◌++◌, length, slice_index, map, refl, sym, ap, ap₂, ◌∙◌, arith, inl, inr, Option, Some, None, is_some}
+use Rattle.std.proofs.Common.{zero, suc, ◌≡◌, ℕ, ◌+◌, ◌-◌, ◌*◌, ◌/◌, ◌%◌, ◌<◌, ◌≤◌, ◌==◌, Bool, true, false, List, ◌++◌, length, slice_index, map, refl, sym, ap, ap₂, ◌∙◌, arith, inl, inr, Option, Some, None, is_some}
 use Rattle.std.proofs.Math.Path.{fun_ext}
 use Rattle.std.proofs.lemmas.Bool.{cases_Bool}
 use Rattle.std.proofs.lemmas.Bool.Decides.{nat_tests}
@@ -62,11 +62,11 @@ at-rest : (now : ℕ) (row : List ℕ) (d : ℕ) → is_detector d ≡ false →
 unfolding detector_in
 at-rest now row d out = rw out refl
 
-record IsAmong (d : ℕ) : Type 0 where
+pub record IsAmong (d : ℕ) : Type 0 where
   pub from : 1 ≤ d
   pub to : d ≤ VEHICLE_DETECTORS
 
-among-detectors : (d : ℕ) → is_detector d ≡ true → IsAmong d
+pub among-detectors : (d : ℕ) → is_detector d ≡ true → IsAmong d
 among-detectors d e = record { from = grind (arith, nat_tests, e); to = grind (arith, nat_tests, e) }
 
 module _ (now : ℕ) (f : ℕ → Detector) where

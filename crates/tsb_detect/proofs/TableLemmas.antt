@@ -1,6 +1,6 @@
 -- Tables of detectors: a list takes two cells of 32 bits, its lower 32 bits first, and a column has one cell for each
 -- detector.
-use Rattle.std.proofs.Common.{◌≡◌, ℕ, ◌+◌, ◌-◌, ◌*◌, ◌/◌, ◌%◌, ◌^◌, ◌<◌, ◌≤◌, Bool, List, [], ◌∷◌, ◌++◌, length, take, drop, get_or, slice_index, map, sym, ap, ap₂, ◌∙◌, arith, length-take-le, length-drop, length-append, get_or-take}
+use Rattle.std.proofs.Common.{◌≡◌, ℕ, ◌+◌, ◌-◌, ◌*◌, ◌/◌, ◌%◌, ◌<◌, ◌≤◌, Bool, List, [], ◌∷◌, ◌++◌, length, take, drop, get_or, slice_index, map, sym, ap, ap₂, ◌∙◌, arith, length-take-le, length-drop, length-append, get_or-take}
 use Rattle.std.proofs.Math.Seq.{take-add}
 use Rattle.std.proofs.lemmas.List.{get_or-drop, get_or-append-add, get_or-map, length-map}
 use Rattle.tsb_cells.specs.Row.{row_at}

@@ -35,7 +35,7 @@ force from wires events tick one most = in-force (row_in from wires events) all_
 pub inputs : AreTheInputs
 unfolding row_in
 inputs from wires events tick number one = (
-  λ most. names-list_of 16 number (input_on from wires events tick Vehicle) one most,
-  λ most. names-list_of 8 number (input_on from wires events tick Pedestrian) one most,
-  λ most. names-list_of 4 number (input_on from wires events tick Preempt) one most,
+  λ most. names-list_of 64 number (input_on from wires events tick Vehicle) one most,
+  λ most. names-list_of 16 number (input_on from wires events tick Pedestrian) one most,
+  λ most. names-list_of 8 number (input_on from wires events tick Preempt) one most,
 )

@@ -1,7 +1,7 @@
 -- What holds of the logs that are written, in words that do not retrace how they are. Each law here is the contract of a
 -- function in src/laws.rt.
 use Rattle.std.specs.Prelude.{◌≡◌, ◌⊎◌, ◌↔◌, ℕ, ◌+◌, ◌*◌, ◌<◌, ◌≤◌, true, false, List, [], ◌∷◌, ◌++◌, length, Contains, Ok}
-use Rattle.tsb_types.specs.Sets.{has_number}
+use Rattle.tsb_types.specs.Sets.{has_detector, has_number}
 use Rattle.tsb_types.specs.declared.limits.TheConstants.{TICKS}
 use Rattle.tsb_log_text.specs.Logs.{log_of, row_at}
 use Rattle.tsb_log_text.specs.declared.log.LogRow.{LogRow}
@@ -50,7 +50,7 @@ AreInForce = (from : ℕ) (wires : List Wire) (events : List InputEvent) (tick :
 -- and these are on in it: exactly those to which a wire leads that is on in that tick
 abbrev pub AreTheInputs : Type 0
 AreTheInputs = (from : ℕ) (wires : List Wire) (events : List InputEvent) (tick number : ℕ) → 1 ≤ number
-    → (number ≤ most_inputs Vehicle → has_number (row_in from wires events tick).vehicles number ≡ input_on from wires events tick Vehicle number)
+    → (number ≤ most_inputs Vehicle → has_detector (row_in from wires events tick).vehicles number ≡ input_on from wires events tick Vehicle number)
     × (number ≤ most_inputs Pedestrian → has_number (row_in from wires events tick).pedestrians number ≡ input_on from wires events tick Pedestrian number)
     × (number ≤ most_inputs Preempt → has_number (row_in from wires events tick).preempts number ≡ input_on from wires events tick Preempt number)
 

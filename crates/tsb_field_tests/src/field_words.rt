@@ -105,8 +105,13 @@ fn log_words_name_a_plan(rt: HostRuntime) {
 /// Whether the words ask for the events of this device from this time on, with those of this log.
 fn ask_for_events(alloc: Global, words: &[&str], time: &[u8], name: &str, rows: &str) -> bool {
     match read_words(alloc, words) {
-        Ok(Asked::Events { from, device, log }) => {
-            Some(from) == read_moment(time) && device == name && log == Some(rows)
+        Ok(Asked::Events {
+            from,
+            device,
+            log,
+            is_wide,
+        }) => {
+            Some(from) == read_moment(time) && device == name && log == Some(rows) && !is_wide
         }
         _ => false,
     }
@@ -355,12 +360,12 @@ const BAD: [&[&str]; 39] = [
     &["tsb_field", "log", FROM, "--log=a"],
     &["tsb_field", "log", FROM, "--device", "-7"],
     &["tsb_field", "log", FROM, "more"],
-    &["tsb_field", "log", FROM, "--vehicle=1=17"],
+    &["tsb_field", "log", FROM, "--vehicle=1=65"],
     &["tsb_field", "log", FROM, "--vehicle=1=0"],
     &["tsb_field", "log", FROM, "--vehicle=1"],
     &["tsb_field", "log", FROM, "--vehicle==1"],
-    &["tsb_field", "log", FROM, "--pedestrian=1=9"],
-    &["tsb_field", "log", FROM, "--preempt=1=5"],
+    &["tsb_field", "log", FROM, "--pedestrian=1=17"],
+    &["tsb_field", "log", FROM, "--preempt=1=9"],
     &["tsb_field", "log", FROM, "--vehicle=4294967296=1"],
     &["tsb_field", "record", FROM, "--device=1", "a.json"],
     &["tsb_field", "record", FROM, "a.json", "a.log"],

@@ -10,7 +10,6 @@ ghost use Rattle.tsb_heads.specs.Served.{IsServed};
 ghost use Rattle.tsb_heads.specs.OverlapSets.{HasNone, IsInOne, IsSameAt, aspect_of_overlap};
 
 use crate::overlaps::{ServedPhases, overlap_head};
-use tsb_objects::limits::OVERLAPS;
 use tsb_objects::{Aspect, Checked, NumberSet, Overlap};
 
 /// The sets of overlaps whose heads show each colour.
@@ -59,7 +58,7 @@ fn with_overlap(heads: Overlaps, o: Overlap, aspect: Aspect) -> Overlaps
     }
 }
 
-/// What the heads of overlaps show.
+/// What the heads of overlaps show. Only those that include a phase are looked at: the others are dark.
 #[inline(always)]
 pub(crate) fn overlaps_of(plan: &Checked, served: &ServedPhases) -> Overlaps
     ensures heads { (s : Shown) → IsServed (checked_plan plan.now) s served.now → (o : ℕ) → 1 ≤ o → o ≤ OVERLAPS →
@@ -68,7 +67,9 @@ pub(crate) fn overlaps_of(plan: &Checked, served: &ServedPhases) -> Overlaps
     ensures few { (o : ℕ) → OVERLAPS < o → HasNone result o }
 {
     let mut heads = no_overlaps();
-    for number in 1..OVERLAPS + 1 {
+    let mut rest = plan.used_overlaps();
+    while let Some(number) = rest.first() {
+        rest = rest.with(number, false);
         let o = Overlap::of(number);
         heads = with_overlap(heads, o, overlap_head(plan, o, served));
     }

@@ -128,7 +128,7 @@ class Agent:
 
     def _plan_now(self) -> Plan:
         if self._plan is None:
-            self._plan = self._bench.plan
+            self._plan = self._bench.plan.wide(NEWEST)
         return self._plan
 
     def _status_now(self) -> Status:

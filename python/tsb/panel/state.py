@@ -3,7 +3,7 @@
 from datetime import datetime
 from typing import Any
 
-from tsb.lines import WIDTH
+from tsb.lines import OVERLAPS, WIDTH
 from tsb.manual import OBJECTS, RULES
 from tsb.panel import words
 from tsb.panel.layout import Layout, layout_of
@@ -28,7 +28,7 @@ def state_of(run: Run) -> dict[str, Any]:
         "end": tape.end,
         "log_end": max(tape.log.ticks, default=0),
         "line": shown.line[: WIDTH - 1],
-        "overlaps": shown.overlaps,
+        "overlaps": shown.overlaps.ljust(OVERLAPS[1], "-"),
         "row": "".join(fields(row)),
         "hands": {where: hand.at(now + 1) for where, hand in sorted(hands.items())},
         "switches": sorted(tape.switches(now)),

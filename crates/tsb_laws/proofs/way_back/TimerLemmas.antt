@@ -11,6 +11,7 @@ use Rattle.tsb_step.specs.tsb_cells.Diff.{diff}
 use Rattle.tsb_step.specs.tsb_cells.DiffLaws.{IsChange}
 use Rattle.tsb_step.proofs.tsb_cells.ChangeLemmas.{tells_each_change}
 use Rattle.tsb_step.proofs.tsb_cells.TimerLemmas.{timer_at-timer_cell, timer_cell-timer_at, timer_cell-le, timer_cell-advanced, timer_at-next, IsWithin-timer_at}
+use Rattle.tsb_step.specs.tsb_types.declared.limits.TheConstants as limits
 use Rattle.tsb_step.specs.tsb_types.declared.limits.TheConstants.{TICKS}
 use Rattle.tsb_step.specs.tsb_types.declared.row.Row.{Row}
 use Rattle.tsb_step.specs.tsb_plan.declared.object.TheConstants.{PLAN_CELLS}
@@ -168,39 +169,39 @@ module _ (c : ℕ) (row : List ℕ) (f : ℕ → Phase) (by : phases.IsBy c row)
   keeps-red_revert = keeps c _ _ (by.each p from to).red_revert (ap (λ (x : Phase). x.red_revert) phase-kept)
 
 module _ (c : ℕ) (row : List ℕ) (f : Preempts) (by : preempts.IsBy c row) (read : preempts_in c row ≡ f) where
-  delay-in : (n : ℕ) → 1 ≤ n → n ≤ 4 → timer_at c (slice_index row (1 + n)) ≡ (preempts_in c row).delay n
+  delay-in : (n : ℕ) → 1 ≤ n → n ≤ limits.PREEMPTS → timer_at c (slice_index row (1 + n)) ≡ (preempts_in c row).delay n
   unfolding preempts_in
   delay-in n from to = rw (is_preempt-from n from to) refl
 
-  none-in : is_preempt (slice_index row 6) ≡ false → slice_index row 6 ≡ 0
-  none-in off = none (slice_index row 6) by.preempt off
+  none-in : is_preempt (slice_index row (2 + limits.PREEMPTS)) ≡ false → slice_index row (2 + limits.PREEMPTS) ≡ 0
+  none-in off = none (slice_index row (2 + limits.PREEMPTS)) by.preempt off
     where
-      none : (n : ℕ) → n ≤ 4 → is_preempt n ≡ false → n ≡ 0
+      none : (n : ℕ) → n ≤ limits.PREEMPTS → is_preempt n ≡ false → n ≡ 0
       none n few out = grind (arith, nat_tests, few, out)
 
-  served-in : timer_at c (slice_index row 8) ≡ served (preempts_in c row).service
+  served-in : timer_at c (slice_index row (4 + limits.PREEMPTS)) ≡ served (preempts_in c row).service
   unfolding preempts_in service_in
   served-in =
-      elim (cases_Bool (is_preempt (slice_index row 6))) [
+      elim (cases_Bool (is_preempt (slice_index row (2 + limits.PREEMPTS)))) [
         | inl on ↦ rw on refl
         | inr off ↦ rw (off, by.no_timer (none-in off)) refl
       ]
 
-  tracked-in : timer_at c (slice_index row 9) ≡ tracked (preempts_in c row).service
+  tracked-in : timer_at c (slice_index row (5 + limits.PREEMPTS)) ≡ tracked (preempts_in c row).service
   unfolding preempts_in service_in
   tracked-in =
-      elim (cases_Bool (is_preempt (slice_index row 6))) [
+      elim (cases_Bool (is_preempt (slice_index row (2 + limits.PREEMPTS)))) [
         | inl on ↦ rw on refl
         | inr off ↦ rw (off, by.no_stage_timer (none-in off)) refl
       ]
 
-  keeps-delay : (n : ℕ) → 1 ≤ n → n ≤ 4 → Keeps c (slice_index row (1 + n)) (f.delay n)
+  keeps-delay : (n : ℕ) → 1 ≤ n → n ≤ limits.PREEMPTS → Keeps c (slice_index row (1 + n)) (f.delay n)
   keeps-delay n from to = keeps c _ _ (by.each n from to).delay (delay-in n from to ∙ ap (λ (g : Preempts). g.delay n) read)
 
-  keeps-served : Keeps c (slice_index row 8) (served f.service)
+  keeps-served : Keeps c (slice_index row (4 + limits.PREEMPTS)) (served f.service)
   keeps-served = keeps c _ _ by.timer (served-in ∙ ap (λ (g : Preempts). served g.service) read)
 
-  keeps-tracked : Keeps c (slice_index row 9) (tracked f.service)
+  keeps-tracked : Keeps c (slice_index row (5 + limits.PREEMPTS)) (tracked f.service)
   keeps-tracked = keeps c _ _ by.stage_timer (tracked-in ∙ ap (λ (g : Preempts). tracked g.service) read)
 
 moved-cell : (c cell other : ℕ) (t : Timer) → other ≡ cell → Keeps c cell t → Keeps c other t

@@ -96,7 +96,7 @@ runs_on = refl
 
 pub comes_into_step : IsRun faster selected_again
 comes_into_step = record {
-  plan_held = record { consistent = faster_consistent; phases = faster_count; sides = faster_sides; bounded = faster_fits.bounded };
+  plan_held = record { consistent = faster_consistent; phases = faster_count.0; sides = faster_sides; counts = faster_count.1; bounded = faster_fits.bounded };
   taken = again_taken;
   typed = (tt, (tt, (tt, tt)));
 }

@@ -4,7 +4,7 @@ use Rattle.tsb_bench.specs.tsb_step.Signs.{display}
 use Rattle.tsb_display_text.specs.Line.{line_of}
 use Rattle.tsb_display_text.proofs.LineLemmas.{line-same}
 use Rattle.tsb_bench.specs.Held.{state_of}
-use Rattle.tsb_text.proofs.lines.line_bytes.Goals as goal
+use Rattle.tsb_text.proofs.lines.line_text.Goals as goal
 
 pub returns : goal.returns
 returns c =
