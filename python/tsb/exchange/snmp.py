@@ -151,6 +151,10 @@ def _words() -> argparse.ArgumentParser:
         help="how often as fast as the clock time runs; 1 without it, 0: it stands",
     )  # fmt: skip
     words.add_argument(
+        "--from", dest="begin", metavar="TIME",
+        help="when tick 1 begins: the clock is set to it; without it there is none",
+    )  # fmt: skip
+    words.add_argument(
         "--ticks", type=int, default=0, metavar="N",
         help="so many ticks pass before the first answer",
     )  # fmt: skip
@@ -169,6 +173,8 @@ def main(words: Sequence[str]) -> int:
         known.error("--ticks is 0 or more")
     allowed = communities(given.communities)
     with _bench(given.plan, given.log) as bench:
+        if given.begin is not None:
+            bench.set_clock(given.begin)
         bench.step(given.ticks)
         return asyncio.run(serve(Agent(bench), allowed, given))
 
