@@ -233,7 +233,7 @@ line 17: dayPlanStatus = INTEGER: 1: it is a status, and no part of a plan
 
 
 def test_notes_have_no_place(examples: Path) -> None:
-    """They are told, as what else a walk has no place for."""
+    """They are printed with the rest of what a walk has no place for."""
     plan = Plan.read(examples / "two.json").noted({"site": "Main and\nOak"})
     *_, last = lines_of(oids.without_place(plan))
     assert last == "notes.site = Main and?Oak: NTCIP 1202 v02 has no object for it"

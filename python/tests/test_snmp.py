@@ -384,7 +384,8 @@ def test_what_a_schedule_runs(examples: Path) -> None:
         assert now() == [3, 1, 1, 254]
         agent.step(1)
         assert now() == [1, 1, 1, 1] and agent.get(CLOCK) == eve + 25_201
-        for bad in (0, 946_684_799, 4_102_444_800, -1, 1 << 32, b"", (1, 3)):
+        none: list[Value] = [0, 946_684_799, 4_102_444_800, -1, 1 << 32, b"", (1, 3)]
+        for bad in none:
             assert agent.set([(CLOCK, bad)]) == Refusal(Fault.BAD_VALUE, 1)
         for fine in (946_684_800, 4_102_444_799):  # from 2000 to the end of 2099
             assert agent.set([(CLOCK, fine)]) is None and agent.get(CLOCK) == fine
