@@ -100,11 +100,10 @@ def first_stage(plan: Plan, number: int) -> tuple[str, frozenset[int]]:
 def shown(
     bench: Bench, number: int, phases: frozenset[int], within: int
 ) -> dict[int, Display] | None:
-    """What the heads show with the preempt's switch on from now on, by tick: in the next
-    one, where they change, and where the preempt has all these phases green, which is
-    the last. None where that takes longer."""
-    begun = bench.now
-    found = {begun + 1: bench.show()}
+    """What the heads show with the preempt's switch on from now on, by tick: where they
+    or the service change, and where the preempt has all these phases green, which is the
+    last. None where that takes longer."""
+    begun, found = bench.now, dict[int, Display]()
     bench.preempt(number)
     while bench.now < begun + within:
         for it in bench.changes(min(PIECE, begun + within - bench.now)):
