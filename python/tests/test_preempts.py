@@ -189,6 +189,9 @@ def test_conflicts_by_hand() -> None:
         both = {1: display("RGRRRGRR", pedestrians), 5: display("RRRGRRGR")}
         found = conflict_of(both, 1, stage)
         assert found is not None and found.phase == phase
+    # (also where the lower one came later)
+    after = {1: display("RRRRRGRR"), 3: display("RGRRRGRR"), 5: display("RRRGRRGR")}
+    assert conflict_of(after, 1, stage) == Conflict(2, {"before it": 2, "green": 2})
     assert conflict_of({1: display("RRRGRRRR"), 5: display("RRRGRRGR")}, 1, stage) is None
     assert conflict_of({1: display("RGRRRGRR", preempt=2)}, 1, stage) is None
     plan = Plan(3)

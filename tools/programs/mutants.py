@@ -89,7 +89,8 @@ TESTS = {
     "exchange.utdf": ["tests/test_utdf.py"],
     "preempt": ["tests/test_preempts.py"],
     "exchange.remarks": [f"tests/test_oids.py::{it}" for it in (
-        "test_remarks_that_follow_one_another", "test_what_a_walk_has_no_place_for", "test_a_walk_of_a_street")],
+        "test_remarks_that_follow_one_another", "test_what_a_walk_has_no_place_for", "test_a_walk_of_a_street",
+        "test_notes_have_no_place")],
     "exchange.sides": ["tests/test_oids.py::test_sides_by_hand", "tests/test_oids.py::test_examples_out_and_in"],
     "sumo.trips": PARTS,
     "sumo.peers": PARTS,
