@@ -568,6 +568,22 @@ def test_bad_words(words: list[str], examples: Path) -> None:
     assert done.returncode == 2 and words[0] in done.stderr
 
 
+def test_a_schedule_without_a_clock(examples: Path) -> None:
+    """A line says that it does not act; and a time that is none is named."""
+    words = [sys.executable, "-m", "tsb", "snmp", "schedule.json", "--speed", "0"]
+    with subprocess.Popen(
+        words, cwd=examples, text=True, stdout=subprocess.PIPE, stderr=subprocess.PIPE
+    ) as process:
+        assert process.stdout is not None
+        assert "SNMP at" in process.stdout.readline()
+        process.send_signal(signal.SIGINT)
+        assert process.communicate(timeout=60)[1] == f"schedule.json: {snmp.NO_CLOCK}\n"
+    done = subprocess.run(
+        [*words, "--from", "7:00"], cwd=examples, capture_output=True, text=True
+    )
+    assert done.returncode == 1 and done.stderr.startswith("7:00: a clock is set to a day")
+
+
 def test_plans_that_are_refused(examples: Path) -> None:
     """One line, with the file's name."""
     done = subprocess.run(

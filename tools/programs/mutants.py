@@ -194,6 +194,7 @@ EQUAL = {
     "panel.track cut: tick < self.end -> tick <= self.end": "nothing lies behind the end",
     "sumo.nema _whole: abs(whole - value) > 1e-09 -> abs(whole - value) >= 1e-09": "no time is just so near to a whole one",
     "scenario.expect of: 3 -> 4": "a head has two digits at most",
+    "scenario.play tick: False -> True": "a bench that keeps events answers the same",
     "scenario.play _advance: if tick <= bench.now: return -> if False: return": NO_TICKS,
     "scenario.play _advance: tick <= bench.now -> tick < bench.now": NO_TICKS,
     "scenario.play _advance: it.tick > first -> it.tick >= first": NO_TICKS,
