@@ -167,7 +167,8 @@ def test_the_way_back(quad: Path) -> None:
         (lambda bench: bench.back(-3), "back -3: give a number of ticks, 0 or more; a"
          " second has 10 ticks"),
         (lambda bench: bench.seek(7.5), "seek 7.5: give a tick, counted from"
-         " power-up, as a whole number; a second has 10 ticks"),
+         " power-up, as a whole number; a second has 10 ticks, or a time of the clock,"
+         " as '7:42'"),
         (lambda bench: bench.step("7:42"), "step '7:42': give a number of ticks, as a"
          " whole number; a second has 10 ticks"),
         (lambda bench: bench.tick(vehicles=4), "4: give the numbers of inputs in a list,"

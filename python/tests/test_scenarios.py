@@ -84,10 +84,15 @@ FAULTS = {
     "at 5 step 3": "a.scenario:1: step: no input and no command: V1 to V64, B1 to B16 and"
     " I1 to I8 are inputs",
     "at soon V4 on": "a.scenario:1: soon: no line before has `let soon ..`",
-    "at 5+ V4 on": "a.scenario:1: 5+: no time: give a tick, as 120, or a sum as"
-    " 1+phaseMinimumGreen.2",
-    "at 12345678901 V4 on": "a.scenario:1: 12345678901: no time: give a tick, as 120, or"
-    " a sum as 1+phaseMinimumGreen.2",
+    "at 5+ V4 on": "a.scenario:1: 5+: no time: give a tick, as 120, a sum as"
+    " 1+phaseMinimumGreen.2, or 7:42 of the clock",
+    "at 12345678901 V4 on": "a.scenario:1: 12345678901: no time: give a tick, as 120,"
+    " a sum as 1+phaseMinimumGreen.2, or 7:42 of the clock",
+    "at 7:4 V4 on": "a.scenario:1: 7:4: no time: give a tick, as 120, a sum as"
+    " 1+phaseMinimumGreen.2, or 7:42 of the clock",
+    "at 2026-02-30T7:42 V4 on": "a.scenario:1: 2026-02-30T7:42: '2026-02-30T7:42': day is"
+    " out of range for month: give a time as 7:42 or 7:42:10.5, with a day as 2026-11-22"
+    " 7:42",
     "at 1+phaseWlak.2 V4 on": "a.scenario:1: phaseWlak.2: version 3 has no object"
     " phaseWlak: did you mean phaseWalk?",
     "at phaseWalk.17 V4 on": "a.scenario:1: phaseWalk.17: phaseWalk.17: its indices are"
@@ -292,6 +297,69 @@ def test_values_count_by_their_units(examples: Path) -> None:
         "6000000": 6_000_000,
     }.items():
         assert Times(plan, {}).of(Time.of(Word(text, PLACE), {})) == ticks, text
+
+
+#: A car at phase 4 from the tick on with which 7:00:01 comes: phase 4 is green from the
+#: tick after its minimum of 5 s, yellow and red clearance of 4 s. A pattern comes later.
+CLOCKED = """\
+plan quad.json
+at 0 clock 2026-11-22 07:00:00
+let car 7:00:01
+at car V4 on
+at 07:00:11.5+5 pattern 1
+expect P4 G by 2026-11-22T7:00:09.1
+expect P4 R from 7:00:00.1 to 7:00:09
+expect P4 G at car+phaseMinimumGreen.2+31
+until 7:00:20
+"""
+
+
+def test_times_of_the_clock(write: Write) -> None:
+    """A time is the tick with which it comes, as the bench says it of the clock that is
+    set at tick 0; another clock that is set later is none."""
+    scenario = Scenario.read(write(CLOCKED))
+    assert played(write(CLOCKED)) == []
+    source = source_of(scenario, 100)
+    assert source.end == 200 and [it for it, _ in source.given] == [0, 120]
+    later = f"at 50 clock 2026-11-22 12:00:00\n{CLOCKED}"
+    assert source_of(Scenario.read(write(later)), 100).end == 200
+    found = played(write(CLOCKED.replace("to 7:00:09\n", "to 7:00:09.1\n")))
+    assert found == [(7, 91, "P4 R from 1 to 90, G at 91")]
+
+
+@pytest.mark.parametrize(
+    ("lines", "said"),
+    [
+        ("expect P2 G by 7:42", "1: 7:42: give a line `at 0 clock 2026-11-22 07:00:00`"),
+        ("at 1 clock 2026-11-22 07:00:00\nexpect P2 G by 7:42",
+         "2: 7:42: give a line `at 0 clock 2026-11-22 07:00:00`"),
+        ("at 0 clock 2026-11-22 07:42:00\nexpect P2 G by 7:42",
+         "2: 7:42: it is 0: a tick is 1 to 6000000"),
+        ("at 0 clock 2026-11-22 07:42:00\nexpect P2 G by 2026-12-22T7:42",
+         "2: 2026-12-22T7:42: no tick is so late"),
+        ("at 0 clock today\nexpect P2 G by 7:42",
+         "1: clock today: bad command: "),
+    ],
+)  # fmt: skip
+def test_times_without_their_clock(lines: str, said: str, write: Write) -> None:
+    """The word is named, and what it lacks."""
+    path = write(f"{lines}\nplan quad.json\n")
+    with pytest.raises(ScenarioFault) as fault:
+        play(Scenario.read(path))
+    assert str(fault.value).startswith(f"a.scenario:{said}"), str(fault.value)
+
+
+def test_a_schedule_in_a_scenario(examples: Path, write: Write) -> None:
+    """At 7:00 of a Monday pattern 1 is selected."""
+    path = write("").with_name("quad.json")
+    path.write_bytes((examples / "schedule.json").read_bytes())
+    text = """\
+plan quad.json
+at 0 clock 2026-11-23 06:59:30
+expect no event 131 1 from 1 to 6:59:59.9
+expect event 131 1 at 7:00
+"""
+    assert played(write(text)) == []
 
 
 # What is met

@@ -539,7 +539,9 @@ def _counted(what: str, count: object) -> int:
         return int(count)
     give = "a tick, counted from power-up" if what == "seek" else "a number of ticks"
     number = "as a whole number" if not is_whole else "0 or more"
-    raise OutOfRange(f"{what} {count!r}: give {give}, {number}; a second has 10 ticks")
+    clock = ", or a time of the clock, as '7:42'" if what == "seek" else ""
+    ten = f"a second has 10 ticks{clock}"
+    raise OutOfRange(f"{what} {count!r}: give {give}, {number}; {ten}")
 
 
 def _changed(before: Display, shown: Lines) -> Iterator[Display]:

@@ -17,7 +17,7 @@ from typing import NamedTuple
 
 from tsb.errors import Error, NoSuchObject, OutOfRange, shown
 from tsb.exchange.oids import blank_density
-from tsb.exchange.remarks import Remark, warn
+from tsb.exchange.remarks import Remark, of_notes, warn
 from tsb.options import Words, called
 from tsb.plan import Plan
 from tsb.values import RINGS, object_of
@@ -539,6 +539,7 @@ class Sections:
                 value = plan["phaseConcurrency"][it]
                 why = "BRP makes all phases of a barrier and two rings concurrent"
                 self._tell("phaseConcurrency", it, value, why)
+        self.remarks += of_notes(plan, NO_ROW)
 
     def _has(self, name: str, index: int) -> bool:
         """Whether the sections have a value."""
