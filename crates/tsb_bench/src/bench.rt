@@ -88,6 +88,7 @@ fn kind_of(input: &Input) -> Kind
         Input::Commit(_) => Kind::Commit,
         Input::Abort(_) => Kind::Abort,
         Input::Clock(_) => Kind::Clock,
+        Input::Omit(_) => Kind::Omit,
     }
 }
 

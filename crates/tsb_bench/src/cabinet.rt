@@ -115,6 +115,7 @@ impl Cabinet {
             Input::Commit(station) => self.commit_refusal(*station),
             Input::Abort(station) => self.desk.abort_refusal(*station),
             Input::Clock(_) => None,
+            Input::Omit(list) => omit_refusal(*list),
         }
     }
 
@@ -174,6 +175,7 @@ impl Cabinet {
             Input::Commit(station) => self.commit(tick, *station, out),
             Input::Abort(station) => self.abort(tick, *station, out),
             Input::Clock(moment) => self.set_clock(tick, *moment, out),
+            Input::Omit(list) => self.omit(tick, *list, out),
         }
         tick
     }
@@ -332,5 +334,16 @@ fn tick_refusal(tick: u32) -> Option<Refusal>
         None
     } else {
         Some(Refusal::TickLimit)
+    }
+}
+
+/// Why a list of omitted arrows is refused.
+fn omit_refusal(list: u32) -> Option<Refusal>
+    ensures { result ≡ omit_refusal list }
+{
+    if list < 65536 {
+        None
+    } else {
+        Some(Refusal::OutOfRange)
     }
 }

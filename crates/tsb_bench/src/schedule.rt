@@ -11,6 +11,7 @@ ghost use Rattle.tsb_bench.specs.Schedule.{StaysInMinute};
 
 use crate::bench::Bench;
 use crate::cabinet::Cabinet;
+use tsb_objects::NumberSet;
 use tsb_plan::MINUTE;
 
 impl Cabinet {
@@ -52,6 +53,13 @@ impl Bench {
         ensures to { IfSome result (λ a. a ≤ 32) }
     {
         self.cabinet.action(self.tick)
+    }
+
+    /// The arrows that are omitted.
+    pub fn omitted_arrows(&self) -> NumberSet
+        ensures { (o : ℕ) → has_number result o ≡ (state_of self.now).omitted o }
+    {
+        self.cabinet.controller.omitted_arrows()
     }
 
     /// Whether the next tick is the last of a minute of the clock, where one is set. The action in force can become

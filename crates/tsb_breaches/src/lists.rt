@@ -107,10 +107,76 @@ pub(crate) fn has_no_dwell(plan: &Plan, object: Object, preempt: Preempt) -> boo
     plan.at(Object::PreemptDwellPhase, index) == 0 && plan.at(object, index) != 0
 }
 
-/// Whether the overlap is not minusGreenYellow, and has modifier phases.
+/// Whether the overlap is normal, and has modifier phases.
 pub(crate) fn modifies_nothing(plan: &Plan, overlap: Overlap) -> bool
     ensures { result ≡ modifies_nothing (plan_of plan.now) overlap }
 {
-    !plan.is_minus_green_yellow(overlap)
+    plan.at(Object::OverlapType, u32::from(overlap.number())) == 0
         && plan.at(Object::OverlapModifierPhases, u32::from(overlap.number())) != 0
+}
+
+/// Whether the overlap is of type 2.
+fn points(plan: &Plan, overlap: Overlap) -> bool
+    ensures { result ≡ points (plan_of plan.now) overlap }
+{
+    plan.at(Object::OverlapType, u32::from(overlap.number())) == 2
+}
+
+/// Whether it is an arrow that includes no phase.
+pub(crate) fn points_nowhere(plan: &Plan, overlap: Overlap) -> bool
+    ensures { result ≡ points_nowhere (plan_of plan.now) overlap }
+{
+    points(plan, overlap) && plan.included_phases(overlap).is_empty()
+}
+
+/// How many modifier phases the overlap has.
+pub(crate) fn turns_of(plan: &Plan, overlap: Overlap) -> u32
+    ensures { result ≡ turns_of (plan_of plan.now) overlap }
+{
+    let mut rest = plan.modifier_phases(overlap);
+    let mut count = 0;
+    while let Some(_) = rest.pop() {
+        count += 1;
+    }
+    count
+}
+
+/// Whether it is an arrow with no modifier phase, or several.
+pub(crate) fn turns_otherwise(plan: &Plan, overlap: Overlap) -> bool
+    ensures { result ≡ turns_otherwise (plan_of plan.now) overlap }
+{
+    points(plan, overlap) && turns_of(plan, overlap) != 1
+}
+
+/// Whether it is an arrow that includes the phase, and a modifier phase of it is that phase or concurrent with it.
+pub(crate) fn turns_with(plan: &Plan, overlap: Overlap, phase: Phase) -> bool
+    ensures { result ≡ turns_with (plan_of plan.now) overlap phase }
+{
+    if !points(plan, overlap) || !plan.included_phases(overlap).contains(phase) {
+        return false;
+    }
+    let mut rest = plan.modifier_phases(overlap);
+    while let Some(turn) = rest.pop() {
+        if turn == phase || plan.concurrency(turn).contains(phase) {
+            return true;
+        }
+    }
+    false
+}
+
+/// Whether the trailing yellow of the overlap is over 0 and under 30, or 0 where it trails.
+pub(crate) fn trails_shortly(plan: &Plan, overlap: Overlap) -> bool
+    ensures { result ≡ trails_shortly (plan_of plan.now) overlap }
+{
+    let index = u32::from(overlap.number());
+    let yellow = plan.at(Object::OverlapTrailYellow, index);
+    yellow < 30 && (yellow != 0 || plan.at(Object::OverlapTrailGreen, index) != 0)
+}
+
+/// Whether the overlap trails, and is not normal.
+pub(crate) fn trails_otherwise(plan: &Plan, overlap: Overlap) -> bool
+    ensures { result ≡ trails_otherwise (plan_of plan.now) overlap }
+{
+    let index = u32::from(overlap.number());
+    plan.at(Object::OverlapTrailGreen, index) != 0 && plan.at(Object::OverlapType, index) != 0
 }

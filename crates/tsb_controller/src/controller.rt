@@ -16,7 +16,8 @@ use tsb_calls::Calls;
 use tsb_coord::Coord;
 use tsb_detect::{Detectors, Greens};
 use tsb_heads::some_overlap_lasts;
-use tsb_objects::{Called, Checked, PhaseSet, Ring, Row};
+use tsb_objects::{Called, Checked, PhaseSet, Ring, Row, Timing};
+use tsb_overlap::Overlaps;
 use tsb_phase::Phases;
 use tsb_preempt::{Preempts, preempt_of};
 use tsb_ring::{RingOrder, Rings};
@@ -30,6 +31,18 @@ pub struct Controller {
     pub(crate) rings: Rings,
     pub(crate) coord: Coord,
     pub(crate) preempts: Preempts,
+    pub(crate) overlaps: Overlaps,
+}
+
+/// The timing of phases of which some are held in clearance by overlaps that trail: these are not over.
+#[inline(always)]
+fn holding(timing: &Timing, held: PhaseSet) -> Timing
+    ensures { result ≡ without timing.now held }
+{
+    Timing {
+        over: timing.over.difference(held),
+        ..*timing
+    }
 }
 
 impl Controller {
@@ -49,8 +62,12 @@ impl Controller {
     {
         let sensed = self.sense(now, row, plan);
         let called = self.calls.tick(&sensed.observed(row), plan);
-        let movement = self.proceed(now, &sensed, &called, plan);
+        let held = self
+            .overlaps
+            .run_on(now, sensed.service.is_some(), plan);
+        let movement = self.proceed(now, &sensed, &called, held, plan);
         self.give_up(&sensed, plan);
+        self.settle(now, &sensed, plan);
         self.calls.settle(&sensed.decided(&called, &movement));
     }
 
@@ -83,7 +100,14 @@ impl Controller {
 
     /// What the tick does with what it has found: the times of phases run, the rings decide, and their moves are
     /// carried out on phases and rings.
-    fn proceed(&mut self, now: u32, sensed: &Sensed, called: &Called, plan: &Checked) -> Movement
+    fn proceed(
+        &mut self,
+        now: u32,
+        sensed: &Sensed,
+        called: &Called,
+        held: PhaseSet,
+        plan: &Checked,
+    ) -> Movement
         requires opened { IsOpen self.old }
         requires begun { 1 ≤ now }
         requires in_time { now ≤ last_tick }
@@ -95,11 +119,34 @@ impl Controller {
         ensures opened { IsOpen self.new }
     {
         let conditions = sensed.conditions(called, self.calls.vehicles());
-        let timing = self.phases.tick(now, &conditions, plan);
+        let timing = holding(&self.phases.tick(now, &conditions, plan), held);
         let moves = self.rings.decide(&sensed.for_rings(called, &timing), plan);
         carry_out(&mut self.phases, &moves, now, &timing, &conditions, plan);
         self.rings.act(&moves, RingOrder::Ring1First);
         Movement { timing, moves }
+    }
+
+    /// Arrows and overlaps that trail follow the phases and the rings, as they are now. Most plans have none.
+    #[inline(always)]
+    fn settle(&mut self, now: u32, sensed: &Sensed, plan: &Checked) {
+        if !plan.timed_overlaps().is_empty() {
+            self.settle_some(now, sensed, plan);
+        }
+    }
+
+    /// The same, where the plan has some.
+    #[inline(never)]
+    fn settle_some(&mut self, now: u32, sensed: &Sensed, plan: &Checked) {
+        let seen = tsb_overlap::Seen {
+            was_green: sensed.intervals.green,
+            intervals: self.phases.intervals(),
+            pedestrians: self.phases.pedestrians(),
+            since: self.phases.since(),
+            ring_1: self.rings.commitment(Ring::of(1)),
+            ring_2: self.rings.commitment(Ring::of(2)),
+            is_preempted: sensed.service.is_some(),
+        };
+        self.overlaps.settle(now, &seen, plan);
     }
 
     /// The rings give up what they are committed to outside the target, where the preempt in service chooses anew, and

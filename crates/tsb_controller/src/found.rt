@@ -77,10 +77,12 @@ impl Controller {
         requires pattern_by { coord.IsBy (rows_of self.now).pattern }
         ensures { TellsPhaseFound clock (checked_plan plan.now) (rows_of self.now) p result }
     {
+        let is_preempted = self.preempts.stage().is_some();
         PhaseFound {
             phase: p,
             times: self.phases.told(p, clock),
             found: self.green_found(p, plan),
+            holder: self.overlaps.holder(p, clock, is_preempted, plan),
         }
     }
 

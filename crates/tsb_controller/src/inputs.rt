@@ -14,7 +14,8 @@ use crate::controller::Controller;
 use tsb_calls::Calls;
 use tsb_coord::Coord;
 use tsb_detect::Detectors;
-use tsb_objects::Checked;
+use tsb_objects::{Checked, NumberSet};
+use tsb_overlap::Overlaps;
 use tsb_phase::Phases;
 use tsb_preempt::Preempts;
 use tsb_ring::Rings;
@@ -36,6 +37,7 @@ impl Controller {
             rings: Rings::new(),
             coord: Coord::new(),
             preempts: Preempts::new(),
+            overlaps: Overlaps::new(),
         }
     }
 
@@ -80,6 +82,17 @@ impl Controller {
         let _done = self.preempts.switch(n, on, plan);
     }
 
+    /// Omits the arrows of a set, and lets others flash.
+    pub fn omit(&mut self, set: NumberSet)
+        requires opened { IsOpen self.old }
+        ensures state { IsOmitted set (rows_of self.old) (rows_of self.new) }
+        ensures by { KeepsBy (rows_of self.old) (rows_of self.new) }
+        ensures kept { kept_of self.new ≡ kept_of self.old }
+        ensures opened { IsOpen self.new }
+    {
+        self.overlaps.omit(set);
+    }
+
     /// All layers start anew at tick `now`, as at power-up, except the switches of preempts and the clock.
     pub fn reset(&mut self, now: u32)
         requires opened { IsOpen self.old }
@@ -96,6 +109,7 @@ impl Controller {
         self.rings.reset(now);
         self.coord.reset(now);
         self.preempts.reset(now);
+        self.overlaps.reset(now);
     }
 
     /// The rings forget the phases that they started last, as after a commit of the structure.

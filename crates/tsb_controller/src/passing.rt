@@ -14,7 +14,7 @@ use crate::controller::Controller;
 use crate::values::Sensed;
 use tsb_detect::Greens;
 use tsb_objects::limits::TICKS;
-use tsb_objects::{Checked, PhaseSet, Plan, Preempt, Row, Stage};
+use tsb_objects::{Checked, PhaseSet, Plan, Preempt, Ring, Row, Stage};
 use tsb_preempt::{PreemptOrders, preempt_of, stage_phases};
 
 /// The list that names phases 1 to 16.
@@ -101,6 +101,24 @@ impl Controller {
         self.phases.due(now, &conditions, plan)
     }
 
+    /// The tick up to which overlaps stay as tick `now` left them, while phases, rings and preempts do.
+    #[inline(always)]
+    fn overlaps_due(&self, now: u32, plan: &Checked) -> u32 {
+        if plan.timed_overlaps().is_empty() {
+            return u32::MAX;
+        }
+        let seen = tsb_overlap::Seen {
+            was_green: PhaseSet::empty(),
+            intervals: self.phases.intervals(),
+            pedestrians: self.phases.pedestrians(),
+            since: self.phases.since(),
+            ring_1: self.rings.commitment(Ring::of(1)),
+            ring_2: self.rings.commitment(Ring::of(2)),
+            is_preempted: self.preempts.stage().is_some(),
+        };
+        self.overlaps.due(now, &seen, plan)
+    }
+
     /// The tick up to which detectors and preempts stay as tick `now` left them, and coordination asks the same, at
     /// most the one after the last tick that there is.
     fn others_due(&self, now: u32, row: &Row, plan: &Checked) -> u32
@@ -115,7 +133,11 @@ impl Controller {
         let detectors = self.detectors.due(now, row, plan);
         let preempts = self.preempts.due(now, row, &intervals, plan);
         let coordination = self.coord.due(now, plan);
-        detectors.min(preempts).min(coordination.min(TICKS + 1))
+        let overlaps = self.overlaps_due(now, plan);
+        detectors
+            .min(preempts)
+            .min(overlaps)
+            .min(coordination.min(TICKS + 1))
     }
 
     /// The first tick after `now` that may change something, where tick `now`, with the inputs of `row` on, changed no

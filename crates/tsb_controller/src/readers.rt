@@ -22,7 +22,7 @@ use crate::controller::Controller;
 use tsb_calls::Calls;
 use tsb_coord::Coord;
 use tsb_detect::Detectors;
-use tsb_objects::{Checked, Intervals, Phase, Preempt, Refusal, Ring, Side, Stage};
+use tsb_objects::{Checked, Intervals, NumberSet, Phase, Preempt, Refusal, Ring, Side, Stage};
 use tsb_phase::Phases;
 use tsb_preempt::Preempts;
 
@@ -136,6 +136,13 @@ impl Controller {
         ensures closed { IsClosed self.now → phases.is_open result.now ≡ false }
     {
         &self.phases
+    }
+
+    /// The arrows that are omitted.
+    pub fn omitted_arrows(&self) -> NumberSet
+        ensures { TellsOmitted (rows_of self.now) result }
+    {
+        self.overlaps.omitted()
     }
 
     /// The preempts.

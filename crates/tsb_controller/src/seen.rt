@@ -138,12 +138,17 @@ fn stage_is_green(stage: &Option<(Preempt, Stage)>, intervals: &Intervals, plan:
     }
 }
 
-/// Whether one of these phases is included in an overlap.
+/// Whether one of these phases is included in an overlap, or is the protected turn of an arrow.
 fn includes_one(overlap: Overlap, phases: PhaseSet, plan: &Checked) -> bool
     ensures { result ≡ list_any (λ p. is_included (checked_plan plan.now) overlap p && has phases p) (run_from 1 16) }
 {
     let included = plan.plan().included_phases(overlap);
-    included.intersection(phases).first().is_some()
+    let turns = if plan.plan().is_arrow(overlap) {
+        plan.plan().modifier_phases(overlap)
+    } else {
+        PhaseSet::empty()
+    };
+    included.union(turns).intersection(phases).first().is_some()
 }
 
 /// The overlaps that are not lit, and include none of the phases that are in service.
@@ -211,6 +216,7 @@ impl Controller {
         let served = shown.green.union(shown.yellow).union(shown.red_clear);
         let overlap_greens = display.overlap_greens();
         let overlap_yellows = display.overlap_yellows();
+        let overlap_arrows = display.overlap_arrows();
         Seen {
             greens: numbers(shown.green),
             yellows: numbers(shown.yellow.difference(shown.green)),
@@ -229,8 +235,18 @@ impl Controller {
             recalls: numbers(self.recalls(plan)),
             pedestrian_recalls: numbers(plan.on_pedestrian_recall(self.coord.running(plan))),
             overlap_greens,
+            overlap_trails: if tripped {
+                NumberSet::empty()
+            } else {
+                self.overlaps.trailing_greens()
+            },
             overlap_yellows,
-            overlaps_off: overlaps_off(overlap_greens.union(overlap_yellows), served, plan),
+            overlap_arrows,
+            overlaps_off: overlaps_off(
+                overlap_greens.union(overlap_yellows).union(overlap_arrows),
+                served,
+                plan,
+            ),
             outputs: self.detectors.outputs(),
             alarms: self.detectors.alarms(),
             switches: self.preempts.switches(),

@@ -316,6 +316,11 @@ impl Controller {
             overlap_reds: sets.overlap_reds,
             overlap_yellows: seen.overlap_yellows,
             overlap_greens: seen.overlap_greens,
+            overlap_arrows: if plan.arrows().is_empty() {
+                None
+            } else {
+                Some(seen.overlap_arrows)
+            },
             active: self.detectors.outputs(),
             alarms: seen.alarms,
             preempts: self.preempt_states(plan),

@@ -31,6 +31,7 @@ impl Controller {
             &self.phases.pedestrians(),
             self.rings.commitment(Ring::of(1)),
             self.rings.commitment(Ring::of(2)),
+            &self.overlaps.lights(),
             tripped,
             plan,
         )

@@ -18,6 +18,7 @@ mod review_run;
 mod run;
 mod schedule_run;
 mod twice;
+mod card_run;
 mod worksheet_run;
 
 use crate::end::USAGE;

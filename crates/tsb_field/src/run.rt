@@ -16,6 +16,7 @@ use crate::outputs_run::run_log;
 use crate::record_run::write_record;
 use crate::review_run::review_plan;
 use crate::schedule_run::write_schedule;
+use crate::card_run::write_card_of;
 use crate::worksheet_run::write_worksheet_of;
 use std::alloc::Global;
 use std::convert::AsStr;
@@ -94,5 +95,6 @@ fn run_wish<F: Files, R: Read, W: Write, E: Write>(
             write_schedule(alloc, plan, *week, *svg, files, streams)
         }
         Asked::Worksheet { plan } => write_worksheet_of(alloc, plan, files, streams),
+        Asked::Card { plan, against } => write_card_of(alloc, plan, *against, files, streams),
     }
 }

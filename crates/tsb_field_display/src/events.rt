@@ -8,13 +8,13 @@ use crate::shown::{Shown, Signals, same};
 use arrayvec::ArrayVec;
 use tsb_types::Event;
 use tsb_types::event::{
-    CLEARANCE_BEGINS, DONT_WALK_BEGINS, FLASH, FLASH_CHANGES, GREEN_BEGINS, GREEN_ENDS, NO_FLASH,
+    ARROW_BEGINS, ARROW_ENDS, CLEARANCE_BEGINS, DONT_WALK_BEGINS, FLASH, FLASH_CHANGES, GREEN_BEGINS, GREEN_ENDS, NO_FLASH,
     OVERLAP_GREEN_BEGINS, OVERLAP_RED_BEGINS, OVERLAP_YELLOW_BEGINS, PREEMPT_ENTERS, WALK_BEGINS,
     YELLOW_BEGINS, YELLOW_ENDS, begun, joined, tell,
 };
 
 /// The most events of one change.
-pub const EVENTS: usize = 162;
+pub const EVENTS: usize = 194;
 
 /// The events of one change.
 pub type Events = ArrayVec<Event, EVENTS>;
@@ -31,6 +31,7 @@ pub fn events_between(before: &Signals, now: &Shown) -> Events
     }
     tell_vehicles(&mut events, before, now);
     tell_pedestrians(&mut events, before, now);
+    tell_arrows(&mut events, before, now);
     tell_overlaps(&mut events, before, now);
     tell_preempt(&mut events, before, now);
     tell_flash(&mut events, before, now);
@@ -86,6 +87,18 @@ fn tell_pedestrians(events: &mut Events, before: &Signals, now: &Shown)
     );
 }
 
+/// Adds the events of arrows.
+fn tell_arrows(events: &mut Events, before: &Signals, now: &Shown)
+    requires { array_vec_len events.old + 32 ≤ EVENTS }
+    ensures told { events.new.items ≡ events.old.items ++ arrow_events before.now now.now.tick now.now.signals }
+    ensures few { array_vec_len events.new ≤ array_vec_len events.old + 32 }
+{
+    let was = before.overlaps.arrows;
+    let is = now.signals.overlaps.arrows;
+    tell(events, now.tick, ARROW_BEGINS, begun(was, is));
+    tell(events, now.tick, ARROW_ENDS, begun(is, was));
+}
+
 /// Adds the events of overlaps.
 fn tell_overlaps(events: &mut Events, before: &Signals, now: &Shown)
     requires { array_vec_len events.old + 48 ≤ 162 }
@@ -94,8 +107,8 @@ fn tell_overlaps(events: &mut Events, before: &Signals, now: &Shown)
 {
     let was = before.overlaps;
     let is = now.signals.overlaps;
-    let lit_was = joined(was.greens, was.yellows);
-    let lit_is = joined(is.greens, is.yellows);
+    let lit_was = joined(joined(was.greens, was.yellows), was.arrows);
+    let lit_is = joined(joined(is.greens, is.yellows), is.arrows);
     tell(
         events,
         now.tick,

@@ -126,8 +126,20 @@ impl Display {
             self.overlap_red
                 .union(self.overlap_yellow)
                 .union(self.overlap_green)
+                .union(self.overlap_arrow)
         } else {
             NumberSet::empty()
+        }
+    }
+
+    /// The overlaps whose head flashes yellow: arrows that let their turn go by gaps.
+    pub fn overlap_arrows(&self) -> NumberSet
+        ensures { TellsOverlaps is_flashing_yellow self.now result }
+    {
+        if self.flashing {
+            NumberSet::empty()
+        } else {
+            self.overlap_arrow
         }
     }
 }

@@ -11,7 +11,7 @@ ghost use Rattle.tsb_heads.specs.OverlapSets.{HasNone, IsInOne, IsSameAt, aspect
 
 use crate::overlaps::{ServedPhases, overlap_head};
 use tsb_objects::limits::OVERLAPS;
-use tsb_objects::{Aspect, Checked, NumberSet, Overlap};
+use tsb_objects::{Aspect, Checked, NumberSet, Overlap, OverlapLights};
 
 /// The sets of overlaps whose heads show each colour.
 #[derive(Clone, Copy)]
@@ -19,6 +19,7 @@ pub(crate) struct Overlaps {
     pub(crate) red: NumberSet,
     pub(crate) yellow: NumberSet,
     pub(crate) green: NumberSet,
+    pub(crate) flashing: NumberSet,
 }
 
 /// No overlap has a head.
@@ -30,6 +31,7 @@ fn no_overlaps() -> Overlaps
         red: NumberSet::empty(),
         yellow: NumberSet::empty(),
         green: NumberSet::empty(),
+        flashing: NumberSet::empty(),
     }
 }
 
@@ -56,12 +58,34 @@ fn with_overlap(heads: Overlaps, o: Overlap, aspect: Aspect) -> Overlaps
         red: joined(heads.red, o, matches!(aspect, Aspect::Red)),
         yellow: joined(heads.yellow, o, matches!(aspect, Aspect::Yellow)),
         green: joined(heads.green, o, matches!(aspect, Aspect::Green)),
+        flashing: joined(heads.flashing, o, matches!(aspect, Aspect::FlashingYellow)),
     }
 }
 
-/// What the heads of overlaps show.
+/// What the head of an overlap shows that has intervals of its own.
 #[inline(always)]
-pub(crate) fn overlaps_of(plan: &Checked, served: &ServedPhases) -> Overlaps
+fn light_of(lights: &OverlapLights, o: Overlap) -> Aspect
+    ensures { result ≡ light_of lights.now o }
+{
+    let number = o.number();
+    if lights.green.contains(number) {
+        Aspect::Green
+    } else if lights.flashing.contains(number) {
+        Aspect::FlashingYellow
+    } else if lights.yellow.contains(number) {
+        Aspect::Yellow
+    } else {
+        Aspect::Red
+    }
+}
+
+/// What the heads of overlaps show: those that have intervals of their own by these, and the others by the phases.
+#[inline(always)]
+pub(crate) fn overlaps_of(
+    plan: &Checked,
+    served: &ServedPhases,
+    lights: &OverlapLights,
+) -> Overlaps
     ensures heads { (s : Shown) → IsServed (checked_plan plan.now) s served.now → (o : ℕ) → 1 ≤ o → o ≤ OVERLAPS →
         aspect_of_overlap result o ≡ overlap_head (checked_plan plan.now) s o }
     ensures apart { (n : ℕ) → IsInOne result n }
@@ -70,7 +94,12 @@ pub(crate) fn overlaps_of(plan: &Checked, served: &ServedPhases) -> Overlaps
     let mut heads = no_overlaps();
     for number in 1..OVERLAPS + 1 {
         let o = Overlap::of(number);
-        heads = with_overlap(heads, o, overlap_head(plan, o, served));
+        let aspect = if plan.timed_overlaps().contains(number) {
+            light_of(lights, o)
+        } else {
+            overlap_head(plan, o, served)
+        };
+        heads = with_overlap(heads, o, aspect);
     }
     heads
 }

@@ -9,7 +9,7 @@ use crate::numbers::Numbers;
 use std::alloc::Global;
 use tsb_heads::{Display, Field, Monitor, Trip};
 use tsb_objects::{
-    Checked, Intervals, Lamp, Overlap, PedestrianColor, Pedestrians, Phase, PhaseSet, SignalColor,
+    Checked, Intervals, Lamp, Overlap, OverlapLights, PedestrianColor, Pedestrians, Phase, PhaseSet, SignalColor,
 };
 
 /// What the heads are given: intervals, pedestrian parts and both commitments.
@@ -132,6 +132,7 @@ fn display(given: &Given, plan: &Checked) -> Display
         &given.pedestrians,
         given.ring_1,
         given.ring_2,
+        &OverlapLights::none(),
         false,
         plan,
     )

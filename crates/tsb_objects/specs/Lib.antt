@@ -16,3 +16,5 @@ pub mod Checked
 pub use Rattle.tsb_types.specs as tsb_types
 pub use Rattle.tsb_plan.specs as tsb_plan
 pub use Rattle.tsb_rules.specs as tsb_rules
+-- the overlaps that have intervals of their own
+pub mod TimedOverlaps

@@ -8,6 +8,7 @@ ghost use Rattle.tsb_objects.specs.PatternTables.{ArePatternTables};
 ghost use Rattle.tsb_objects.specs.RedReverts.{IsLongestRedRevert};
 ghost use Rattle.tsb_objects.specs.Tables.{ArePhaseTables, AreDetectorTables, ArePartTables};
 ghost use Rattle.tsb_objects.specs.Unions.{AreUnionTables};
+ghost use Rattle.tsb_objects.specs.TimedOverlaps.{AreArrows, AreTimed};
 
 mod detectors;
 mod parts;
@@ -19,9 +20,11 @@ use crate::part_tables::PartTables;
 use crate::pattern_tables::PatternTables;
 use crate::red_reverts::longest_red_revert;
 use crate::tables::PhaseTables;
+use crate::timed_overlaps::{arrows_of, timed_of};
 use crate::union_tables::UnionTables;
 use tsb_plan::Plan;
 use tsb_rules::{Rule, check};
+use tsb_types::NumberSet;
 
 /// A plan that may be run, with tables of what it says of all phases, detectors, overlaps and preempts at once, also while
 /// a pattern runs.
@@ -37,6 +40,8 @@ pub struct Checked {
     pattern_tables: PatternTables,
     union_tables: UnionTables,
     longest_red_revert: u32,
+    arrows: NumberSet,
+    timed_overlaps: NumberSet,
     ghost passed: { first_broken (plan_of plan) ≡ None },
     ghost phases_are: { ArePhaseTables (plan_of plan) phase_tables },
     ghost detectors_are: { AreDetectorTables (plan_of plan) detector_tables },
@@ -44,6 +49,8 @@ pub struct Checked {
     ghost patterns_are: { ArePatternTables (plan_of plan) pattern_tables },
     ghost unions_are: { AreUnionTables (plan_of plan) union_tables },
     ghost reverts_are: { IsLongestRedRevert (plan_of plan) longest_red_revert },
+    ghost arrows_are: { AreArrows (plan_of plan) arrows },
+    ghost timed_are: { AreTimed (plan_of plan) timed_overlaps },
 }
 
 impl Checked {
@@ -75,6 +82,8 @@ impl Checked {
             pattern_tables: PatternTables::of(&plan),
             union_tables: UnionTables::of(&plan),
             longest_red_revert: longest_red_revert(&plan),
+            arrows: arrows_of(&plan),
+            timed_overlaps: timed_of(&plan),
         }
     }
 
@@ -93,6 +102,8 @@ impl Checked {
         self.pattern_tables.renew(&self.plan, plan);
         self.union_tables.renew(&self.plan, plan);
         self.longest_red_revert = longest_red_revert(plan);
+        self.arrows = arrows_of(plan);
+        self.timed_overlaps = timed_of(plan);
         self.plan = *plan;
     }
 
@@ -103,6 +114,22 @@ impl Checked {
         ensures { IsLongestRedRevert (checked_plan self.now) result }
     {
         self.longest_red_revert
+    }
+
+    /// The overlaps that are arrows.
+    #[inline(always)]
+    pub fn arrows(&self) -> NumberSet
+        ensures { AreArrows (checked_plan self.now) result }
+    {
+        self.arrows
+    }
+
+    /// The overlaps that have intervals of their own: arrows, and overlaps that trail.
+    #[inline(always)]
+    pub fn timed_overlaps(&self) -> NumberSet
+        ensures { AreTimed (checked_plan self.now) result }
+    {
+        self.timed_overlaps
     }
 
     /// The plan that was checked.

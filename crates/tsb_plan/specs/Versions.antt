@@ -79,10 +79,15 @@ indices_by counts o =
     if is_by_detector o then counts.vehicle_detectors
     else (if is_by_overlap o then counts.overlaps else (if is_by_preempt o then counts.preempts else (row o).range.indices))
 
+-- the greatest value that version 2 gives it: an overlap is of no type 2, and all else has that of a plan
+abbrev pub greatest_of_two : Object → ℕ
+greatest_of_two OverlapType = 1
+greatest_of_two o = (row o).range.greatest
+
 -- the object's range in the version; for one that the version has not, its range in a plan
 abbrev range_of : Version → Object → Range
 range_of One o = or_else (row o).since (row o).range
-range_of Two o = record { indices = indices_by narrow_counts o; greatest = (row o).range.greatest }
+range_of Two o = record { indices = indices_by narrow_counts o; greatest = greatest_of_two o }
 range_of Three o = (row o).range
 
 -- how many indices the object has, from 1 on

@@ -37,5 +37,7 @@ pub fn rule_line(rule: Rule) -> &'static str
         Rule::K25 => "rule K25",
         Rule::K26 => "rule K26",
         Rule::K27 => "rule K27",
+        Rule::K28 => "rule K28",
+        Rule::K29 => "rule K29",
     }
 }

@@ -3,7 +3,7 @@ use Rattle.std.specs.Prelude.{ℕ, ◌==◌, Bool, not, ◌&&◌, ◌||◌, Opti
 use Rattle.std.specs.List.{list_any}
 use Rattle.tsb_types.specs.Lists.{first}
 use Rattle.tsb_plan.specs.declared.object.Object.TheVariants.{OverlapIncludedPhases, OverlapModifierPhases}
-use Rattle.tsb_plan.specs.Parts.{is_included, is_modifier, overlaps_across_rings}
+use Rattle.tsb_plan.specs.Parts.{is_included, is_modifier, overlaps_across_rings, trails}
 use Rattle.tsb_plan.specs.Plan.{Plan, phases, ring_of, is_concurrent}
 use Rattle.tsb_rules.specs.Rules.{has_walk}
 use Rattle.tsb_review.specs.Actuation.{phase_and}
@@ -43,12 +43,12 @@ is_beside plan o p q = is_included plan o q && (not (q == p) && ring_of plan p =
 abbrev pub is_carried_at : Plan → ℕ → ℕ → Bool
 is_carried_at plan o p = is_included plan o p && list_any (is_beside plan o p) (phases plan)
 
--- A41: overlap o includes phases, no two of one ring, and those of two rings are concurrent; and it has no modifier phase.
--- No phase of it follows another, so it shows what its phases show
+-- A41: overlap o includes phases, no two of one ring, and those of two rings are concurrent; it has no modifier phase and does not
+-- trail. No phase of it follows another, so it shows what its phases show
 abbrev pub adds_nothing : Plan → ℕ → Bool
 adds_nothing plan o =
     not (plan.value OverlapIncludedPhases o == 0) && (plan.value OverlapModifierPhases o == 0 &&
-    (is_none (split_at plan o) && not (list_any (is_carried_at plan o) (phases plan))))
+    (not (trails plan o) && (is_none (split_at plan o) && not (list_any (is_carried_at plan o) (phases plan)))))
 
 -- overlap o includes q, which is neither p nor l
 abbrev pub is_third : Plan → ℕ → ℕ → ℕ → ℕ → Bool

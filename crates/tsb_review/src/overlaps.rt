@@ -100,13 +100,14 @@ fn list_of(plan: &Plan, object: Object, overlap: Overlap) -> u32
     plan.at(object, u32::from(overlap.number()))
 }
 
-/// A41: whether the overlap includes phases, no two of one ring, and those of two rings are concurrent, and it has no
-/// modifier phase.
+/// A41: whether the overlap includes phases, no two of one ring, and those of two rings are concurrent, it has no
+/// modifier phase, and does not trail.
 pub(crate) fn adds_nothing(plan: &Plan, overlap: Overlap) -> bool
     ensures { result ≡ adds_nothing (plan_of plan.now) overlap }
 {
     list_of(plan, Object::OverlapIncludedPhases, overlap) != 0
         && list_of(plan, Object::OverlapModifierPhases, overlap) == 0
+        && !plan.trails(overlap)
         && split_at(plan, overlap).is_none()
         && !is_carried(plan, overlap)
 }

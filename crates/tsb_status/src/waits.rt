@@ -124,6 +124,16 @@ fn beside(crosses: bool, next: &Option<Next>) -> Option<Next>
     }
 }
 
+/// What a phase waits for whose ring has this phase in clearance.
+fn clearing(q: &Served) -> Wait
+    ensures { result ≡ clearing_by q.now }
+{
+    match q.trail {
+        Some((o, left)) => Wait::Trails(q.phase, o, left),
+        None => Wait::Clears(q.phase, q.left),
+    }
+}
+
 /// What a phase waits for that its ring is committed to.
 fn committed_wait(
     plan: &Checked,
@@ -135,13 +145,16 @@ fn committed_wait(
     ensures { result ≡ committed_by (checked_plan plan.now) p.now own.now other.now crosses }
 {
     if let Some(q) = not_over(&own.served) {
-        return Wait::Clears(q.phase, q.left);
+        return clearing(&q);
     }
     if !p.is_reverted {
         return Wait::RedRevert(p.red_revert);
     }
     if let Some(q) = in_the_way(plan, p.phase, crosses, &other.served) {
-        return Wait::Across(q.phase, q.left);
+        return match q.trail {
+            Some((o, left)) => Wait::Trails(q.phase, o, left),
+            None => Wait::Across(q.phase, q.left),
+        };
     }
     match beside(crosses, &other.next) {
         None => Wait::Due,
@@ -248,7 +261,7 @@ fn free_wait(
         return Wait::Crossing(keeps);
     }
     if let Some(q) = not_green(&own.served) {
-        return Wait::Clears(q.phase, q.left);
+        return clearing(&q);
     }
     if !p.is_reverted {
         return Wait::RedRevert(p.red_revert);

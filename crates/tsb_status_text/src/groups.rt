@@ -133,6 +133,9 @@ fn push_overlaps(line: &mut StatusLine, status: &Status)
     push_overlap_set(line, b"{\"reds\":", status.overlap_reds);
     push_overlap_set(line, b",\"yellows\":", status.overlap_yellows);
     push_overlap_set(line, b",\"greens\":", status.overlap_greens);
+    if let Some(arrows) = status.overlap_arrows {
+        push_overlap_set(line, b",\"flashingYellows\":", arrows);
+    }
     line.push(b"}");
 }
 

@@ -3,7 +3,7 @@
 use std::process::Abort;
 use tsb_display_text::{LineMaker, line, line_bytes};
 use tsb_heads::Display;
-use tsb_objects::{Checked, Intervals, Pedestrians, PhaseSet, Plan, Preempt};
+use tsb_objects::{Checked, Intervals, OverlapLights, Pedestrians, PhaseSet, Plan, Preempt};
 
 /// The built-in plan of eight phases.
 fn quad(rt: &impl Abort) -> Checked {
@@ -32,7 +32,7 @@ fn shown(
         walk: PhaseSet::from_list(walk),
         clearance: PhaseSet::from_list(clearance),
     };
-    Display::new(&intervals, &pedestrians, None, None, tripped, plan)
+    Display::new(&intervals, &pedestrians, None, None, &OverlapLights::none(), tripped, plan)
 }
 
 /// Whether this is the line of a tick at which the heads show this.

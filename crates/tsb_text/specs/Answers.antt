@@ -22,7 +22,7 @@ use Rattle.tsb_bench.specs.tsb_step.State.{State}
 use Rattle.tsb_display_text.specs.Line.{line_of, tick_field}
 use Rattle.tsb_display_text.specs.Line as shown
 use Rattle.tsb_command_text.specs.declared.command.Command.{Command}
-use Rattle.tsb_command_text.specs.declared.command.Command.TheVariants.{Step, Back, Seek, Undo, Show, Quit, When, Begin, Set, Verify, Commit, Abort, Pattern, Preempt, Fault, Reset, Clock}
+use Rattle.tsb_command_text.specs.declared.command.Command.TheVariants.{Step, Back, Seek, Undo, Show, Quit, When, Begin, Set, Verify, Commit, Abort, Pattern, Preempt, Fault, Reset, Clock, Omit}
 use Rattle.tsb_log_text.specs.declared.log.LogRow.{LogRow}
 use Rattle.tsb_log_text.specs.Logs.{row_at}
 use Rattle.tsb_dialog.specs.Said.{with_feed}
@@ -62,6 +62,7 @@ kind_name kinds.Verify = codes "verify"
 kind_name kinds.Commit = codes "commit"
 kind_name kinds.Abort = codes "abort"
 kind_name kinds.Clock = codes "clock"
+kind_name kinds.Omit = codes "omit"
 
 -- it names the station that owns the desk
 abbrev pub busy_line : ℕ → List ℕ
@@ -201,3 +202,4 @@ Answers given is (Preempt number on) text new = Asked given is (asks.Apply (inpu
 Answers given is (Fault lamp) text new = Asked given is (asks.Apply (inputs.Fault lamp)) text new
 Answers given is Reset text new = Asked given is (asks.Apply inputs.Reset) text new
 Answers given is (Clock time) text new = Asked given is (asks.Apply (inputs.Clock time)) text new
+Answers given is (Omit list) text new = Asked given is (asks.Apply (inputs.Omit list)) text new

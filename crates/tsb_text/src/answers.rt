@@ -122,13 +122,12 @@ pub fn follow<W: Write>(
     ensures acts { course.new.acts ≡ course.old.acts }
     ensures blame { writer.old.failed ≡ false → AfterCalls result writer.new.failed }
 {
-    match course.follow() {
-        Ok(true) => {
-            course.say_news(pending, writer)?;
-            Ok(None)
+    loop {
+        match course.follow() {
+            Ok(true) => course.say_news(pending, writer)?,
+            Ok(false) => return Ok(None),
+            Err(refusal) => return Ok(Some(refusal)),
         }
-        Ok(false) => Ok(None),
-        Err(refusal) => Ok(Some(refusal)),
     }
 }
 

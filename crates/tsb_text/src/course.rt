@@ -67,8 +67,8 @@ pub struct Course<'a> {
     acts: bool,
     /// Whether display lines are wide.
     is_wide: bool,
-    /// The pattern that follows the newest input, until it is taken.
-    next: Option<u32>,
+    /// The input that follows the newest one, until it is taken: a pattern, or the arrows that are omitted.
+    next: Option<Input>,
 }
 
 impl<'a> Model for Course<'a> {
@@ -268,7 +268,7 @@ impl<'a> Course<'a> {
         }
     }
 
-    /// Takes what follows the newest input, if something does: `true` where it has.
+    /// Takes what follows the newest input, if something does: `true` where it has, and then more may follow.
     pub fn follow(&mut self) -> Result<bool, Refusal>
         ensures followed { (given : Setup) (log : List LogRow) (inputs : List InputValue) → Stands given log self.old inputs → Followed result given log self.old.next self.new inputs }
         ensures next { self.new.next ≡ None }
@@ -279,8 +279,14 @@ impl<'a> Course<'a> {
     {
         match self.next.take() {
             None => Ok(false),
-            Some(pattern) => match self.take_alone(Input::Pattern(pattern)) {
-                Ok(()) => Ok(true),
+            Some(input) => match self.take_alone(input) {
+                Ok(()) => {
+                    self.next = match input {
+                        Input::Pattern(_) => omitted(&self.bench),
+                        _ => None,
+                    };
+                    Ok(true)
+                }
                 Err(refusal) => Err(refusal),
             },
         }
@@ -486,14 +492,26 @@ impl<'a> Course<'a> {
 }
 
 /// The pattern that follows an input of a bench that has taken it, where this action was in force before.
-fn selected(bench: &Bench, before: Option<u32>) -> Option<u32>
+fn selected(bench: &Bench, before: Option<u32>) -> Option<Input>
     ensures { option_map Pattern result ≡ selects (state_of bench.now).plan before (action (state_of bench.now)) }
 {
     let action = bench.action()?;
     if before == Some(action) {
         return None;
     }
-    Some(bench.plan().selected_by(action))
+    Some(Input::Pattern(bench.plan().selected_by(action)))
+}
+
+/// The arrows that the action in force omits, where others are omitted.
+fn omitted(bench: &Bench) -> Option<Input>
+    ensures { result ≡ omits (state_of bench.now).plan (action (state_of bench.now)) (state_of bench.now).omitted }
+{
+    let action = bench.action()?;
+    let list = bench.plan().omitted_by(action);
+    if list == u32::from(bench.omitted_arrows().list()) {
+        return None;
+    }
+    Some(Input::Omit(list))
 }
 
 /// Keeps the newest input no more, which was of this kind. Without it, this tick is in force.

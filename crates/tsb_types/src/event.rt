@@ -54,6 +54,10 @@ pub const CLEARANCE_BEGINS: u8 = 22;
 pub const DONT_WALK_BEGINS: u8 = 23;
 /// Barrier termination: a crossing is completed. The parameter is the side that is served from now on (profile).
 pub const BARRIER_CROSSED: u8 = 31;
+/// An arrow begins to flash yellow; the parameter is the overlap.
+pub const ARROW_BEGINS: u8 = 32;
+/// An arrow ends flashing yellow.
+pub const ARROW_ENDS: u8 = 33;
 /// Phase call registered: the vehicle call of a phase that is not Green comes. None comes of a recall, but in the form of
 /// a log that has recalls.
 pub const CALL_COMES: u8 = 43;
@@ -63,6 +67,8 @@ pub const CALL_GOES: u8 = 44;
 pub const PEDESTRIAN_CALL_COMES: u8 = 45;
 /// Overlap begin green.
 pub const OVERLAP_GREEN_BEGINS: u8 = 61;
+/// An overlap stays green after its phases.
+pub const OVERLAP_TRAIL_BEGINS: u8 = 62;
 /// Overlap begin yellow.
 pub const OVERLAP_YELLOW_BEGINS: u8 = 63;
 /// Overlap begin red clearance: it was green or yellow, and is neither.

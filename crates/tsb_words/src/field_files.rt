@@ -140,6 +140,13 @@ pub enum Asked<'a> {
         /// The file of the plan.
         plan: &'a str,
     },
+    /// The card of a plan, for a conflict monitor.
+    Card {
+        /// The file of the plan.
+        plan: &'a str,
+        /// The file of the card that is compared with it.
+        against: Option<&'a str>,
+    },
 }
 
 /// What the words ask for, the first of which is the program's name.
@@ -150,7 +157,7 @@ pub enum Asked<'a> {
 /// log, and may have `--go-on`, `--recalls`, `--outputs` and `--no-clock`; `events` has `--from TIME` and `--device ID`,
 /// and may have `--log LOG` and `--wide`; `diagram` may have `--log LOG`, `--wide`, `--title TEXT`, `--seconds-per-line N`,
 /// and `--from TIME`, and with that `--events FILE`; `review` has the file of a plan; `schedule` has the file of a plan, and `--week DATE`,
-/// and may have `--svg`; `worksheet` has the file of a plan.
+/// and may have `--svg`; `worksheet` has the file of a plan; `card` has the file of a plan, and may have `--against FILE`.
 /// Options come in any order, and `--NAME=VALUE` is `--NAME VALUE`. A value that begins with a hyphen comes after `=`. All
 /// else is `Bad`, and so are a request for help and a device of `record` or `events` with a double quote, an end of a line
 /// or over 900 bytes. `Memory` may come in place of every answer, as `clap` allocates. Where it takes the words, only those
@@ -195,6 +202,8 @@ fn other_asked<'a>(name: &str, options: &ArgMatches<'a>) -> Option<Asked<'a>>
         schedule_asked(options)
     } else if name == "worksheet" {
         worksheet_asked(options)
+    } else if name == "card" {
+        card_asked(options)
     } else {
         review_asked(options)
     }
@@ -464,4 +473,15 @@ fn worksheet_with<'a>(plan: Option<&'a str>) -> Option<Asked<'a>>
 {
     let plan = plan?;
     Some(Asked::Worksheet { plan })
+}
+
+/// What `card` asks for, with this file and this option.
+fn card_asked<'a>(options: &ArgMatches<'a>) -> Option<Asked<'a>>
+    ensures { option_map seen result ≡ card_in (rows_of (found_of options.now)) }
+{
+    let plan = options.get_str("PLAN")?;
+    Some(Asked::Card {
+        plan,
+        against: options.get_str("against"),
+    })
 }

@@ -394,5 +394,8 @@ fn needs_from<S: AsStr>(command: &str, words: &[S]) -> bool
     if command == "diagram" {
         return has_option(b"--events", words);
     }
-    command != "review" && command != "schedule" && command != "worksheet"
+    command != "review"
+        && command != "schedule"
+        && command != "worksheet"
+        && command != "card"
 }

@@ -14,8 +14,8 @@ from tsb.sumo.net import Light, light
 
 # A letter of SUMO for a head, and for a link that goes beside a phase and yields.
 # Flashing red is SUMO's s: stop, then go where nobody else does.
-VEHICLE = {"G": "G", "Y": "y", "R": "r", "F": "s", "-": "r"}
-BESIDE = {"G": "g", "Y": "y", "R": "r", "F": "s", "-": "r"}
+VEHICLE = {"G": "G", "Y": "y", "R": "r", "P": "g", "F": "s", "-": "r"}
+BESIDE = {"G": "g", "Y": "y", "R": "r", "P": "g", "F": "s", "-": "r"}
 # People on a crossing walk on in the clearance, and nobody begins to.
 WALKER = {"W": "G", "C": "r", "D": "r", "-": "r"}
 FIRST = "Ggysr"  # of several letters for a link, the first of these

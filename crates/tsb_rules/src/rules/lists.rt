@@ -9,7 +9,7 @@ ghost use Rattle.tsb_plan.specs.Objects.{indices};
 ghost use Rattle.tsb_plan.specs.Plan.{is_enabled};
 ghost use Rattle.tsb_plan.specs.PlanOf.{plan_of};
 ghost use Rattle.tsb_rules.specs.Asked.{each_named, overlap_meets, preempt_meets, named_meets};
-ghost use Rattle.tsb_rules.specs.Rules.{names_enabled, goes_with_all, names_concurrent, has_concurrent_lists, dwells_or_is_empty, modifies_rightly};
+ghost use Rattle.tsb_rules.specs.Rules.{names_enabled, goes_with_all, names_concurrent, has_concurrent_lists, dwells_or_is_empty, modifies_rightly, points_rightly, trails_rightly};
 ghost use Rattle.tsb_types.specs.Lists.{run_from};
 ghost use Rattle.tsb_types.specs.Sets.{names};
 
@@ -36,8 +36,12 @@ pub(super) enum OfNamed {
 pub(super) enum OfOverlap {
     /// K14: its included phases are enabled.
     IncludesEnabled,
-    /// K21: its modifier phases are enabled, and it has none where it is not minusGreenYellow.
+    /// K21: its modifier phases are enabled, and it has none where it is normal.
     ModifiesRightly,
+    /// K28: an arrow includes a phase, and has one modifier phase that goes with none of them.
+    PointsRightly,
+    /// K29: its trailing yellow is whole, and one that trails is normal and has one.
+    TrailsRightly,
 }
 
 /// What a rule asks of each preempt.
@@ -79,6 +83,8 @@ fn overlap_meets(plan: &Plan, asked: OfOverlap, overlap: Overlap) -> bool
     match asked {
         OfOverlap::IncludesEnabled => includes_enabled(plan, overlap),
         OfOverlap::ModifiesRightly => modifies_rightly(plan, overlap),
+        OfOverlap::PointsRightly => points_rightly(plan, overlap),
+        OfOverlap::TrailsRightly => trails_rightly(plan, overlap),
     }
 }
 
@@ -138,12 +144,51 @@ fn names_enabled(plan: &Plan, list: u16) -> bool
     each_named(plan, list, OfNamed::IsEnabled)
 }
 
-/// K21: the modifier phases of the overlap are enabled, and there are none where it is not minusGreenYellow.
+/// K21: the modifier phases of the overlap are enabled, and there are none where it is normal.
 fn modifies_rightly(plan: &Plan, overlap: Overlap) -> bool
     ensures { result ≡ modifies_rightly (plan_of plan.now) overlap }
 {
     let modifiers = of_overlap(plan, Object::OverlapModifierPhases, overlap);
-    names_enabled(plan, modifiers) && (plan.is_minus_green_yellow(overlap) || modifiers == 0)
+    names_enabled(plan, modifiers)
+        && (of_overlap(plan, Object::OverlapType, overlap) != 0 || modifiers == 0)
+}
+
+/// K28: an overlap of type 2 includes a phase, and has one modifier phase, which goes with none that it includes.
+fn points_rightly(plan: &Plan, overlap: Overlap) -> bool
+    ensures { result ≡ points_rightly (plan_of plan.now) overlap }
+{
+    if of_overlap(plan, Object::OverlapType, overlap) != 2 {
+        return true;
+    }
+    let included = plan.included_phases(overlap);
+    match only_of(plan.modifier_phases(overlap)) {
+        None => false,
+        Some(turn) => !included.is_empty()
+            && !included.contains(turn)
+            && included.intersection(plan.concurrency(turn)).is_empty(),
+    }
+}
+
+/// The only phase of a set, or `None` where it has none or several.
+fn only_of(set: PhaseSet) -> Option<Phase>
+    ensures some { IfSome result (λ p. (has set p ≡ true) × ((q : ℕ) → has set q ≡ true → q ≡ p)) }
+{
+    let mut rest = set;
+    match rest.pop() {
+        None => None,
+        Some(phase) => if rest.is_empty() { Some(phase) } else { None },
+    }
+}
+
+/// K29: the trailing yellow of the overlap is 0 or at least 30, and one that trails is normal and has one.
+fn trails_rightly(plan: &Plan, overlap: Overlap) -> bool
+    ensures { result ≡ trails_rightly (plan_of plan.now) overlap }
+{
+    let yellow = of_overlap(plan, Object::OverlapTrailYellow, overlap);
+    let is_whole = yellow == 0 || 30 <= yellow;
+    is_whole
+        && (of_overlap(plan, Object::OverlapTrailGreen, overlap) == 0
+            || yellow != 0 && of_overlap(plan, Object::OverlapType, overlap) == 0)
 }
 
 /// K15: each list of the preempt names only enabled phases, pairwise concurrent.

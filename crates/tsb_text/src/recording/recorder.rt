@@ -59,9 +59,8 @@ fn step(course: &mut Course, ticks: u32) -> Option<Refusal>
             Ok(()) => {}
             Err(refusal) => return Some(refusal),
         }
-        match course.follow() {
-            Ok(_) => {}
-            Err(refusal) => return Some(refusal),
+        if let Some(refusal) = follow_all(course) {
+            return Some(refusal);
         }
     }
     None
@@ -78,7 +77,18 @@ fn ask(course: &mut Course, command: Cmd) -> Option<Refusal>
         Cmd::When(_) => None,
         _ => match refusal_in(&course.answer(command)) {
             Some(refusal) => Some(refusal),
-            None => course.follow().err(),
+            None => follow_all(course),
         },
+    }
+}
+
+/// Takes all that follows the newest input. It gives why something was refused, if it was.
+pub(crate) fn follow_all(course: &mut Course) -> Option<Refusal> {
+    loop {
+        match course.follow() {
+            Ok(true) => {}
+            Ok(false) => return None,
+            Err(refusal) => return Some(refusal),
+        }
     }
 }
