@@ -315,8 +315,8 @@ until 7:00:20
 
 
 def test_times_of_the_clock(write: Write) -> None:
-    """A time is the tick with which it comes, as the bench says it of the clock that is
-    set at tick 0; another clock that is set later is none."""
+    """A time is the tick that the bench gives it by the clock set at tick 0. A clock that
+    is set later gives none."""
     scenario = Scenario.read(write(CLOCKED))
     assert played(write(CLOCKED)) == []
     source = source_of(scenario, 100)
