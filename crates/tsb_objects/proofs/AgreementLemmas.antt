@@ -5,7 +5,7 @@ use Rattle.tsb_plan.specs.declared.object.Object.{Object}
 use Rattle.tsb_plan.specs.declared.plan.patterns.OffsetReference.{OffsetReference}
 use Rattle.tsb_plan.specs.declared.plan.patterns.OffsetReference.TheVariants.{SplitEnd, FirstGreen, LastGreen, FirstYellow, LastYellow, FirstRed}
 use Rattle.tsb_plan.specs.Parts.{offset_reference}
-use Rattle.tsb_plan.specs.Plan.{Plan}
+use Rattle.tsb_plan.specs.Plan.{Plan, all_counts}
 use Rattle.tsb_plan.specs.PlanOf.{plan_in}
 use Rattle.tsb_objects.specs.declared.detector_tables.DetectorTables.{DetectorTables}
 use Rattle.tsb_objects.specs.declared.pattern_tables.PatternTables.{PatternTables}
@@ -22,12 +22,17 @@ use Rattle.tsb_rules.specs.PatternRules.{split_sum, side_sum, split_end}
 
 -- the plan with the values of those objects alone that pass the test
 abbrev only : (Object → Bool) → Plan → Plan
-only test plan = record { phase_count = plan.phase_count; side_count = plan.side_count; value = λ o i. if test o then plan.value o i else 0 }
+only test plan = record {
+  phase_count = plan.phase_count;
+  side_count = plan.side_count;
+  counts = plan.counts;
+  value = λ o i. if test o then plan.value o i else 0;
+}
 
 -- plans that agree on these objects are one then
 same-only : (test : Object → Bool) (cells others : List ℕ) → Agree test (plan_in cells) (plan_in others) → only test (plan_in cells) ≡ only test (plan_in others)
 same-only test cells others agree =
-    ap (λ (f : Object → ℕ → ℕ). let made : Plan = record { phase_count = 16; side_count = 4; value = f } in made)
+    ap (λ (f : Object → ℕ → ℕ). let made : Plan = record { phase_count = 16; side_count = 4; counts = all_counts; value = f } in made)
     (fun_ext (λ o. fun_ext (λ i. go o i (test o) refl)))
   where
     go : (o : Object) (i : ℕ) (b : Bool) → test o ≡ b → (if b then (plan_in cells).value o i else 0) ≡ (if b then (plan_in others).value o i else 0)
@@ -82,15 +87,15 @@ same-detectors cells others tables agree are =
 
 unions-in : (plan : Plan) (tables : UnionTables) → AreUnionTables plan tables → AreUnionTables (only is_for_unions plan) tables
 unions-in plan tables are = record {
-  called = record { low = are.called.low; high = are.called.high };
-  walks_called = are.walks_called;
+  called = record { each = are.called.each };
+  walks_called = record { low = are.walks_called.low; high = are.walks_called.high };
   conflicts = record { low = are.conflicts.low; high = are.conflicts.high };
 }
 
 unions-out : (plan : Plan) (tables : UnionTables) → AreUnionTables (only is_for_unions plan) tables → AreUnionTables plan tables
 unions-out plan tables are = record {
-  called = record { low = are.called.low; high = are.called.high };
-  walks_called = are.walks_called;
+  called = record { each = are.called.each };
+  walks_called = record { low = are.walks_called.low; high = are.walks_called.high };
   conflicts = record { low = are.conflicts.low; high = are.conflicts.high };
 }
 

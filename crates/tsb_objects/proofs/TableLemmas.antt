@@ -1,5 +1,5 @@
 -- What tables of a plan are read from: values at numbers from 1 on.
-use Rattle.std.proofs.Common.{◌≡◌, ℕ, zero, suc, ◌≢◌, ◌⊎◌, ◌+◌, ◌<◌, ◌≤◌, ◌==◌, max, nat_le, true, false, List, None, arith, sym, subst, ◌∙◌, inl, inr}
+use Rattle.std.proofs.Common.{◌≡◌, ℕ, zero, suc, ◌≢◌, ◌⊎◌, ◌+◌, ◌<◌, ◌≤◌, ◌==◌, max, nat_le, not, true, false, List, refl, None, arith, sym, subst, ◌∙◌, inl, inr}
 use Rattle.std.proofs.lemmas.Bool.{cases_lt, eq-eqb}
 use Rattle.std.proofs.lemmas.Bool.Decides.{nat_tests, eqb_tells, same_from_decides}
 use Rattle.tsb_plan.specs.declared.object.Object.{Object}
@@ -25,6 +25,14 @@ pub no-value-behind : (cells : List ℕ) (o : Object) (n : ℕ) → indices o < 
 no-value-behind cells o n behind =
     let outside : has_index o n ≡ false = grind (arith, nat_tests, behind) in
     rw outside (grind (arith, nat_tests))
+
+-- a value over 0 is one that is not 0
+pub is-some : (v : ℕ) → nat_le 1 v ≡ not (v == 0)
+is-some zero = refl
+is-some (suc k) =
+    let least : nat_le 1 (suc k) ≡ true = grind (arith, nat_tests) in
+    let some : (suc k == 0) ≡ false = grind (arith, nat_tests) in
+    rw (least, some) refl
 
 -- a list of phases names none that is no phase
 named-outside : (list p : ℕ) → list ≤ 65535 → 16 < p → names list p ≡ false

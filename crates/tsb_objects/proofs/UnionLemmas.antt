@@ -9,7 +9,7 @@ use Rattle.tsb_types.proofs.BitLemmas.{names-or}
 use Rattle.tsb_types.proofs.SetLemmas.{names-zero}
 use Rattle.tsb_objects.specs.declared.unions.Unions.{Unions}
 use Rattle.tsb_objects.specs.Unions.{AreUnions}
-use Rattle.tsb_objects.proofs.PassLemmas.{pass-none, pass-same, pass-more, pass-parts, pass-later}
+use Rattle.tsb_objects.proofs.PassLemmas.{pass-none, pass-same, pass-more, pass-parts, pass-later, or-false}
 
 -- what a list names of 1 to 8 is in its low byte, and what it names of 9 to 16 in its high one
 pub names-low : (list n : ℕ) → 1 ≤ n → n ≤ 8 → names (list % 256) n ≡ names list n
@@ -19,7 +19,7 @@ names-low list (suc i) from within =
     let low : bit_at (list / 256 * 2 ^ 8 + list % 256) i ≡ bit_at (list % 256) i = bit_at_cat_low (list / 256) 8 (list % 256) i (omega arith) in
     ap (λ (b : ℕ). b == 1) (sym low ∙ ap (λ (x : ℕ). bit_at x i) whole)
 
-names-high : (list n : ℕ) → 1 ≤ n → names (list / 256) n ≡ names list (8 + n)
+pub names-high : (list n : ℕ) → 1 ≤ n → names (list / 256) n ≡ names list (8 + n)
 names-high list zero from = absurd (omega arith)
 names-high list (suc i) from =
     let whole : list / 256 * 2 ^ 8 + list % 256 ≡ list = omega arith in
@@ -68,6 +68,35 @@ union-of test unions are list p fits from within =
     ∙ sym (pass-later passes 1 8 8) in
     ap₂ (λ (a b : Bool). a || b) low high ∙ sym (pass-parts passes 1 8 8)
 
+-- the next eight of a list, by its lowest byte
+pub wide-more : (passes test : ℕ → Bool) (rest k : ℕ) (so_far word : Bool) → so_far ≡ some_passes passes (run_from 1 (8 * k)) →
+    word ≡ some_passes (λ n. names (rest % 256) n && test n) (run_from 1 8) →
+    ((n : ℕ) → 1 ≤ n → n ≤ 8 → (names rest n && test n) ≡ passes (8 * k + n)) →
+    (so_far || word) ≡ some_passes passes (run_from 1 (8 * (k + 1)))
+wide-more passes test rest k so_far word told of_word same =
+    let place : 8 * k + 1 ≡ 1 + 8 * k = omega arith in
+    let more : 8 * k + 8 ≡ 8 * (k + 1) = omega arith in
+    let eight : word ≡ some_passes (λ n. passes (8 * k + n)) (run_from 1 8) =
+    of_word
+    ∙ pass-same (λ n. names (rest % 256) n && test n) (λ n. passes (8 * k + n)) 1 8 (λ n first below.
+    ap (λ (b : Bool). b && test n) (names-low rest n first (omega (arith, below))) ∙ same n first (omega (arith, below))) in
+    ap₂ (λ (a b : Bool). a || b) told
+    (eight ∙ sym (pass-later passes 1 (8 * k) 8) ∙ ap (λ (a : ℕ). some_passes passes (run_from a 8)) place)
+    ∙ sym (pass-parts passes 1 (8 * k) 8)
+    ∙ ap (λ (n : ℕ). some_passes passes (run_from 1 n)) more
+
+-- where none of those that follow passes, the word has all
+pub wide-end : (passes : ℕ → Bool) (k most : ℕ) (so_far : Bool) → 8 * k ≤ most → so_far ≡ some_passes passes (run_from 1 (8 * k)) →
+    ((d : ℕ) → 8 * k < d → passes d ≡ false) → so_far ≡ some_passes passes (run_from 1 most)
+wide-end passes k most so_far within told none =
+    let all : 8 * k + (most - 8 * k) ≡ most = omega (arith, within) in
+    told
+    ∙ or-false (some_passes passes (run_from 1 (8 * k)))
+    ∙ ap (λ (b : Bool). some_passes passes (run_from 1 (8 * k)) || b)
+    (sym (pass-none passes (1 + 8 * k) (most - 8 * k) (λ d from below. none d (omega (arith, from)))))
+    ∙ sym (pass-parts passes 1 (8 * k) (most - 8 * k))
+    ∙ ap (λ (n : ℕ). some_passes passes (run_from 1 n)) all
+
 -- a word that is the union of all but one number, and that one's set, is the union of all
 pub union-more : (list others d word set : ℕ) (test : ℕ → Bool) → 1 ≤ d → d ≤ 8 → names list d ≡ true → names others d ≡ false →
     ((n : ℕ) → n ≢ d → names others n ≡ names list n) → (p : ℕ) → names set p ≡ test d →
@@ -90,7 +119,7 @@ union-none list word test none empty p =
     rw empty (names-zero p)
     ∙ sym (pass-none (λ n. names list n && test n p) 1 8 (λ n first below. ap (λ (b : Bool). b && test n p) (none n)))
 
--- one word more is told
+-- one word more is the union
 pub told-next : (union : ℕ → ℕ → Bool) (words after : List ℕ) (k : ℕ) → ((j p : ℕ) → j < k → names (get_or words j 0) p ≡ union j p) →
     ((p : ℕ) → names (get_or after k 0) p ≡ union k p) → ((j : ℕ) → j ≢ k → get_or after j 0 ≡ get_or words j 0) →
     (j p : ℕ) → j < k + 1 → names (get_or after j 0) p ≡ union j p

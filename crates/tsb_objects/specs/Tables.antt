@@ -1,11 +1,12 @@
 -- The tables of a checked plan: what the plan says of all its phases at once, as sets.
-use Rattle.std.specs.Prelude.{◌≡◌, ℕ, ◌+◌, ◌<◌, ◌==◌, nat_le, slice_index}
-use Rattle.tsb_plan.specs.declared.object.Object.TheVariants.{VehicleDetectorDelay, VehicleDetectorNoActivity, VehicleDetectorMaxPresence}
+use Rattle.std.specs.Prelude.{◌≡◌, ℕ, ◌+◌, ◌<◌, ◌==◌, nat_le, not, slice_index}
+use Rattle.tsb_plan.specs.declared.object.Object.TheVariants.{VehicleDetectorDelay, VehicleDetectorNoActivity, VehicleDetectorMaxPresence, OverlapIncludedPhases, PreemptDwellPhase}
 use Rattle.tsb_plan.specs.Plan.{Plan, is_enabled, is_non_locking, has_soft_recall, has_dual_entry, ring_of, side_of}
 use Rattle.tsb_objects.specs.declared.detector_tables.DetectorTables.{DetectorTables}
+use Rattle.tsb_objects.specs.declared.part_tables.PartTables.{PartTables}
 use Rattle.tsb_objects.specs.declared.tables.PhaseTables.{PhaseTables}
 use Rattle.tsb_rules.specs.Rules.{has_walk}
-use Rattle.tsb_types.specs.Sets.{names, has, has_number}
+use Rattle.tsb_types.specs.Sets.{names, has, has_detector, has_number}
 
 -- what the tables of phases say; in an array the first word is of ring 1 or side 1
 pub record ArePhaseTables (plan : Plan) (tables : PhaseTables) : Type 0 where
@@ -19,6 +20,11 @@ pub record ArePhaseTables (plan : Plan) (tables : PhaseTables) : Type 0 where
 
 -- what the tables of detectors say
 pub record AreDetectorTables (plan : Plan) (tables : DetectorTables) : Type 0 where
-  pub delay : (d : ℕ) → has_number tables.with_delay d ≡ nat_le 1 (plan.value VehicleDetectorDelay d)
-  pub no_activity : (d : ℕ) → has_number tables.with_no_activity d ≡ nat_le 1 (plan.value VehicleDetectorNoActivity d)
-  pub maximum_presence : (d : ℕ) → has_number tables.with_maximum_presence d ≡ nat_le 1 (plan.value VehicleDetectorMaxPresence d)
+  pub delay : (d : ℕ) → has_detector tables.with_delay d ≡ nat_le 1 (plan.value VehicleDetectorDelay d)
+  pub no_activity : (d : ℕ) → has_detector tables.with_no_activity d ≡ nat_le 1 (plan.value VehicleDetectorNoActivity d)
+  pub maximum_presence : (d : ℕ) → has_detector tables.with_maximum_presence d ≡ nat_le 1 (plan.value VehicleDetectorMaxPresence d)
+
+-- what the tables of overlaps and preempts say
+pub record ArePartTables (plan : Plan) (tables : PartTables) : Type 0 where
+  pub overlaps : (o : ℕ) → has_number tables.overlaps o ≡ not (plan.value OverlapIncludedPhases o == 0)
+  pub preempts : (n : ℕ) → has_number tables.preempts n ≡ not (plan.value PreemptDwellPhase n == 0)

@@ -6,14 +6,16 @@ ghost use Rattle.tsb_plan.specs.PlanOf.{plan_of};
 ghost use Rattle.tsb_rules.specs.Rules.{first_broken};
 ghost use Rattle.tsb_objects.specs.PatternTables.{ArePatternTables};
 ghost use Rattle.tsb_objects.specs.RedReverts.{IsLongestRedRevert};
-ghost use Rattle.tsb_objects.specs.Tables.{ArePhaseTables, AreDetectorTables};
+ghost use Rattle.tsb_objects.specs.Tables.{ArePhaseTables, AreDetectorTables, ArePartTables};
 ghost use Rattle.tsb_objects.specs.Unions.{AreUnionTables};
 
 mod detectors;
+mod parts;
 mod patterns;
 mod phases;
 
 use crate::detector_tables::DetectorTables;
+use crate::part_tables::PartTables;
 use crate::pattern_tables::PatternTables;
 use crate::red_reverts::longest_red_revert;
 use crate::tables::PhaseTables;
@@ -21,7 +23,8 @@ use crate::union_tables::UnionTables;
 use tsb_plan::Plan;
 use tsb_rules::{Rule, check};
 
-/// A plan that may be run, with tables of what it says of all phases and detectors at once, also while a pattern runs.
+/// A plan that may be run, with tables of what it says of all phases, detectors, overlaps and preempts at once, also while
+/// a pattern runs.
 ///
 /// Its plan meets the rules: only `Checked::new` and `Checked::known` make a `Checked`, and `renew`
 /// makes it another one, so whoever is handed one has nothing to check.
@@ -30,12 +33,14 @@ pub struct Checked {
     plan: Plan,
     phase_tables: PhaseTables,
     detector_tables: DetectorTables,
+    part_tables: PartTables,
     pattern_tables: PatternTables,
     union_tables: UnionTables,
     longest_red_revert: u32,
     ghost passed: { first_broken (plan_of plan) ≡ None },
     ghost phases_are: { ArePhaseTables (plan_of plan) phase_tables },
     ghost detectors_are: { AreDetectorTables (plan_of plan) detector_tables },
+    ghost parts_are: { ArePartTables (plan_of plan) part_tables },
     ghost patterns_are: { ArePatternTables (plan_of plan) pattern_tables },
     ghost unions_are: { AreUnionTables (plan_of plan) union_tables },
     ghost reverts_are: { IsLongestRedRevert (plan_of plan) longest_red_revert },
@@ -66,6 +71,7 @@ impl Checked {
             plan,
             phase_tables: PhaseTables::of(&plan),
             detector_tables: DetectorTables::of(&plan),
+            part_tables: PartTables::of(&plan),
             pattern_tables: PatternTables::of(&plan),
             union_tables: UnionTables::of(&plan),
             longest_red_revert: longest_red_revert(&plan),
@@ -83,6 +89,7 @@ impl Checked {
     {
         self.phase_tables.renew(&self.plan, plan);
         self.detector_tables.renew(&self.plan, plan);
+        self.part_tables = PartTables::of(plan);
         self.pattern_tables.renew(&self.plan, plan);
         self.union_tables.renew(&self.plan, plan);
         self.longest_red_revert = longest_red_revert(plan);

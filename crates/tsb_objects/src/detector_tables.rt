@@ -5,19 +5,19 @@ ghost use Rattle.tsb_objects.specs.Tables.{AreDetectorTables};
 ghost use Rattle.tsb_plan.specs.PlanOf.{plan_of};
 
 use crate::agreement::agree_for_detectors;
-use crate::tables::numbers_with;
+use crate::tables::detectors_with;
 use tsb_plan::{Object, Plan};
-use tsb_types::NumberSet;
+use tsb_types::DetectorSet;
 
 /// What a plan says of all its detectors at once.
 #[derive(Clone, Copy)]
 pub struct DetectorTables {
     /// The vehicle detectors with a delay (`vehicleDetectorDelay`).
-    pub(crate) with_delay: NumberSet,
+    pub(crate) with_delay: DetectorSet,
     /// The vehicle detectors that fail by no activity (`vehicleDetectorNoActivity`).
-    pub(crate) with_no_activity: NumberSet,
+    pub(crate) with_no_activity: DetectorSet,
     /// The vehicle detectors that fail by maximum presence (`vehicleDetectorMaxPresence`).
-    pub(crate) with_maximum_presence: NumberSet,
+    pub(crate) with_maximum_presence: DetectorSet,
 }
 
 impl DetectorTables {
@@ -26,9 +26,9 @@ impl DetectorTables {
         ensures { AreDetectorTables (plan_of plan.now) result }
     {
         DetectorTables {
-            with_delay: numbers_with(plan, Object::VehicleDetectorDelay),
-            with_no_activity: numbers_with(plan, Object::VehicleDetectorNoActivity),
-            with_maximum_presence: numbers_with(plan, Object::VehicleDetectorMaxPresence),
+            with_delay: detectors_with(plan, Object::VehicleDetectorDelay),
+            with_no_activity: detectors_with(plan, Object::VehicleDetectorNoActivity),
+            with_maximum_presence: detectors_with(plan, Object::VehicleDetectorMaxPresence),
         }
     }
 

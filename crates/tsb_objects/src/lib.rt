@@ -11,6 +11,7 @@ mod detector_tables;
 mod instants;
 mod late_ends;
 mod offsets;
+mod part_tables;
 mod pattern_tables;
 mod recycle;
 mod red_reverts;
@@ -25,8 +26,8 @@ pub use tsb_plan::{
 };
 pub use tsb_rules::{Rule, check, split_end};
 pub use tsb_types::{
-    Aspect, Called, Detector, Interval, Intervals, Lamp, Moves, NumberSet, Orders, Overlap,
-    Pattern, PedestrianAspect, PedestrianColor, PedestrianDetector, PedestrianInterval,
+    Aspect, Called, Detector, DetectorSet, Interval, Intervals, Lamp, Moves, NumberSet, Orders,
+    Overlap, Pattern, PedestrianAspect, PedestrianColor, PedestrianDetector, PedestrianInterval,
     Pedestrians, Phase, PhaseSet, Preempt, Refusal, Ring, RingMoves, Row, Sequence, Side,
     SignalColor, Split, Stage, Station, Timing, Watch, limits,
 };

@@ -5,11 +5,12 @@ ghost use Rattle.std.specs.Prelude.{◌≡◌, ℕ, ◌+◌, ◌<◌, ◌≤◌,
 ghost use Rattle.tsb_objects.specs.Tables.{ArePhaseTables};
 ghost use Rattle.tsb_plan.specs.Objects.{indices};
 ghost use Rattle.tsb_plan.specs.PlanOf.{plan_of};
-ghost use Rattle.tsb_types.specs.Sets.{names, has, has_number};
+ghost use Rattle.tsb_types.specs.declared.limits.TheConstants.{VEHICLE_DETECTORS};
+ghost use Rattle.tsb_types.specs.Sets.{names, has, has_detector, has_number};
 
 use crate::agreement::agree_for_phases;
 use tsb_plan::{Object, Plan};
-use tsb_types::{NumberSet, PhaseSet};
+use tsb_types::{DetectorSet, NumberSet, PhaseSet};
 
 /// What a plan says of all its phases at once. Each word of an array is a list, as
 /// `phaseConcurrency` has it.
@@ -86,6 +87,18 @@ pub(crate) fn numbers_with(plan: &Plan, object: Object) -> NumberSet
     ensures { (n : ℕ) → has_number result n ≡ nat_le 1 ((plan_of plan.now).value object n) }
 {
     let mut set = NumberSet::empty();
+    for number in 1..object.indices() + 1 {
+        set = set.joined(number as u8, plan.at(object, number) != 0);
+    }
+    set
+}
+
+/// The vehicle detectors at which the object is not 0.
+pub(crate) fn detectors_with(plan: &Plan, object: Object) -> DetectorSet
+    requires few { indices object ≤ VEHICLE_DETECTORS }
+    ensures { (d : ℕ) → has_detector result d ≡ nat_le 1 ((plan_of plan.now).value object d) }
+{
+    let mut set = DetectorSet::empty();
     for number in 1..object.indices() + 1 {
         set = set.joined(number as u8, plan.at(object, number) != 0);
     }

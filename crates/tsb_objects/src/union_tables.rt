@@ -2,26 +2,28 @@
 #![tactic(auto, unfolding(tsb_plan::specs::PlanOf::plan_of))]
 
 ghost use Rattle.std.specs.Prelude.{◌≡◌, ℕ, ◌+◌, ◌<◌, ◌≤◌, ◌==◌, ◌&&◌, not, None, length, slice_index};
-ghost use Rattle.tsb_objects.specs.Unions.{AreUnionTables, AreOfEight, AreUnions};
+ghost use Rattle.tsb_objects.specs.Unions.{AreUnionTables, AreUnions, AreWideUnions};
 ghost use Rattle.tsb_plan.specs.Parts.{call_phase, pedestrian_call_phase};
 ghost use Rattle.tsb_plan.specs.Plan.{is_concurrent};
 ghost use Rattle.tsb_plan.specs.PlanOf.{plan_of};
 ghost use Rattle.tsb_rules.specs.Rules.{first_broken};
 ghost use Rattle.tsb_types.specs.Lists.{is};
 ghost use Rattle.tsb_types.specs.Sets.{names, has};
+ghost use Rattle.tsb_types.specs.declared.limits.TheConstants.{PEDESTRIAN_DETECTORS, VEHICLE_DETECTORS};
 
 use crate::agreement::agree_for_unions;
-use crate::unions::{Unions, unions_of_eight};
+use crate::unions::{Unions, WideUnions};
 use tsb_plan::Plan;
+use tsb_types::limits::{PEDESTRIAN_DETECTORS, VEHICLE_DETECTORS};
 use tsb_types::{Detector, PedestrianDetector, Phase, PhaseSet};
 
 /// What a plan that meets the rules says of sets of detectors and phases.
 #[derive(Clone, Copy)]
 pub struct UnionTables {
     /// The phases that vehicle detectors call (`vehicleDetectorCallPhase`).
-    pub(crate) called: Unions,
-    /// For each set of pedestrian detectors, the phases whose walk one of them calls (`pedestrianDetectorCallPhase`).
-    pub(crate) walks_called: [u16; 256],
+    pub(crate) called: WideUnions,
+    /// The phases whose walk pedestrian detectors call (`pedestrianDetectorCallPhase`).
+    pub(crate) walks_called: Unions,
     /// The other phases that are not concurrent with a phase (`phaseConcurrency`).
     pub(crate) conflicts: Unions,
 }
@@ -65,12 +67,12 @@ fn alone(p: Option<Phase>) -> PhaseSet
 }
 
 /// The phase that each vehicle detector calls, as a list.
-fn called(plan: &Plan) -> [u16; 16]
-    ensures full { length result ≡ 16 }
-    ensures told { (k p : ℕ) → k < 16 → names (slice_index result k) p ≡ is p (call_phase (plan_of plan.now) (k + 1)) }
+fn called(plan: &Plan) -> [u16; VEHICLE_DETECTORS as usize]
+    ensures full { length result ≡ VEHICLE_DETECTORS }
+    ensures told { (k p : ℕ) → k < VEHICLE_DETECTORS → names (slice_index result k) p ≡ is p (call_phase (plan_of plan.now) (k + 1)) }
 {
-    let mut sets = [0; 16];
-    for k in 0..16u8 {
+    let mut sets = [0; VEHICLE_DETECTORS as usize];
+    for k in 0..VEHICLE_DETECTORS {
         let detector = Detector::of(k + 1);
         sets[usize::from(k)] = alone(plan.call_phase(detector)).list();
     }
@@ -78,31 +80,30 @@ fn called(plan: &Plan) -> [u16; 16]
 }
 
 /// The phases that vehicle detectors call.
-fn unions_of_calls(plan: &Plan) -> Unions
-    ensures { AreUnions (λ d p. is p (call_phase (plan_of plan.now) d)) result }
+fn unions_of_calls(plan: &Plan) -> WideUnions
+    ensures { AreWideUnions (λ d p. is p (call_phase (plan_of plan.now) d)) result }
 {
-    Unions::new(&called(plan))
+    WideUnions::new(&called(plan))
 }
 
-/// The phase whose walk each pedestrian detector, 1 to 8, calls, as a list.
+/// The phase whose walk each pedestrian detector calls, as a list; no phase above these.
 fn walks_called(plan: &Plan) -> [u16; 16]
     ensures full { length result ≡ 16 }
-    ensures told { (k p : ℕ) → k < 8 → names (slice_index result k) p ≡ is p (pedestrian_call_phase (plan_of plan.now) (k + 1)) }
+    ensures told { (k p : ℕ) → k < PEDESTRIAN_DETECTORS → names (slice_index result k) p ≡ is p (pedestrian_call_phase (plan_of plan.now) (k + 1)) }
 {
     let mut sets = [0; 16];
-    for k in 0..8u8 {
+    for k in 0..PEDESTRIAN_DETECTORS {
         let detector = PedestrianDetector::of(k + 1);
         sets[usize::from(k)] = alone(plan.pedestrian_call_phase(detector)).list();
     }
     sets
 }
 
-/// For each set of pedestrian detectors, as a list, the phases whose walk one of them calls, as a list.
-fn unions_of_walks(plan: &Plan) -> [u16; 256]
-    ensures full { length result ≡ 256 }
-    ensures told { AreOfEight (λ d p. is p (pedestrian_call_phase (plan_of plan.now) d)) result }
+/// The phases whose walk pedestrian detectors call.
+fn unions_of_walks(plan: &Plan) -> Unions
+    ensures { AreUnions (λ d p. is p (pedestrian_call_phase (plan_of plan.now) d)) result }
 {
-    unions_of_eight(&walks_called(plan), 0)
+    Unions::new(&walks_called(plan))
 }
 
 /// The other phases that are not concurrent with a phase: by rule K5 those that it does not name, as they do not name

@@ -7,7 +7,7 @@ use Rattle.tsb_types.specs.declared.refusal.Refusal.TheVariants.{NoSuchObject, O
 use Rattle.tsb_plan.specs.declared.object.Object.{Object}
 use Rattle.tsb_plan.specs.declared.object.TheConstants.{PLAN_CELLS}
 use Rattle.tsb_plan.specs.declared.object.ObjectId.{ObjectId}
-use Rattle.tsb_plan.specs.Plan.{Plan, empty, with_value, is_same}
+use Rattle.tsb_plan.specs.Plan.{Plan, all_counts, empty, with_value, is_same}
 use Rattle.tsb_plan.specs.Objects.{value_in, has_index, first_cell, greatest, AreInRange, order}
 use Rattle.tsb_plan.specs.PlanOf.{plan_in, got, put_refusal}
 use Rattle.tsb_plan.proofs.TableLemmas.{cell-within, cell-of_one, order-injective}
@@ -25,7 +25,7 @@ zeros-in_range cells zeros = record { each = λ o i. rw (value-zeros cells zeros
 
 pub zeros-empty : (cells : List ℕ) → ((k : ℕ) → get_or cells k 0 ≡ 0) → plan_in cells ≡ empty
 zeros-empty cells zeros =
-    ap (λ (f : Object → ℕ → ℕ). let made : Plan = record { phase_count = 16; side_count = 4; value = f } in made)
+    ap (λ (f : Object → ℕ → ℕ). let made : Plan = record { phase_count = 16; side_count = 4; counts = all_counts; value = f } in made)
     (fun_ext (λ o. fun_ext (λ i. value-zeros cells zeros o i)))
 
 both_ways : false ≡ true → ⊥
@@ -61,7 +61,7 @@ value-put cells o p i k v full has = go (has_index p k) refl (is_same o i p k) r
 pub plan-put : (cells : List ℕ) (o : Object) (i v at : ℕ) → at ≡ first_cell o + (i - 1) → length cells ≡ PLAN_CELLS → has_index o i ≡ true →
     plan_in (set cells at v) ≡ with_value (plan_in cells) o i v
 plan-put cells o i v at place full has =
-    rw place (ap (λ (f : Object → ℕ → ℕ). let made : Plan = record { phase_count = 16; side_count = 4; value = f } in made)
+    rw place (ap (λ (f : Object → ℕ → ℕ). let made : Plan = record { phase_count = 16; side_count = 4; counts = all_counts; value = f } in made)
     (fun_ext (λ p. fun_ext (λ k. value-put cells o p i k v full has))))
 
 pub in_range-put : (cells : List ℕ) (o : Object) (i v at : ℕ) → at ≡ first_cell o + (i - 1) → length cells ≡ PLAN_CELLS → has_index o i ≡ true → v ≤ greatest o →

@@ -1,18 +1,41 @@
--- The plan that every definition reads: what each object of NTCIP 1202 is at each index, and how many phases and
--- sides there are. `value` is in the object's own unit; the times named below it are in tenths of a second. Sides are
--- the profile's own.
+-- The plan that every definition reads: what each object of NTCIP 1202 is at each index, and how many phases, sides,
+-- detectors, overlaps and preempts there are. `value` is in the object's own unit; the times named below it are in
+-- tenths of a second. Sides are the profile's own.
 use Rattle.std.specs.Prelude.{ℕ, ◌+◌, ◌-◌, ◌*◌, ◌==◌, Bool, ◌&&◌, if◌then◌else◌, List, [], ◌∷◌, ◌++◌, map, max}
 use Rattle.tsb_plan.specs.declared.object.Object.{Object}
 use Rattle.tsb_plan.specs.declared.object.Object.TheVariants.{PhaseEnabled, PhaseNonLock, PhaseMinRecall, PhaseMaxRecall, PhasePedRecall, PhaseSoftRecall, PhaseDualEntry, PhaseSimGapDisable, PhaseRestInWalk, PhaseVariableInitial, PhaseRing, PhaseSide, PhaseConcurrency, PhaseWalk, PhasePedestrianClear, PhaseMinimumGreen, PhaseMaximum1, PhaseMaximum2, PhaseMaximumInitial, PhaseTimeBeforeReduction, PhaseTimeToReduce, PhasePassage, PhaseYellowChange, PhaseRedClear, PhaseRedRevert, PhaseAddedInitial, PhaseMinimumGap, PhaseCarsBeforeReduction, SequenceData, UnitRedRevert, UnitMax2, PhaseDynamicMaxLimit, PhaseDynamicMaxStep, PhasePedestrianRecycle}
+use Rattle.tsb_types.specs.declared.limits.TheConstants.{VEHICLE_DETECTORS, PEDESTRIAN_DETECTORS, OVERLAPS, PREEMPTS}
 use Rattle.tsb_types.specs.Lists.{run_from}
 use Rattle.tsb_plan.specs.Objects.{order}
 use Rattle.tsb_types.specs.Sets.{names}
+
+-- how many there are of each thing besides phases and sides, numbered from 1
+pub record Counts : Type 0 where
+  pub vehicle_detectors : ℕ
+  pub pedestrian_detectors : ℕ
+  pub overlaps : ℕ
+  pub preempts : ℕ
+
+-- as many as a plan in memory has
+abbrev pub all_counts : Counts
+all_counts = record {
+  vehicle_detectors = VEHICLE_DETECTORS;
+  pedestrian_detectors = PEDESTRIAN_DETECTORS;
+  overlaps = OVERLAPS;
+  preempts = PREEMPTS;
+}
+
+-- as many as plan texts of versions 1 and 2 have
+abbrev pub narrow_counts : Counts
+narrow_counts = record { vehicle_detectors = 16; pedestrian_detectors = 8; overlaps = 4; preempts = 4 }
 
 -- a plan as every definition reads it, without cells: the value of each object of NTCIP 1202 at each index
 pub record Plan : Type 0 where
   -- how many phases there are, numbered from 1, and how many sides
   pub phase_count : ℕ
   pub side_count : ℕ
+  -- how many detectors, overlaps and preempts
+  pub counts : Counts
   -- the value of an object at an index, 0 where the plan gives none
   pub value : Object → ℕ → ℕ
 
@@ -154,7 +177,7 @@ sides_after plan side = run_from (side + 1) (plan.side_count - side) ++ run_from
 
 -- no object is given
 abbrev pub empty : Plan
-empty = record { phase_count = 16; side_count = 4; value = λ o i. 0 }
+empty = record { phase_count = 16; side_count = 4; counts = all_counts; value = λ o i. 0 }
 
 -- the object o at index i is the object p at index k; objects are compared by their places
 abbrev pub is_same : Object → ℕ → Object → ℕ → Bool
@@ -165,6 +188,7 @@ abbrev pub with_value : Plan → Object → ℕ → ℕ → Plan
 with_value plan o i v = record {
   phase_count = plan.phase_count;
   side_count = plan.side_count;
+  counts = plan.counts;
   value = λ p k. if is_same o i p k then v else plan.value p k;
 }
 

@@ -6,11 +6,11 @@ use Rattle.tsb_types.specs.declared.refusal.Refusal.TheVariants.{NoSuchObject, O
 use Rattle.tsb_plan.specs.declared.plan.Plan as memory
 use Rattle.tsb_types.specs.Lists.{run_from}
 use Rattle.tsb_plan.specs.Objects.{objects, indices, value_in, has_index, greatest}
-use Rattle.tsb_plan.specs.Plan.{Plan}
+use Rattle.tsb_plan.specs.Plan.{Plan, all_counts}
 
--- the plan that such cells tell, of 16 phases and 4 sides
+-- the plan that such cells tell, of 16 phases, 4 sides and all detectors, overlaps and preempts
 abbrev pub plan_in : List ℕ → Plan
-plan_in cells = record { phase_count = 16; side_count = 4; value = value_in cells }
+plan_in cells = record { phase_count = 16; side_count = 4; counts = all_counts; value = value_in cells }
 
 -- the plan that a plan in memory holds
 unfoldable pub plan_of : memory.Plan → Plan

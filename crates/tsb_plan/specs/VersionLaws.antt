@@ -8,7 +8,8 @@ use Rattle.tsb_plan.specs.declared.version.TheConstants.Version.{NEWEST}
 use Rattle.tsb_plan.specs.declared.version.Version.TheVariants.{One, Two}
 use Rattle.tsb_plan.specs.Names.{name_of}
 use Rattle.tsb_plan.specs.Objects.{has_index, greatest}
-use Rattle.tsb_plan.specs.Versions.{has_object, has_index_in, is_split, number_of, indices_in, greatest_in, translated}
+use Rattle.tsb_plan.specs.Plan.{all_counts, narrow_counts}
+use Rattle.tsb_plan.specs.Versions.{has_object, has_index_in, is_split, number_of, indices_by, indices_in, greatest_in, translated}
 
 -- a translated index is one that the object has
 abbrev pub TranslateWithin : Type 0
@@ -38,16 +39,25 @@ abbrev pub KeepPlaces : Type 0
 KeepPlaces = (s r k : ℕ) → 1 ≤ s → s ≤ 4 → 1 ≤ r → r ≤ 2 → 1 ≤ k → k ≤ 8 →
     Becomes SequenceData (16 * (s - 1) + 8 * (r - 1) + k) (32 * (s - 1) + 16 * (r - 1) + k)
 
--- an object of one version that has the same indices and values in another, each at the same index of a plan
+-- an object of one version that has its indices and its values in another, each index at the same one of a plan
 pub record StaysAsIn (v w : Version) (o : Object) : Type 0 where
   pub there : has_object w o ≡ true
-  pub indices : indices_in w o ≡ indices_in v o
+  pub indices : indices_in v o ≤ indices_in w o
   pub values : greatest_in w o ≡ greatest_in v o
   pub at : (i : ℕ) → translated w o i ≡ translated v o i
 
 -- version 3 has what version 2 has, as it has it
 abbrev pub KeepVersion2 : Type 0
 KeepVersion2 = (o : Object) → has_object Two o ≡ true → StaysAsIn Two NEWEST o
+
+-- the two have the same indices, except that version 2 has 16 and 8 detectors, 4 overlaps and 4 preempts
+pub record GoByCounts (o : Object) : Type 0 where
+  pub two : indices_in Two o ≡ indices_by narrow_counts o
+  pub newest : indices_in NEWEST o ≡ indices_by all_counts o
+
+-- versions 2 and 3 differ in the counts of detectors, overlaps and preempts alone
+abbrev pub DifferInCounts : Type 0
+DifferInCounts = (o : Object) → GoByCounts o
 
 -- no version has an object that a later one has not
 abbrev pub LoseNoObject : Type 0

@@ -1,12 +1,13 @@
 -- The versions of plan texts: which objects each has, at how many indices, up to which value, and the index in a plan of
--- what a text names. The last version is the table of objects; here stands how those before it differ.
+-- what a text names. The last version is the table of objects; this says how those before it differ.
 use Rattle.std.specs.Prelude.{ℕ, ◌+◌, ◌-◌, ◌*◌, ◌/◌, ◌%◌, Bool, true, false, ◌&&◌, nat_le, if◌then◌else◌, Option, Some, None}
 use Rattle.tsb_plan.specs.declared.object.Object.{Object}
-use Rattle.tsb_plan.specs.declared.object.Object.TheVariants.{PhaseCarsBeforeReduction, SplitTime, SplitMode, SplitCoordPhase, SequenceData}
+use Rattle.tsb_plan.specs.declared.object.Object.TheVariants.{PhaseCarsBeforeReduction, VehicleDetectorCallPhase, VehicleDetectorFailTime, PedestrianDetectorCallPhase, OverlapIncludedPhases, SplitTime, SplitMode, SplitCoordPhase, SequenceData, PreemptDelay, PreemptExitPhase, OverlapType, OverlapModifierPhases, OverlapAcrossRings, PreemptChoosesAnew}
 use Rattle.tsb_plan.specs.declared.object.Range.{Range}
 use Rattle.tsb_plan.specs.declared.version.Version.{Version}
 use Rattle.tsb_plan.specs.declared.version.Version.TheVariants.{One, Two, Three}
 use Rattle.tsb_plan.specs.Objects.{Since, since_version_1, since_version_2, since_version_3, order, row, since}
+use Rattle.tsb_plan.specs.Plan.{Counts, narrow_counts}
 
 -- the number that a text of the version has
 abbrev pub number_of : Version → ℕ
@@ -50,10 +51,38 @@ or_else (since_version_1 narrow) wide = narrow
 or_else since_version_2 wide = wide
 or_else since_version_3 wide = wide
 
+-- the object is in the table between the first and the second, both included
+abbrev is_from : Object → Object → Object → Bool
+is_from first last o = nat_le (order first) (order o) && nat_le (order o) (order last)
+
+-- its index is a vehicle detector
+abbrev pub is_by_detector : Object → Bool
+is_by_detector o = is_from VehicleDetectorCallPhase VehicleDetectorFailTime o
+
+-- its index is an overlap
+abbrev pub is_by_overlap : Object → Bool
+is_by_overlap OverlapIncludedPhases = true
+is_by_overlap OverlapType = true
+is_by_overlap OverlapModifierPhases = true
+is_by_overlap OverlapAcrossRings = true
+is_by_overlap o = false
+
+-- its index is a preempt
+abbrev pub is_by_preempt : Object → Bool
+is_by_preempt PreemptChoosesAnew = true
+is_by_preempt o = is_from PreemptDelay PreemptExitPhase o
+
+-- how many indices it has where there are so many detectors, overlaps and preempts
+abbrev pub indices_by : Counts → Object → ℕ
+indices_by counts PedestrianDetectorCallPhase = counts.pedestrian_detectors
+indices_by counts o =
+    if is_by_detector o then counts.vehicle_detectors
+    else (if is_by_overlap o then counts.overlaps else (if is_by_preempt o then counts.preempts else (row o).range.indices))
+
 -- the object's range in the version; for one that the version has not, its range in a plan
 abbrev range_of : Version → Object → Range
 range_of One o = or_else (row o).since (row o).range
-range_of Two o = (row o).range
+range_of Two o = record { indices = indices_by narrow_counts o; greatest = (row o).range.greatest }
 range_of Three o = (row o).range
 
 -- how many indices the object has, from 1 on

@@ -1,6 +1,7 @@
 //! The versions of plan texts: which objects each has, and how an index in one is found in a plan.
 ghost use Rattle.std.specs.Prelude.{◌≡◌, true};
-ghost use Rattle.tsb_plan.specs.Versions.{number_of, includes, has_object, indices_in, greatest_in, range_in, has_index_in, is_in_rows, translated};
+ghost use Rattle.tsb_plan.specs.Plan.{narrow_counts};
+ghost use Rattle.tsb_plan.specs.Versions.{number_of, indices_by, includes, has_object, indices_in, greatest_in, range_in, has_index_in, is_in_rows, translated};
 
 use crate::object::{NARROW_RANGES, Object, Range};
 
@@ -10,8 +11,9 @@ pub enum Version {
     /// Version 1: it knows phases 1 to 8 and sides 1 and 2, so some objects have fewer indices or values
     /// than in a plan, and those after `unitMax2` in the table are absent.
     One,
-    /// Version 2: it knows 16 phases and 4 sides, and has the objects up to `coordCorrectionLimit` in the table, as a
-    /// plan has them.
+    /// Version 2: it knows 16 phases and 4 sides, and has the objects up to `coordCorrectionLimit` in the table, with the
+    /// values that a plan has. It knows no more vehicle detectors, pedestrian detectors, overlaps and preempts than version
+    /// 1: 16, 8, 4 and 4.
     Two,
     /// Version 3: it has all objects as a plan has them, those of version 2 and the ones that came later.
     Three,
@@ -70,7 +72,8 @@ impl Version {
     {
         match self {
             Version::One => NARROW_RANGES[object as usize].indices,
-            Version::Two | Version::Three => object.indices(),
+            Version::Two => narrow_indices(object),
+            Version::Three => object.indices(),
         }
     }
 
@@ -110,4 +113,37 @@ fn is_in_rows(object: Object) -> bool
         object,
         Object::SplitTime | Object::SplitMode | Object::SplitCoordPhase | Object::SequenceData
     )
+}
+
+/// How many indices the object has where there are 16 vehicle detectors, 8 pedestrian detectors, 4 overlaps and 4
+/// preempts.
+fn narrow_indices(object: Object) -> u32
+    ensures { result ≡ indices_by narrow_counts object }
+{
+    match object {
+        Object::VehicleDetectorCallPhase
+        | Object::VehicleDetectorDelay
+        | Object::VehicleDetectorExtend
+        | Object::VehicleDetectorNoActivity
+        | Object::VehicleDetectorMaxPresence
+        | Object::VehicleDetectorErraticCounts
+        | Object::VehicleDetectorFailTime => 16,
+        Object::PedestrianDetectorCallPhase => 8,
+        Object::OverlapIncludedPhases
+        | Object::OverlapType
+        | Object::OverlapModifierPhases
+        | Object::OverlapAcrossRings
+        | Object::PreemptDelay
+        | Object::PreemptMinimumDuration
+        | Object::PreemptMaximumPresence
+        | Object::PreemptMinimumGreen
+        | Object::PreemptMinimumWalk
+        | Object::PreemptEnterPedClear
+        | Object::PreemptTrackGreen
+        | Object::PreemptTrackPhase
+        | Object::PreemptDwellPhase
+        | Object::PreemptExitPhase
+        | Object::PreemptChoosesAnew => 4,
+        _ => object.indices(),
+    }
 }

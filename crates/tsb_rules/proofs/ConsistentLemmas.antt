@@ -287,13 +287,13 @@ dwells-not dwell track exit e none =
     let rest = and_parts (track == 0) _ (under (dwell == 0) _ e zero) in
     (grind (arith, nat_tests, rest.0), grind (arith, nat_tests, rest.1))
 
-pub preempt_sound : (plan : Plan) → first_broken plan ≡ None → (n : ℕ) → 1 ≤ n → n ≤ 4 → IsPreemptSound plan n
+pub preempt_sound : (plan : Plan) → first_broken plan ≡ None → (n : ℕ) → 1 ≤ n → n ≤ plan.counts.preempts → IsPreemptSound plan n
 preempt_sound plan none n from to =
     let met : MeetsParts plan = meets_parts plan none in
-    let lists : has_concurrent_lists plan n ≡ true = at-run_from (has_concurrent_lists plan) 1 4 n met.k15 from (omega arith) in
+    let lists : has_concurrent_lists plan n ≡ true = at-run_from (has_concurrent_lists plan) 1 plan.counts.preempts n met.k15 from (omega (arith, to)) in
     let track = and_parts (names_concurrent plan (plan.value PreemptTrackPhase n)) _ lists in
     let dwell = and_parts (names_concurrent plan (plan.value PreemptDwellPhase n)) _ track.1 in
-    let empty : dwells_or_is_empty plan n ≡ true = at-run_from (dwells_or_is_empty plan) 1 4 n met.k16 from (omega arith) in
+    let empty : dwells_or_is_empty plan n ≡ true = at-run_from (dwells_or_is_empty plan) 1 plan.counts.preempts n met.k16 from (omega (arith, to)) in
     record {
       track = compatible plan (plan.value PreemptTrackPhase n) track.0;
       dwell = compatible plan (plan.value PreemptDwellPhase n) dwell.0;

@@ -11,8 +11,10 @@ use Rattle.tsb_rules.specs.declared.rules.asked.Sought.{Sought}
 use Rattle.tsb_rules.specs.declared.rules.asked.Sought.TheVariants.{Enabled, CoordinatedIn, OnSide}
 use Rattle.tsb_rules.specs.declared.rules.lists.OfNamed.{OfNamed}
 use Rattle.tsb_rules.specs.declared.rules.lists.OfNamed.TheVariants.{IsEnabled, IsAcross, NamesBack, GoesWith}
-use Rattle.tsb_rules.specs.declared.rules.lists.OfFour.{OfFour}
-use Rattle.tsb_rules.specs.declared.rules.lists.OfFour.TheVariants.{IncludesEnabled, ModifiesRightly, HasConcurrentLists, DwellsOrIsEmpty}
+use Rattle.tsb_rules.specs.declared.rules.lists.OfOverlap.{OfOverlap}
+use Rattle.tsb_rules.specs.declared.rules.lists.OfOverlap.TheVariants.{IncludesEnabled, ModifiesRightly}
+use Rattle.tsb_rules.specs.declared.rules.lists.OfPreempt.{OfPreempt}
+use Rattle.tsb_rules.specs.declared.rules.lists.OfPreempt.TheVariants.{HasConcurrentLists, DwellsOrIsEmpty}
 use Rattle.tsb_rules.specs.declared.rules.patterns.OfPattern.{OfPattern}
 use Rattle.tsb_rules.specs.declared.rules.patterns.OfPattern.TheVariants.{Whole, HoldsPhases, FillsCycle, IsCoordinated, PermissiveTimeEnds}
 use Rattle.tsb_rules.specs.declared.rules.sequences.OfListed.{OfListed}
@@ -59,12 +61,15 @@ named_meets (IsAcross p) plan = may_be_concurrent plan p
 named_meets (NamesBack p) plan = λ q. is_concurrent plan q p
 named_meets (GoesWith p) plan = λ q. p == q || is_concurrent plan p q
 
--- of each overlap or preempt: K14, K21, K15 and K16
-abbrev pub four_meet : OfFour → Plan → ℕ → Bool
-four_meet IncludesEnabled plan = λ o. names_enabled plan (plan.value OverlapIncludedPhases o)
-four_meet ModifiesRightly plan = modifies_rightly plan
-four_meet HasConcurrentLists plan = has_concurrent_lists plan
-four_meet DwellsOrIsEmpty plan = dwells_or_is_empty plan
+-- of each overlap: K14 and K21
+abbrev pub overlap_meets : OfOverlap → Plan → ℕ → Bool
+overlap_meets IncludesEnabled plan = λ o. names_enabled plan (plan.value OverlapIncludedPhases o)
+overlap_meets ModifiesRightly plan = modifies_rightly plan
+
+-- of each preempt: K15 and K16
+abbrev pub preempt_meets : OfPreempt → Plan → ℕ → Bool
+preempt_meets HasConcurrentLists plan = has_concurrent_lists plan
+preempt_meets DwellsOrIsEmpty plan = dwells_or_is_empty plan
 
 -- of each used pattern: K17 to K20, and K23
 abbrev pub pattern_meets : OfPattern → Plan → ℕ → Bool

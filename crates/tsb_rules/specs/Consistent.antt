@@ -80,9 +80,9 @@ pub record IsPreemptSound (plan : Plan) (n : ℕ) : Type 0 where
   pub no_track : plan.value PreemptDwellPhase n ≡ 0 → plan.value PreemptTrackPhase n ≡ 0
   pub no_exit : plan.value PreemptDwellPhase n ≡ 0 → plan.value PreemptExitPhase n ≡ 0
 
--- K15 and K16: each of the 4 preempts can be served, as what it wants is compatible
+-- K15 and K16: each preempt can be served, as what it wants is compatible
 abbrev pub PreemptsAreSound : Plan → Type 0
-PreemptsAreSound plan = (n : ℕ) → 1 ≤ n → n ≤ 4 → IsPreemptSound plan n
+PreemptsAreSound plan = (n : ℕ) → 1 ≤ n → n ≤ plan.counts.preempts → IsPreemptSound plan n
 
 -- a used pattern has a sequence and a split table, and an offset below its cycle
 pub record IsWhole (plan : Plan) (n : ℕ) : Type 0 where

@@ -81,25 +81,28 @@ abbrev pub none_or : (ℕ → Bool) → Option ℕ → Bool
 none_or test None = true
 none_or test (Some p) = test p
 
--- K12: each of the 16 vehicle detectors calls none or an enabled phase
+-- K12: each vehicle detector calls none or an enabled phase
 abbrev pub detectors_call_phases : Plan → Bool
-detectors_call_phases plan = list_all (λ d. none_or (is_enabled plan) (call_phase plan d)) (run_from 1 16)
+detectors_call_phases plan =
+    list_all (λ d. none_or (is_enabled plan) (call_phase plan d)) (run_from 1 plan.counts.vehicle_detectors)
 
 -- p is enabled and has a walk time
 abbrev pub serves_pedestrians : Plan → ℕ → Bool
 serves_pedestrians plan p = is_enabled plan p && has_walk plan p
 
--- K13: each of the 8 pedestrian detectors calls none or an enabled phase with phaseWalk over 0
+-- K13: each pedestrian detector calls none or an enabled phase with phaseWalk over 0
 abbrev pub pedestrian_detectors_call_walks : Plan → Bool
-pedestrian_detectors_call_walks plan = list_all (λ d. none_or (serves_pedestrians plan) (pedestrian_call_phase plan d)) (run_from 1 8)
+pedestrian_detectors_call_walks plan =
+    list_all (λ d. none_or (serves_pedestrians plan) (pedestrian_call_phase plan d)) (run_from 1 plan.counts.pedestrian_detectors)
 
 -- each phase that a list names is enabled
 abbrev pub names_enabled : Plan → ℕ → Bool
 names_enabled plan list = list_all (λ p. not (names list p) || is_enabled plan p) (phases plan)
 
--- K14: the included phases of each of the 4 overlaps are enabled
+-- K14: the included phases of each overlap are enabled
 abbrev pub included_phases_are_enabled : Plan → Bool
-included_phases_are_enabled plan = list_all (λ o. names_enabled plan (plan.value OverlapIncludedPhases o)) (run_from 1 4)
+included_phases_are_enabled plan =
+    list_all (λ o. names_enabled plan (plan.value OverlapIncludedPhases o)) (run_from 1 plan.counts.overlaps)
 
 -- p is concurrent with each other phase that a list names
 abbrev pub goes_with_all : Plan → ℕ → ℕ → Bool
@@ -118,9 +121,9 @@ abbrev pub has_concurrent_lists : Plan → ℕ → Bool
 has_concurrent_lists plan n =
     names_concurrent_at plan PreemptTrackPhase n && (names_concurrent_at plan PreemptDwellPhase n && names_concurrent_at plan PreemptExitPhase n)
 
--- K15: each list of each of the 4 preempts names only enabled phases, pairwise concurrent
+-- K15: each list of each preempt names only enabled phases, pairwise concurrent
 abbrev pub preempts_are_concurrent : Plan → Bool
-preempts_are_concurrent plan = list_all (has_concurrent_lists plan) (run_from 1 4)
+preempts_are_concurrent plan = list_all (has_concurrent_lists plan) (run_from 1 plan.counts.preempts)
 
 -- preempt n has a dwell phase, or neither a track phase nor an exit phase
 abbrev pub dwells_or_is_empty : Plan → ℕ → Bool
@@ -129,7 +132,7 @@ dwells_or_is_empty plan n =
 
 -- K16: a preempt with an empty dwell list has empty track and exit lists
 abbrev pub preempts_dwell : Plan → Bool
-preempts_dwell plan = list_all (dwells_or_is_empty plan) (run_from 1 4)
+preempts_dwell plan = list_all (dwells_or_is_empty plan) (run_from 1 plan.counts.preempts)
 
 -- the modifier phases of overlap o are enabled, and there are none where it is not minusGreenYellow
 abbrev pub modifies_rightly : Plan → ℕ → Bool
@@ -138,7 +141,7 @@ modifies_rightly plan o =
 
 -- K21: the modifier phases of each overlap are enabled, and there are none where it is not minusGreenYellow
 abbrev pub modifiers_are_right : Plan → Bool
-modifiers_are_right plan = list_all (modifies_rightly plan) (run_from 1 4)
+modifiers_are_right plan = list_all (modifies_rightly plan) (run_from 1 plan.counts.overlaps)
 
 -- K22: phaseDynamicMaxLimit of each phase is 0 or at least its phaseMinimumGreen
 abbrev pub limits_reach_minimums : Plan → Bool

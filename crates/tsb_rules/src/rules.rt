@@ -16,7 +16,7 @@ mod sequences;
 mod splits;
 
 use asked::{OfEnabled, OfPhase, Sought, each_enabled, each_phase, some_phase};
-use lists::{OfFour, four_meet};
+use lists::{OfOverlap, OfPreempt, each_overlap, each_preempt};
 use patterns::{OfPattern, each_pattern};
 pub use splits::split_end;
 use tsb_plan::Plan;
@@ -133,9 +133,9 @@ fn check_phases(plan: &Plan) -> Result<(), Rule>
 fn check_parts(plan: &Plan) -> Result<(), Rule>
     ensures { result ≡ or_broken (broken_by_parts (plan_of plan.now)) }
 {
-    require(four_meet(plan, OfFour::IncludesEnabled), Rule::K14)?;
-    require(four_meet(plan, OfFour::HasConcurrentLists), Rule::K15)?;
-    require(four_meet(plan, OfFour::DwellsOrIsEmpty), Rule::K16)?;
+    require(each_overlap(plan, OfOverlap::IncludesEnabled), Rule::K14)?;
+    require(each_preempt(plan, OfPreempt::HasConcurrentLists), Rule::K15)?;
+    require(each_preempt(plan, OfPreempt::DwellsOrIsEmpty), Rule::K16)?;
     require(each_pattern(plan, OfPattern::Whole), Rule::K17)?;
     require(each_pattern(plan, OfPattern::HoldsPhases), Rule::K18)?;
     require(each_pattern(plan, OfPattern::FillsCycle), Rule::K19)?;
@@ -147,7 +147,7 @@ fn check_parts(plan: &Plan) -> Result<(), Rule>
 fn check_extensions(plan: &Plan) -> Result<(), Rule>
     ensures { result ≡ or_broken (broken_by_extensions (plan_of plan.now)) }
 {
-    require(four_meet(plan, OfFour::ModifiesRightly), Rule::K21)?;
+    require(each_overlap(plan, OfOverlap::ModifiesRightly), Rule::K21)?;
     require(each_enabled(plan, OfEnabled::ReachedByLimit), Rule::K22)?;
     require(each_pattern(plan, OfPattern::PermissiveTimeEnds), Rule::K23)
 }

@@ -3,10 +3,11 @@ use Rattle.std.proofs.Common.{zero, suc, ◌≡◌, ℕ, ◌+◌, ◌*◌, ◌/�
 use Rattle.std.specs.Int.{bit_at}
 use Rattle.std.proofs.lemmas.Bool.{and_parts, eqb-true}
 use Rattle.std.proofs.lemmas.Nat.Bits.{bit_at_lowest, bit_at-suc, bit_at-zero, bit_at-lt, bit_at_above, same_from_bits_below}
+use Rattle.tsb_types.specs.declared.detector_set.DetectorSet.{DetectorSet}
 use Rattle.tsb_types.specs.declared.number_set.NumberSet.{NumberSet}
 use Rattle.tsb_types.specs.declared.phase_set.PhaseSet.{PhaseSet}
 use Rattle.tsb_types.specs.declared.row.Row.{Row}
-use Rattle.tsb_types.specs.Sets.{names, has_number, has, is_same_row, is_same_set, number_of_bits, list_of}
+use Rattle.tsb_types.specs.Sets.{names, has_number, has_detector, has, is_same_row, is_same_set, is_same_detectors, number_of_bits, list_of}
 
 -- the lowest bit of a word, and the word without it
 pub lowest : (b : Bool) (m : ℕ) → (((if b then 1 else 0) + 2 * m) % 2 == 1) ≡ b
@@ -90,6 +91,10 @@ pub same_numbers : (s t : NumberSet) → s.word < 2 ^ 16 → t.word < 2 ^ 16 →
 same_numbers s t p q same =
     ap (λ (w : ℕ). let made : NumberSet = record { word = w } in made) (same_names 16 s.word t.word p q (λ n from within. same n))
 
+pub same_detectors : (s t : DetectorSet) → s.word < 2 ^ 64 → t.word < 2 ^ 64 → ((d : ℕ) → has_detector s d ≡ has_detector t d) → s ≡ t
+same_detectors s t p q same =
+    ap (λ (w : ℕ). let made : DetectorSet = record { word = w } in made) (same_names 64 s.word t.word p q (λ d from within. same d))
+
 pub same_phases : (s t : PhaseSet) → s.numbers.word < 2 ^ 16 → t.numbers.word < 2 ^ 16 → ((p : ℕ) → has s p ≡ has t p) → s ≡ t
 same_phases s t p q same =
     ap (λ (n : NumberSet). let made : PhaseSet = record { numbers = n } in made) (same_numbers s.numbers t.numbers p q same)
@@ -98,11 +103,14 @@ same_phases s t p q same =
 pub same-set : (a b : NumberSet) → is_same_set a b ≡ true → a ≡ b
 same-set a b is = ap (λ (w : ℕ). let made : NumberSet = record { word = w } in made) (eqb-true a.word b.word is)
 
+pub same-detectors : (a b : DetectorSet) → is_same_detectors a b ≡ true → a ≡ b
+same-detectors a b is = ap (λ (w : ℕ). let made : DetectorSet = record { word = w } in made) (eqb-true a.word b.word is)
+
 pub same-row : (a b : Row) → is_same_row a b ≡ true → a ≡ b
 same-row a b is =
-    let all = and_parts (is_same_set a.vehicles b.vehicles && is_same_set a.pedestrians b.pedestrians) (is_same_set a.preempts b.preempts) is in
-    let first = and_parts (is_same_set a.vehicles b.vehicles) (is_same_set a.pedestrians b.pedestrians) all.0 in
-    let vehicles : a.vehicles ≡ b.vehicles = same-set a.vehicles b.vehicles first.0 in
+    let all = and_parts (is_same_detectors a.vehicles b.vehicles && is_same_set a.pedestrians b.pedestrians) (is_same_set a.preempts b.preempts) is in
+    let first = and_parts (is_same_detectors a.vehicles b.vehicles) (is_same_set a.pedestrians b.pedestrians) all.0 in
+    let vehicles : a.vehicles ≡ b.vehicles = same-detectors a.vehicles b.vehicles first.0 in
     let pedestrians : a.pedestrians ≡ b.pedestrians = same-set a.pedestrians b.pedestrians first.1 in
     let preempts : a.preempts ≡ b.preempts = same-set a.preempts b.preempts all.1 in
     λ j. let there : Row = record { vehicles = vehicles j; pedestrians = pedestrians j; preempts = preempts j } in there

@@ -1,9 +1,11 @@
 //! Events of a controller, by the Indiana Traffic Signal Hi Resolution Data Logger Enumerations of 2012.
 ghost use Rattle.std.specs.Prelude.{◌≡◌, ◌+◌, ◌++◌, ◌≤◌};
 ghost use Rattle.arrayvec.specs.ArrayVec.{array_vec_len};
-ghost use Rattle.tsb_types.specs.Events.{begins, either, told};
-ghost use Rattle.tsb_types.specs.Sets.{has_number};
+ghost use Rattle.tsb_types.specs.declared.limits.TheConstants.{VEHICLE_DETECTORS};
+ghost use Rattle.tsb_types.specs.Events.{begins, either, told, told_detectors};
+ghost use Rattle.tsb_types.specs.Sets.{has_detector, has_number};
 
+use crate::detector_set::DetectorSet;
 use crate::number_set::NumberSet;
 use arrayvec::ArrayVec;
 
@@ -140,6 +142,29 @@ pub fn tell<const N: usize>(
     ensures few { array_vec_len events.new ≤ array_vec_len events.old + 16 }
 {
     let mut rest = numbers;
+    while let Some(number) = rest.first() {
+        rest = rest.with(number, false);
+        events.push(Event {
+            tick,
+            code,
+            parameter: number,
+        });
+    }
+}
+
+/// Adds an event for each detector of a set to others, the least first. There must be room for as many as there are
+/// vehicle detectors.
+pub fn tell_detectors<const N: usize>(
+    events: &mut ArrayVec<Event, N>,
+    tick: u32,
+    code: u8,
+    detectors: DetectorSet,
+)
+    requires { array_vec_len events.old + VEHICLE_DETECTORS ≤ N }
+    ensures told { events.new.items ≡ events.old.items ++ told_detectors tick code (has_detector detectors) }
+    ensures few { array_vec_len events.new ≤ array_vec_len events.old + VEHICLE_DETECTORS }
+{
+    let mut rest = detectors;
     while let Some(number) = rest.first() {
         rest = rest.with(number, false);
         events.push(Event {

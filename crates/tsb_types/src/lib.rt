@@ -6,6 +6,7 @@
 
 pub mod calendar;
 pub mod clock_time;
+pub mod detector_set;
 pub mod event;
 pub mod flow;
 pub mod interval;
@@ -22,6 +23,7 @@ pub mod watch;
 
 pub use calendar::ClockDate;
 pub use clock_time::{ClockTime, DAY};
+pub use detector_set::DetectorSet;
 pub use event::Event;
 pub use flow::{Called, Intervals, Moves, Orders, Pedestrians, RingMoves, Timing};
 pub use interval::{Interval, PedestrianInterval};

@@ -2,8 +2,6 @@
 ghost use Rattle.std.specs.Prelude.{◌≡◌, ◌≢◌, ℕ, ◌<◌, ◌≤◌, ◌&&◌, ◌||◌, not, true, false, None, IfSome};
 ghost use Rattle.tsb_types.specs.Sets.{names, has_number, set_of_list, size_of_numbers};
 
-use crate::numbers::Detector;
-
 /// A set of numbers from 1 to 16, one bit for each. Two sets with the same numbers are equal.
 #[derive(Clone, Copy, PartialEq, Eq)]
 pub struct NumberSet {
@@ -125,27 +123,6 @@ impl NumberSet {
             None
         } else {
             Some(self.word.trailing_zeros() as u8 + 1)
-        }
-    }
-
-    /// Takes the detector of the least number out of the set and gives it, or `None` where there is none.
-    #[inline(always)]
-    pub fn pop_detector(&mut self) -> Option<Detector>
-        ensures none { result ≡ None → (d : ℕ) → has_number self.old d ≡ false }
-        ensures from { IfSome result (λ d. 1 ≤ d) }
-        ensures within { IfSome result (λ d. d ≤ 16) }
-        ensures had { IfSome result (λ d. has_number self.old d ≡ true) }
-        ensures taken { IfSome result (λ d. has_number self.new d ≡ false) }
-        ensures others { IfSome result (λ d. (e : ℕ) → e ≢ d → has_number self.new e ≡ has_number self.old e) }
-        ensures empty { result ≡ None → self.new ≡ self.old }
-        ensures smaller { IfSome result (λ d. size_of_numbers self.new < size_of_numbers self.old) }
-    {
-        match self.first() {
-            None => None,
-            Some(number) => {
-                *self = self.with(number, false);
-                Some(Detector::of(number))
-            }
         }
     }
 }

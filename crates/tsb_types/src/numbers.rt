@@ -1,7 +1,9 @@
 //! Numbers of things, each within its range. A contract sees each as the plain number.
 ghost use Rattle.std.specs.Prelude.{◌≡◌, ℕ, ◌≤◌, ◌&&◌, nat_le, if◌then◌else◌, Some, None};
 ghost use Rattle.tsb_types.specs.Lists.{run_from};
+ghost use Rattle.tsb_types.specs.declared.limits.TheConstants.{OVERLAPS, PEDESTRIAN_DETECTORS, PREEMPTS, VEHICLE_DETECTORS};
 
+use crate::limits::{OVERLAPS, PEDESTRIAN_DETECTORS, PREEMPTS, VEHICLE_DETECTORS};
 use std::marker::Model;
 
 /// The number of a thing of one kind: 1 to `MOST`. `KIND` tells the kinds apart, so that a phase's number is never
@@ -17,11 +19,11 @@ pub type Phase = Number<0, 16>;
 /// The number of a side of the barriers: 1 to 4 (profile).
 pub type Side = Number<1, 4>;
 
-/// The number of a vehicle detector: 1 to 16.
-pub type Detector = Number<2, 16>;
+/// The number of a vehicle detector: 1 to `VEHICLE_DETECTORS`.
+pub type Detector = Number<2, VEHICLE_DETECTORS>;
 
-/// The number of an overlap: 1 to 4.
-pub type Overlap = Number<3, 4>;
+/// The number of an overlap: 1 to `OVERLAPS`.
+pub type Overlap = Number<3, OVERLAPS>;
 
 /// The number of a station, which has a transaction of its own: 1 to 4 (profile).
 pub type Station = Number<4, 4>;
@@ -29,8 +31,8 @@ pub type Station = Number<4, 4>;
 /// The number of a ring of phases: 1 to 2.
 pub type Ring = Number<5, 2>;
 
-/// The number of a pedestrian detector: 1 to 8.
-pub type PedestrianDetector = Number<6, 8>;
+/// The number of a pedestrian detector: 1 to `PEDESTRIAN_DETECTORS`.
+pub type PedestrianDetector = Number<6, PEDESTRIAN_DETECTORS>;
 
 /// The number of a coordination pattern: 1 to 16.
 pub type Pattern = Number<7, 16>;
@@ -41,8 +43,8 @@ pub type Split = Number<8, 8>;
 /// The number of a phase sequence: 1 to 4.
 pub type Sequence = Number<9, 4>;
 
-/// The number of a preempt: 1 to 4.
-pub type Preempt = Number<10, 4>;
+/// The number of a preempt: 1 to `PREEMPTS`.
+pub type Preempt = Number<10, PREEMPTS>;
 
 /// The number of an entry of a schedule: 1 to 32.
 pub type Entry = Number<12, 32>;
@@ -140,8 +142,8 @@ impl Side {
 
 impl Detector {
     /// All vehicle detectors, in ascending order.
-    pub fn all() -> [Detector; 16]
-        ensures { result ≡ run_from 1 16 }
+    pub fn all() -> [Detector; VEHICLE_DETECTORS as usize]
+        ensures { result ≡ run_from 1 VEHICLE_DETECTORS }
     {
         Number::first()
     }
@@ -149,8 +151,8 @@ impl Detector {
 
 impl Overlap {
     /// All overlaps, in ascending order.
-    pub fn all() -> [Overlap; 4]
-        ensures { result ≡ run_from 1 4 }
+    pub fn all() -> [Overlap; OVERLAPS as usize]
+        ensures { result ≡ run_from 1 OVERLAPS }
     {
         Number::first()
     }
@@ -167,8 +169,8 @@ impl Ring {
 
 impl PedestrianDetector {
     /// All pedestrian detectors, in ascending order.
-    pub fn all() -> [PedestrianDetector; 8]
-        ensures { result ≡ run_from 1 8 }
+    pub fn all() -> [PedestrianDetector; PEDESTRIAN_DETECTORS as usize]
+        ensures { result ≡ run_from 1 PEDESTRIAN_DETECTORS }
     {
         Number::first()
     }
@@ -185,8 +187,8 @@ impl Pattern {
 
 impl Preempt {
     /// All preempts, in ascending order.
-    pub fn all() -> [Preempt; 4]
-        ensures { result ≡ run_from 1 4 }
+    pub fn all() -> [Preempt; PREEMPTS as usize]
+        ensures { result ≡ run_from 1 PREEMPTS }
     {
         Number::first()
     }

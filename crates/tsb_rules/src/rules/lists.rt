@@ -1,13 +1,14 @@
 //! Rules K14, K15, K16 and K21: the lists of overlaps and preempts.
 #![tactic(auto, unfolding(tsb_plan::specs::PlanOf::plan_of))]
 
-ghost use Rattle.std.specs.Prelude.{◌≡◌, ◌≤◌, ◌&&◌, ◌||◌, not};
+ghost use Rattle.tsb_types.specs.declared.limits.TheConstants.{OVERLAPS, PREEMPTS};
+ghost use Rattle.std.specs.Prelude.{◌≡◌, ◌&&◌, ◌||◌, not};
 ghost use Rattle.std.specs.List.{list_all};
 ghost use Rattle.tsb_plan.specs.declared.object.Object.TheVariants.{OverlapIncludedPhases};
 ghost use Rattle.tsb_plan.specs.Objects.{indices};
 ghost use Rattle.tsb_plan.specs.Plan.{is_enabled};
 ghost use Rattle.tsb_plan.specs.PlanOf.{plan_of};
-ghost use Rattle.tsb_rules.specs.Asked.{each_named, four_meet, named_meets};
+ghost use Rattle.tsb_rules.specs.Asked.{each_named, overlap_meets, preempt_meets, named_meets};
 ghost use Rattle.tsb_rules.specs.Rules.{names_enabled, goes_with_all, names_concurrent, has_concurrent_lists, dwells_or_is_empty, modifies_rightly};
 ghost use Rattle.tsb_types.specs.Lists.{run_from};
 ghost use Rattle.tsb_types.specs.Sets.{names};
@@ -30,16 +31,21 @@ pub(super) enum OfNamed {
     GoesWith(Phase),
 }
 
-/// What a rule asks of each overlap, or of each preempt: there are four of either.
+/// What a rule asks of each overlap.
 #[derive(Clone, Copy)]
-pub(super) enum OfFour {
-    /// K14: the included phases of the overlap are enabled.
+pub(super) enum OfOverlap {
+    /// K14: its included phases are enabled.
     IncludesEnabled,
-    /// K21: the modifier phases of the overlap are enabled, and it has none where it is not minusGreenYellow.
+    /// K21: its modifier phases are enabled, and it has none where it is not minusGreenYellow.
     ModifiesRightly,
-    /// K15: each list of the preempt names only enabled phases, pairwise concurrent.
+}
+
+/// What a rule asks of each preempt.
+#[derive(Clone, Copy)]
+pub(super) enum OfPreempt {
+    /// K15: each of its lists names only enabled phases, pairwise concurrent.
     HasConcurrentLists,
-    /// K16: the preempt has a dwell phase, or neither a track phase nor an exit phase.
+    /// K16: it has a dwell phase, or neither a track phase nor an exit phase.
     DwellsOrIsEmpty,
 }
 
@@ -66,34 +72,47 @@ pub(super) fn each_named(plan: &Plan, list: u16, asked: OfNamed) -> bool
     Phase::all().iter().all(|other| !named.contains(*other) || named_meets(plan, asked, *other))
 }
 
-/// Whether overlap or preempt `number`, 1 to 4, is as a rule asks.
-fn one_meets(plan: &Plan, asked: OfFour, number: u8) -> bool
-    requires from { 1 ≤ number }
-    requires to { number ≤ 4 }
-    ensures { result ≡ four_meet asked (plan_of plan.now) number }
+/// Whether the overlap is as a rule asks.
+fn overlap_meets(plan: &Plan, asked: OfOverlap, overlap: Overlap) -> bool
+    ensures { result ≡ overlap_meets asked (plan_of plan.now) overlap }
 {
     match asked {
-        OfFour::IncludesEnabled => includes_enabled(plan, Overlap::of(number)),
-        OfFour::ModifiesRightly => modifies_rightly(plan, Overlap::of(number)),
-        OfFour::HasConcurrentLists => has_concurrent_lists(plan, Preempt::of(number)),
-        OfFour::DwellsOrIsEmpty => dwells_or_is_empty(plan, Preempt::of(number)),
+        OfOverlap::IncludesEnabled => includes_enabled(plan, overlap),
+        OfOverlap::ModifiesRightly => modifies_rightly(plan, overlap),
     }
 }
 
-/// Whether each of the four overlaps or preempts is as a rule asks.
-#[tactic(auto, unfolding(tsb_plan::specs::PlanOf::plan_of, tsb_types::specs::Lists::run_from))]
-pub(super) fn four_meet(plan: &Plan, asked: OfFour) -> bool
-    ensures { result ≡ list_all (four_meet asked (plan_of plan.now)) (run_from 1 4) }
+/// Whether each overlap is as a rule asks.
+pub(super) fn each_overlap(plan: &Plan, asked: OfOverlap) -> bool
+    ensures { result ≡ list_all (overlap_meets asked (plan_of plan.now)) (run_from 1 OVERLAPS) }
 {
-    one_meets(plan, asked, 1)
-        && one_meets(plan, asked, 2)
-        && one_meets(plan, asked, 3)
-        && one_meets(plan, asked, 4)
+    Overlap::all()
+        .iter()
+        .all(|overlap| overlap_meets(plan, asked, *overlap))
+}
+
+/// Whether the preempt is as a rule asks.
+fn preempt_meets(plan: &Plan, asked: OfPreempt, preempt: Preempt) -> bool
+    ensures { result ≡ preempt_meets asked (plan_of plan.now) preempt }
+{
+    match asked {
+        OfPreempt::HasConcurrentLists => has_concurrent_lists(plan, preempt),
+        OfPreempt::DwellsOrIsEmpty => dwells_or_is_empty(plan, preempt),
+    }
+}
+
+/// Whether each preempt is as a rule asks.
+pub(super) fn each_preempt(plan: &Plan, asked: OfPreempt) -> bool
+    ensures { result ≡ list_all (preempt_meets asked (plan_of plan.now)) (run_from 1 PREEMPTS) }
+{
+    Preempt::all()
+        .iter()
+        .all(|preempt| preempt_meets(plan, asked, *preempt))
 }
 
 /// A list of an overlap.
 fn of_overlap(plan: &Plan, object: Object, overlap: Overlap) -> u16
-    requires index { indices object ≡ 4 }
+    requires index { indices object ≡ OVERLAPS }
     ensures value { result ≡ (plan_of plan.now).value object overlap }
 {
     plan.at(object, u32::from(overlap.number())) as u16
@@ -101,7 +120,7 @@ fn of_overlap(plan: &Plan, object: Object, overlap: Overlap) -> u16
 
 /// A list of a preempt.
 fn of_preempt(plan: &Plan, object: Object, preempt: Preempt) -> u16
-    requires index { indices object ≡ 4 }
+    requires index { indices object ≡ PREEMPTS }
     ensures value { result ≡ (plan_of plan.now).value object preempt }
 {
     plan.at(object, u32::from(preempt.number())) as u16

@@ -14,6 +14,6 @@ unfolding checked_plan plan_of
 returns c = λ p from within.
     let plan : Plan = plan_of c.args.self.now.plan in
     let on : ℕ → Bool = has_number c.args.detectors in
-    c.of_eight.ensures (λ d q. is q (pedestrian_call_phase plan d)) c.args.self.now.unions_are.walks_called p from within
-    ∙ pass-same (λ d. on d && is p (pedestrian_call_phase plan d)) (λ d. is p (pedestrian_call_phase plan d) && on d) 1 8 (λ d first below.
+    c.of.ensures (λ d q. is q (pedestrian_call_phase plan d)) c.args.self.now.unions_are.walks_called p from within
+    ∙ pass-same (λ d. on d && is p (pedestrian_call_phase plan d)) (λ d. is p (pedestrian_call_phase plan d) && on d) 1 16 (λ d first below.
     other-way (on d) (is p (pedestrian_call_phase plan d)))
