@@ -3,7 +3,16 @@ use Rattle.std.proofs.Common.{zero, suc, ◌≡◌, ◌≢◌, ℕ, ◌+◌, ◌
 use Rattle.std.proofs.lemmas.Bool.{cases_eq}
 use Rattle.std.proofs.lemmas.List.Sums.{sum_by-cons}
 use Rattle.tsb_objects.specs.tsb_types.Lists.{run_from}
+use Rattle.tsb_objects.specs.tsb_types.declared.limits.TheConstants.{VEHICLE_DETECTORS}
+use Rattle.tsb_objects.specs.tsb_plan.PlanOf.{plan_of}
+use Rattle.tsb_objects.specs.declared.checked.Checked.{Checked}
+use Rattle.tsb_objects.specs.Checked.{checked_plan}
 use Rattle.tsb_calls.specs.Layer.{counted_to}
+
+-- a checked plan has all vehicle detectors
+pub all-detectors : (plan : Checked) → (checked_plan plan).counts.vehicle_detectors ≡ VEHICLE_DETECTORS
+unfolding checked_plan plan_of
+all-detectors plan = refl
 
 abbrev one : (ℕ → Bool) → ℕ → ℕ
 one test d = if test d then 1 else 0
@@ -91,12 +100,12 @@ and-whole false = refl
 abbrev pub taken : (ℕ → Bool) → (ℕ → Bool) → (ℕ → Bool) → ℕ → Bool
 taken test all left d = test d && (all d && not (left d))
 
-pub count-taken : (test all left now : ℕ → Bool) (k : ℕ) → 1 ≤ k → k ≤ 16 → all k ≡ true → left k ≡ true → now k ≡ false →
+pub count-taken : (n : ℕ) (test all left now : ℕ → Bool) (k : ℕ) → 1 ≤ k → k ≤ n → all k ≡ true → left k ≡ true → now k ≡ false →
     ((d : ℕ) → d ≢ k → now d ≡ left d) →
-    count_by (taken test all left) (run_from 1 16) + (if test k then 1 else 0) ≡ count_by (taken test all now) (run_from 1 16)
-count-taken test all left now k from within had was gone others =
+    count_by (taken test all left) (run_from 1 n) + (if test k then 1 else 0) ≡ count_by (taken test all now) (run_from 1 n)
+count-taken n test all left now k from within had was gone others =
     let same : one (taken test all now) k ≡ one test k = ap (λ (b : Bool). if b then 1 else 0) last in
-    let e = count-more (taken test all left) (taken test all now) k 1 16 from (omega (arith, within)) before rest in
+    let e = count-more (taken test all left) (taken test all now) k 1 n from (omega (arith, within)) before rest in
     omega (arith, e, same)
   where
     before : taken test all left k ≡ false
@@ -108,10 +117,10 @@ count-taken test all left now k from within had was gone others =
     rest : (d : ℕ) → d ≢ k → taken test all now d ≡ taken test all left d
     rest d other = ap (λ (b : Bool). test d && (all d && not b)) (others d other)
 
-pub count-all : (test all left : ℕ → Bool) → ((d : ℕ) → left d ≡ false) →
-    count_by (taken test all left) (run_from 1 16) ≡ count_by (λ d. test d && all d) (run_from 1 16)
-count-all test all left gone =
-    count-same (taken test all left) (λ d. test d && all d) 1 16 (λ d from below. rw (gone d) (and-always (test d) (all d)))
+pub count-all : (n : ℕ) (test all left : ℕ → Bool) → ((d : ℕ) → left d ≡ false) →
+    count_by (taken test all left) (run_from 1 n) ≡ count_by (λ d. test d && all d) (run_from 1 n)
+count-all n test all left gone =
+    count-same (taken test all left) (λ d. test d && all d) 1 n (λ d from below. rw (gone d) (and-always (test d) (all d)))
 
-pub count-begun : (test all : ℕ → Bool) → count_by (taken test all all) (run_from 1 16) ≡ 0
-count-begun test all = count-none (taken test all all) 1 16 (λ d. and-not (test d) (all d))
+pub count-begun : (n : ℕ) (test all : ℕ → Bool) → count_by (taken test all all) (run_from 1 n) ≡ 0
+count-begun n test all = count-none (taken test all all) 1 n (λ d. and-not (test d) (all d))

@@ -10,23 +10,23 @@ use Rattle.tsb_calls.specs.Looks.{AgreeOnPhases, AreAlike, AgreeOnMoves}
 use Rattle.tsb_objects.proofs.PassLemmas.{pass-same}
 use Rattle.tsb_calls.proofs.CountLemmas.{count-same}
 
-module _ (plan : Plan) (g h : Given) (alike : AgreeOnPhases g h) where
+module _ (plan : Plan) (g h : Given) (alike : AgreeOnPhases plan g h) where
   output-alike : (p : ℕ) → has_output plan g p ≡ has_output plan h p
   unfolding has_output
   output-alike p =
-      pass-same (λ d. calls plan d p && g.output d) (λ d. calls plan d p && h.output d) 1 16
+      pass-same (λ d. calls plan d p && g.output d) (λ d. calls plan d p && h.output d) 1 plan.counts.vehicle_detectors
       (λ d from below. ap (λ (b : Bool). calls plan d p && b) (alike.output d from (omega (arith, below))))
 
   actuations-alike : (p : ℕ) → actuations plan g p ≡ actuations plan h p
   unfolding actuations
   actuations-alike p =
-      count-same (λ d. calls plan d p && g.actuated d) (λ d. calls plan d p && h.actuated d) 1 16
+      count-same (λ d. calls plan d p && g.actuated d) (λ d. calls plan d p && h.actuated d) 1 plan.counts.vehicle_detectors
       (λ d from below. ap (λ (b : Bool). calls plan d p && b) (alike.actuated d from (omega (arith, below))))
 
   button-alike : (p : ℕ) → has_button plan g p ≡ has_button plan h p
   unfolding has_button
   button-alike p =
-      pass-same (λ d. calls_walk plan d p && g.button d) (λ d. calls_walk plan d p && h.button d) 1 8
+      pass-same (λ d. calls_walk plan d p && g.button d) (λ d. calls_walk plan d p && h.button d) 1 plan.counts.pedestrian_detectors
       (λ d from below. ap (λ (b : Bool). calls_walk plan d p && b) (alike.button d from (omega (arith, below))))
 
   -- ## What is set

@@ -33,9 +33,9 @@ not-called plan d p most out = go (plan.value VehicleDetectorCallPhase d) most
 no-actuations : (plan : Plan) (g : Given) (p : ℕ) → IsPlaced plan → is_phase p ≡ false → actuations plan g p ≡ 0
 unfolding actuations
 no-actuations plan g p placed out =
-    count-same (λ d. calls plan d p && g.actuated d) (λ d. false) 1 16
+    count-same (λ d. calls plan d p && g.actuated d) (λ d. false) 1 plan.counts.vehicle_detectors
     (λ d from below. let none : calls plan d p ≡ false = not-called plan d p (placed.called d from (omega (arith, below))) out in rw none refl)
-    ∙ count-none (λ d. false) 1 16 (λ d. refl)
+    ∙ count-none (λ d. false) 1 plan.counts.vehicle_detectors (λ d. refl)
 
 zero-count : (b : Bool) → (if b then 0 else min 255 (0 + 0)) ≡ 0
 zero-count true = refl
@@ -80,7 +80,7 @@ module _ (plan : Plan) (given : Given) (done : Done) (old mid new : List ℕ) wh
   given-next placed phases same =
       whole-same (memories_in new) (settled done call set) same (off-read new) (settled-off done call set phases (sets-off plan given was placed (off-read old)))
 
-  after-tick : (observed : Observed) → IsPlaced plan → AgreeOnPhases (given_of observed) given → IsSet observed plan old mid → AreAlike (memories_in mid) set
+  after-tick : (observed : Observed) → IsPlaced plan → AgreeOnPhases plan (given_of observed) given → IsSet observed plan old mid → AreAlike (memories_in mid) set
   after-tick observed placed seen sets =
       joined (memories_in mid) (as_set plan (given_of observed) was) set
       (record { vehicle = λ p from to. (sets p from to).vehicle; pedestrian = λ p from to. (sets p from to).pedestrian; count = λ p from to. (sets p from to).count })

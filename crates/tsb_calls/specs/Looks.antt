@@ -1,4 +1,4 @@
--- What the calls look at: nothing but phases and vehicle detectors 1 to 16 and pedestrian detectors 1 to 8.
+-- What the calls look at: nothing but phases and the detectors that a plan has.
 -- LooksOnlyAtItsOwn and TicksGiveNext are the contract of a function in src/laws.rt that does nothing.
 use Rattle.std.specs.Prelude.{◌≡◌, ℕ, ◌≤◌, Bool, false, List}
 use Rattle.tsb_objects.specs.tsb_types.Clip.{Agree}
@@ -13,11 +13,11 @@ use Rattle.tsb_calls.specs.Settled.{Done, settled, pedestrian_call, next}
 use Rattle.tsb_calls.specs.Cells.{memories_in}
 use Rattle.tsb_calls.specs.Promises.{given_of, done_of, IsSet, IsSettled}
 
--- two that a tick has for the calls, and that say the same of phases and detectors
-pub record AgreeOnPhases (g h : Given) : Type 0 where
-  pub output : Agree g.output h.output
-  pub actuated : Agree g.actuated h.actuated
-  pub button : (d : ℕ) → 1 ≤ d → d ≤ 8 → g.button d ≡ h.button d
+-- two that a tick has for the calls, and that say the same of phases and of the plan's detectors
+pub record AgreeOnPhases (plan : Plan) (g h : Given) : Type 0 where
+  pub output : (d : ℕ) → 1 ≤ d → d ≤ plan.counts.vehicle_detectors → g.output d ≡ h.output d
+  pub actuated : (d : ℕ) → 1 ≤ d → d ≤ plan.counts.vehicle_detectors → g.actuated d ≡ h.actuated d
+  pub button : (d : ℕ) → 1 ≤ d → d ≤ plan.counts.pedestrian_detectors → g.button d ≡ h.button d
   pub interval : Agree g.interval h.interval
   pub pedestrian_part : Agree g.pedestrian_part h.pedestrian_part
   pub runs : g.runs ≡ h.runs
@@ -54,7 +54,7 @@ pub record LookAlike (plan : Plan) (g h : Given) : Type 0 where
 
 -- so what is set, called and settled depends on nothing else
 abbrev pub LooksOnlyAtItsOwn : Type 0
-LooksOnlyAtItsOwn = (plan : Plan) (g h : Given) → plan.phase_count ≤ 16 → AgreeOnPhases g h → LookAlike plan g h
+LooksOnlyAtItsOwn = (plan : Plan) (g h : Given) → plan.phase_count ≤ 16 → AgreeOnPhases plan g h → LookAlike plan g h
 
 -- ## A whole tick
 
@@ -62,7 +62,7 @@ LooksOnlyAtItsOwn = (plan : Plan) (g h : Given) → plan.phase_count ≤ 16 → 
 pub record IsPlaced (plan : Plan) : Type 0 where
   pub count : plan.phase_count ≤ 16
   pub enabled : (p : ℕ) → is_phase p ≡ false → is_enabled plan p ≡ false
-  pub called : (d : ℕ) → 1 ≤ d → d ≤ 16 → plan.value VehicleDetectorCallPhase d ≤ 16
+  pub called : (d : ℕ) → 1 ≤ d → d ≤ plan.counts.vehicle_detectors → plan.value VehicleDetectorCallPhase d ≤ 16
 
 -- what is no phase does not start and does not end
 pub record MovesPhases (d : Done) : Type 0 where
@@ -73,6 +73,6 @@ pub record MovesPhases (d : Done) : Type 0 where
 -- was given what `given` says of phases, and `settle` what `done` says and the pedestrian calls of this tick.
 abbrev pub TicksGiveNext : Type 0
 TicksGiveNext = (plan : Plan) (given : Given) (done : Done) (observed : Observed) (decided : Decided) (old mid new : List ℕ) →
-    IsPlaced plan → AgreeOnPhases (given_of observed) given → AgreeOnMoves (done_of decided) done → MovesPhases done →
+    IsPlaced plan → AgreeOnPhases plan (given_of observed) given → AgreeOnMoves (done_of decided) done → MovesPhases done →
     Agree (has decided.pedestrian) (pedestrian_call plan given (memories_in old)) →
     IsSet observed plan old mid → IsSettled decided mid new → memories_in new ≡ next plan given done (memories_in old)

@@ -1,8 +1,9 @@
 -- Ticks that leave all detectors as they are.
 use Rattle.std.proofs.Common.{◌≡◌, ℕ, ◌+◌, ◌-◌, ◌%◌, ◌<◌, ◌≤◌, false, List, arith, inl, inr}
 use Rattle.std.proofs.lemmas.Bool.Decides.{eqb_tells}
+use Rattle.tsb_objects.specs.tsb_types.declared.limits.TheConstants.{VEHICLE_DETECTORS}
 use Rattle.tsb_objects.specs.tsb_types.declared.row.Row.{Row}
-use Rattle.tsb_objects.specs.tsb_types.Sets.{has_number}
+use Rattle.tsb_objects.specs.tsb_types.Sets.{has_detector}
 use Rattle.tsb_objects.specs.tsb_plan.Plan.{Plan}
 use Rattle.tsb_detect.specs.Detector.{is_minute}
 use Rattle.tsb_detect.specs.Cells.{IsBy, row_in}
@@ -19,16 +20,16 @@ in-minute now wait t within after before =
       | inr part ↦ part.0
     ]
 
-pub rows-range : (now : ℕ) (cells : List ℕ) → IsBy now cells → (d : ℕ) → 1 ≤ d → d ≤ 16 → (row_in cells d).change ≤ now + 1
+pub rows-range : (now : ℕ) (cells : List ℕ) → IsBy now cells → (d : ℕ) → 1 ≤ d → d ≤ VEHICLE_DETECTORS → (row_in cells d).change ≤ now + 1
 rows-range now cells by d from to = (by.each d from to).change
 
 pub quiet-ticks : (now wait : ℕ) (row : Row) (plan : Plan) (cells : List ℕ) → IsBy now cells → wait ≤ 600 - now % 600 →
-    ((d : ℕ) → IsSettled (has_number row.vehicles d) (row_in cells d)) →
-    ((t d : ℕ) → now < t → t < now + wait → 1 ≤ d → d ≤ 16 → is_tested t plan d (has_number row.vehicles d) (row_in cells d).change ≡ false) →
+    ((d : ℕ) → IsSettled (has_detector row.vehicles d) (row_in cells d)) →
+    ((t d : ℕ) → now < t → t < now + wait → 1 ≤ d → d ≤ VEHICLE_DETECTORS → is_tested t plan d (has_detector row.vehicles d) (row_in cells d).change ≡ false) →
     IsQuiet now (now + wait) row plan cells
 quiet-ticks now wait row plan cells by within settled tested t greens after before =
     ticked t row greens plan cells cells begun read (λ d from to.
-    settled-visit t plan d (has_number row.vehicles d) _ (row_in cells d) (rows-read t cells begun read d from to) (settled d) (not-due d from to))
+    settled-visit t plan d (has_detector row.vehicles d) _ (row_in cells d) (rows-read t cells begun read d from to) (settled d) (not-due d from to))
   where
     begun : 1 ≤ t
     begun = omega (arith, after)
@@ -36,5 +37,5 @@ quiet-ticks now wait row plan cells by within settled tested t greens after befo
     read : IsBy (t - 1) cells
     read = detectors-later now (t - 1) cells (omega (arith, after)) by
 
-    not-due : (d : ℕ) → 1 ≤ d → d ≤ 16 → is_due t plan d (has_number row.vehicles d) (row_in cells d).change ≡ false
+    not-due : (d : ℕ) → 1 ≤ d → d ≤ VEHICLE_DETECTORS → is_due t plan d (has_detector row.vehicles d) (row_in cells d).change ≡ false
     not-due d from to = rw (in-minute now wait t within after before) (tested t d after before from to)

@@ -4,7 +4,7 @@ use Rattle.std.proofs.lemmas.Bool.Decides.{nat_tests}
 use Rattle.tsb_cells.specs.declared.timer.Timer.{Timer}
 use Rattle.tsb_cells.specs.declared.timer.Timer.TheVariants.{On}
 use Rattle.tsb_cells.specs.Timer.{timer_at}
-use Rattle.tsb_objects.specs.tsb_types.Sets.{names, list_in}
+use Rattle.tsb_objects.specs.tsb_types.Sets.{names, wide_list_in}
 use Rattle.tsb_objects.specs.tsb_plan.Plan.{Plan}
 use Rattle.tsb_objects.specs.tsb_plan.Parts.{detector_delay}
 use Rattle.tsb_detect.specs.declared.detector_row.DetectorRow.{DetectorRow}
@@ -85,11 +85,11 @@ pub taken : (a b : Bool) → b ≡ true → (a && not b) ≡ false
 taken true b h = rw h refl
 taken false b h = refl
 
-pub input-of : (cells : List ℕ) (d : ℕ) → (row_in cells d).input ≡ names (list_in cells 0) d
+pub input-of : (cells : List ℕ) (d : ℕ) → (row_in cells d).input ≡ names (wide_list_in cells 0) d
 unfolding row_in
 input-of cells d = refl
 
-pub output-of : (cells : List ℕ) (d : ℕ) → (row_in cells d).output ≡ names (list_in cells 1) d
+pub output-of : (cells : List ℕ) (d : ℕ) → (row_in cells d).output ≡ names (wide_list_in cells 2) d
 unfolding row_in
 output-of cells d = refl
 

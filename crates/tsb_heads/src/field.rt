@@ -1,4 +1,5 @@
 //! The field: what the lamps of the heads show, with an injected lamp laid over the display.
+ghost use Rattle.tsb_objects.specs.tsb_types.declared.limits.TheConstants.{OVERLAPS};
 ghost use Rattle.std.specs.Prelude.{◌≡◌, ◌≢◌, ◌≤◌, ℕ, false, Some};
 ghost use Rattle.tsb_objects.specs.tsb_types.declared.lamp.Lamp.TheVariants as lamps;
 ghost use Rattle.tsb_objects.specs.tsb_types.Sets.{has_number};
@@ -21,7 +22,7 @@ pub struct Field {
 fn put(set: NumberSet, o: Overlap, on: bool) -> NumberSet
     ensures set { has_number result o ≡ on }
     ensures others { (n : ℕ) → n ≢ o → has_number result n ≡ has_number set n }
-    ensures within { o ≤ 4 }
+    ensures within { o ≤ OVERLAPS }
 {
     set.with(o.number(), on)
 }

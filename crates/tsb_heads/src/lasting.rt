@@ -1,9 +1,10 @@
 //! Whether an overlap lasts through a clearance by what a ring is committed to.
-ghost use Rattle.std.specs.Prelude.{◌≡◌, ◌||◌, false};
+ghost use Rattle.std.specs.Prelude.{◌≡◌};
 ghost use Rattle.tsb_objects.specs.Checked.{checked_plan};
 ghost use Rattle.tsb_heads.specs.Promises.{TellsLasting};
 
 use crate::overlaps::{find_served, lasts};
+use tsb_objects::limits::OVERLAPS;
 use tsb_objects::{Checked, Intervals, Overlap, Phase};
 
 /// Whether some overlap lasts through the clearance of a phase that it includes, by the phases to which rings 1 and 2
@@ -18,18 +19,10 @@ pub fn some_overlap_lasts(
     ensures { TellsLasting intervals.now ring_1 ring_2 (checked_plan plan.now) result }
 {
     let served = find_served(intervals, ring_1, ring_2, plan);
-    some_of_four(
-        lasts(plan, Overlap::of(1), &served),
-        lasts(plan, Overlap::of(2), &served),
-        lasts(plan, Overlap::of(3), &served),
-        lasts(plan, Overlap::of(4), &served),
-    )
-}
-
-/// Whether one of four overlaps does.
-#[inline(always)]
-fn some_of_four(first: bool, second: bool, third: bool, fourth: bool) -> bool
-    ensures { result ≡ (first || (second || (third || (fourth || false)))) }
-{
-    first || second || third || fourth
+    for number in 1..OVERLAPS + 1 {
+        if lasts(plan, Overlap::of(number), &served) {
+            return true;
+        }
+    }
+    false
 }

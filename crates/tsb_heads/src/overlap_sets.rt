@@ -1,4 +1,5 @@
 //! What the heads of all overlaps show, as sets of overlaps.
+ghost use Rattle.tsb_objects.specs.tsb_types.declared.limits.TheConstants.{OVERLAPS};
 ghost use Rattle.std.specs.Prelude.{◌≡◌, ◌≢◌, ◌<◌, ◌≤◌, ℕ, false};
 ghost use Rattle.tsb_objects.specs.tsb_types.declared.lamp.Aspect.TheVariants.{FlashingRed};
 ghost use Rattle.tsb_objects.specs.tsb_types.Sets.{has_number};
@@ -57,16 +58,18 @@ fn with_overlap(heads: Overlaps, o: Overlap, aspect: Aspect) -> Overlaps
     }
 }
 
-/// What the heads of overlaps show.
+/// What the heads of overlaps show. Only those that include a phase are looked at: the others are dark.
 #[inline(always)]
 pub(crate) fn overlaps_of(plan: &Checked, served: &ServedPhases) -> Overlaps
-    ensures heads { (s : Shown) → IsServed (checked_plan plan.now) s served.now → (o : ℕ) → 1 ≤ o → o ≤ 4 →
+    ensures heads { (s : Shown) → IsServed (checked_plan plan.now) s served.now → (o : ℕ) → 1 ≤ o → o ≤ OVERLAPS →
         aspect_of_overlap result o ≡ overlap_head (checked_plan plan.now) s o }
     ensures apart { (n : ℕ) → IsInOne result n }
-    ensures few { (o : ℕ) → 4 < o → HasNone result o }
+    ensures few { (o : ℕ) → OVERLAPS < o → HasNone result o }
 {
     let mut heads = no_overlaps();
-    for number in 1..5u8 {
+    let mut rest = plan.used_overlaps();
+    while let Some(number) = rest.first() {
+        rest = rest.with(number, false);
         let o = Overlap::of(number);
         heads = with_overlap(heads, o, overlap_head(plan, o, served));
     }

@@ -1,6 +1,7 @@
--- A tick looks at the inputs of preempts 1 to 4 and at the intervals of phases 1 to 16 alone; and what it asks stays.
+-- A tick looks at the inputs of preempts and at the intervals of phases 1 to 16 alone; and what it asks stays.
 use Rattle.std.proofs.Common.{◌≡◌, ℕ, ◌-◌, ◌≤◌, ◌==◌, Bool, true, false, not, ◌&&◌, ◌||◌, Option, Some, None, is_some, is_none, refl, sym, ◌∙◌, ap, ap₂, subst, inl, inr, arith}
 use Rattle.std.proofs.lemmas.Bool.{cases_Bool, true≢false, eqb-true, and_right}
+use Rattle.tsb_types.specs.declared.limits.TheConstants.{PREEMPTS}
 use Rattle.tsb_types.specs.declared.interval.Interval.{Interval}
 use Rattle.tsb_types.specs.declared.stage.Stage.{Stage}
 use Rattle.tsb_types.specs.declared.stage.Stage.TheVariants.{Track, Dwell, Exit}
@@ -12,11 +13,11 @@ use Rattle.tsb_preempt.specs.Service.{Service, has_entered_in, service_as_read, 
 use Rattle.tsb_preempt.specs.Preempts.{Preempts, Given, is_preempt, as_read, has_input, delay_timer, still_spent, requests, requesting, beginning, if_may_begin, going_on, service_by, new_service, dwell_ends_of, dwell_ends, new_spent, wanted_by, is_outside, next}
 use Rattle.tsb_preempt.specs.Cells.{preempts_in}
 use Rattle.tsb_preempt.specs.Promises.{entered_of, given_by, IsSame}
-use Rattle.tsb_preempt.specs.Laws.{AreAlike, IsOfFour, IsOff, LooksOnlyAtItsOwn, TicksAsNext, OrdersAsNext, OrdersStand}
+use Rattle.tsb_preempt.specs.Laws.{AreAlike, IsOfOne, IsOff, LooksOnlyAtItsOwn, TicksAsNext, OrdersAsNext, OrdersStand}
 use Rattle.tsb_preempt.proofs.ResetLemmas.{is_preempt-from}
-use Rattle.tsb_preempt.proofs.ServiceLemmas.{first-four}
+use Rattle.tsb_preempt.proofs.ServiceLemmas.{first-agreed}
 use Rattle.tsb_preempt.proofs.StateLemmas.{all-same, off-outside}
-use Rattle.tsb_preempt.proofs.CompatibleLemmas.{as_read-of-four}
+use Rattle.tsb_preempt.proofs.CompatibleLemmas.{as_read-of-one}
 
 -- ## Intervals
 
@@ -53,35 +54,35 @@ module _ (plan : Plan) (f g : ℕ → Interval) (count : plan.phase_count ≤ 16
 
 -- ## Givens
 
-module _ (plan : Plan) (g h : Given) (w : Preempts) (count : plan.phase_count ≤ 16) (alike : AreAlike g h) (one : IsOfFour w.service) where
-  input-same : (n : ℕ) → 1 ≤ n → n ≤ 4 → has_input g w n ≡ has_input h w n
+module _ (plan : Plan) (g h : Given) (w : Preempts) (count : plan.phase_count ≤ 16) (few : plan.counts.preempts ≤ PREEMPTS) (alike : AreAlike g h)
+    (one : IsOfOne w.service) where
+  input-same : (n : ℕ) → 1 ≤ n → n ≤ PREEMPTS → has_input g w n ≡ has_input h w n
   input-same n from to = ap (λ (b : Bool). b || w.switch n) (alike.row n from to)
 
-  delay-same : (n : ℕ) → 1 ≤ n → n ≤ 4 → delay_timer g w n ≡ delay_timer h w n
+  delay-same : (n : ℕ) → 1 ≤ n → n ≤ PREEMPTS → delay_timer g w n ≡ delay_timer h w n
   delay-same n from to = rw (input-same n from to) refl
 
-  still-same : (n : ℕ) → 1 ≤ n → n ≤ 4 → still_spent g w n ≡ still_spent h w n
+  still-same : (n : ℕ) → 1 ≤ n → n ≤ PREEMPTS → still_spent g w n ≡ still_spent h w n
   still-same n from to = ap (λ (b : Bool). w.spent n && b) (input-same n from to)
 
-  requests-same : (n : ℕ) → 1 ≤ n → n ≤ 4 → requests plan g w n ≡ requests plan h w n
+  requests-same : (n : ℕ) → 1 ≤ n → n ≤ PREEMPTS → requests plan g w n ≡ requests plan h w n
   requests-same n from to = rw (alike.row n from to) refl
 
   requesting-same : requesting plan g w ≡ requesting plan h w
   unfolding requesting
   requesting-same =
-      first-four (requests plan g w) (requests plan h w)
-      (requests-same 1 (omega arith) (omega arith)) (requests-same 2 (omega arith) (omega arith))
-      (requests-same 3 (omega arith) (omega arith)) (requests-same 4 (omega arith) (omega arith))
+      first-agreed (requests plan g w) (requests plan h w) 1 plan.counts.preempts
+      (λ n from below. requests-same n from (omega (arith, below, few)))
 
   beginning-same : beginning plan g w ≡ beginning plan h w
   unfolding beginning
   beginning-same = ap (if_may_begin w.service) requesting-same
 
-  going-same : (o : Option Service) → IsOfFour o → going_on plan g w o ≡ going_on plan h w o
-  going-same None four = refl
-  going-same (Some s) four =
+  going-same : (o : Option Service) → IsOfOne o → going_on plan g w o ≡ going_on plan h w o
+  going-same None own = refl
+  going-same (Some s) own =
       moved-same plan g.interval h.interval count alike.interval (has_input g w s.preempt) s
-      ∙ ap (λ (b : Bool). moved plan h.interval b s) (input-same s.preempt four.0 four.1)
+      ∙ ap (λ (b : Bool). moved plan h.interval b s) (input-same s.preempt own.0 own.1)
 
   by-same : (o : Option ℕ) → service_by plan g w o ≡ service_by plan h w o
   by-same None = going-same w.service one
@@ -91,69 +92,69 @@ module _ (plan : Plan) (g h : Given) (w : Preempts) (count : plan.phase_count �
   unfolding new_service
   service-same = by-same (beginning plan g w) ∙ ap (service_by plan h w) beginning-same
 
-  dwell-of : (o : Option Service) (n : ℕ) → IsOfFour o → dwell_ends_of plan g w o n ≡ dwell_ends_of plan h w o n
-  dwell-of None n four = refl
-  dwell-of (Some s) n four = rw (alike.row s.preempt four.0 four.1) refl
+  dwell-of : (o : Option Service) (n : ℕ) → IsOfOne o → dwell_ends_of plan g w o n ≡ dwell_ends_of plan h w o n
+  dwell-of None n own = refl
+  dwell-of (Some s) n own = rw (alike.row s.preempt own.0 own.1) refl
 
   dwell-same : (n : ℕ) → dwell_ends plan g w n ≡ dwell_ends plan h w n
   unfolding dwell_ends
   dwell-same n = ap₂ (λ (o : Option ℕ) (b : Bool). is_none o && b) beginning-same (dwell-of w.service n one)
 
-  spent-same : (n : ℕ) → 1 ≤ n → n ≤ 4 → new_spent plan g w n ≡ new_spent plan h w n
+  spent-same : (n : ℕ) → 1 ≤ n → n ≤ PREEMPTS → new_spent plan g w n ≡ new_spent plan h w n
   spent-same n from to =
       ap₂ (λ (a b : Bool). a || b) (still-same n from to) (ap₂ (λ (a b : Bool). a && b) (dwell-same n) (input-same n from to))
 
-of-four : (o : Option Service) → IsOfFour o → IsOfFour (service_as_read o)
-of-four None four = tt
-of-four (Some s) four = four
+of-one : (o : Option Service) → IsOfOne o → IsOfOne (service_as_read o)
+of-one None own = tt
+of-one (Some s) own = own
 
 pub looks-own : LooksOnlyAtItsOwn
-looks-own plan g h was count alike one =
+looks-own plan g h was count few alike one =
     let w : Preempts = as_read was in
-    let four : IsOfFour (service_as_read was.service) = of-four was.service one in
+    let own : IsOfOne (service_as_read was.service) = of-one was.service one in
     record {
       switch = λ n from to. refl;
-      delay = λ n from to. delay-same plan g h w count alike four n from to;
-      spent = λ n from to. spent-same plan g h w count alike four n from to;
-      service = service-same plan g h w count alike four;
+      delay = λ n from to. delay-same plan g h w count few alike own n from to;
+      spent = λ n from to. spent-same plan g h w count few alike own n from to;
+      service = service-same plan g h w count few alike own;
     }
 
 pub orders-as-next : OrdersAsNext
-orders-as-next now row intervals plan old given result count alike orders =
+orders-as-next now row intervals plan old given result count few alike orders =
     let w : Preempts = as_read (preempts_in (now - 1) old) in
     let same : new_service plan (given_by row intervals) (as_read (preempts_in (now - 1) old)) ≡ new_service plan given (as_read (preempts_in (now - 1) old)) =
-    service-same plan (given_by row intervals) given w count alike (as_read-of-four (now - 1) old) in
+    service-same plan (given_by row intervals) given w count few alike (as_read-of-one (now - 1) old) in
     record {
       target = orders.target ∙ ap (wanted_by plan) same;
       must_end = λ p from to. orders.must_end p from to ∙ ap (λ (o : Option Service). is_outside (wanted_by plan o) p) same;
       ended = orders.ended ∙ ap (λ (o : Option Service). is_some w.service && is_none o) same;
     }
 
--- ## Preempts outside the four
+-- ## Of what is no preempt
 
-none-ends : (plan : Plan) (g : Given) (w : Preempts) (o : Option Service) (n : ℕ) → IsOfFour o → is_preempt n ≡ false → dwell_ends_of plan g w o n ≡ false
-none-ends plan g w None n four out = refl
-none-ends plan g w (Some s) n four out = elim (cases_Bool (s.preempt == n)) [
-  | inl same ↦ (let e : s.preempt ≡ n = eqb-true s.preempt n same in absurd (true≢false (sym (subst (λ (x : ℕ). is_preempt x ≡ true) e (is-one s four)) ∙ out)))
+none-ends : (plan : Plan) (g : Given) (w : Preempts) (o : Option Service) (n : ℕ) → IsOfOne o → is_preempt n ≡ false → dwell_ends_of plan g w o n ≡ false
+none-ends plan g w None n own out = refl
+none-ends plan g w (Some s) n own out = elim (cases_Bool (s.preempt == n)) [
+  | inl same ↦ (let e : s.preempt ≡ n = eqb-true s.preempt n same in absurd (true≢false (sym (subst (λ (x : ℕ). is_preempt x ≡ true) e (is-one s own)) ∙ out)))
   | inr apart ↦ rw apart refl
 ]
   where
-    is-one : (s : Service) → IsOfFour (Some s) → is_preempt s.preempt ≡ true
-    is-one s four = is_preempt-from s.preempt four.0 four.1
+    is-one : (s : Service) → IsOfOne (Some s) → is_preempt s.preempt ≡ true
+    is-one s own = is_preempt-from s.preempt own.0 own.1
 
-none-spent : (plan : Plan) (g : Given) (w : Preempts) (n : ℕ) → IsOfFour w.service → is_preempt n ≡ false → w.spent n ≡ false → new_spent plan g w n ≡ false
+none-spent : (plan : Plan) (g : Given) (w : Preempts) (n : ℕ) → IsOfOne w.service → is_preempt n ≡ false → w.spent n ≡ false → new_spent plan g w n ≡ false
 unfolding dwell_ends
-none-spent plan g w n four out off =
-    let ends : dwell_ends_of plan g w w.service n ≡ false = none-ends plan g w w.service n four out in
+none-spent plan g w n own out off =
+    let ends : dwell_ends_of plan g w w.service n ≡ false = none-ends plan g w w.service n own out in
     let never : (is_none (beginning plan g w) && dwell_ends_of plan g w w.service n) ≡ false =
     and_right (is_none (beginning plan g w)) (dwell_ends_of plan g w w.service n) ends in
     rw (off, never) refl
 
-next-off : (plan : Plan) (g : Given) (was : Preempts) (n : ℕ) → IsOfFour (as_read was).service → is_preempt n ≡ false → g.row n ≡ false → IsOff was n → IsOff (next plan g was) n
-next-off plan g was n four out none off = record {
+next-off : (plan : Plan) (g : Given) (was : Preempts) (n : ℕ) → IsOfOne (as_read was).service → is_preempt n ≡ false → g.row n ≡ false → IsOff was n → IsOff (next plan g was) n
+next-off plan g was n own out none off = record {
   switch = off.switch;
   delay = rw (none, off.switch) refl;
-  spent = none-spent plan g (as_read was) n four out off.spent;
+  spent = none-spent plan g (as_read was) n own out off.spent;
 }
 
 both : (f g h : Preempts) → IsSame f g → IsSame g h → IsSame f h
@@ -164,19 +165,19 @@ both f g h one two = record {
   service = one.service ∙ two.service;
 }
 
-was-of-four : (o : Option Service) → IsOfFour (service_as_read o) → IsOfFour o
-was-of-four None four = tt
-was-of-four (Some s) four = four
+was-of-one : (o : Option Service) → IsOfOne (service_as_read o) → IsOfOne o
+was-of-one None own = tt
+was-of-one (Some s) own = own
 
 pub ticks-as-next : TicksAsNext
-ticks-as-next now row intervals plan old new given count alike none by by_new ticked =
+ticks-as-next now row intervals plan old new given count few alike none by by_new ticked =
     let was : Preempts = preempts_in (now - 1) old in
-    let four : IsOfFour (as_read (preempts_in (now - 1) old)).service = as_read-of-four (now - 1) old in
+    let own : IsOfOne (as_read (preempts_in (now - 1) old)).service = as_read-of-one (now - 1) old in
     all-same (preempts_in now new) (next plan given was)
     (both (preempts_in now new) (next plan (given_by row intervals) was) (next plan given was) ticked
-    (looks-own plan (given_by row intervals) given was count alike (was-of-four was.service four)))
+    (looks-own plan (given_by row intervals) given was count few alike (was-of-one was.service own)))
     (λ n out. off-outside now new n by_new.switches by_new.spent out)
-    (λ n out. next-off plan given was n four out (none n out) (off-outside (now - 1) old n by.switches by.spent out))
+    (λ n out. next-off plan given was n own out (none n out) (off-outside (now - 1) old n by.switches by.spent out))
 
 -- ## What a tick asks stays
 

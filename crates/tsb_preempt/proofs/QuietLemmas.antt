@@ -1,5 +1,6 @@
 -- Ticks in which nothing happens to the preempts: their cells and what they ask stay.
 use Rattle.std.proofs.Common.{◌≡◌, ℕ, ◌+◌, ◌-◌, ◌<◌, ◌≤◌, ◌==◌, Bool, true, false, not, ◌&&◌, ◌||◌, if◌then◌else◌, List, slice_index, Option, Some, None, is_some, is_none, refl, sym, ◌∙◌, ap, subst, arith}
+use Rattle.tsb_types.specs.declared.limits.TheConstants.{PREEMPTS}
 use Rattle.tsb_types.specs.declared.flow.Intervals.{Intervals}
 use Rattle.tsb_types.specs.declared.interval.Interval.{Interval}
 use Rattle.tsb_types.specs.declared.number_set.NumberSet.{NumberSet}
@@ -21,17 +22,19 @@ use Rattle.tsb_preempt.specs.Due.{StaysInService, IsWaiting, AreStanding}
 use Rattle.tsb_preempt.proofs.ReadLemmas.{stays-by, read}
 use Rattle.tsb_preempt.proofs.DoneLemmas.{IsFound, IsAsked, state, orders, done-kept}
 use Rattle.tsb_objects.proofs.PassLemmas.{or-false}
+use Rattle.tsb_types.proofs.FirstLemmas.{first-passes, first-within}
 
 -- what is found before `due`
 pub record IsQuiet (plan : Plan) (row : Row) (intervals : Intervals) (cells : List ℕ) (inputs spent : NumberSet) (was : Option Serving) (due : ℕ) : Type 0 where
+  pub few : plan.counts.preempts ≤ PREEMPTS
   pub inputs_are : (n : ℕ) → has_number inputs n ≡ (has_number row.preempts n || names (list_in cells 0) n)
   pub spent_are : (n : ℕ) → has_number spent n ≡ names (list_in cells 1) n
   pub within : (n : ℕ) → (has_number spent n && not (has_number inputs n)) ≡ false
   pub delays : (t : ℕ) → AreDelayed t inputs cells cells
   pub was_is : (t : ℕ) → serving_of t was ≡ service_in t cells
   pub was_by : (t : ℕ) → IsBy t cells → IsServingBy t was
-  pub waits : (t : ℕ) → ((n : ℕ) → 1 ≤ n → n ≤ 4 → slice_index cells (1 + n) ≤ t + 1) → t < due →
-      (n : ℕ) → 1 ≤ n → n ≤ 4 → IsWaiting t t plan cells inputs spent was n
+  pub waits : (t : ℕ) → ((n : ℕ) → 1 ≤ n → n ≤ PREEMPTS → slice_index cells (1 + n) ≤ t + 1) → t < due →
+      (n : ℕ) → 1 ≤ n → n ≤ PREEMPTS → IsWaiting t t plan cells inputs spent was n
   pub serves : (t : ℕ) → IsServingBy t was → t < due → StaysInService plan (interval_of intervals) (has_number inputs) (serving_of t was)
 
 -- ## Of values
@@ -49,18 +52,18 @@ none-spends : (a b c : Bool) → c ≡ false → false ≡ ((true && (a && c)) &
 none-spends true b c h = rw h refl
 none-spends false b c h = refl
 
-none-begins : (s : Option Service) (test : ℕ → Bool) → ((n : ℕ) → 1 ≤ n → n ≤ 4 → (may_begin s n && test n) ≡ false) → None ≡ if_may_begin s (first test (run_from 1 4))
-unfolding run_from
-none-begins s test waits =
-    go (test 1) (test 2) (test 3) (test 4) (waits 1 (omega arith) (omega arith)) (waits 2 (omega arith) (omega arith)) (waits 3 (omega arith) (omega arith)) (waits 4 (omega arith) (omega arith))
+none-begins : (s : Option Service) (test : ℕ → Bool) (count : ℕ) → ((n : ℕ) → 1 ≤ n → n ≤ count → (may_begin s n && test n) ≡ false) →
+    None ≡ if_may_begin s (first test (run_from 1 count))
+none-begins s test count waits = go (first test (run_from 1 count)) refl
   where
-    go : (a b c d : Bool) → (may_begin s 1 && a) ≡ false → (may_begin s 2 && b) ≡ false → (may_begin s 3 && c) ≡ false → (may_begin s 4 && d) ≡ false →
-        None ≡ if_may_begin s (if a then Some 1 else (if b then Some 2 else (if c then Some 3 else (if d then Some 4 else None))))
-    go true b c d one two three four = rw (and-true (may_begin s 1) one) refl
-    go false true c d one two three four = rw (and-true (may_begin s 2) two) refl
-    go false false true d one two three four = rw (and-true (may_begin s 3) three) refl
-    go false false false true one two three four = rw (and-true (may_begin s 4) four) refl
-    go false false false false one two three four = refl
+    go : (o : Option ℕ) → first test (run_from 1 count) ≡ o → None ≡ if_may_begin s o
+    go None e = refl
+    go (Some m) e =
+        let there = first-within test 1 count m e in
+        let on : test m ≡ true = first-passes test (run_from 1 count) m e in
+        let never : may_begin s m ≡ false =
+        and-true (may_begin s m) (ap (λ (b : Bool). may_begin s m && b) (sym on) ∙ waits m there.0 (omega (arith, there.1))) in
+        rw never refl
 
 still-served : (plan : Plan) (interval : ℕ → Interval) (input : ℕ → Bool) (s : Option Service) → StaysInService plan interval input s → s ≡ served plan interval input s None
 still-served plan interval input None stays = refl
@@ -81,20 +84,23 @@ none-ends (Some s) = refl
 -- ## Of one tick
 
 abbrev asks_at : ℕ → Plan → List ℕ → NumberSet → NumberSet → Option ℕ
-asks_at t plan cells inputs spent = first (λ n. requests_by t plan n (has_number inputs n) (has_number spent n) (slice_index cells (1 + n))) (run_from 1 4)
+asks_at t plan cells inputs spent = first (λ n. requests_by t plan n (has_number inputs n) (has_number spent n) (slice_index cells (1 + n))) (run_from 1 plan.counts.preempts)
 
 found-still : (t : ℕ) (plan : Plan) (row : Row) (intervals : Intervals) (cells : List ℕ) (inputs spent : NumberSet) (was : Option Serving) →
+    plan.counts.preempts ≤ PREEMPTS →
     ((n : ℕ) → has_number inputs n ≡ (has_number row.preempts n || names (list_in cells 0) n)) → ((n : ℕ) → has_number spent n ≡ names (list_in cells 1) n) →
     ((n : ℕ) → (has_number spent n && not (has_number inputs n)) ≡ false) → AreDelayed t inputs cells cells → serving_of t was ≡ service_in t cells →
-    ((n : ℕ) → 1 ≤ n → n ≤ 4 → IsWaiting t t plan cells inputs spent was n) → StaysInService plan (interval_of intervals) (has_number inputs) (serving_of t was) →
+    ((n : ℕ) → 1 ≤ n → n ≤ PREEMPTS → IsWaiting t t plan cells inputs spent was n) → StaysInService plan (interval_of intervals) (has_number inputs) (serving_of t was) →
     IsFound t plan row intervals cells cells cells cells inputs spent spent was was (asks_at t plan cells inputs spent) None None
-found-still t plan row intervals cells inputs spent was inputs_are spent_are within delays was_is waits stays = record {
+found-still t plan row intervals cells inputs spent was few inputs_are spent_are within delays was_is waits stays = record {
+  few = few;
   inputs_are = inputs_are;
   still_are = λ n. and-not (has_number spent n) (has_number inputs n) (within n) ∙ ap (λ (b : Bool). b && has_number inputs n) (spent_are n);
   was_is = was_is;
   delays = delays;
   asks_is = refl;
-  begins_is = none-begins (serving_of t was) (λ n. requests_by t plan n (has_number inputs n) (has_number spent n) (slice_index cells (1 + n))) waits;
+  begins_is = none-begins (serving_of t was) (λ n. requests_by t plan n (has_number inputs n) (has_number spent n) (slice_index cells (1 + n)))
+      plan.counts.preempts (λ n from to. waits n from (omega (arith, to, few)));
   serving_is = still-served plan (interval_of intervals) (has_number inputs) (serving_of t was) stays;
   spender_is = λ n. still-spends plan (interval_of intervals) (has_number inputs) (serving_of t was) n stays;
   spent_are = λ n. or-false (has_number spent n);
@@ -105,13 +111,14 @@ found-still t plan row intervals cells inputs spent was inputs_are spent_are wit
 }
 
 -- a tick that finds nothing to change
-pub still-done : (t : ℕ) (plan : Plan) (row : Row) (intervals : Intervals) (cells : List ℕ) (inputs : NumberSet) (was : Option Serving) (answer : PreemptOrders) → IsBy t cells →
+pub still-done : (t : ℕ) (plan : Plan) (row : Row) (intervals : Intervals) (cells : List ℕ) (inputs : NumberSet) (was : Option Serving) (answer : PreemptOrders) →
+    plan.counts.preempts ≤ PREEMPTS → IsBy t cells →
     ((n : ℕ) → has_number inputs n ≡ (has_number row.preempts n || names (list_in cells 0) n)) → serving_of t was ≡ service_in t cells →
     ChangesNothing t plan intervals inputs cells was → IsAsked t plan was was answer → IsDone t plan (given_by row intervals) cells cells answer
-still-done t plan row intervals cells inputs was answer by told was_is still asked =
+still-done t plan row intervals cells inputs was answer few by told was_is still asked =
     let spent : NumberSet = set_of_list (list_in cells 1) in
     done-kept t plan row intervals cells cells cells cells inputs spent spent was was (asks_at t plan cells inputs spent) None None by
-    (found-still t plan row intervals cells inputs spent was told (λ n. refl) still.settled.spent still.settled.delays was_is still.waits still.stays) answer asked by
+    (found-still t plan row intervals cells inputs spent was few told (λ n. refl) still.settled.spent still.settled.delays was_is still.waits still.stays) answer asked by
 
 -- ## Of ticks
 
@@ -122,7 +129,7 @@ module _ (now : ℕ) (plan : Plan) (row : Row) (intervals : Intervals) (cells : 
 
   found : (t : ℕ) → IsBy t cells → t < due → IsFound t plan row intervals cells cells cells cells inputs spent spent was was (asks t) None None
   found t late before =
-      found-still t plan row intervals cells inputs spent was s.inputs_are s.spent_are s.within (s.delays t) (s.was_is t)
+      found-still t plan row intervals cells inputs spent was s.few s.inputs_are s.spent_are s.within (s.delays t) (s.was_is t)
       (s.waits t (λ n from to. (late.each n from to).delay) before) (s.serves t (s.was_by t late) before)
 
   pub quiet : (t : ℕ) → now < t → t < due → IsTicked t row intervals plan cells cells

@@ -1,10 +1,16 @@
--- The service in its cells, and facts of preempts 1 to 4.
-use Rattle.std.proofs.Common.{zero, suc, ◌≡◌, ◌≢◌, ℕ, ◌+◌, ◌≤◌, Bool, true, false, not, ◌&&◌, List, slice_index, Option, Some, None, refl, sym, ◌∙◌, ap, subst, arith}
+-- The service in its cells, and facts of all preempts.
+use Rattle.std.proofs.Common.{zero, suc, ◌≡◌, ◌≢◌, ℕ, ◌+◌, ◌<◌, ◌≤◌, Bool, true, false, not, ◌&&◌, List, slice_index, Option, Some, None, refl, sym, ◌∙◌, ap, subst, arith, inl, inr}
+use Rattle.std.proofs.lemmas.Bool.{cases_eq}
 use Rattle.tsb_cells.specs.Timer.{timer_at, has_reached}
 use Rattle.tsb_types.specs.declared.stage.Stage.{Stage}
 use Rattle.tsb_types.specs.declared.stage.Stage.TheVariants.{Track, Dwell, Exit}
 use Rattle.tsb_types.specs.Lists.{run_from, first}
+use Rattle.tsb_types.specs.declared.limits.TheConstants.{PREEMPTS}
+use Rattle.tsb_objects.specs.declared.checked.Checked.{Checked}
+use Rattle.tsb_objects.specs.Checked.{checked_plan}
+use Rattle.tsb_objects.specs.tsb_plan.declared.plan.Plan as memory
 use Rattle.tsb_objects.specs.tsb_plan.Plan.{Plan}
+use Rattle.tsb_objects.specs.tsb_plan.PlanOf.{plan_of}
 use Rattle.tsb_objects.specs.tsb_plan.Parts.{preempt_delay}
 use Rattle.tsb_preempt.specs.declared.serving.Serving.{Serving}
 use Rattle.tsb_preempt.specs.Cells.{stage_in, stage_cell, service_in}
@@ -13,19 +19,48 @@ use Rattle.tsb_preempt.specs.Preempts.{may_begin}
 use Rattle.tsb_preempt.specs.Rows.{serving_of, IsServingBy, IsStored, requests_by}
 use Rattle.tsb_preempt.proofs.ResetLemmas.{is_preempt-from}
 
--- ## Of four
+-- ## The first of a run
 
-pub first-four : (f g : ℕ → Bool) → f 1 ≡ g 1 → f 2 ≡ g 2 → f 3 ≡ g 3 → f 4 ≡ g 4 → first f (run_from 1 4) ≡ first g (run_from 1 4)
+-- two tests that are the same of a run find the same
+pub first-agreed : (f g : ℕ → Bool) (a n : ℕ) → ((m : ℕ) → a ≤ m → m < a + n → f m ≡ g m) → first f (run_from a n) ≡ first g (run_from a n)
 unfolding run_from
-first-four f g a b c d = rw (a, b, c, d) refl
+first-agreed f g a zero same = refl
+first-agreed f g a (suc n) same =
+    rw (same a (omega arith) (omega arith), first-agreed f g (a + 1) n (λ m from below. same m (omega (arith, from)) (omega (arith, below)))) refl
 
-pub four : (P : ℕ → Type 0) → P 1 → P 2 → P 3 → P 4 → (n : ℕ) → 1 ≤ n → n ≤ 4 → P n
-four P a b c d zero from within = absurd (omega (arith, from))
-four P a b c d (suc zero) from within = a
-four P a b c d (suc (suc zero)) from within = b
-four P a b c d (suc (suc (suc zero))) from within = c
-four P a b c d (suc (suc (suc (suc zero)))) from within = d
-four P a b c d (suc (suc (suc (suc (suc n))))) from within = absurd (omega (arith, within))
+-- the least that passes is found
+pub first-at : (test : ℕ → Bool) (a n k : ℕ) → a ≤ k → k < a + n → test k ≡ true → ((m : ℕ) → a ≤ m → m < k → test m ≡ false) →
+    first test (run_from a n) ≡ Some k
+unfolding run_from
+first-at test a zero k from below on least = absurd (omega (arith, from, below))
+first-at test a (suc n) k from below on least =
+    elim (cases_eq a k) [
+      | inl same ↦ rw (ap test same ∙ on) (ap Some same)
+      | inr other ↦
+          rw (least a (omega arith) (omega (arith, from, other)))
+          (first-at test (a + 1) n k (omega (arith, from, other)) (omega (arith, below)) on (λ m low high. least m (omega (arith, low)) high))
+    ]
+
+-- where none of a run passes there is none
+pub first-never : (test : ℕ → Bool) (a n : ℕ) → ((m : ℕ) → a ≤ m → m < a + n → test m ≡ false) → first test (run_from a n) ≡ None
+unfolding run_from
+first-never test a zero never = refl
+first-never test a (suc n) never =
+    rw (never a (omega arith) (omega arith)) (first-never test (a + 1) n (λ m from below. never m (omega (arith, from)) (omega (arith, below))))
+
+-- ## How many there are
+
+-- a plan in memory has all preempts
+pub all-preempts : (plan : memory.Plan) → (plan_of plan).counts.preempts ≡ PREEMPTS
+unfolding plan_of
+all-preempts plan = refl
+
+pub few-preempts : (plan : memory.Plan) → (plan_of plan).counts.preempts ≤ PREEMPTS
+few-preempts plan = let all : (plan_of plan).counts.preempts ≡ PREEMPTS = all-preempts plan in omega (arith, all)
+
+pub few-checked : (plan : Checked) → (checked_plan plan).counts.preempts ≤ PREEMPTS
+unfolding checked_plan
+few-checked plan = few-preempts plan.plan
 
 -- ## Requests
 
@@ -70,15 +105,15 @@ not-track Exit h e = cc
 
 -- the cells of service
 pub record IsServiceRow (now : ℕ) (cells : List ℕ) : Type 0 where
-  pub preempt : slice_index cells 6 ≤ 4
-  pub stage : slice_index cells 7 ≤ 2
-  pub timer : slice_index cells 8 ≤ now + 1
-  pub stage_timer : slice_index cells 9 ≤ now + 1
-  pub serving : 1 ≤ slice_index cells 6 → 1 ≤ slice_index cells 8
-  pub no_stage : slice_index cells 6 ≡ 0 → slice_index cells 7 ≡ 0
-  pub no_timer : slice_index cells 6 ≡ 0 → slice_index cells 8 ≡ 0
-  pub no_stage_timer : slice_index cells 6 ≡ 0 → slice_index cells 9 ≡ 0
-  pub outside_track : 1 ≤ slice_index cells 7 → slice_index cells 9 ≡ 0
+  pub preempt : slice_index cells (2 + PREEMPTS) ≤ PREEMPTS
+  pub stage : slice_index cells (3 + PREEMPTS) ≤ 2
+  pub timer : slice_index cells (4 + PREEMPTS) ≤ now + 1
+  pub stage_timer : slice_index cells (5 + PREEMPTS) ≤ now + 1
+  pub serving : 1 ≤ slice_index cells (2 + PREEMPTS) → 1 ≤ slice_index cells (4 + PREEMPTS)
+  pub no_stage : slice_index cells (2 + PREEMPTS) ≡ 0 → slice_index cells (3 + PREEMPTS) ≡ 0
+  pub no_timer : slice_index cells (2 + PREEMPTS) ≡ 0 → slice_index cells (4 + PREEMPTS) ≡ 0
+  pub no_stage_timer : slice_index cells (2 + PREEMPTS) ≡ 0 → slice_index cells (5 + PREEMPTS) ≡ 0
+  pub outside_track : 1 ≤ slice_index cells (3 + PREEMPTS) → slice_index cells (5 + PREEMPTS) ≡ 0
 
 pub service-row : (now : ℕ) (cells : List ℕ) (s : Option Serving) → IsStored cells s → IsServingBy now s → IsServiceRow now cells
 service-row now cells None stored by = record {

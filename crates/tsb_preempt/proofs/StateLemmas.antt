@@ -1,11 +1,13 @@
 -- Preempts in range: their table is read as them.
-use Rattle.std.proofs.Common.{zero, suc, ◌≡◌, ◌≢◌, ℕ, ◌+◌, ◌<◌, ◌≤◌, Bool, true, false, if◌then◌else◌, List, length, slice_index, Option, Some, None, refl, sym, ◌∙◌, ap, subst, inl, inr, arith}
+use Rattle.std.proofs.Common.{zero, suc, ◌≡◌, ◌≢◌, ℕ, ◌+◌, ◌^◌, ◌<◌, ◌≤◌, Bool, true, false, if◌then◌else◌, List, [], ◌∷◌, ◌++◌, length, map, slice_index, Option, Some, None, refl, sym, ◌∙◌, ap, ap₂, subst, inl, inr, arith, length-append}
 use Rattle.std.proofs.Math.Path.{fun_ext}
 use Rattle.std.proofs.lemmas.Bool.{cases_Bool}
 use Rattle.std.proofs.lemmas.Bool.Decides.{nat_tests}
 use Rattle.tsb_cells.specs.declared.timer.Timer.TheVariants.{Off}
 use Rattle.tsb_cells.specs.Timer.{timer_at, timer_cell, is_on}
+use Rattle.tsb_cells.proofs.TableLemmas.{front-read, column-read, length-column}
 use Rattle.tsb_cells.proofs.TimerLemmas.{timer_at-timer_cell, timer_cell-le, IsWithin-timer_at, timer_cell-on, timer_cell-off, timer_at-off}
+use Rattle.tsb_types.specs.declared.limits.TheConstants.{PREEMPTS}
 use Rattle.tsb_types.specs.declared.stage.Stage.TheVariants.{Track}
 use Rattle.tsb_types.specs.Lists.{run_from}
 use Rattle.tsb_types.specs.Sets.{names, list_of, list_in}
@@ -14,23 +16,24 @@ use Rattle.tsb_preempt.specs.declared.TheConstants.{CELLS}
 use Rattle.tsb_preempt.specs.declared.serving.Serving.{Serving}
 use Rattle.tsb_preempt.specs.Service.{Service}
 use Rattle.tsb_preempt.specs.Preempts.{Preempts, is_preempt}
-use Rattle.tsb_preempt.specs.Cells.{stage_in, service_in, preempts_in, preempts_cells, IsBy}
+use Rattle.tsb_preempt.specs.Cells.{stage_in, service_in, service_cells, preempts_in, preempts_cells, IsBy}
 use Rattle.tsb_preempt.specs.Promises.{IsSame}
 use Rattle.tsb_preempt.specs.Rows.{serving_of, IsServingBy, IsStored}
 use Rattle.tsb_preempt.specs.Laws.{IsOff, IsServedIn, IsStateBy}
 use Rattle.tsb_preempt.proofs.ResetLemmas.{is_preempt-from}
-use Rattle.tsb_preempt.proofs.ServiceLemmas.{four, service-stored, IsServiceRow, service-row}
+use Rattle.tsb_preempt.proofs.ServiceLemmas.{service-stored, IsServiceRow, service-row}
+use Rattle.tsb_preempt.proofs.TableLemmas.{rest-read}
 
--- ## Outside the four
+-- ## Of what is no preempt
 
-names-outside : (list n : ℕ) → list < 16 → is_preempt n ≡ false → names list n ≡ false
+names-outside : (list n : ℕ) → list < 2 ^ PREEMPTS → is_preempt n ≡ false → names list n ≡ false
 names-outside list zero below out = refl
-names-outside list (suc k) below out = names-above 4 (suc k) list below (grind (arith, nat_tests, out))
+names-outside list (suc k) below out = names-above PREEMPTS (suc k) list below (grind (arith, nat_tests, out))
 
-listed : (row : List ℕ) (k : ℕ) → slice_index row k < 16 → list_in row k < 16
-listed row k below = omega arith
+listed : (row : List ℕ) (k : ℕ) → slice_index row k < 256 → list_in row k < 256
+listed row k below = omega (arith, below)
 
-pub off-outside : (now : ℕ) (row : List ℕ) (n : ℕ) → slice_index row 0 < 16 → slice_index row 1 < 16 → is_preempt n ≡ false → IsOff (preempts_in now row) n
+pub off-outside : (now : ℕ) (row : List ℕ) (n : ℕ) → slice_index row 0 < 2 ^ PREEMPTS → slice_index row 1 < 2 ^ PREEMPTS → is_preempt n ≡ false → IsOff (preempts_in now row) n
 unfolding preempts_in
 off-outside now row n low also out = record {
   switch = names-outside (list_in row 0) n (listed row 0 low) out;
@@ -38,7 +41,7 @@ off-outside now row n low also out = record {
   spent = names-outside (list_in row 1) n (listed row 1 also) out;
 }
 
--- two that are the same of preempts 1 to 4, and off elsewhere, are one
+-- two that are the same of all preempts, and off elsewhere, are one
 pub all-same : (f g : Preempts) → IsSame f g → ((n : ℕ) → is_preempt n ≡ false → IsOff f n) → ((n : ℕ) → is_preempt n ≡ false → IsOff g n) → f ≡ g
 all-same f g same off also =
     parts (fun_ext (λ n. switch n)) (fun_ext (λ n. delay n)) (fun_ext (λ n. spent n)) same.service
@@ -88,59 +91,72 @@ unfolding serving-with
 serving-read now None by = refl
 serving-read now (Some s) by = rw (timer_at-timer_cell now s.timer by.timer, timer_at-timer_cell now s.stage_timer by.stage_timer) refl
 
--- ten cells that say the preempts f
+-- cells that say the preempts f
 record IsTable (now : ℕ) (f : Preempts) (row : List ℕ) : Type 0 where
   full : length row ≡ CELLS
-  switch : slice_index row 0 ≡ list_of 4 f.switch
-  spent : slice_index row 1 ≡ list_of 4 f.spent
-  one : slice_index row 2 ≡ timer_cell now (f.delay 1)
-  two : slice_index row 3 ≡ timer_cell now (f.delay 2)
-  three : slice_index row 4 ≡ timer_cell now (f.delay 3)
-  four : slice_index row 5 ≡ timer_cell now (f.delay 4)
+  switch : slice_index row 0 ≡ list_of PREEMPTS f.switch
+  spent : slice_index row 1 ≡ list_of PREEMPTS f.spent
+  delays : (n : ℕ) → 1 ≤ n → n ≤ PREEMPTS → slice_index row (1 + n) ≡ timer_cell now (f.delay n)
   stored : IsStored row (serving-with now f.service)
 
-table : (now : ℕ) (f : Preempts) → IsTable now f (preempts_cells now f)
-unfolding run_from serving-with
-table now f = go f.service refl
-  where
-    go : (o : Option Service) → f.service ≡ o → IsTable now f (preempts_cells now f)
-    go None e = rw e (record {
-      full = refl;
-      switch = refl;
-      spent = refl;
-      one = refl;
-      two = refl;
-      three = refl;
-      four = refl;
-      stored = record { preempt = refl; stage = refl; timer = refl; stage_timer = refl };
-    })
-    go (Some s) e = rw e (record {
-      full = refl;
-      switch = refl;
-      spent = refl;
-      one = refl;
-      two = refl;
-      three = refl;
-      four = refl;
-      stored = record { preempt = refl; stage = refl; timer = refl; stage_timer = refl };
-    })
+module _ (now : ℕ) (f : Preempts) where
+  abbrev lists : List ℕ
+  lists = list_of PREEMPTS f.switch ∷ list_of PREEMPTS f.spent ∷ []
+
+  abbrev timers : List ℕ
+  timers = lists ++ map (λ n. timer_cell now (f.delay n)) (run_from 1 PREEMPTS)
+
+  length-timers : length timers ≡ 2 + PREEMPTS
+  length-timers = length-column PREEMPTS lists (λ n. timer_cell now (f.delay n))
+
+  four-cells : (o : Option Service) → length (service_cells now o) ≡ 4
+  four-cells None = refl
+  four-cells (Some s) = refl
+
+  stored-in : (o : Option Service) → IsStored (timers ++ service_cells now o) (serving-with now o)
+  unfolding serving-with
+  stored-in None = record {
+    preempt = rest-read timers (service_cells now None) (2 + PREEMPTS) 0 length-timers;
+    stage = rest-read timers (service_cells now None) (2 + PREEMPTS) 1 length-timers;
+    timer = rest-read timers (service_cells now None) (2 + PREEMPTS) 2 length-timers;
+    stage_timer = rest-read timers (service_cells now None) (2 + PREEMPTS) 3 length-timers;
+  }
+  stored-in (Some s) = record {
+    preempt = rest-read timers (service_cells now (Some s)) (2 + PREEMPTS) 0 length-timers;
+    stage = rest-read timers (service_cells now (Some s)) (2 + PREEMPTS) 1 length-timers;
+    timer = rest-read timers (service_cells now (Some s)) (2 + PREEMPTS) 2 length-timers;
+    stage_timer = rest-read timers (service_cells now (Some s)) (2 + PREEMPTS) 3 length-timers;
+  }
+
+  table : IsTable now f (preempts_cells now f)
+  table = record {
+    full =
+        length-append timers (service_cells now f.service)
+        ∙ ap₂ (λ (a b : ℕ). a + b) length-timers (four-cells f.service);
+    switch = front-read timers (service_cells now f.service) 0 (omega (arith, length-timers));
+    spent = front-read timers (service_cells now f.service) 1 (omega (arith, length-timers));
+    delays = λ n from to.
+        front-read timers (service_cells now f.service) (1 + n) (omega (arith, to, length-timers))
+        ∙ column-read PREEMPTS 2 lists (λ k. timer_cell now (f.delay k)) n refl (omega arith) from to;
+    stored = stored-in f.service;
+  }
 
 module _ (now : ℕ) (f : Preempts) (row : List ℕ) (by : IsStateBy now f) (t : IsTable now f row) where
-  delay-cell : (n : ℕ) → 1 ≤ n → n ≤ 4 → slice_index row (1 + n) ≡ timer_cell now (f.delay n)
-  delay-cell = four (λ n. slice_index row (1 + n) ≡ timer_cell now (f.delay n)) t.one t.two t.three t.four
+  delay-cell : (n : ℕ) → 1 ≤ n → n ≤ PREEMPTS → slice_index row (1 + n) ≡ timer_cell now (f.delay n)
+  delay-cell = t.delays
 
-  low-switches : slice_index row 0 < 16
-  low-switches = subst (λ (x : ℕ). x < 16) (sym t.switch) (list_of-below 4 f.switch)
+  low-switches : slice_index row 0 < 2 ^ PREEMPTS
+  low-switches = subst (λ (x : ℕ). x < 2 ^ PREEMPTS) (sym t.switch) (list_of-below PREEMPTS f.switch)
 
-  low-spent : slice_index row 1 < 16
-  low-spent = subst (λ (x : ℕ). x < 16) (sym t.spent) (list_of-below 4 f.spent)
+  low-spent : slice_index row 1 < 2 ^ PREEMPTS
+  low-spent = subst (λ (x : ℕ). x < 2 ^ PREEMPTS) (sym t.spent) (list_of-below PREEMPTS f.spent)
 
-  names-in : (k n : ℕ) (test : ℕ → Bool) → slice_index row k ≡ list_of 4 test → slice_index row k < 16 → 1 ≤ n → n ≤ 4 → names (list_in row k) n ≡ test n
+  names-in : (k n : ℕ) (test : ℕ → Bool) → slice_index row k ≡ list_of PREEMPTS test → slice_index row k < 256 → 1 ≤ n → n ≤ PREEMPTS → names (list_in row k) n ≡ test n
   names-in k n test is below from to =
       let whole : list_in row k ≡ slice_index row k = omega (arith, below) in
-      ap (λ (x : ℕ). names x n) (whole ∙ is) ∙ names-list_of 4 n test from to
+      ap (λ (x : ℕ). names x n) (whole ∙ is) ∙ names-list_of PREEMPTS n test from to
 
-  read-delay : (n : ℕ) → 1 ≤ n → n ≤ 4 → (if is_preempt n then timer_at now (slice_index row (1 + n)) else Off) ≡ f.delay n
+  read-delay : (n : ℕ) → 1 ≤ n → n ≤ PREEMPTS → (if is_preempt n then timer_at now (slice_index row (1 + n)) else Off) ≡ f.delay n
   read-delay n from to = rw (is_preempt-from n from to, delay-cell n from to) (timer_at-timer_cell now (f.delay n) (by.each n from to).delay)
 
   read-same : IsSame (preempts_in now row) f
@@ -196,17 +212,17 @@ stage-from (suc k) out = omega arith
 served-in : (now : ℕ) (row : List ℕ) → IsBy now row → IsServedIn now (service_in now row)
 unfolding service_in
 served-in now row by =
-    elim (cases_Bool (is_preempt (slice_index row 6))) [
+    elim (cases_Bool (is_preempt (slice_index row (2 + PREEMPTS)))) [
       | inl on ↦
-          (let from : 1 ≤ slice_index row 6 = grind (arith, nat_tests, on) in
-          let to : slice_index row 6 ≤ 4 = by.preempt in
+          (let from : 1 ≤ slice_index row (2 + PREEMPTS) = grind (arith, nat_tests, on) in
+          let to : slice_index row (2 + PREEMPTS) ≤ PREEMPTS = by.preempt in
           rw on (record {
             from = from;
             within = to;
-            runs = runs-on now (slice_index row 8) (by.serving from);
-            timer = IsWithin-timer_at now (slice_index row 8);
-            stage_timer = IsWithin-timer_at now (slice_index row 9);
-            outside_track = λ out. timer_at-off now (slice_index row 9) (by.outside_track (stage-from (slice_index row 7) out));
+            runs = runs-on now (slice_index row (4 + PREEMPTS)) (by.serving from);
+            timer = IsWithin-timer_at now (slice_index row (4 + PREEMPTS));
+            stage_timer = IsWithin-timer_at now (slice_index row (5 + PREEMPTS));
+            outside_track = λ out. timer_at-off now (slice_index row (5 + PREEMPTS)) (by.outside_track (stage-from (slice_index row (3 + PREEMPTS)) out));
           }))
       | inr off ↦ rw off tt
     ]

@@ -1,6 +1,7 @@
-//! The ten cells of the preempts: lists, delay timers and the service are read in them and put into them.
+//! The cells of the preempts: lists, delay timers and the service are read in them and put into them.
 //!
 //! A tick loads the service, computes on plain values, and stores what it found.
+ghost use Rattle.tsb_types.specs.declared.limits.TheConstants.{PREEMPTS};
 ghost use Rattle.std.specs.Prelude.{◌≡◌, ◌≢◌, ℕ, ◌+◌, ◌<◌, ◌≤◌, ◌^◌, true, false, slice_index};
 ghost use Rattle.tsb_types.specs.Sets.{has_number, names, list_in};
 ghost use Rattle.tsb_preempt.specs.Cells.{IsBy, service_in, stage_in};
@@ -9,6 +10,7 @@ ghost use Rattle.tsb_preempt.specs.Rows.{serving_of, delay_cell, IsStored, IsSer
 
 use crate::preempts::Preempts;
 use crate::serving::{Serving, delay_cell};
+use tsb_objects::limits::PREEMPTS;
 use tsb_objects::{NumberSet, Preempt, Stage};
 
 /// The list of switches that are on.
@@ -21,19 +23,19 @@ pub(crate) const SPENT: usize = 1;
 const DELAYS: usize = 1;
 
 /// The preempt in service, 0 for none.
-const IN_SERVICE: usize = 6;
+const IN_SERVICE: usize = 2 + PREEMPTS as usize;
 
 /// The stage in service: 0 Track, 1 Dwell, 2 Exit.
-const STAGE_IN_SERVICE: usize = 7;
+const STAGE_IN_SERVICE: usize = IN_SERVICE + 1;
 
 /// The service timer.
-const SERVICE_TIMER: usize = 8;
+const SERVICE_TIMER: usize = IN_SERVICE + 2;
 
 /// The timer of Track.
-const STAGE_TIMER: usize = 9;
+const STAGE_TIMER: usize = IN_SERVICE + 3;
 
-/// How many lists there are of 4 numbers.
-pub(crate) const LISTS: u32 = 16;
+/// How many lists there are of the numbers of preempts.
+pub(crate) const LISTS: u32 = 1 << PREEMPTS;
 
 /// A number that is 0 only where both are.
 #[inline(always)]
@@ -47,7 +49,7 @@ fn either(one: u32, other: u32) -> u32
 /// Whether a set has the number of a preempt.
 #[inline(always)]
 fn names_preempt(set: NumberSet) -> bool
-    ensures { result ≡ false → (n : ℕ) → 1 ≤ n → n ≤ 4 → has_number set n ≡ false }
+    ensures { result ≡ false → (n : ℕ) → 1 ≤ n → n ≤ PREEMPTS → has_number set n ≡ false }
 {
     u32::from(set.list()) % LISTS != 0
 }
@@ -59,7 +61,7 @@ impl Preempts {
     #[inline(always)]
     pub(crate) fn delay(&self, n: u8) -> u32
         requires from { 1 ≤ n }
-        requires within { n ≤ 4 }
+        requires within { n ≤ PREEMPTS }
         ensures { result ≡ slice_index (cells_of self.now) (1 + n) }
     {
         self.bank.get(DELAYS + usize::from(n))
@@ -70,11 +72,10 @@ impl Preempts {
     pub(crate) fn is_idle(&self, inputs: NumberSet) -> bool
         ensures { result ≡ true → IsIdle inputs (cells_of self.now) }
     {
-        let delays = either(
-            either(self.delay(1), self.delay(2)),
-            either(self.delay(3), self.delay(4)),
-        );
-        let cells = either(delays, self.bank.get(IN_SERVICE));
+        let mut cells = self.bank.get(IN_SERVICE);
+        for n in 1..PREEMPTS + 1 {
+            cells = either(cells, self.delay(n));
+        }
         cells == 0 && !names_preempt(inputs)
     }
 
@@ -83,8 +84,8 @@ impl Preempts {
     pub(crate) fn put_set(&mut self, k: usize, set: NumberSet)
         requires in_range { k < 2 }
         requires opened { is_open self.old ≡ true }
-        ensures told { (n : ℕ) → 1 ≤ n → n ≤ 4 → names (list_in (cells_of self.new) k) n ≡ has_number set n }
-        ensures small { slice_index (cells_of self.new) k < 16 }
+        ensures told { (n : ℕ) → 1 ≤ n → n ≤ PREEMPTS → names (list_in (cells_of self.new) k) n ≡ has_number set n }
+        ensures small { slice_index (cells_of self.new) k < 2 ^ PREEMPTS }
         ensures others { (j : ℕ) → j ≢ k → slice_index (cells_of self.new) j ≡ slice_index (cells_of self.old) j }
         ensures kept { kept_of self.new ≡ kept_of self.old }
         ensures opened { is_open self.new ≡ true }
@@ -97,7 +98,7 @@ impl Preempts {
     fn put_delay(&mut self, now: u32, n: u8, inputs: NumberSet)
         requires fits { now + 1 < 2 ^ 32 }
         requires from { 1 ≤ n }
-        requires within { n ≤ 4 }
+        requires within { n ≤ PREEMPTS }
         requires opened { is_open self.old ≡ true }
         ensures here { slice_index (cells_of self.new) (1 + n) ≡ delay_cell now (has_number inputs n) (slice_index (cells_of self.old) (1 + n)) }
         ensures others { (j : ℕ) → j ≢ 1 + n → slice_index (cells_of self.new) j ≡ slice_index (cells_of self.old) j }
@@ -117,16 +118,15 @@ impl Preempts {
         ensures kept { kept_of self.new ≡ kept_of self.old }
         ensures opened { is_open self.new ≡ true }
     {
-        self.put_delay(now, 1, inputs);
-        self.put_delay(now, 2, inputs);
-        self.put_delay(now, 3, inputs);
-        self.put_delay(now, 4, inputs);
+        for n in 1..PREEMPTS + 1 {
+            self.put_delay(now, n, inputs);
+        }
     }
 
     /// The stage that its cell keeps.
     #[inline(always)]
     fn stage_in(&self) -> Stage
-        ensures { result ≡ stage_in (slice_index (cells_of self.now) 7) }
+        ensures { result ≡ stage_in (slice_index (cells_of self.now) (3 + PREEMPTS)) }
     {
         match self.bank.get(STAGE_IN_SERVICE) {
             0 => Stage::Track,
@@ -157,11 +157,11 @@ impl Preempts {
     #[inline(always)]
     fn put_service(&mut self, preempt: u32, stage: u32, timer: u32, stage_timer: u32)
         requires opened { is_open self.old ≡ true }
-        ensures preempt { slice_index (cells_of self.new) 6 ≡ preempt }
-        ensures stage { slice_index (cells_of self.new) 7 ≡ stage }
-        ensures timer { slice_index (cells_of self.new) 8 ≡ timer }
-        ensures stage_timer { slice_index (cells_of self.new) 9 ≡ stage_timer }
-        ensures others { (j : ℕ) → j < 6 → slice_index (cells_of self.new) j ≡ slice_index (cells_of self.old) j }
+        ensures preempt { slice_index (cells_of self.new) (2 + PREEMPTS) ≡ preempt }
+        ensures stage { slice_index (cells_of self.new) (3 + PREEMPTS) ≡ stage }
+        ensures timer { slice_index (cells_of self.new) (4 + PREEMPTS) ≡ timer }
+        ensures stage_timer { slice_index (cells_of self.new) (5 + PREEMPTS) ≡ stage_timer }
+        ensures others { (j : ℕ) → j < 2 + PREEMPTS → slice_index (cells_of self.new) j ≡ slice_index (cells_of self.old) j }
         ensures kept { kept_of self.new ≡ kept_of self.old }
         ensures opened { is_open self.new ≡ true }
     {
@@ -176,7 +176,7 @@ impl Preempts {
     pub(crate) fn store(&mut self, serving: &Option<Serving>)
         requires opened { is_open self.old ≡ true }
         ensures stored { IsStored (cells_of self.new) serving.now }
-        ensures others { (j : ℕ) → j < 6 → slice_index (cells_of self.new) j ≡ slice_index (cells_of self.old) j }
+        ensures others { (j : ℕ) → j < 2 + PREEMPTS → slice_index (cells_of self.new) j ≡ slice_index (cells_of self.old) j }
         ensures kept { kept_of self.new ≡ kept_of self.old }
         ensures opened { is_open self.new ≡ true }
     {

@@ -1,5 +1,6 @@
 //! Until which tick nothing happens to the preempts, while their inputs and the intervals of phases stay: when a delay
 //! has passed, and when the stage in service ends.
+ghost use Rattle.tsb_types.specs.declared.limits.TheConstants.{PREEMPTS};
 ghost use Rattle.std.specs.Prelude.{◌≡◌, ℕ, ◌+◌, ◌<◌, ◌≤◌, ◌&&◌, true, false, slice_index, not};
 ghost use Rattle.tsb_cells.specs.Timer.{timer_at, has_reached};
 ghost use Rattle.tsb_types.specs.Flow.{interval_of};
@@ -11,9 +12,9 @@ ghost use Rattle.tsb_preempt.specs.Preempts.{may_begin};
 ghost use Rattle.tsb_preempt.specs.Rows.{service_of, serving_of, IsServiceBy, IsServingBy, requests_by, delay_cell};
 ghost use Rattle.tsb_preempt.specs.Due.{StaysInStage, StaysInService, IsWaiting};
 
-use crate::cells::LISTS;
 use crate::preempts::Preempts;
 use crate::serving::{Serving, has_dwell, has_input, is_exit_green, is_track_green, may_begin};
+use tsb_objects::limits::PREEMPTS;
 use tsb_objects::{Intervals, NumberSet, Plan, Preempt, Stage};
 
 /// No tick.
@@ -31,14 +32,12 @@ fn reached_at(cell: u32, limit: u32) -> u32
     }
 }
 
-/// 1 where a delay timer runs, and 0 where it is Off, by its cell.
+/// Whether a delay timer runs where its input is on, and is Off where that is off, by its cell.
 #[inline(always)]
-fn runs(cell: u32) -> u32
-    ensures off { cell ≡ 0 → result ≡ 0 }
-    ensures on { 1 ≤ cell → result ≡ 1 }
-    ensures most { result ≤ 1 }
+fn follows(cell: u32, on: bool) -> bool
+    ensures { result ≡ true → (t : ℕ) → cell ≡ delay_cell t on cell }
 {
-    u32::from(cell != 0)
+    (cell != 0) == on
 }
 
 /// Whether each of a set of numbers is in another.
@@ -158,11 +157,12 @@ impl Preempts {
     pub(crate) fn has_delays(&self, inputs: NumberSet) -> bool
         ensures { result ≡ true → (t : ℕ) → AreDelayed t inputs (cells_of self.now) (cells_of self.now) }
     {
-        let one = runs(self.delay(1));
-        let two = runs(self.delay(2));
-        let three = runs(self.delay(3));
-        let four = runs(self.delay(4));
-        one + 2 * two + 4 * three + 8 * four == u32::from(inputs.list()) % LISTS
+        for n in 1..PREEMPTS + 1 {
+            if !follows(self.delay(n), inputs.contains(n)) {
+                return false;
+            }
+        }
+        true
     }
 
     /// The tick at which a preempt requests service, where its service may then begin.
@@ -176,7 +176,7 @@ impl Preempts {
         was: &Option<Serving>,
     ) -> u32
         requires from { 1 ≤ n }
-        requires within { n ≤ 4 }
+        requires within { n ≤ PREEMPTS }
         ensures { (now t : ℕ) → slice_index (cells_of self.now) (1 + n) ≤ t + 1 → t < result → IsWaiting now t (plan_of plan.now) (cells_of self.now) inputs spent was.now n }
     {
         request_due(
@@ -198,13 +198,13 @@ impl Preempts {
         spent: NumberSet,
         was: &Option<Serving>,
     ) -> u32
-        ensures { (now t : ℕ) → ((n : ℕ) → 1 ≤ n → n ≤ 4 → slice_index (cells_of self.now) (1 + n) ≤ t + 1) → t < result →
-            (n : ℕ) → 1 ≤ n → n ≤ 4 → IsWaiting now t (plan_of plan.now) (cells_of self.now) inputs spent was.now n }
+        ensures { (now t : ℕ) → ((n : ℕ) → 1 ≤ n → n ≤ PREEMPTS → slice_index (cells_of self.now) (1 + n) ≤ t + 1) → t < result →
+            (n : ℕ) → 1 ≤ n → n ≤ PREEMPTS → IsWaiting now t (plan_of plan.now) (cells_of self.now) inputs spent was.now n }
     {
-        let one = self.request_due(plan, 1, inputs, spent, was);
-        let two = self.request_due(plan, 2, inputs, spent, was);
-        let three = self.request_due(plan, 3, inputs, spent, was);
-        let four = self.request_due(plan, 4, inputs, spent, was);
-        one.min(two).min(three.min(four))
+        let mut due = NEVER;
+        for n in 1..PREEMPTS + 1 {
+            due = due.min(self.request_due(plan, n, inputs, spent, was));
+        }
+        due
     }
 }

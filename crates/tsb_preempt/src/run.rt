@@ -1,5 +1,6 @@
 //! What a tick does to the preempts and asks of the phases, in the order in which it is found: inputs, delays, the
 //! request, the service that begins or moves on, and what is spent.
+ghost use Rattle.tsb_types.specs.declared.limits.TheConstants.{PREEMPTS};
 ghost use Rattle.std.specs.Prelude.{◌≡◌, ℕ, ◌+◌, ◌<◌, ◌≤◌, ◌^◌, ◌||◌, ◌&&◌, is_some, is_none, Bool, true, false, None, slice_index};
 ghost use Rattle.tsb_objects.specs.tsb_plan.PlanOf.{plan_of};
 ghost use Rattle.tsb_types.specs.Flow.{target_of};
@@ -16,6 +17,7 @@ use crate::orders::PreemptOrders;
 use crate::preempts::Preempts;
 use crate::serving::{Serving, beginning, requests, served, spends, stage_phases};
 use tsb_cells::lists::list;
+use tsb_objects::limits::PREEMPTS;
 use tsb_objects::{Intervals, NumberSet, PhaseSet, Plan, Preempt, Row};
 
 /// The list that names phases 1 to 16.
@@ -51,25 +53,6 @@ fn outside(target: &Option<PhaseSet>) -> PhaseSet
     match target {
         None => PhaseSet::empty(),
         Some(list) => PhaseSet::from_list(ALL_PHASES).difference(*list),
-    }
-}
-
-/// The least of the four preempts that passes.
-#[inline(always)]
-#[tactic(auto, unfolding(tsb_types::specs::Lists::run_from))]
-fn least(one: bool, two: bool, three: bool, four: bool) -> Option<Preempt>
-    ensures { (test : ℕ → Bool) → one ≡ test 1 → two ≡ test 2 → three ≡ test 3 → four ≡ test 4 → result ≡ first test (run_from 1 4) }
-{
-    if one {
-        Some(Preempt::of(1))
-    } else if two {
-        Some(Preempt::of(2))
-    } else if three {
-        Some(Preempt::of(3))
-    } else if four {
-        Some(Preempt::of(4))
-    } else {
-        None
     }
 }
 
@@ -118,7 +101,7 @@ impl Preempts {
     fn requests(&self, now: u32, plan: &Plan, n: u8, inputs: NumberSet, spent: NumberSet) -> bool
         requires fits { now + 1 < 2 ^ 32 }
         requires from { 1 ≤ n }
-        requires within { n ≤ 4 }
+        requires within { n ≤ PREEMPTS }
         ensures { result ≡ requests_by now (plan_of plan.now) n (has_number inputs n) (has_number spent n) (slice_index (cells_of self.now) (1 + n)) }
     {
         requests(
@@ -141,14 +124,14 @@ impl Preempts {
         spent: NumberSet,
     ) -> Option<Preempt>
         requires { now + 1 < 2 ^ 32 }
-        ensures { result ≡ first (λ n. requests_by now (plan_of plan.now) n (has_number inputs n) (has_number spent n) (slice_index (cells_of self.now) (1 + n))) (run_from 1 4) }
+        ensures { result ≡ first (λ n. requests_by now (plan_of plan.now) n (has_number inputs n) (has_number spent n) (slice_index (cells_of self.now) (1 + n))) (run_from 1 PREEMPTS) }
     {
-        least(
-            self.requests(now, plan, 1, inputs, spent),
-            self.requests(now, plan, 2, inputs, spent),
-            self.requests(now, plan, 3, inputs, spent),
-            self.requests(now, plan, 4, inputs, spent),
-        )
+        for n in 1..PREEMPTS + 1 {
+            if self.requests(now, plan, n, inputs, spent) {
+                return Some(Preempt::of(n));
+            }
+        }
+        None
     }
 
     /// The preempts whose input is on, by the row or by a switch.

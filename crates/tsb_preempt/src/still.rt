@@ -1,5 +1,6 @@
 //! Whether a tick changes nothing: no delay timer begins or goes off, none is spent or no longer spent, none begins,
 //! and the stage in service stays.
+ghost use Rattle.tsb_types.specs.declared.limits.TheConstants.{PREEMPTS};
 ghost use Rattle.std.specs.Prelude.{◌≡◌, ℕ, ◌+◌, ◌<◌, ◌≤◌, ◌^◌, ◌&&◌, true, false, slice_index};
 ghost use Rattle.tsb_cells.specs.Timer.{timer_at, has_reached};
 ghost use Rattle.tsb_types.specs.Flow.{interval_of};
@@ -19,6 +20,7 @@ use crate::serving::{
     Serving, ends_dwell, has_input, has_reached, is_exit_green, is_track_green, may_begin, requests,
 };
 use tsb_cells::lists::list;
+use tsb_objects::limits::PREEMPTS;
 use tsb_objects::{Intervals, NumberSet, Plan, Preempt, Stage};
 
 /// Whether the timer of Track neither begins nor ends Track.
@@ -83,7 +85,7 @@ impl Preempts {
     fn begins(&self, now: u32, plan: &Plan, n: u8, asking: NumberSet, was: &Option<Serving>) -> bool
         requires fits { now + 1 < 2 ^ 32 }
         requires from { 1 ≤ n }
-        requires within { n ≤ 4 }
+        requires within { n ≤ PREEMPTS }
         ensures { result ≡ (has_number asking n && (may_begin (serving_of now was.now) n && requests_by now (plan_of plan.now) n (has_number asking n) false (slice_index (cells_of self.now) (1 + n)))) }
     {
         begins(
@@ -100,19 +102,15 @@ impl Preempts {
     #[inline(always)]
     fn one_begins(&self, now: u32, plan: &Plan, asking: NumberSet, was: &Option<Serving>) -> bool
         requires { now + 1 < 2 ^ 32 }
-        ensures { result ≡ false → (n : ℕ) → 1 ≤ n → n ≤ 4 →
+        ensures { result ≡ false → (n : ℕ) → 1 ≤ n → n ≤ PREEMPTS →
             (has_number asking n && (may_begin (serving_of now was.now) n && requests_by now (plan_of plan.now) n (has_number asking n) false (slice_index (cells_of self.now) (1 + n)))) ≡ false }
     {
-        if self.begins(now, plan, 1, asking, was) {
-            return true;
+        for n in 1..PREEMPTS + 1 {
+            if self.begins(now, plan, n, asking, was) {
+                return true;
+            }
         }
-        if self.begins(now, plan, 2, asking, was) {
-            return true;
-        }
-        if self.begins(now, plan, 3, asking, was) {
-            return true;
-        }
-        self.begins(now, plan, 4, asking, was)
+        false
     }
 
     /// Whether no delay timer begins or goes off, and none ceases to be spent.

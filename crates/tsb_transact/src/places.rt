@@ -64,8 +64,8 @@ fn id_by_phases(place: u32) -> Option<ObjectId>
     }
 }
 
-/// The object and index at a place among all of a plan, 1 to `PLAN_CELLS`. Those of phases and of vehicle detectors
-/// come first, with 16 indices each, so they are found at once.
+/// The object and index at a place among all of a plan, 1 to `PLAN_CELLS`. Those of phases come first, with 16 indices
+/// each, so they are found at once.
 #[tactic(auto, unfolding(tsb_plan::specs::Objects::objects))]
 pub fn id_at(place: u32) -> ObjectId
     ensures { result ≡ id_at place }

@@ -1,5 +1,5 @@
 -- What the laws of cells and of what the calls look at refuse, by computing: cells out of range, a 17th phase and a
--- 17th detector. Beside each is what the definitions make of cells, memories and detectors in range.
+-- 65th detector. Beside each is what the definitions make of cells, memories and detectors in range.
 use Rattle.std.proofs.Common.{◌≡◌, ◌∙◌, ℕ, ◌==◌, ◌≤◌, Bool, true, false, ◌&&◌, if◌then◌else◌, List, [], ◌∷◌, map, refl, sym, ap, arith, inl, inr}
 use Rattle.std.proofs.lemmas.Bool.{cases_Bool, eqb-true, true≢false}
 use Rattle.tsb_objects.specs.tsb_types.Lists.{run_from, some_passes}
@@ -80,19 +80,19 @@ would_lose_17 : (memories_in (memories_cells (remembering (17 ∷ [])))).vehicle
 unfolding run_from number_of_bits
 would_lose_17 = refl
 
--- ## Looks only at its own: the output of a 17th detector
+-- ## Looks only at its own: the output of a 65th detector
 
-abbrev pub output_of_17 : Plan → Given → ℕ → Bool
-output_of_17 plan given p = some_passes (λ d. calls plan d p && given.output d) (run_from 1 17)
+abbrev pub output_of_65 : Plan → Given → ℕ → Bool
+output_of_65 plan given p = some_passes (λ d. calls plan d p && given.output d) (run_from 1 65)
 
--- a plan that has detector 17 call phase 3, and its output on
+-- a plan that has detector 65 call phase 3, and its output on
 abbrev pub calls_3 : Plan
-calls_3 = with_value quad VehicleDetectorCallPhase 17 3
+calls_3 = with_value quad VehicleDetectorCallPhase 65 3
 
-has_none : has_output calls_3 (staying (17 ∷ []) (resting [])) 3 ≡ false
+has_none : has_output calls_3 (staying (65 ∷ []) (resting [])) 3 ≡ false
 unfolding quad run_from has_output
 has_none = refl
 
-would_have_one : output_of_17 calls_3 (staying (17 ∷ []) (resting [])) 3 ≡ true
+would_have_one : output_of_65 calls_3 (staying (65 ∷ []) (resting [])) 3 ≡ true
 unfolding quad run_from
 would_have_one = refl

@@ -1,21 +1,22 @@
 //! A tick of detectors: those that may change are worked out, and all others are proved to stay as they are.
+ghost use Rattle.tsb_objects.specs.tsb_types.declared.limits.TheConstants.{VEHICLE_DETECTORS};
 ghost use Rattle.std.specs.Prelude.{◌≡◌, ◌≢◌, ℕ, ◌+◌, ◌<◌, ◌≤◌, ◌^◌, true, false};
 ghost use Rattle.tsb_objects.specs.Checked.{checked_plan};
 ghost use Rattle.tsb_objects.specs.tsb_plan.PlanOf.{plan_of};
 ghost use Rattle.tsb_objects.specs.tsb_plan.Parts.{call_phase};
-ghost use Rattle.tsb_objects.specs.tsb_types.Sets.{has_number};
+ghost use Rattle.tsb_objects.specs.tsb_types.Sets.{has_detector};
 ghost use Rattle.tsb_detect.specs.Promises.{green_timer_of};
 ghost use Rattle.tsb_detect.specs.Cells.{row_in};
 ghost use Rattle.tsb_detect.specs.Rows.{IsRead, IsVisit, IsSettled, HasNoAlarm, is_due, is_tested};
 
 use super::cells::{ACTUATIONS, CHANGES, ERRATIC, INACTIVE, INPUTS, OUTPUTS, PRESENT};
 use crate::detectors::Detectors;
+use crate::detectors::cells::list;
 use crate::diagnostics::{MINUTE, is_tested, timed};
 use crate::greens::Greens;
 use crate::output::{green_of, next_row};
 use crate::sets::{all, differing, has, joined};
-use tsb_cells::lists::list;
-use tsb_objects::{Checked, Detector, NumberSet, Plan};
+use tsb_objects::{Checked, Detector, DetectorSet, Plan};
 
 impl Detectors {
     ghost use Rattle.tsb_detect.specs.Layer.{cells_of, kept_of, is_open, KeepsLists};
@@ -23,8 +24,8 @@ impl Detectors {
     /// The detectors that the lists do not show to be settled at their inputs.
     #[inline(always)]
     #[tactic(auto, unfolding(crate::specs::Cells::row_in))]
-    pub(super) fn unsettled(&self, inputs: NumberSet) -> NumberSet
-        ensures { (d : ℕ) → has_number result d ≡ false → IsSettled (has_number inputs d) (row_in (cells_of self.now) d) }
+    pub(super) fn unsettled(&self, inputs: DetectorSet) -> DetectorSet
+        ensures { (d : ℕ) → has_detector result d ≡ false → IsSettled (has_detector inputs d) (row_in (cells_of self.now) d) }
     {
         let changed = differing(inputs, list(&self.bank, INPUTS)).union(differing(
             inputs,
@@ -38,8 +39,8 @@ impl Detectors {
     /// The detectors that have an alarm.
     #[inline(always)]
     #[tactic(auto, unfolding(crate::specs::Cells::row_in))]
-    fn alarmed(&self) -> NumberSet
-        ensures { (d : ℕ) → has_number result d ≡ false → HasNoAlarm (row_in (cells_of self.now) d) }
+    fn alarmed(&self) -> DetectorSet
+        ensures { (d : ℕ) → has_detector result d ≡ false → HasNoAlarm (row_in (cells_of self.now) d) }
     {
         list(&self.bank, INACTIVE)
             .union(list(&self.bank, PRESENT))
@@ -50,7 +51,7 @@ impl Detectors {
     #[inline(always)]
     #[tactic(auto, unfolding(crate::specs::Cells::row_in))]
     pub(super) fn change(&self, now: u32, d: Detector) -> u32
-        requires range { (e : ℕ) → 1 ≤ e → e ≤ 16 → (row_in (cells_of self.now) e).change ≤ now + 1 }
+        requires range { (e : ℕ) → 1 ≤ e → e ≤ VEHICLE_DETECTORS → (row_in (cells_of self.now) e).change ≤ now + 1 }
         ensures value { result ≡ (row_in (cells_of self.now) d).change }
         ensures range { result ≤ now + 1 }
     {
@@ -60,13 +61,13 @@ impl Detectors {
 
     /// The detectors that a tick looks at for their time, where it is not a whole minute.
     #[inline(always)]
-    fn tested(&self, now: u32, inputs: NumberSet, plan: &Checked) -> NumberSet
+    fn tested(&self, now: u32, inputs: DetectorSet, plan: &Checked) -> DetectorSet
         requires fits { now + 1 < 2 ^ 32 }
-        requires read { (d : ℕ) → 1 ≤ d → d ≤ 16 → IsRead now (row_in (cells_of self.now) d) }
-        ensures { (d : ℕ) → 1 ≤ d → d ≤ 16 →
-            has_number result d ≡ is_tested now (checked_plan plan.now) d (has_number inputs d) (row_in (cells_of self.now) d).change }
+        requires read { (d : ℕ) → 1 ≤ d → d ≤ VEHICLE_DETECTORS → IsRead now (row_in (cells_of self.now) d) }
+        ensures { (d : ℕ) → 1 ≤ d → d ≤ VEHICLE_DETECTORS →
+            has_detector result d ≡ is_tested now (checked_plan plan.now) d (has_detector inputs d) (row_in (cells_of self.now) d).change }
     {
-        let mut found = NumberSet::empty();
+        let mut found = DetectorSet::empty();
         let mut rest = timed(inputs, plan);
         while let Some(d) = rest.pop_detector() {
             let change = self.change(now, d);
@@ -78,11 +79,11 @@ impl Detectors {
 
     /// The detectors that a tick looks at for their time.
     #[inline(always)]
-    fn due_set(&self, now: u32, inputs: NumberSet, plan: &Checked) -> NumberSet
+    fn due_set(&self, now: u32, inputs: DetectorSet, plan: &Checked) -> DetectorSet
         requires fits { now + 1 < 2 ^ 32 }
-        requires read { (d : ℕ) → 1 ≤ d → d ≤ 16 → IsRead now (row_in (cells_of self.now) d) }
-        ensures { (d : ℕ) → 1 ≤ d → d ≤ 16 →
-            has_number result d ≡ is_due now (checked_plan plan.now) d (has_number inputs d) (row_in (cells_of self.now) d).change }
+        requires read { (d : ℕ) → 1 ≤ d → d ≤ VEHICLE_DETECTORS → IsRead now (row_in (cells_of self.now) d) }
+        ensures { (d : ℕ) → 1 ≤ d → d ≤ VEHICLE_DETECTORS →
+            has_detector result d ≡ is_due now (checked_plan plan.now) d (has_detector inputs d) (row_in (cells_of self.now) d).change }
     {
         if now % MINUTE == 0 {
             all()
@@ -93,12 +94,12 @@ impl Detectors {
 
     /// Works out one detector.
     #[inline(always)]
-    fn visit(&mut self, now: u32, inputs: NumberSet, greens: &Greens, plan: &Plan, d: Detector)
+    fn visit(&mut self, now: u32, inputs: DetectorSet, greens: &Greens, plan: &Plan, d: Detector)
         requires fits { now + 1 < 2 ^ 32 }
         requires opened { is_open self.old ≡ true }
         requires read { IsRead now (row_in (cells_of self.old) d) }
-        ensures visit { IsVisit now (plan_of plan.now) d (has_number inputs d) (green_timer_of now greens.now (call_phase (plan_of plan.now) d)) (row_in (cells_of self.old) d) (row_in (cells_of self.new) d) }
-        ensures others { (e : ℕ) → 1 ≤ e → e ≤ 16 → e ≢ d → row_in (cells_of self.new) e ≡ row_in (cells_of self.old) e }
+        ensures visit { IsVisit now (plan_of plan.now) d (has_detector inputs d) (green_timer_of now greens.now (call_phase (plan_of plan.now) d)) (row_in (cells_of self.old) d) (row_in (cells_of self.new) d) }
+        ensures others { (e : ℕ) → 1 ≤ e → e ≤ VEHICLE_DETECTORS → e ≢ d → row_in (cells_of self.new) e ≡ row_in (cells_of self.old) e }
         ensures lists { KeepsLists (cells_of self.old) (cells_of self.new) }
         ensures kept { kept_of self.new ≡ kept_of self.old }
         ensures opened { is_open self.new ≡ true }
@@ -113,19 +114,19 @@ impl Detectors {
     #[inline(never)]
     fn visit_each(
         &mut self,
-        visited: NumberSet,
+        visited: DetectorSet,
         now: u32,
-        inputs: NumberSet,
+        inputs: DetectorSet,
         greens: &Greens,
         plan: &Plan,
     )
         requires fits { now + 1 < 2 ^ 32 }
         requires opened { is_open self.old ≡ true }
-        requires read { (d : ℕ) → 1 ≤ d → d ≤ 16 → IsRead now (row_in (cells_of self.old) d) }
-        requires others { (d : ℕ) → 1 ≤ d → d ≤ 16 → has_number visited d ≡ false →
-            IsVisit now (plan_of plan.now) d (has_number inputs d) (green_timer_of now greens.now (call_phase (plan_of plan.now) d)) (row_in (cells_of self.old) d) (row_in (cells_of self.old) d) }
-        ensures each { (d : ℕ) → 1 ≤ d → d ≤ 16 →
-            IsVisit now (plan_of plan.now) d (has_number inputs d) (green_timer_of now greens.now (call_phase (plan_of plan.now) d)) (row_in (cells_of self.old) d) (row_in (cells_of self.new) d) }
+        requires read { (d : ℕ) → 1 ≤ d → d ≤ VEHICLE_DETECTORS → IsRead now (row_in (cells_of self.old) d) }
+        requires others { (d : ℕ) → 1 ≤ d → d ≤ VEHICLE_DETECTORS → has_detector visited d ≡ false →
+            IsVisit now (plan_of plan.now) d (has_detector inputs d) (green_timer_of now greens.now (call_phase (plan_of plan.now) d)) (row_in (cells_of self.old) d) (row_in (cells_of self.old) d) }
+        ensures each { (d : ℕ) → 1 ≤ d → d ≤ VEHICLE_DETECTORS →
+            IsVisit now (plan_of plan.now) d (has_detector inputs d) (green_timer_of now greens.now (call_phase (plan_of plan.now) d)) (row_in (cells_of self.old) d) (row_in (cells_of self.new) d) }
         ensures lists { KeepsLists (cells_of self.old) (cells_of self.new) }
         ensures kept { kept_of self.new ≡ kept_of self.old }
         ensures opened { is_open self.new ≡ true }
@@ -138,12 +139,12 @@ impl Detectors {
 
     /// Works out the detectors that may change; a tick in which none may is over here.
     #[inline(always)]
-    pub(super) fn run(&mut self, now: u32, inputs: NumberSet, greens: &Greens, plan: &Checked)
+    pub(super) fn run(&mut self, now: u32, inputs: DetectorSet, greens: &Greens, plan: &Checked)
         requires fits { now + 1 < 2 ^ 32 }
         requires opened { is_open self.old ≡ true }
-        requires read { (d : ℕ) → 1 ≤ d → d ≤ 16 → IsRead now (row_in (cells_of self.old) d) }
-        ensures each { (d : ℕ) → 1 ≤ d → d ≤ 16 →
-            IsVisit now (checked_plan plan.now) d (has_number inputs d) (green_timer_of now greens.now (call_phase (checked_plan plan.now) d)) (row_in (cells_of self.old) d) (row_in (cells_of self.new) d) }
+        requires read { (d : ℕ) → 1 ≤ d → d ≤ VEHICLE_DETECTORS → IsRead now (row_in (cells_of self.old) d) }
+        ensures each { (d : ℕ) → 1 ≤ d → d ≤ VEHICLE_DETECTORS →
+            IsVisit now (checked_plan plan.now) d (has_detector inputs d) (green_timer_of now greens.now (call_phase (checked_plan plan.now) d)) (row_in (cells_of self.old) d) (row_in (cells_of self.new) d) }
         ensures lists { KeepsLists (cells_of self.old) (cells_of self.new) }
         ensures kept { kept_of self.new ≡ kept_of self.old }
         ensures opened { is_open self.new ≡ true }

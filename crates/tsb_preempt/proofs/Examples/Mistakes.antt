@@ -81,7 +81,7 @@ taken_for_spent = refl
 -- ## The greatest requesting preempt is served
 
 abbrev pub requesting_greatest : Plan → Given → Preempts → Option ℕ
-requesting_greatest plan given w = first (requests plan given w) (reverse (run_from 1 4))
+requesting_greatest plan given w = first (requests plan given w) (reverse (run_from 1 plan.counts.preempts))
 
 least : requesting quad with_both_rows at_power_up ≡ Some 1
 unfolding quad run_from requesting

@@ -1,5 +1,5 @@
 -- What the laws of cells and of what a tick looks at refuse, by computing: timers that begin after the tick, a bound on
--- how long timers run, and a fifth preempt. Beside each is what the definitions make of the same.
+-- how long timers run, and a ninth preempt. Beside each is what the definitions make of the same.
 use Rattle.std.proofs.Common.{◌≡◌, ◌∙◌, ℕ, ◌+◌, ◌-◌, ◌==◌, nat_le, Bool, true, false, if◌then◌else◌, List, [], ◌∷◌, slice_index, Option, Some, None, refl, sym, ap, arith, inl, inr}
 use Rattle.std.proofs.lemmas.Bool.{cases_Bool, eqb-true, true≢false}
 use Rattle.tsb_cells.specs.Timer.{IsWithin}
@@ -59,18 +59,18 @@ unfolding preempts_in service_in number_of_bits run_from
 is_told = refl
 
 -- read at tick 40, when that had not begun
-begins_50 : slice_index later 8 ≡ 50
+begins_50 : slice_index later 12 ≡ 50
 unfolding number_of_bits run_from
 begins_50 = refl
 
-would_begin_41 : slice_index (preempts_cells 40 (preempts_in 40 later)) 8 ≡ 41
+would_begin_41 : slice_index (preempts_cells 40 (preempts_in 40 later)) 12 ≡ 41
 unfolding preempts_in service_in number_of_bits run_from
 would_begin_41 = refl
 
 -- ## Rows stay by: a bound on how long the service has lasted
 
 abbrev pub is_recent : ℕ → List ℕ → Bool
-is_recent now row = nat_le (now + 1 - slice_index row 8) 6000
+is_recent now row = nat_le (now + 1 - slice_index row 12) 6000
 
 is_recent_yet : is_recent 6049 later ≡ true
 unfolding number_of_bits run_from
@@ -80,40 +80,40 @@ would_not_stay : is_recent 6050 later ≡ false
 unfolding number_of_bits run_from
 would_not_stay = refl
 
--- ## States are read: a fifth preempt in service
+-- ## States are read: a ninth preempt in service
 
-abbrev pub fifth : Preempts
-fifth = serving 5 Off Dwell (On 7) Off
+abbrev pub ninth : Preempts
+ninth = serving 9 Off Dwell (On 7) Off
 
-serves_5 : fifth.service ≡ service 5 Dwell (On 7) Off
-serves_5 = refl
+serves_9 : ninth.service ≡ service 9 Dwell (On 7) Off
+serves_9 = refl
 
-would_read_none : (preempts_in 49 (preempts_cells 49 fifth)).service ≡ None
+would_read_none : (preempts_in 49 (preempts_cells 49 ninth)).service ≡ None
 unfolding preempts_in service_in number_of_bits run_from
 would_read_none = refl
 
 -- ## A row reads as preempts in range: a row that has a stage timer in Dwell
 
 abbrev pub still_timed : List ℕ
-still_timed = 0 ∷ 0 ∷ 0 ∷ 31 ∷ 0 ∷ 0 ∷ 2 ∷ 1 ∷ 50 ∷ 50 ∷ []
+still_timed = 0 ∷ 0 ∷ 0 ∷ 31 ∷ 0 ∷ 0 ∷ 0 ∷ 0 ∷ 0 ∷ 0 ∷ 2 ∷ 1 ∷ 50 ∷ 50 ∷ []
 
 would_be_timed : (preempts_in 49 still_timed).service ≡ service 2 Dwell (On 0) (On 0)
 unfolding preempts_in service_in
 would_be_timed = refl
 
--- ## Looks only at its own: the input of a fifth preempt
+-- ## Looks only at its own: the input of a ninth preempt
 
-abbrev pub requesting_of_5 : Plan → Given → Preempts → Option ℕ
-requesting_of_5 plan given w = first (requests plan given w) (run_from 1 5)
+abbrev pub requesting_of_9 : Plan → Given → Preempts → Option ℕ
+requesting_of_9 plan given w = first (requests plan given w) (run_from 1 9)
 
 -- a plan with a list for it, and its input on
-abbrev pub with_fifth : Plan
-with_fifth = with_value quad PreemptDwellPhase 5 8
+abbrev pub with_ninth : Plan
+with_ninth = with_value quad PreemptDwellPhase 9 8
 
-requests_none : requesting with_fifth (with_row 5 (both Green 2 6)) at_power_up ≡ None
+requests_none : requesting with_ninth (with_row 9 (both Green 2 6)) at_power_up ≡ None
 unfolding quad run_from requesting
 requests_none = refl
 
-would_request_5 : requesting_of_5 with_fifth (with_row 5 (both Green 2 6)) at_power_up ≡ Some 5
+would_request_9 : requesting_of_9 with_ninth (with_row 9 (both Green 2 6)) at_power_up ≡ Some 9
 unfolding quad run_from
-would_request_5 = refl
+would_request_9 = refl

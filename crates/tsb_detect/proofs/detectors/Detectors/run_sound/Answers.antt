@@ -3,7 +3,7 @@ use Rattle.std.proofs.lemmas.Bool.{or_parts}
 use Rattle.tsb_objects.specs.tsb_plan.Plan.{Plan}
 use Rattle.tsb_objects.specs.tsb_plan.PlanOf.{plan_of}
 use Rattle.tsb_objects.specs.tsb_plan.Parts.{call_phase}
-use Rattle.tsb_objects.specs.tsb_types.Sets.{has_number}
+use Rattle.tsb_objects.specs.tsb_types.Sets.{has_detector}
 use Rattle.tsb_detect.specs.declared.detector_row.DetectorRow.{DetectorRow}
 use Rattle.tsb_detect.specs.Promises.{green_timer_of}
 use Rattle.tsb_detect.specs.Cells.{row_in}
@@ -24,9 +24,9 @@ visit_moved-on-requires-clause-output c = λ d out.
 
 pub returns-clause-each : goal.returns-clause-each
 returns-clause-each c = λ d from within.
-    let x : Bool = has_number c.args.inputs d in
-    let on : Bool = has_number c.visit_moved-on.result d in
-    let risen : Bool = has_number c.difference.result d in
+    let x : Bool = has_detector c.args.inputs d in
+    let on : Bool = has_detector c.visit_moved-on.result d in
+    let risen : Bool = has_detector c.difference.result d in
     let plan : Plan = plan_of c.args.plan.now in
     let first = cells_of c.args.self.now in
     let moved = cells_of c.visit_moved-on.new.self in

@@ -3,7 +3,7 @@ use Rattle.std.proofs.lemmas.Bool.Decides.{eqb_tells}
 use Rattle.std.proofs.lemmas.Bool.{both_ways}
 use Rattle.tsb_objects.specs.Checked.{checked_plan}
 use Rattle.tsb_objects.specs.tsb_plan.Plan.{Plan}
-use Rattle.tsb_objects.specs.tsb_types.Sets.{has_number}
+use Rattle.tsb_objects.specs.tsb_types.Sets.{has_detector}
 use Rattle.tsb_detect.specs.Cells.{row_in}
 use Rattle.tsb_detect.specs.Rows.{is_tested}
 use Rattle.tsb_detect.specs.Layer.{cells_of}
@@ -23,7 +23,7 @@ loop-d-preserved c =
       done = λ e from within out.
           elim (eqb_tells e d) [
             | inl same ↦
-                subst (λ (n : ℕ). has_number c.joined-found.result n ≡ is_tested c.args.now (checked_plan c.args.plan.now) n (has_number c.args.inputs n) (row_in cells n).change)
+                subst (λ (n : ℕ). has_detector c.joined-found.result n ≡ is_tested c.args.now (checked_plan c.args.plan.now) n (has_detector c.args.inputs n) (row_in cells n).change)
                 (sym same.1)
                 (put.set ∙ c.is_tested-on.ensures
                 ∙ same-test c.args.now d _ _ _ _ _ _ c.plan.ensures.plan c.has.ensures c.change-change.ensures.value)
@@ -31,7 +31,7 @@ loop-d-preserved c =
           ];
       left = λ e in_rest.
           elim (eqb_tells e d) [
-            | inl same ↦ absurd (both_ways (has_number c.pop_detector.new.self d) seen.taken (subst (λ (n : ℕ). has_number c.pop_detector.new.self n ≡ true) same.1 in_rest))
+            | inl same ↦ absurd (both_ways (has_detector c.pop_detector.new.self d) seen.taken (subst (λ (n : ℕ). has_detector c.pop_detector.new.self n ≡ true) same.1 in_rest))
             | inr other ↦ put.others e other.1 ∙ held.left e (sym (seen.others e other.1) ∙ in_rest)
           ];
     }

@@ -5,7 +5,7 @@ use Rattle.tsb_cells.specs.declared.timer.Timer.{Timer}
 use Rattle.tsb_objects.specs.tsb_plan.Plan.{Plan}
 use Rattle.tsb_objects.specs.tsb_plan.PlanOf.{plan_of}
 use Rattle.tsb_objects.specs.tsb_plan.Parts.{call_phase}
-use Rattle.tsb_objects.specs.tsb_types.Sets.{has_number}
+use Rattle.tsb_objects.specs.tsb_types.Sets.{has_detector}
 use Rattle.tsb_detect.specs.declared.detector_row.DetectorRow.{DetectorRow}
 use Rattle.tsb_detect.specs.Detector.{new_alarm}
 use Rattle.tsb_detect.specs.Promises.{green_timer_of}
@@ -18,7 +18,7 @@ use Rattle.tsb_detect.proofs.detectors.Detectors.visit_moved.Goals as goal
 pub loop-d-init : goal.loop-d-init
 loop-d-init c = record {
   done = λ e from within out.
-      unmoved-visit c.args.now (plan_of c.args.plan.now) e (has_number c.args.inputs e) _ _ (row_in (cells_of c.args.self.now) e)
+      unmoved-visit c.args.now (plan_of c.args.plan.now) e (has_detector c.args.inputs e) _ _ (row_in (cells_of c.args.self.now) e)
       (c.requires.read e from within) (c.requires.sound e from within) (c.requires.input e out) (c.requires.output e out)
       (c.difference-on.ensures e ∙ kept _ _ out);
   left = λ e from within in_rest. refl;
@@ -36,7 +36,7 @@ pub visit_sound-output-requires-clause-no_alarm : goal.visit_sound-output-requir
 visit_sound-output-requires-clause-no_alarm c =
     let d : ℕ = c.in-Some.d in
     let plan : Plan = plan_of c.args.plan.now in
-    subst (λ (r : DetectorRow). new_alarm plan d c.args.now (has_number c.args.inputs d) (detector_of c.args.now r) ≡ None)
+    subst (λ (r : DetectorRow). new_alarm plan d c.args.now (has_detector c.args.inputs d) (detector_of c.args.now r) ≡ None)
     (sym (c.loop-d.invariant.left d c.in-Some.ensures.from c.in-Some.ensures.within c.in-Some.ensures.had))
     (no-alarm c.args.now plan d _ _ (c.requires.sound d c.in-Some.ensures.from c.in-Some.ensures.within))
 
@@ -49,8 +49,8 @@ loop-d-preserved c =
     let put = c.joined-on.ensures in
     let now : ℕ = c.args.now in
     let plan : Plan = plan_of c.args.plan.now in
-    let x : ℕ → Bool = λ e. has_number c.args.inputs e in
-    let on : ℕ → Bool = λ e. has_number c.joined-on.result e in
+    let x : ℕ → Bool = λ e. has_detector c.args.inputs e in
+    let on : ℕ → Bool = λ e. has_detector c.joined-on.result e in
     let green : ℕ → Timer = λ e. green_timer_of now c.args.greens.now (call_phase plan e) in
     let first = cells_of c.args.self.now in
     let new = cells_of c.visit_sound-output.new.self in
@@ -65,18 +65,18 @@ loop-d-preserved c =
                 subst (λ (n : ℕ). IsVisit now plan n (x n) (green n) (row_in first n) (row_with (x n) (on n) (row_in first n) (row_in new n))) (sym same.1) this
             | inr other ↦
                 subst (λ (o : Bool). IsVisit now plan e (x e) (green e) (row_in first e) (row_with (x e) o (row_in first e) (row_in new e))) (sym (put.others e other.1))
-                (subst (λ (r : DetectorRow). IsVisit now plan e (x e) (green e) (row_in first e) (row_with (x e) (has_number c.loop-d.on e) (row_in first e) r))
+                (subst (λ (r : DetectorRow). IsVisit now plan e (x e) (green e) (row_in first e) (row_with (x e) (has_detector c.loop-d.on e) (row_in first e) r))
                 (sym (made.others e from within other.1))
                 (held.done e from within (sym (seen.others e other.1) ∙ out)))
           ];
       left = λ e from within in_rest.
           elim (eqb_tells e d) [
-            | inl same ↦ absurd (both_ways (has_number c.pop_detector.new.self d) seen.taken (subst (λ (n : ℕ). has_number c.pop_detector.new.self n ≡ true) same.1 in_rest))
+            | inl same ↦ absurd (both_ways (has_detector c.pop_detector.new.self d) seen.taken (subst (λ (n : ℕ). has_detector c.pop_detector.new.self n ≡ true) same.1 in_rest))
             | inr other ↦ made.others e from within other.1 ∙ held.left e from within (sym (seen.others e other.1) ∙ in_rest)
           ];
       off = λ e in_rest.
           elim (eqb_tells e d) [
-            | inl same ↦ absurd (both_ways (has_number c.pop_detector.new.self d) seen.taken (subst (λ (n : ℕ). has_number c.pop_detector.new.self n ≡ true) same.1 in_rest))
+            | inl same ↦ absurd (both_ways (has_detector c.pop_detector.new.self d) seen.taken (subst (λ (n : ℕ). has_detector c.pop_detector.new.self n ≡ true) same.1 in_rest))
             | inr other ↦ put.others e other.1 ∙ held.off e (sym (seen.others e other.1) ∙ in_rest)
           ];
       none = λ e from within.

@@ -5,17 +5,18 @@ use Rattle.tsb_preempt.specs.Layer.{cells_of}
 use Rattle.tsb_preempt.specs.Due.{AreQuietUntil, OrdersStandUntil}
 use Rattle.tsb_preempt.proofs.IdleLemmas.{idle-ticked, idle-standing}
 use Rattle.tsb_preempt.proofs.ReadLemmas.{stays-by}
+use Rattle.tsb_preempt.proofs.ServiceLemmas.{few-checked}
 use Rattle.tsb_preempt.proofs.preempts.Preempts.due.Goals as goal
 
 pub returns-then-is_idle-clause-quiet : goal.returns-then-is_idle-clause-quiet
 returns-then-is_idle-clause-quiet c = λ t after before.
     idle-ticked t (checked_plan c.args.plan.now) c.args.row.now c.args.intervals.now (cells_of c.args.self.now) c.inputs.result
-    (omega (arith, after)) (stays-by c.args.now (t - 1) (cells_of c.args.self.now) (omega (arith, after)) c.requires.by) c.inputs.ensures (c.is_idle.ensures c.if-is_idle.true)
+    (few-checked c.args.plan.now) (omega (arith, after)) (stays-by c.args.now (t - 1) (cells_of c.args.self.now) (omega (arith, after)) c.requires.by) c.inputs.ensures (c.is_idle.ensures c.if-is_idle.true)
 
 pub returns-then-is_idle-clause-orders : goal.returns-then-is_idle-clause-orders
 returns-then-is_idle-clause-orders c = λ t after before orders standing.
     idle-standing t (checked_plan c.args.plan.now) c.args.row.now c.args.intervals.now (cells_of c.args.self.now) c.inputs.result
-    (omega (arith, after)) (stays-by c.args.now (t - 1) (cells_of c.args.self.now) (omega (arith, after)) c.requires.by) c.inputs.ensures (c.is_idle.ensures c.if-is_idle.true)
+    (few-checked c.args.plan.now) (omega (arith, after)) (stays-by c.args.now (t - 1) (cells_of c.args.self.now) (omega (arith, after)) c.requires.by) c.inputs.ensures (c.is_idle.ensures c.if-is_idle.true)
     c.args.now orders standing
 
 pub returns-clause-quiet : goal.returns-clause-quiet

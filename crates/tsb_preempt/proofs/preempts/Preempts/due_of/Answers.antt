@@ -2,6 +2,7 @@ use Rattle.std.proofs.Common.{◌≡◌, ◌<◌, true, arith, rules}
 use Rattle.tsb_objects.specs.tsb_plan.PlanOf.{plan_of}
 use Rattle.tsb_preempt.specs.Layer.{cells_of}
 use Rattle.tsb_preempt.proofs.QuietLemmas.{IsQuiet, quiet, standing}
+use Rattle.tsb_preempt.proofs.ServiceLemmas.{few-preempts}
 use Rattle.tsb_preempt.proofs.preempts.Preempts.due_of.Goals as goal
 
 pub returns : goal.returns
@@ -11,6 +12,7 @@ returns c =
     let inside : c.is_within.result ≡ true = search rules in
     let following : c.has_delays.result ≡ true = search rules in
     let nothing : IsQuiet plan c.args.row.now c.args.intervals.now cells c.inputs-inputs.result c.list-spent.result c.load-was.result c.min.result = record {
+      few = few-preempts c.args.plan.now;
       inputs_are = c.inputs-inputs.ensures;
       spent_are = c.list-spent.ensures;
       within = c.is_within.ensures inside;
