@@ -1,5 +1,6 @@
 -- What the calls of `Controller` for its status ensure, over its rows.
 use Rattle.std.specs.Prelude.{◌≡◌, ◌==◌, ℕ, ◌-◌, ◌≤◌, Bool, ◌&&◌, if◌then◌else◌, List, Option, Some, None, is_some, get_or}
+use Rattle.tsb_step.specs.tsb_types.declared.limits.TheConstants.{PREEMPTS}
 use Rattle.tsb_step.specs.tsb_types.declared.number_set.NumberSet.{NumberSet}
 use Rattle.tsb_step.specs.tsb_types.declared.phase_set.PhaseSet.{PhaseSet}
 use Rattle.tsb_step.specs.tsb_types.Clip.{Agree}
@@ -198,7 +199,7 @@ TellsPreempt entered rows n result = (now : ℕ) (b : Beside) →
 
 -- of each preempt in turn
 abbrev pub TellsPreempts : Plan → Rows → List PreemptState → Type 0
-TellsPreempts plan rows result = (n : ℕ) → 1 ≤ n → n ≤ 4 → (now : ℕ) (b : Beside) → b.plan ≡ plan →
+TellsPreempts plan rows result = (n : ℕ) → 1 ≤ n → n ≤ PREEMPTS → (now : ℕ) (b : Beside) → b.plan ≡ plan →
     get_or result (n - 1) NotActive ≡ preempt_state (state_of now b rows) (state_of now b rows).preempts.service n
 
 -- ## The pattern that runs

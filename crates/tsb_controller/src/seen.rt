@@ -1,4 +1,5 @@
 //! What the log of a controller sees of the layers.
+ghost use Rattle.tsb_types.specs.declared.limits.TheConstants.{OVERLAPS};
 ghost use Rattle.std.specs.Prelude.{◌≡◌, ◌==◌, ◌&&◌, ◌||◌, ◌≤◌, ◌<◌, ℕ, Bool, true, false, not, if◌then◌else◌};
 ghost use Rattle.std.specs.List.{list_any};
 ghost use Rattle.tsb_step.specs.tsb_types.declared.interval.Interval.TheVariants.{Red};
@@ -22,6 +23,7 @@ ghost use Rattle.tsb_controller.specs.Seen.{IsStanding, TellsSeen, is_off_beside
 use crate::controller::Controller;
 use tsb_calls::{Observed, Standing};
 use tsb_events::Seen;
+use tsb_objects::limits::OVERLAPS;
 use tsb_objects::{Checked, Intervals, NumberSet, Overlap, Pedestrians, PhaseSet, Preempt, Stage};
 use tsb_preempt::stage_phases;
 
@@ -146,11 +148,11 @@ fn includes_one(overlap: Overlap, phases: PhaseSet, plan: &Checked) -> bool
 
 /// The overlaps that are not lit, and include none of the phases that are in service.
 fn overlaps_off(lit: NumberSet, served: PhaseSet, plan: &Checked) -> NumberSet
-    ensures off { (o : ℕ) → 1 ≤ o → o ≤ 4 → has_number result o ≡ is_off_beside (checked_plan plan.now) lit served o }
-    ensures few { (o : ℕ) → 4 < o → has_number result o ≡ false }
+    ensures off { (o : ℕ) → 1 ≤ o → o ≤ OVERLAPS → has_number result o ≡ is_off_beside (checked_plan plan.now) lit served o }
+    ensures few { (o : ℕ) → OVERLAPS < o → has_number result o ≡ false }
 {
     let mut off = NumberSet::empty();
-    for number in 1..5u8 {
+    for number in 1..OVERLAPS + 1 {
         let overlap = Overlap::of(number);
         let is_off = !lit.contains(number) && !includes_one(overlap, served, plan);
         off = off.joined(number, is_off);

@@ -18,6 +18,7 @@ use crate::controller::Controller;
 use crate::found::{RingTold, RingsTold};
 use crate::seen::numbers;
 use tsb_events::Seen;
+use tsb_objects::limits::PREEMPTS;
 use tsb_objects::{Checked, Interval, NumberSet, Pattern, Preempt, Stage, Station};
 use tsb_status::{PhaseFound, RingStatus, Status, ring};
 use tsb_step::{FlashStatus, FreeStatus, PreemptState};
@@ -220,16 +221,15 @@ impl Controller {
     }
 
     /// `preemptState` of each preempt in turn.
-    fn preempt_states(&self, plan: &Checked) -> [PreemptState; 4]
+    fn preempt_states(&self, plan: &Checked) -> [PreemptState; PREEMPTS as usize]
         ensures { TellsPreempts (checked_plan plan.now) (rows_of self.now) result }
     {
         let entered = self.preempts.has_entered(&self.phases.intervals(), plan);
-        [
-            self.preempt_state(entered, Preempt::of(1)),
-            self.preempt_state(entered, Preempt::of(2)),
-            self.preempt_state(entered, Preempt::of(3)),
-            self.preempt_state(entered, Preempt::of(4)),
-        ]
+        let mut states = [PreemptState::NotActive; PREEMPTS as usize];
+        for k in 0..PREEMPTS as usize {
+            states[k] = self.preempt_state(entered, Preempt::of(k as u8 + 1));
+        }
+        states
     }
 
     /// The status of the pattern that runs, at tick number `now`.

@@ -10,7 +10,7 @@ ghost use Rattle.tsb_controller.specs.Found.{observed, orders, for_rings, AreCon
 use tsb_calls::{Decided, Observed};
 use tsb_coord::Coordination;
 use tsb_objects::{
-    Called, Checked, Intervals, Moves, NumberSet, Orders, Pedestrians, Phase, PhaseSet, Preempt,
+    Called, Checked, DetectorSet, Intervals, Moves, Orders, Pedestrians, Phase, PhaseSet, Preempt,
     Row, Timing,
 };
 use tsb_phase::Conditions;
@@ -24,9 +24,9 @@ pub(crate) struct Sensed {
     /// The pedestrian parts before the tick.
     pub(crate) pedestrians: Pedestrians,
     /// Vehicle detectors whose output is on.
-    pub(crate) outputs: NumberSet,
+    pub(crate) outputs: DetectorSet,
     /// Vehicle detectors whose output rose.
-    pub(crate) actuated: NumberSet,
+    pub(crate) actuated: DetectorSet,
     /// What preemption asks of the phases.
     pub(crate) asked: PreemptOrders,
     /// The preempt in service.

@@ -1,6 +1,6 @@
 -- What the code keeps of what a log sees, as the definitions of events have it.
 use Rattle.std.specs.Prelude.{◌-◌, slice_index}
-use Rattle.tsb_step.specs.tsb_types.Sets.{has_number}
+use Rattle.tsb_step.specs.tsb_types.Sets.{has_detector, has_number}
 use Rattle.tsb_step.specs.Events as events
 use Rattle.tsb_events.specs.declared.seen.Seen.{Seen}
 use Rattle.tsb_events.specs.declared.seen.Selected.{Selected}
@@ -23,8 +23,8 @@ view_of seen = record {
   overlap_greens = has_number seen.overlap_greens;
   overlap_yellows = has_number seen.overlap_yellows;
   overlaps_off = has_number seen.overlaps_off;
-  outputs = has_number seen.outputs;
-  alarms = has_number seen.alarms;
+  outputs = has_detector seen.outputs;
+  alarms = has_detector seen.alarms;
   switches = has_number seen.switches;
   preempts = has_number seen.preempts;
   tracks = has_number seen.tracks;

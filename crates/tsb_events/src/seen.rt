@@ -2,7 +2,7 @@
 
 use tsb_step::CycleState;
 use tsb_step::log_form::Noted;
-use tsb_types::{NumberSet, Pattern, Row, Side};
+use tsb_types::{DetectorSet, NumberSet, Pattern, Row, Side};
 
 /// What the log of a controller sees: sets of phases, overlaps, vehicle detectors and preempts by their numbers.
 #[derive(Clone, Copy)]
@@ -37,9 +37,9 @@ pub struct Seen {
     /// Overlaps whose head is neither, and of whose included phases none is in service.
     pub overlaps_off: NumberSet,
     /// Vehicle detectors whose output is on, after delay and extension.
-    pub outputs: NumberSet,
+    pub outputs: DetectorSet,
     /// Vehicle detectors with an alarm, of whatever kind.
-    pub alarms: NumberSet,
+    pub alarms: DetectorSet,
     /// Preempts whose switch is on.
     pub switches: NumberSet,
     /// The preempt in service, if there is one.

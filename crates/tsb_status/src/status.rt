@@ -1,7 +1,8 @@
 //! The status of a controller as a plain value, by the names of NTCIP 1202's status objects. Sets are of phases,
 //! overlaps and vehicle detectors by their numbers; times are in tenths of a second.
 
-use tsb_objects::{NumberSet, Phase, Station};
+use tsb_objects::limits::PREEMPTS;
+use tsb_objects::{DetectorSet, NumberSet, Phase, Station};
 use tsb_step::{FlashStatus, FreeStatus, PreemptState, RingPart, Wait};
 use tsb_transact::DeskState;
 
@@ -68,11 +69,11 @@ pub struct Status {
     /// `overlapStatusGroupGreens`.
     pub overlap_greens: NumberSet,
     /// `vehicleDetectorStatusGroupActive`.
-    pub active: NumberSet,
+    pub active: DetectorSet,
     /// `vehicleDetectorStatusGroupAlarms`.
-    pub alarms: NumberSet,
-    /// `preemptState` of preempts 1 to 4.
-    pub preempts: [PreemptState; 4],
+    pub alarms: DetectorSet,
+    /// `preemptState` of each preempt, from the first on.
+    pub preempts: [PreemptState; PREEMPTS as usize],
     /// `coordPatternStatus`: the pattern that runs, 1 to 16, or 254 in free operation.
     pub pattern: u8,
     /// `localFreeStatus`.

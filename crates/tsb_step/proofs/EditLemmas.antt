@@ -1,5 +1,5 @@
--- What a plan is once edits are laid over it: its numbers of phases and sides, the values that no edit changes, and the places
--- where it has none.
+-- What a plan is once edits are laid over it: its numbers of phases, sides and all else, the values that no edit changes,
+-- and the places where it has none.
 use Rattle.std.proofs.Common.{◌≡◌, ℕ, ◌==◌, Bool, true, false, not, ◌&&◌, ◌||◌, if◌then◌else◌, List, [], ◌∷◌, Some, None, refl, sym, inl, inr, ◌∙◌}
 use Rattle.std.proofs.lemmas.Bool.{cases_Bool, eqb-true, true≢false, and_parts}
 use Rattle.tsb_types.specs.declared.refusal.Refusal.TheVariants.{NoSuchObject}
@@ -14,7 +14,7 @@ use Rattle.tsb_step.specs.Tables.{version_of, has_place, place_refusal}
 use Rattle.tsb_step.specs.Good.{AreFit}
 use Rattle.tsb_objects.proofs.tsb_plan.PlanLemmas.{same-parts}
 
--- ## Numbers of phases and sides
+-- ## Numbers of phases, sides and all else
 
 pub same_phase_count : (plan : Plan) (es : List Edit) → (with_edits plan es).phase_count ≡ plan.phase_count
 same_phase_count plan [] = refl
@@ -23,6 +23,10 @@ same_phase_count plan (e ∷ es) = same_phase_count (with_value plan e.id.object
 pub same_side_count : (plan : Plan) (es : List Edit) → (with_edits plan es).side_count ≡ plan.side_count
 same_side_count plan [] = refl
 same_side_count plan (e ∷ es) = same_side_count (with_value plan e.id.object e.id.index e.value) es
+
+pub same_counts : (plan : Plan) (es : List Edit) → (with_edits plan es).counts ≡ plan.counts
+same_counts plan [] = refl
+same_counts plan (e ∷ es) = same_counts (with_value plan e.id.object e.id.index e.value) es
 
 -- ## Values that no edit changes
 

@@ -1,5 +1,5 @@
--- The table of objects with 16 phases and 4 sides is that of plans in memory, so a plan in memory has nothing where it has no
--- place.
+-- The table of objects with 16 phases, 4 sides and all of the others is that of plans in memory. So a plan in memory has
+-- nothing where it has no place.
 use Rattle.std.proofs.Common.{◌≡◌, ℕ, ◌<◌, ◌==◌, nat_le, true, false, ◌&&◌, length, None, refl, sym, ap, inl, inr, ◌∙◌}
 use Rattle.std.specs.List.{list_all}
 use Rattle.std.proofs.lemmas.Bool.{cases_Bool, eqb-true, true≢false, and_parts}
@@ -9,12 +9,12 @@ use Rattle.tsb_objects.specs.tsb_plan.declared.object.Object.TheVariants.{PhaseE
 use Rattle.tsb_objects.specs.tsb_plan.declared.plan.Plan as memory
 use Rattle.tsb_objects.specs.tsb_plan.Objects.{objects, order, indices, greatest, has_index, value_in}
 use Rattle.tsb_objects.specs.tsb_plan.declared.object.ObjectId.{ObjectId}
-use Rattle.tsb_objects.specs.tsb_plan.Plan.{Plan}
+use Rattle.tsb_objects.specs.tsb_plan.Plan.{Plan, all_counts}
 use Rattle.tsb_objects.specs.tsb_plan.PlanOf.{plan_of, put_refusal}
 use Rattle.tsb_objects.proofs.tsb_plan.TableLemmas.{at-order, order-below, length-objects}
 use Rattle.tsb_objects.specs.tsb_rules.Rules.{first_broken}
 use Rattle.tsb_step.specs.Tables.{indices_for, greatest_for, place_refusal, is_as_in_table, all_as_in_table}
-use Rattle.tsb_step.specs.Laws.{IsConsistent}
+use Rattle.tsb_step.specs.Laws.{IsConsistent, IsWide}
 
 as_in_table : (o : Object) → is_as_in_table o ≡ true
 as_in_table o =
@@ -28,21 +28,24 @@ as_in_table o =
     within : order o < length objects
     within = rw length-objects (order-below o)
 
-pub same_indices : (o : Object) → indices_for 16 o ≡ indices o
-same_indices o = eqb-true (indices_for 16 o) (indices o) (and_parts (indices_for 16 o == indices o) (greatest_for 16 4 o == greatest o) (as_in_table o)).0
+pub same_indices : (o : Object) → indices_for 16 all_counts o ≡ indices o
+same_indices o =
+    eqb-true (indices_for 16 all_counts o) (indices o)
+    (and_parts (indices_for 16 all_counts o == indices o) (greatest_for 16 4 o == greatest o) (as_in_table o)).0
 
 pub same_greatest : (o : Object) → greatest_for 16 4 o ≡ greatest o
-same_greatest o = eqb-true (greatest_for 16 4 o) (greatest o) (and_parts (indices_for 16 o == indices o) (greatest_for 16 4 o == greatest o) (as_in_table o)).1
+same_greatest o =
+    eqb-true (greatest_for 16 4 o) (greatest o)
+    (and_parts (indices_for 16 all_counts o == indices o) (greatest_for 16 4 o == greatest o) (as_in_table o)).1
 
 pub memory_is_consistent : (plan : memory.Plan) → first_broken (plan_of plan) ≡ None → IsConsistent (plan_of plan)
 unfolding plan_of
 memory_is_consistent plan rules = record { rules = rules; placed = placed }
   where
-    placed : (o : Object) (i : ℕ) → (nat_le 1 i && nat_le i (indices_for 16 o)) ≡ false → value_in plan.values o i ≡ 0
+    placed : (o : Object) (i : ℕ) → (nat_le 1 i && nat_le i (indices_for 16 all_counts o)) ≡ false → value_in plan.values o i ≡ 0
     placed o i out =
         let off : has_index o i ≡ false = rw (same_indices o) at out in
         rw off refl
 
-pub same_refusal : (plan : Plan) (id : ObjectId) (v : ℕ) → plan.phase_count ≡ 16 → plan.side_count ≡ 4 →
-    place_refusal plan id v ≡ put_refusal id v
-same_refusal plan id v phases sides = rw (phases, sides, same_indices id.object, same_greatest id.object) refl
+pub same_refusal : (plan : Plan) (id : ObjectId) (v : ℕ) → IsWide plan → place_refusal plan id v ≡ put_refusal id v
+same_refusal plan id v wide = rw (wide.phases, wide.sides, wide.counts, same_indices id.object, same_greatest id.object) refl

@@ -9,14 +9,15 @@
 --
 -- A log has a form: with `recalls` the calls of phases on recall come and go in it too, and with `outputs` vehicle
 -- detectors go on and off as their outputs do, after delay and extension.
+use Rattle.tsb_types.specs.declared.limits.TheConstants.{OVERLAPS}
 use Rattle.std.specs.Prelude.{ℕ, ◌+◌, ◌-◌, ◌==◌, Bool, true, false, not, ◌&&◌, ◌||◌, if◌then◌else◌, List, [], ◌∷◌, ◌++◌, flat_map, nat_eq, nat_le, Option, Some, None, is_some, is_none}
 use Rattle.std.specs.List.{list_any}
 use Rattle.std.specs.Option.{option_eq}
 use Rattle.tsb_cells.specs.Timer.{is_below, is_on}
-use Rattle.tsb_types.specs.Events.{event, told, begins, ends, either}
+use Rattle.tsb_types.specs.Events.{event, told, told_detectors, begins, ends, either}
 use Rattle.tsb_types.specs.Intervals.{in_service, is_green, is_yellow, is_red_clear, is_walk, is_clearance}
 use Rattle.tsb_types.specs.Lists.{or_number, run_from}
-use Rattle.tsb_types.specs.Sets.{has_number}
+use Rattle.tsb_types.specs.Sets.{has_detector, has_number}
 use Rattle.tsb_types.specs.declared.event.Event.{Event}
 use Rattle.tsb_types.specs.declared.event.TheConstants.{PHASE_ON, GREEN_BEGINS, CONFLICT_BEGINS, MINIMUM_COMPLETE, GAP_OUT, MAX_OUT, FORCE_OFF, GREEN_ENDS, YELLOW_BEGINS, YELLOW_ENDS, RED_CLEARANCE_BEGINS, RED_CLEARANCE_ENDS, PHASE_OFF, WALK_BEGINS, CLEARANCE_BEGINS, DONT_WALK_BEGINS, BARRIER_CROSSED, CALL_COMES, CALL_GOES, PEDESTRIAN_CALL_COMES, OVERLAP_GREEN_BEGINS, OVERLAP_YELLOW_BEGINS, OVERLAP_RED_BEGINS, OVERLAP_OFF, VEHICLE_OFF, VEHICLE_ON, ALARM_GOES, ALARM_COMES, PEDESTRIAN_OFF, PEDESTRIAN_ON, PREEMPT_ON, PREEMPT_OFF, PREEMPT_ENTERS, TRACK_BEGINS, DWELL_BEGINS, PRESENCE_EXCEEDED, EXIT_BEGINS, PATTERN_CHANGES, CYCLE_CHANGES, OFFSET_CHANGES, SPLIT_CHANGES, FLASH_CHANGES, FREE, FLASH, NO_FLASH, CYCLE_STATE_CHANGES, CYCLE_ZERO, YIELD_POINT}
 use Rattle.tsb_types.specs.declared.interval.Interval.{Interval}
@@ -142,9 +143,9 @@ calls_now s = record {
   service_ended = false;
 }
 
--- there are overlaps 1 to 4
+-- there are overlaps of these numbers
 abbrev pub is_overlap : ℕ → Bool
-is_overlap o = nat_le 1 o && nat_le o 4
+is_overlap o = nat_le 1 o && nat_le o OVERLAPS
 
 -- some phase that the overlap includes is in service
 abbrev pub includes_service : State → ℕ → Bool
@@ -350,18 +351,18 @@ overlap_events tick was now =
 
 -- the vehicle detectors that are on in a log of this form: by their outputs, or by the inputs of a row
 abbrev pub vehicles_in : LogForm → Row → View → ℕ → Bool
-vehicles_in form row v d = if form.outputs then v.outputs d else has_number row.vehicles d
+vehicles_in form row v d = if form.outputs then v.outputs d else has_detector row.vehicles d
 
 -- vehicle detectors go off, and on; the row is the newest after the input
 abbrev pub vehicle_events : ℕ → Noted → Row → View → View → List Event
 vehicle_events tick noted row was now =
-    told tick VEHICLE_OFF (ends (vehicles_in noted.form noted.row was) (vehicles_in noted.form row now))
-    ++ told tick VEHICLE_ON (begins (vehicles_in noted.form noted.row was) (vehicles_in noted.form row now))
+    told_detectors tick VEHICLE_OFF (ends (vehicles_in noted.form noted.row was) (vehicles_in noted.form row now))
+    ++ told_detectors tick VEHICLE_ON (begins (vehicles_in noted.form noted.row was) (vehicles_in noted.form row now))
 
 -- an alarm goes, or comes
 abbrev pub alarm_events : ℕ → View → View → List Event
 alarm_events tick was now =
-    told tick ALARM_GOES (ends was.alarms now.alarms) ++ told tick ALARM_COMES (begins was.alarms now.alarms)
+    told_detectors tick ALARM_GOES (ends was.alarms now.alarms) ++ told_detectors tick ALARM_COMES (begins was.alarms now.alarms)
 
 -- pedestrian inputs of the row go off, and on
 abbrev pub button_events : ℕ → Found → List Event

@@ -3,13 +3,13 @@
 -- inputs of any kind, each of which was taken, from power-up with a plan that breaks no rule.
 --
 -- All are proved, each as the contract of a function that does nothing (src/laws.rt).
-use Rattle.std.specs.Prelude.{◌≡◌, ℕ, Bool, true, false, not, ◌&&◌, ◌||◌, List, [], ◌∷◌, Some, None, is_some, ◌⊎◌}
+use Rattle.std.specs.Prelude.{◌≡◌, ℕ, nat_le, Bool, true, false, not, ◌&&◌, ◌||◌, List, [], ◌∷◌, Some, None, is_some, ◌⊎◌}
 use Rattle.tsb_types.specs.declared.interval.PedestrianInterval.TheVariants.{DontWalk}
 use Rattle.tsb_types.specs.declared.row.Row.{Row}
 use Rattle.tsb_types.specs.Intervals.{in_service, is_green}
 use Rattle.tsb_objects.specs.tsb_plan.declared.object.Object.{Object}
 use Rattle.tsb_objects.specs.tsb_plan.declared.plan.Plan as memory
-use Rattle.tsb_objects.specs.tsb_plan.Plan.{Plan, is_concurrent}
+use Rattle.tsb_objects.specs.tsb_plan.Plan.{Plan, all_counts, is_concurrent}
 use Rattle.tsb_objects.specs.tsb_plan.declared.object.ObjectId.{ObjectId}
 use Rattle.tsb_objects.specs.tsb_plan.PlanOf.{plan_of, put_refusal}
 use Rattle.tsb_objects.specs.tsb_rules.Consistent.{AreCompatible}
@@ -17,7 +17,6 @@ use Rattle.tsb_objects.specs.tsb_rules.Rules.{first_broken}
 use Rattle.tsb_ring.specs.declared.ring_order.RingOrder.{RingOrder}
 use Rattle.tsb_ring.specs.Laws.{Agree}
 use Rattle.tsb_ring.specs.Moves.{acted, is_started}
-use Rattle.tsb_preempt.specs.Preempts.{is_preempt}
 use Rattle.tsb_preempt.specs.Service.{Service, has_track, has_dwell, has_exit, stage_phases}
 use Rattle.tsb_types.specs.declared.stage.Stage.{Stage}
 use Rattle.tsb_types.specs.declared.stage.Stage.TheVariants.{Track, Dwell, Exit}
@@ -35,6 +34,12 @@ use Rattle.tsb_step.specs.Quiet.{IsQuiet}
 pub record IsConsistent (plan : Plan) : Type 0 where
   pub rules : first_broken plan ≡ None
   pub placed : (o : Object) (i : ℕ) → has_place plan o i ≡ false → plan.value o i ≡ 0
+
+-- a plan has as many phases, sides, detectors, overlaps and preempts as a plan in memory
+pub record IsWide (plan : Plan) : Type 0 where
+  pub phases : plan.phase_count ≡ 16
+  pub sides : plan.side_count ≡ 4
+  pub counts : plan.counts ≡ all_counts
 
 -- what is said of every state of every run
 abbrev pub OfEveryRun : (State → Type 0) → Type 0
@@ -91,10 +96,14 @@ has_stage plan n Track = has_track plan n
 has_stage plan n Dwell = has_dwell plan n
 has_stage plan n Exit = has_exit plan n
 
--- the preempt in service is one of the four; the list of its stage is not empty, and names enabled phases that are
+-- the plan has a preempt of this number
+abbrev pub is_preempt_of : Plan → ℕ → Bool
+is_preempt_of plan n = nat_le 1 n && nat_le n plan.counts.preempts
+
+-- the preempt in service is one of the plan's; the list of its stage is not empty, and names enabled phases that are
 -- pairwise concurrent
 pub record HasPhases (plan : Plan) (x : Service) : Type 0 where
-  pub preempt : is_preempt x.preempt ≡ true
+  pub preempt : is_preempt_of plan x.preempt ≡ true
   pub some : has_stage plan x.preempt x.stage ≡ true
   pub compatible : AreCompatible plan (stage_phases plan x.preempt x.stage)
 
@@ -130,10 +139,9 @@ FaultsAloneTrip = (plan : Plan) (is : List Input) → IsConsistent plan → AreT
 abbrev pub MemoryIsConsistent : Type 0
 MemoryIsConsistent = (plan : memory.Plan) → first_broken (plan_of plan) ≡ None → IsConsistent (plan_of plan)
 
--- With 16 phases and 4 sides, as such a plan has, a value is refused exactly when a plan in memory refuses it.
+-- With as many of each thing as such a plan has, a value is refused exactly when a plan in memory refuses it.
 abbrev pub MemoryRefusesTheSame : Type 0
-MemoryRefusesTheSame = (plan : Plan) (id : ObjectId) (v : ℕ) → plan.phase_count ≡ 16 → plan.side_count ≡ 4 →
-    place_refusal plan id v ≡ put_refusal id v
+MemoryRefusesTheSame = (plan : Plan) (id : ObjectId) (v : ℕ) → IsWide plan → place_refusal plan id v ≡ put_refusal id v
 
 -- ## Quiet ticks
 

@@ -1,5 +1,6 @@
--- Which objects a plan takes, by its numbers of phases and sides. With 16 phases and 4 sides this is the table of
--- objects, with 8 and 2 that of version 1 of plan texts.
+-- Which objects a plan takes, by its numbers of phases, sides, detectors, overlaps and preempts. With 16 phases, 4 sides
+-- and all of the others this is the table of objects; with fewer of these it is that of version 2 of plan texts, and with
+-- 8 phases and 2 sides besides that of version 1.
 use Rattle.std.specs.Prelude.{◌≡◌, ℕ, ◌-◌, ◌*◌, ◌^◌, nat_le, ◌==◌, Bool, true, not, ◌&&◌, ◌||◌, if◌then◌else◌, Option, Some, None, refl}
 use Rattle.std.specs.List.{list_all}
 use Rattle.tsb_types.specs.declared.refusal.Refusal.{Refusal}
@@ -9,10 +10,10 @@ use Rattle.tsb_objects.specs.tsb_plan.declared.object.Object.TheVariants.{PhaseS
 use Rattle.tsb_objects.specs.tsb_plan.declared.object.ObjectId.{ObjectId}
 use Rattle.tsb_objects.specs.tsb_plan.declared.version.Version.{Version}
 use Rattle.tsb_objects.specs.tsb_plan.declared.version.TheConstants.Version.{NEWEST}
-use Rattle.tsb_objects.specs.tsb_plan.declared.version.Version.TheVariants.{One}
+use Rattle.tsb_objects.specs.tsb_plan.declared.version.Version.TheVariants.{One, Two}
 use Rattle.tsb_objects.specs.tsb_plan.Objects.{objects, indices, greatest}
-use Rattle.tsb_objects.specs.tsb_plan.Plan.{Plan}
-use Rattle.tsb_objects.specs.tsb_plan.Versions.{is_by_phase, is_in_rows, has_object, indices_in, greatest_in}
+use Rattle.tsb_objects.specs.tsb_plan.Plan.{Plan, Counts, all_counts, narrow_counts}
+use Rattle.tsb_objects.specs.tsb_plan.Versions.{is_by_phase, is_in_rows, indices_by, has_object, indices_in, greatest_in}
 
 -- the index of the object is a phase
 abbrev pub is_of_phases : Object → Bool
@@ -20,9 +21,9 @@ is_of_phases PhaseDynamicMaxLimit = true
 is_of_phases PhaseDynamicMaxStep = true
 is_of_phases o = is_by_phase o
 
--- how many indices it has, from 1 on, where there are n phases
-abbrev pub indices_for : ℕ → Object → ℕ
-indices_for n o = if is_of_phases o then n else (if is_in_rows o then 8 * n else indices o)
+-- how many indices it has, from 1 on, where there are n phases, and so many detectors, overlaps and preempts
+abbrev pub indices_for : ℕ → Counts → Object → ℕ
+indices_for n counts o = if is_of_phases o then n else (if is_in_rows o then 8 * n else indices_by counts o)
 
 -- its greatest value, where there are n phases and d sides
 abbrev pub greatest_for : ℕ → ℕ → Object → ℕ
@@ -42,9 +43,9 @@ greatest_for n d o = greatest o
 abbrev pub version_of : Plan → Version
 version_of plan = if plan.phase_count == 8 then One else NEWEST
 
--- the object has the index where there are so many phases
+-- the object has the index by the plan's own numbers
 abbrev pub has_place : Plan → Object → ℕ → Bool
-has_place plan o i = nat_le 1 i && nat_le i (indices_for plan.phase_count o)
+has_place plan o i = nat_le 1 i && nat_le i (indices_for plan.phase_count plan.counts o)
 
 -- its greatest value by the plan's own numbers of phases and sides
 abbrev pub greatest_of : Plan → Object → ℕ
@@ -57,21 +58,32 @@ place_refusal plan id v =
     then (if nat_le v (greatest_of plan id.object) then None else Some OutOfRange)
     else Some NoSuchObject
 
--- ## The two tables
+-- ## The three tables
 
--- with 16 phases and 4 sides it has as many indices and the same greatest value as in the table of objects
+-- with 16 phases, 4 sides and all of the others it has as many indices and the same greatest value as in the table of
+-- objects
 abbrev pub is_as_in_table : Object → Bool
-is_as_in_table o = (indices_for 16 o == indices o) && (greatest_for 16 4 o == greatest o)
+is_as_in_table o = (indices_for 16 all_counts o == indices o) && (greatest_for 16 4 o == greatest o)
 
 -- so has each of the objects
 pub all_as_in_table : list_all is_as_in_table objects ≡ true
 unfolding objects
 all_as_in_table = refl
 
--- with 8 phases and 2 sides it has those of version 1 of plan texts, if version 1 has the object
+-- with fewer detectors, overlaps and preempts it has those of version 2 of plan texts, if version 2 has the object
+abbrev pub is_as_in_version_2 : Object → Bool
+is_as_in_version_2 o =
+    not (has_object Two o) || ((indices_for 16 narrow_counts o == indices_in Two o) && (greatest_for 16 4 o == greatest_in Two o))
+
+-- so has each of the objects
+pub all_as_in_version_2 : list_all is_as_in_version_2 objects ≡ true
+unfolding objects
+all_as_in_version_2 = refl
+
+-- with 8 phases and 2 sides besides it has those of version 1 of plan texts, if version 1 has the object
 abbrev pub is_as_in_version_1 : Object → Bool
 is_as_in_version_1 o =
-    not (has_object One o) || ((indices_for 8 o == indices_in One o) && (greatest_for 8 2 o == greatest_in One o))
+    not (has_object One o) || ((indices_for 8 narrow_counts o == indices_in One o) && (greatest_for 8 2 o == greatest_in One o))
 
 -- so has each of the objects
 pub all_as_in_version_1 : list_all is_as_in_version_1 objects ≡ true

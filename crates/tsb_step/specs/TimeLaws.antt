@@ -32,7 +32,7 @@ use Rattle.tsb_step.specs.Runs.{replay, AreTaken}
 use Rattle.tsb_step.specs.Past.{ticks_of, pasts}
 use Rattle.tsb_step.specs.Play.{Cmd, run, records_of, remaining, AreRight}
 use Rattle.tsb_step.specs.Cells.{cells_of, state_in}
-use Rattle.tsb_step.specs.Laws.{IsConsistent, OfEveryRun}
+use Rattle.tsb_step.specs.Laws.{IsConsistent, IsWide, OfEveryRun}
 
 -- for how many ticks a test has held: how many of the newest ticks it held both before and after
 abbrev pub held_for : (State → Bool) → Plan → List Input → ℕ
@@ -139,21 +139,21 @@ CommitmentsAreWanted = OfEveryRun (λ s. (row : Row) (r : Ring) (c : ℕ) → s.
 -- what is given up in a tick changes no phase, and no head of it or of an overlap
 pub record ShowsTheSame (s t : State) : Type 0 where
   pub phases : t.phases ≡ s.phases
-  pub overlap : (o : ℕ) → IsOverlap o → overlap_head t.plan (shown t) o ≡ overlap_head s.plan (shown s) o
+  pub overlap : (o : ℕ) → IsOverlap s.plan o → overlap_head t.plan (shown t) o ≡ overlap_head s.plan (shown s) o
 
 -- each tick of every run does
 abbrev pub GivingUpShowsNothing : Type 0
 GivingUpShowsNothing = OfEveryRun (λ s. (row : Row) → ShowsTheSame (after_moves s row) (next s row))
 
--- cells tell the state after a run, of a plan of 16 phases and 4 sides and of inputs whose numbers are of the program's
+-- cells tell the state after a run, of a plan with as many of each as a plan in memory and of inputs whose numbers are of the program's
 -- types; proved in tsb_laws, of plans with no value over its object's greatest
 abbrev pub CellsTellTheState : (Input → Type 0) → Type 0
-CellsTellTheState IsTyped = (plan : Plan) (is : List Input) → IsConsistent plan → plan.phase_count ≡ 16 → plan.side_count ≡ 4 →
+CellsTellTheState IsTyped = (plan : Plan) (is : List Input) → IsConsistent plan → IsWide plan →
     AreTaken plan is → ((i : Input) → Contains is i → IsTyped i) → state_in (replay plan is).now (cells_of (replay plan is)) ≡ replay plan is
 
 -- the earlier states that records lead back to are those of the run, under the same premises; proved there too
 abbrev pub PastsAreTheRun : (Input → Type 0) → Type 0
-PastsAreTheRun IsTyped = (plan : Plan) (is : List Input) → IsConsistent plan → plan.phase_count ≡ 16 → plan.side_count ≡ 4 →
+PastsAreTheRun IsTyped = (plan : Plan) (is : List Input) → IsConsistent plan → IsWide plan →
     AreTaken plan is → ((i : Input) → Contains is i → IsTyped i) → pasts (replay plan is) (records_of plan is) ≡ run plan is
 
 -- the inputs that remain after right answers were taken, so that laws of runs hold of them
