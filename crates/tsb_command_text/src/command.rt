@@ -50,6 +50,8 @@ pub enum Reading {
     Skip,
     /// The line is not a command, or is too long.
     Bad,
+    /// Wide display lines from now on (`true`), or narrow ones: `lines wide`, `lines narrow`.
+    Lines(bool),
     /// This command.
     Do(Command),
 }

@@ -38,6 +38,8 @@ pub enum LiveCommand {
     When(RowInput),
     /// `echo on` and `echo off`: whether answers follow their command (`true`) or not.
     Echo(bool),
+    /// `lines wide` and `lines narrow`: whether display lines are wide (`true`) or not.
+    Lines(bool),
     /// `save`: prints the log and the commands by which `tsb run` comes to the present state.
     Save,
     /// `help`: prints the commands, each with what it does.

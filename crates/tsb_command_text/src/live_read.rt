@@ -6,9 +6,10 @@ ghost use Rattle.tsb_command_text.specs.LiveReadings.{live_reading};
 
 use crate::clock::{read_clock, read_time};
 use crate::live_command::{Aim, LiveCommand, LiveReading};
+use crate::read::lines_by;
 use crate::{LINE, read_command, turned_on};
 use tsb_lines::{is_skipped, next_word, number};
-use tsb_log_text::{RowInput, inputs_of};
+use tsb_log_text::{RowInput, inputs_in};
 use tsb_types::Number;
 
 /// What a line asks. The line is given without its end, and is bad where it has over `LINE` bytes.
@@ -22,7 +23,7 @@ pub fn live_reading_of(line: &[u8]) -> LiveReading
     if is_skipped(line) {
         return LiveReading::Skip;
     }
-    if let Some(row) = inputs_of(line) {
+    if let Some(row) = inputs_in(line) {
         return LiveReading::Tick(row);
     }
     match live_command(line) {
@@ -99,6 +100,9 @@ fn own_of_two(name: &[u8], word: &[u8]) -> Option<LiveCommand>
     }
     if name == b"echo".as_slice() {
         return Some(LiveCommand::Echo(turned_on(word)?));
+    }
+    if name == b"lines".as_slice() {
+        return Some(LiveCommand::Lines(lines_by(name, word)?));
     }
     None
 }

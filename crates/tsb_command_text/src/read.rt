@@ -1,7 +1,7 @@
 //! The command of a line.
 ghost use Rattle.std.specs.Prelude.{◌≡◌};
 ghost use Rattle.tsb_command_text.specs.Commands.{command_in, command_of, command_of_five, command_of_one, command_of_three, command_of_two, on_or_off, watch_of_one, watch_of_two};
-ghost use Rattle.tsb_command_text.specs.Readings.{reading};
+ghost use Rattle.tsb_command_text.specs.Readings.{lines_in, lines_of_two, reading};
 ghost use Rattle.tsb_lines.specs.Words.{words_of};
 
 use crate::clock::read_clock;
@@ -26,10 +26,40 @@ pub fn reading_of(line: &[u8]) -> Reading
     if is_skipped(line) {
         return Reading::Skip;
     }
+    if let Some(is_wide) = lines_of(line) {
+        return Reading::Lines(is_wide);
+    }
     match of_words(line) {
         None => Reading::Bad,
         Some(command) => Reading::Do(command),
     }
+}
+
+/// How a line lays out display lines, if it does.
+fn lines_of(line: &[u8]) -> Option<bool>
+    ensures { result ≡ lines_in (words_of line.now) }
+{
+    let (name, rest) = next_word(line)?;
+    let (word, rest) = next_word(rest)?;
+    if next_word(rest).is_some() {
+        return None;
+    }
+    lines_by(name, word)
+}
+
+/// How these words lay out display lines, if they do: `true` for `lines wide`, `false` for `lines narrow`.
+#[tactic(auto, unfolding(crate::specs::Readings::lines_of_two))]
+pub(crate) fn lines_by(name: &[u8], word: &[u8]) -> Option<bool>
+    ensures { result ≡ lines_of_two name.now word.now }
+{
+    if !is(name, b"lines") {
+        return None;
+    }
+    let is_wide = is(word, b"wide");
+    if is_wide || is(word, b"narrow") {
+        return Some(is_wide);
+    }
+    None
 }
 
 /// The command of a line. The line is given without its end. `None` where it is not a command: also where the line is

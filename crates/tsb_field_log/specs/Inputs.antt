@@ -1,5 +1,6 @@
 -- Inputs of a bench, the channels of a controller that lead to them, and when a channel is on.
 use Rattle.std.specs.Prelude.{ℕ, ◌==◌, ◌&&◌, ◌||◌, nat_le, nat_lt, Bool, true, false, List, [], ◌∷◌, if◌then◌else◌, Option, Some, None}
+use Rattle.tsb_log_text.specs.tsb_types.declared.limits.TheConstants.{PEDESTRIAN_DETECTORS, PREEMPTS, VEHICLE_DETECTORS}
 use Rattle.tsb_field_log.specs.declared.inputs.InputKind.{InputKind}
 use Rattle.tsb_field_log.specs.declared.inputs.InputKind.TheVariants.{Vehicle, Pedestrian, Preempt}
 use Rattle.tsb_field_log.specs.declared.inputs.Wire.{Wire}
@@ -8,9 +9,15 @@ use Rattle.tsb_field_log.specs.declared.inputs.InputEvent.{InputEvent}
 
 -- how many inputs of this kind there are
 abbrev pub most_inputs : InputKind → ℕ
-most_inputs Vehicle = 16
-most_inputs Pedestrian = 8
-most_inputs Preempt = 4
+most_inputs Vehicle = VEHICLE_DETECTORS
+most_inputs Pedestrian = PEDESTRIAN_DETECTORS
+most_inputs Preempt = PREEMPTS
+
+-- how many of them a row in digits has
+abbrev pub inputs_in_digits : InputKind → ℕ
+inputs_in_digits Vehicle = 16
+inputs_in_digits Pedestrian = 8
+inputs_in_digits Preempt = 4
 
 -- the kinds are one
 abbrev pub is_same_kind : InputKind → InputKind → Bool

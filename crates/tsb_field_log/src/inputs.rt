@@ -1,6 +1,8 @@
 //! Inputs of a bench, and what events say of them.
 ghost use Rattle.std.specs.Prelude.{◌≡◌};
-ghost use Rattle.tsb_field_log.specs.Inputs.{is_of, most_inputs, signal_of};
+ghost use Rattle.tsb_field_log.specs.Inputs.{inputs_in_digits, is_of, most_inputs, signal_of};
+
+use tsb_types::limits::{PEDESTRIAN_DETECTORS, PREEMPTS, VEHICLE_DETECTORS};
 
 /// A kind of input.
 #[derive(Clone, Copy, PartialEq, Eq)]
@@ -17,6 +19,20 @@ impl InputKind {
     /// How many inputs of this kind a bench has.
     pub fn most(self) -> u8
         ensures { result ≡ most_inputs self }
+    {
+        match self {
+            InputKind::Vehicle => VEHICLE_DETECTORS,
+            InputKind::Pedestrian => PEDESTRIAN_DETECTORS,
+            InputKind::Preempt => PREEMPTS,
+        }
+    }
+}
+
+impl InputKind {
+    /// How many inputs of this kind a row in digits has. Channels up to this number lead to the inputs of their own numbers
+    /// where nothing is mapped.
+    pub fn digits(self) -> u8
+        ensures { result ≡ inputs_in_digits self }
     {
         match self {
             InputKind::Vehicle => 16,

@@ -49,7 +49,7 @@ impl Stream<'_> {
         };
         self.line.clear();
         self.number = self.number.saturating_add(1);
-        write_rows(writer, rows)
+        write_rows(writer, self.filter.form(), rows)
     }
 
     /// Takes the rest of a line, up to its line feed.
@@ -116,7 +116,7 @@ impl Stream<'_> {
         ensures memory { HasMemory result }
     {
         match self.filter.take_line(self.number, self.line.last()) {
-            Ok(rows) => write_rows(writer, rows),
+            Ok(rows) => write_rows(writer, self.filter.form(), rows),
             Err(fault) => Err(fault),
         }
     }
@@ -130,11 +130,12 @@ impl Stream<'_> {
         ensures memory { HasMemory result }
     {
         let summary = self.filter.summary();
+        let form = self.filter.form();
         let rest = match self.filter.finish() {
             Ok(rest) => rest,
             Err(fault) => return Err(fault),
         };
-        match write_last_rows(writer, rest) {
+        match write_last_rows(writer, form, rest) {
             Ok(()) => Ok(summary),
             Err(fault) => Err(fault),
         }
@@ -153,7 +154,7 @@ impl Stream<'_> {
                 Ok(rows) => rows,
                 Err(fault) => return Err(fault),
             };
-            match write_rows(writer, rows) {
+            match write_rows(writer, self.filter.form(), rows) {
                 Ok(()) => {}
                 Err(fault) => return Err(fault),
             }

@@ -1,7 +1,13 @@
 -- the line of 38 bytes that spells a row of inputs
 pub mod Rows
+-- the line that spells a row by lists
+pub mod RowLists
+-- the two forms of a log
+pub mod Forms
 -- the text of rows
 pub mod LogText
+-- the text of rows by lists
+pub mod ListText
 -- whether one of the inputs of a row is on
 pub mod RowInputs
 -- the rows of a text or its first error, and the row in force at a tick

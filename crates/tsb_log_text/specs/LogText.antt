@@ -1,8 +1,9 @@
 -- The text of a log: for each row a line of 38 bytes, and its line feed.
-use Rattle.std.specs.Prelude.{ℕ, zero, suc, ◌^◌, ◌<◌, ◌≤◌, Bool, true, false, List, [], ◌∷◌, ◌++◌}
+use Rattle.std.specs.Prelude.{ℕ, zero, suc, ◌^◌, ◌%◌, ◌<◌, ◌≤◌, Bool, true, false, List, [], ◌∷◌, ◌++◌}
 use Rattle.tsb_lines.specs.Digits.{seven_digits}
-use Rattle.tsb_types.specs.Sets.{has_number}
+use Rattle.tsb_types.specs.Sets.{has_number, set_of_list}
 use Rattle.tsb_types.specs.declared.limits.TheConstants.{TICKS}
+use Rattle.tsb_types.specs.declared.detector_set.DetectorSet.{DetectorSet}
 use Rattle.tsb_types.specs.declared.number_set.NumberSet.{NumberSet}
 use Rattle.tsb_types.specs.declared.row.Row.{Row}
 use Rattle.tsb_log_text.specs.declared.log.LogRow.{LogRow}
@@ -21,10 +22,14 @@ marks (suc n) on = mark (on 0) ∷ marks n (λ k. on (suc k))
 abbrev pub set_marks : ℕ → NumberSet → List ℕ
 set_marks n set = marks n (λ k. has_number set (suc k))
 
+-- those of a set of vehicle detectors that are 1 to 16, which a row in digits has
+abbrev pub first_detectors : DetectorSet → NumberSet
+first_detectors on = set_of_list (on.word % 65536)
+
 -- the line of a row
 unfoldable pub row_line : LogRow → List ℕ
 row_line r =
-    seven_digits r.tick ++ (32 ∷ set_marks 16 r.row.vehicles ++ (32 ∷ set_marks 8 r.row.pedestrians ++ (32 ∷ set_marks 4 r.row.preempts)))
+    seven_digits r.tick ++ (32 ∷ set_marks 16 (first_detectors r.row.vehicles) ++ (32 ∷ set_marks 8 r.row.pedestrians ++ (32 ∷ set_marks 4 r.row.preempts)))
 
 -- the text of these rows
 unfoldable pub log_text : List LogRow → List ℕ

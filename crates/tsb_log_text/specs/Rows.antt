@@ -2,7 +2,7 @@
 use Rattle.std.specs.Prelude.{ℕ, ◌+◌, ◌*◌, ◌==◌, ◌&&◌, nat_le, List, [], ◌∷◌, if◌then◌else◌, length, take, drop, slice_index, Bool, Option, Some, None}
 use Rattle.tsb_lines.specs.Words.{number_of}
 use Rattle.tsb_types.specs.declared.limits.TheConstants.{TICKS}
-use Rattle.tsb_types.specs.Sets.{set_of_list}
+use Rattle.tsb_types.specs.Sets.{set_of_detectors, set_of_list}
 use Rattle.tsb_types.specs.declared.row.Row.{Row}
 use Rattle.tsb_log_text.specs.declared.log.LogRow.{LogRow}
 
@@ -35,7 +35,7 @@ has_space place line = slice_index line place == 32
 
 -- inputs where all three lists are spelled, otherwise none
 abbrev pub inputs_with : Option ℕ → Option ℕ → Option ℕ → Option Row
-inputs_with (Some v) (Some p) (Some e) = Some (record { vehicles = set_of_list v; pedestrians = set_of_list p; preempts = set_of_list e })
+inputs_with (Some v) (Some p) (Some e) = Some (record { vehicles = set_of_detectors v; pedestrians = set_of_list p; preempts = set_of_list e })
 inputs_with v p e = None
 
 -- the inputs of a row: 16 digits for vehicle detectors, 8 for pedestrian detectors and 4 for preempt inputs, with a

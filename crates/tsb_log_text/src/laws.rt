@@ -1,5 +1,5 @@
 //! What holds of every log, each law the contract of a function that does nothing.
-ghost use Rattle.tsb_log_text.specs.Laws.{AreInForce, AreMalformedThere, AreOffBefore, AreOutOfOrderThere, AreTheRows, TellTheirInputs};
+ghost use Rattle.tsb_log_text.specs.Laws.{AreInForce, AreMalformedThere, AreOffBefore, AreOutOfOrderThere, AreReadByDigits, AreReadByLists, AreReadInTheirForm, AreTheRows, AreTwoForms, HaveOneForm, ReadsVersion1, TellTheirInputs};
 
 /// A text is a log exactly where its lines that are not skipped spell rows whose ticks rise. These are its rows, and a
 /// fault is at the first line that has one.
@@ -29,4 +29,26 @@ pub fn rows_are_in_force_to_the_next()
 /// Witness: `is_input_2`, `names_2` of Mistakes.
 pub fn digits_tell_their_inputs()
     ensures { TellTheirInputs }
+{}
+
+/// A log has one of two forms, digits or lists, and no line is a row of both. A text whose first row is of digits is read as
+/// before there were lists.
+///
+/// Mistake: a row may have either form, `rows_of_either` (`stays_in_form`, `would_mix`).
+/// Witness: `by_lists` of Mistakes, a row of lists.
+pub fn logs_have_one_form()
+    ensures apart { AreTwoForms }
+    ensures one { HaveOneForm }
+    ensures version_1 { ReadsVersion1 }
+{}
+
+/// Rows that rise are read back from their text: by digits where these have one for each input that is on, by lists all
+/// rows that there are, and so all that there are in the form of `form_for`.
+///
+/// Mistake: a run of two is written as its first number alone, `short_runs` (`has_2`, `would_lose_2`).
+/// Witness: `by_lists` of Mistakes.
+pub fn rows_are_read_back()
+    ensures digits { AreReadByDigits }
+    ensures lists { AreReadByLists }
+    ensures own { AreReadInTheirForm }
 {}

@@ -1,11 +1,11 @@
 //! The line of a row of a log.
 ghost use Rattle.std.specs.Prelude.{◌≡◌, ◌≤◌, ◌++◌, ◌∷◌, []};
 ghost use Rattle.tsb_types.specs.Sets.{has_number};
-ghost use Rattle.tsb_log_text.specs.LogText.{mark, row_line, set_marks};
+ghost use Rattle.tsb_log_text.specs.LogText.{first_detectors, mark, row_line, set_marks};
 
 use crate::log::LogRow;
 use tsb_lines::{ShortLine, seven_digits};
-use tsb_types::NumberSet;
+use tsb_types::{DetectorSet, NumberSet};
 
 /// The length of the line of a row, with its line feed, in bytes.
 const LINE: usize = 39;
@@ -22,7 +22,7 @@ pub fn row_line(row: LogRow) -> RowLine
     let mut line = RowLine::new();
     line.push(&seven_digits(row.tick));
     line.push(b" ");
-    line.push(&marks::<16>(row.row.vehicles));
+    line.push(&marks::<16>(first_detectors(row.row.vehicles)));
     line.push(b" ");
     line.push(&marks::<8>(row.row.pedestrians));
     line.push(b" ");
@@ -43,4 +43,11 @@ fn marks<const N: usize>(on: NumberSet) -> [u8; N]
         }
     }
     all
+}
+
+/// Those of a set that are 1 to 16.
+fn first_detectors(on: DetectorSet) -> NumberSet
+    ensures { result ≡ first_detectors on }
+{
+    NumberSet::from_list((on.list() % 65_536) as u16)
 }

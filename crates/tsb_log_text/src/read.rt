@@ -4,8 +4,8 @@ ghost use Rattle.tsb_log_text.specs.Logs.{Gives, HasRow, log_of};
 ghost use Rattle.tsb_log_text.specs.Steps.{ReadSo, Stepped};
 
 use crate::error::LogError;
+use crate::form::{RowForm, form_of, row_in};
 use crate::log::{Log, LogRow};
-use crate::row_text::row;
 use std::alloc::Global;
 use tsb_lines::{is_skipped, next_line};
 
@@ -38,12 +38,13 @@ fn read_rows(rows: &mut Vec<LogRow>, text: &[u8]) -> Result<(), LogError>
     ensures reads { ReadSo result text.now rows.new.items }
     ensures wanting { result ≡ Err LogError.Memory → vec_capacity rows.new ≤ vec_len rows.new }
 {
+    let form = form_of(text);
     let mut last = 0;
     let mut number = 1;
     let mut rest = text;
     loop {
         let (line, behind) = next_line(rest);
-        last = step(rows, last, number, line)?;
+        last = step(rows, form, last, number, line)?;
         let Some(more) = behind else {
             return Ok(());
         };
@@ -52,16 +53,22 @@ fn read_rows(rows: &mut Vec<LogRow>, text: &[u8]) -> Result<(), LogError>
     }
 }
 
-/// Adds the row of a line, unless the line is skipped. `last` is the tick of the row before it, or 0, and the
+/// Adds the row of a line in this form, unless the line is skipped. `last` is the tick of the row before it, or 0, and the
 /// result is that of the last row now. It runs out of memory only where there is no room for the row.
-fn step(rows: &mut Vec<LogRow>, last: u32, number: u32, line: &[u8]) -> Result<u32, LogError>
-    ensures reads { Stepped result rows.old.items last number line.now rows.new.items }
+fn step(
+    rows: &mut Vec<LogRow>,
+    form: RowForm,
+    last: u32,
+    number: u32,
+    line: &[u8],
+) -> Result<u32, LogError>
+    ensures reads { Stepped form result rows.old.items last number line.now rows.new.items }
     ensures wanting { result ≡ Err LogError.Memory → vec_capacity rows.new ≤ vec_len rows.new }
 {
     if is_skipped(line) {
         return Ok(last);
     }
-    let Some(row) = row(line) else {
+    let Some(row) = row_in(form, line) else {
         return Err(LogError::Malformed(number));
     };
     if row.tick <= last {

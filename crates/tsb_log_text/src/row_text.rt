@@ -5,7 +5,7 @@ ghost use Rattle.tsb_log_text.specs.Rows.{inputs_of, list_in_digits, row_of, tic
 use crate::log::LogRow;
 use tsb_lines::number;
 use tsb_types::limits::TICKS;
-use tsb_types::{NumberSet, Row};
+use tsb_types::{DetectorSet, NumberSet, Row};
 
 /// The row that a line spells, or `None` where it is not a row.
 #[tactic(auto, unfolding(crate::specs::Rows::row_of))]
@@ -34,13 +34,14 @@ pub fn inputs_of(digits: &[u8]) -> Option<Row>
     let pedestrians = list(&digits[17..25])?;
     let preempts = list(&digits[26..30])?;
     Some(Row {
-        vehicles: NumberSet::from_list(vehicles),
+        vehicles: DetectorSet::from_list(u64::from(vehicles)),
         pedestrians: NumberSet::from_list(pedestrians),
         preempts: NumberSet::from_list(preempts),
     })
 }
 
-fn tick(digits: &[u8]) -> Option<u32>
+/// The tick that digits spell: 1 to the last of a bench.
+pub(crate) fn tick(digits: &[u8]) -> Option<u32>
     ensures { result ≡ tick_of digits.now }
 {
     let tick = number(digits)?;
