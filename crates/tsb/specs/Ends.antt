@@ -2,7 +2,7 @@
 --
 -- `before` and `after` are what is seen of all devices; of the output alone that is `old` and `new`, and of faults `told`
 -- and `tells`.
-use Rattle.std.specs.Prelude.{◌≡◌, ◌⊎◌, ℕ, true, List, [], Option, None, Result, Ok, Err, codes}
+use Rattle.std.specs.Prelude.{◌≡◌, ◌⊎◌, ℕ, true, false, List, [], Option, None, Result, Ok, Err, codes}
 use Rattle.tsb_words.specs.declared.bench.Asked.{Asked}
 use Rattle.tsb_words.specs.declared.bench.Asked.TheVariants as asks
 use Rattle.tsb_words.specs.declared.error.WordsError.{WordsError}
@@ -73,12 +73,12 @@ Stops status plan log files told tells =
 -- answered
 abbrev pub Ran : ℕ → (plan log : List ℕ) → (List ℕ → Option (List ℕ)) → (before after : Devices) → Type 0
 Ran status plan log files before after =
-    ((given : Setup) × HasPlan (files plan) given.plan × HasLog (files log) given.log × (given.acts ≡ true) × Talked status given before after)
+    ((given : Setup) × HasPlan (files plan) given.plan × HasLog (files log) given.log × (given.acts ≡ true) × (given.is_wide ≡ false) × Talked status given before after)
     ⊎ OnlyTells (Stops status plan log files) before after
 
 -- how the built-in plan of two phases was run with an empty log
 abbrev pub RanBuiltIn : ℕ → (before after : Devices) → Type 0
-RanBuiltIn status before after = Talked status (record { plan = two; log = []; acts = true }) before after
+RanBuiltIn status before after = Talked status (record { plan = two; log = []; acts = true; is_wide = false }) before after
 
 -- what was done for what the words ask, where files has the known bytes of each path
 abbrev pub Did : Result Asked WordsError → ℕ → (List ℕ → Option (List ℕ)) → (before after : Devices) → Type 0

@@ -124,7 +124,7 @@ fn talk<R: Read, W: Write, E: Write>(
     requires reads { streams.old.input.failed ≡ false }
     requires writes { streams.old.output.failed ≡ false }
     requires flushed { streams.old.output.flushed ≡ true }
-    ensures { Talked result (record { plan = checked_plan plan; log = log.now; acts = true }) streams.old streams.new }
+    ensures { Talked result (record { plan = checked_plan plan; log = log.now; acts = true; is_wide = false }) streams.old streams.new }
 {
     match session(
         alloc,

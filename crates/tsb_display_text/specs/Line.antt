@@ -1,7 +1,7 @@
 -- The display line, 53 bytes wide (profile): the tick number, the vehicle heads of phases 1 to 16, their pedestrian
 -- heads, the heads of overlaps 1 to 4, the preempt in service, and the local counter of the pattern that runs, in
--- tenths of a second.
-use Rattle.std.specs.Prelude.{ℕ, ◌+◌, List, [], ◌∷◌, ◌++◌, map, Option, Some, None, codes}
+-- tenths of a second. A wide line, 70 bytes, has the heads of overlaps 1 to 16 behind it.
+use Rattle.std.specs.Prelude.{ℕ, ◌+◌, Bool, if◌then◌else◌, List, [], ◌∷◌, ◌++◌, map, Option, Some, None, codes}
 use Rattle.tsb_lines.specs.Digits.{digit, seven_digits}
 use Rattle.tsb_types.specs.declared.lamp.Aspect.{Aspect}
 use Rattle.tsb_types.specs.declared.lamp.Aspect.TheVariants.{Dark, Red, Yellow, Green, FlashingRed}
@@ -45,7 +45,11 @@ pedestrian_field pedestrian = map (λ p. pedestrian_letter (pedestrian p)) (run_
 abbrev pub overlap_field : (ℕ → Aspect) → List ℕ
 overlap_field overlap = map (λ o. letter (overlap o)) (run_from 1 4)
 
--- the number of the preempt in service, 0 where none is; one digit, as there are preempts 1 to 4
+-- 16 letters, that of overlap 1 first
+abbrev pub wide_overlap_field : (ℕ → Aspect) → List ℕ
+wide_overlap_field overlap = map (λ o. letter (overlap o)) (run_from 1 16)
+
+-- the number of the preempt in service, 0 where none is; one digit, as there are preempts 1 to 8
 abbrev pub preempt_digit : Option ℕ → ℕ
 preempt_digit None = 48
 preempt_digit (Some n) = 48 + n
@@ -62,3 +66,11 @@ unfoldable pub line_of : ℕ → Heads → Option ℕ → Option ℕ → List �
 line_of now heads preempt local =
     tick_field now ++ (32 ∷ vehicle_field heads.vehicle ++ (32 ∷ pedestrian_field heads.pedestrian
     ++ (32 ∷ overlap_field heads.overlap ++ (32 ∷ preempt_digit preempt ∷ 32 ∷ local_field local))))
+
+-- the wide line
+unfoldable pub wide_line_of : ℕ → Heads → Option ℕ → Option ℕ → List ℕ
+wide_line_of now heads preempt local = line_of now heads preempt local ++ (32 ∷ wide_overlap_field heads.overlap)
+
+-- the line, or the wide one
+abbrev pub line_in : Bool → ℕ → Heads → Option ℕ → Option ℕ → List ℕ
+line_in is_wide now heads preempt local = if is_wide then wide_line_of now heads preempt local else line_of now heads preempt local

@@ -1,10 +1,10 @@
 //! The display line, field by field.
-ghost use Rattle.std.specs.Prelude.{◌≡◌, ◌+◌, ◌≤◌, ◌++◌, take, drop};
+ghost use Rattle.std.specs.Prelude.{◌≡◌, ◌+◌, ◌≤◌, ◌++◌, IfSome, take, drop};
 ghost use Rattle.std.specs.Str.{IsUtf8};
 ghost use Rattle.tsb_heads.specs.Heads.{Heads};
 ghost use Rattle.tsb_heads.specs.Reading.{heads_of};
 ghost use Rattle.tsb_display_text.specs.Letters.{AreOf};
-ghost use Rattle.tsb_display_text.specs.Line.{line_of};
+ghost use Rattle.tsb_display_text.specs.Line.{line_of, wide_line_of};
 
 use crate::letters::Letters;
 use crate::numbers::{local_digits, preempt_digit};
@@ -16,8 +16,14 @@ use tsb_types::Preempt;
 /// The length of a display line, in bytes.
 pub const WIDTH: usize = 53;
 
+/// The length of a wide display line, in bytes.
+pub const WIDE: usize = 70;
+
 /// The bytes of a display line.
 pub type LineBytes = [u8; WIDTH];
+
+/// The bytes of a wide display line.
+pub(crate) type WideBytes = [u8; WIDE];
 
 /// Where the tick number begins.
 pub(crate) const TICK: usize = 0;
@@ -31,7 +37,7 @@ const VEHICLES: usize = 8;
 /// Where the letters of pedestrian heads begin.
 const PEDESTRIANS: usize = 25;
 
-/// Where the letters of overlaps begin.
+/// Where the letters of overlaps 1 to 4 begin.
 const OVERLAPS: usize = 42;
 
 /// Where the preempt in service is.
@@ -39,6 +45,9 @@ pub(crate) const PREEMPT: usize = 47;
 
 /// Where the local counter begins.
 pub(crate) const LOCAL: usize = 49;
+
+/// Where the letters of overlaps 1 to 16 begin.
+const ALL_OVERLAPS: usize = 54;
 
 /// The display line as text, without a line feed: `line_bytes`. It takes no memory.
 pub fn line(
@@ -67,7 +76,8 @@ pub fn line(
 /// - the preempt in service, or 0;
 /// - the local counter, in tenths of a second, in 4 digits, or `----` where no pattern runs.
 ///
-/// A number of more digits shows only the last ones; a tick number has at most 7, and a local counter at most 4.
+/// A number of more digits shows only the last ones; a tick number has at most 7, and a local counter at most 4. A wide
+/// line has a seventh field: a letter for each of overlaps 1 to 16.
 pub fn line_bytes(
     now: u32,
     heads: &Display,
@@ -77,34 +87,47 @@ pub fn line_bytes(
     ensures line { result ≡ line_of now (heads_of heads.now) preempt local }
     ensures text { IsUtf8 result }
 {
-    bytes_of(now, &Letters::of(heads), preempt, local)
+    let wide = bytes_of(now, &Letters::of(heads), preempt, local);
+    let mut bytes = [b' '; WIDTH];
+    bytes.copy_from_slice(&wide[..WIDTH]);
+    bytes
 }
 
-/// The bytes of the display line with these letters.
+/// The bytes of the wide display line with these letters.
 #[inline(always)]
 pub(crate) fn bytes_of(
     now: u32,
     letters: &Letters,
     preempt: Option<Preempt>,
     local: Option<u32>,
-) -> LineBytes
-    ensures line { (heads : Heads) → AreOf letters.now heads → result ≡ line_of now heads preempt local }
+) -> WideBytes
+    ensures line { (heads : Heads) → AreOf letters.now heads → result ≡ wide_line_of now heads preempt local }
     ensures text { (heads : Heads) → AreOf letters.now heads → IsUtf8 result }
+    ensures known { IfSome preempt (λ n. n ≤ 8) }
 {
-    let mut bytes = [b' '; WIDTH];
+    let mut bytes = [b' '; WIDE];
     put(&mut bytes, TICK, &seven_digits(now));
     put(&mut bytes, VEHICLES, &letters.vehicles);
     put(&mut bytes, PEDESTRIANS, &letters.pedestrians);
-    put(&mut bytes, OVERLAPS, &letters.overlaps);
+    put(&mut bytes, OVERLAPS, &first_four(&letters.overlaps));
     bytes[PREEMPT] = preempt_digit(preempt);
     put(&mut bytes, LOCAL, &local_digits(local));
+    put(&mut bytes, ALL_OVERLAPS, &letters.overlaps);
     bytes
+}
+
+/// The first four of these letters.
+#[inline(always)]
+fn first_four(letters: &[u8; 16]) -> [u8; 4]
+    ensures { result ≡ take 4 letters.now }
+{
+    [letters[0], letters[1], letters[2], letters[3]]
 }
 
 /// Puts a field into a line from `at` on.
 #[inline(always)]
-pub(crate) fn put<const N: usize>(bytes: &mut LineBytes, at: usize, field: &[u8; N])
-    requires { at + N ≤ 53 }
+pub(crate) fn put<const N: usize>(bytes: &mut WideBytes, at: usize, field: &[u8; N])
+    requires { at + N ≤ 70 }
     ensures { bytes.new ≡ take at bytes.old ++ (field.now ++ drop (at + N) bytes.old) }
 {
     bytes[at..at + N].copy_from_slice(field);

@@ -3,7 +3,7 @@ ghost use Rattle.std.specs.Prelude.{◌≡◌, ℕ, ◌+◌, ◌<◌, ◌≤◌,
 ghost use Rattle.tsb_types.specs.Sets.{has, has_number};
 ghost use Rattle.tsb_heads.specs.Reading.{heads_of};
 ghost use Rattle.tsb_display_text.specs.Letters.{AreOf};
-ghost use Rattle.tsb_display_text.specs.Line.{vehicle_field, pedestrian_field, overlap_field};
+ghost use Rattle.tsb_display_text.specs.Line.{vehicle_field, pedestrian_field, wide_overlap_field};
 
 use tsb_heads::Display;
 use tsb_types::{NumberSet, PhaseSet};
@@ -15,8 +15,8 @@ pub(crate) struct Letters {
     pub(crate) vehicles: [u8; 16],
     /// Those of the pedestrian heads of phases 1 to 16.
     pub(crate) pedestrians: [u8; 16],
-    /// Those of the heads of overlaps 1 to 4.
-    pub(crate) overlaps: [u8; 4],
+    /// Those of the heads of overlaps 1 to 16.
+    pub(crate) overlaps: [u8; 16],
 }
 
 impl Letters {
@@ -85,12 +85,12 @@ fn pedestrian_letters(heads: &Display) -> [u8; 16]
     with_letter(clear, numbers_of(heads.walks()), b'W')
 }
 
-/// The letters of the heads of overlaps 1 to 4.
+/// The letters of the heads of overlaps 1 to 16.
 #[inline(always)]
-fn overlap_letters(heads: &Display) -> [u8; 4]
-    ensures { result ≡ overlap_field (heads_of heads.now).overlap }
+fn overlap_letters(heads: &Display) -> [u8; 16]
+    ensures { result ≡ wide_overlap_field (heads_of heads.now).overlap }
 {
-    let dark = [DARK; 4];
+    let dark = [DARK; 16];
     let red = with_letter(dark, heads.overlap_reds(), b'R');
     let yellow = with_letter(red, heads.overlap_yellows(), b'Y');
     let green = with_letter(yellow, heads.overlap_greens(), b'G');

@@ -9,7 +9,7 @@ use tsb_types::Preempt;
 #[inline(always)]
 pub(crate) fn preempt_digit(preempt: Option<Preempt>) -> u8
     ensures digit { result ≡ preempt_digit preempt }
-    ensures known { IfSome preempt (λ n. n ≤ 4) }
+    ensures known { IfSome preempt (λ n. n ≤ 8) }
 {
     match preempt {
         Some(n) => b'0' + n.number(),

@@ -1,7 +1,9 @@
 -- The bands of a diagram, and what each shows.
 use Rattle.std.specs.Prelude.{ℕ, nat_le, Bool, ◌&&◌, if◌then◌else◌, Option}
 use Rattle.tsb_types.specs.Lists.{is}
-use Rattle.tsb_types.specs.Sets.{has_number}
+use Rattle.tsb_types.specs.Sets.{has_detector, has_number}
+use Rattle.tsb_types.specs.declared.detector_set.DetectorSet.{DetectorSet}
+use Rattle.tsb_types.specs.declared.limits.TheConstants.{VEHICLE_DETECTORS}
 use Rattle.tsb_types.specs.declared.number_set.NumberSet.{NumberSet}
 use Rattle.tsb_field_display.specs.Events.{is_in_flash}
 use Rattle.tsb_field_display.specs.declared.shown.PedestrianHeads.{PedestrianHeads}
@@ -19,6 +21,10 @@ use Rattle.tsb_field_diagram.specs.declared.band.BandMark.TheVariants as marks
 -- a set of numbers from 1 to 16 has the number
 abbrev pub shows : NumberSet → ℕ → Bool
 shows set n = nat_le 1 n && (nat_le n 16 && has_number set n)
+
+-- a set of vehicle detectors has the number
+abbrev pub shows_detector : DetectorSet → ℕ → Bool
+shows_detector set n = nat_le 1 n && (nat_le n VEHICLE_DETECTORS && has_detector set n)
 
 -- what a vehicle head shows
 abbrev pub vehicle_mark : ℕ → VehicleHeads → BandMark
@@ -65,7 +71,7 @@ input_mark kinds.Flash n row = marks.Dark
 input_mark kinds.Vehicle n row = marks.Dark
 input_mark kinds.Pedestrian n row = marks.Dark
 input_mark kinds.Overlap n row = marks.Dark
-input_mark kinds.VehicleInput n row = on_mark (shows row.vehicles n)
+input_mark kinds.VehicleInput n row = on_mark (shows_detector row.vehicles n)
 input_mark kinds.PedestrianInput n row = on_mark (shows row.pedestrians n)
 input_mark kinds.PreemptInput n row = on_mark (shows row.preempts n)
 

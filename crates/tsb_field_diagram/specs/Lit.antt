@@ -3,6 +3,7 @@ use Rattle.std.specs.Prelude.{ℕ, zero, suc, ◌+◌, Bool, not, ◌||◌, if�
 use Rattle.std.specs.List.{list_any}
 use Rattle.tsb_field_display.specs.declared.shown.Shown.{Shown}
 use Rattle.tsb_log_text.specs.declared.log.LogRow.{LogRow}
+use Rattle.tsb_types.specs.declared.limits.TheConstants.{OVERLAPS, PEDESTRIAN_DETECTORS, PREEMPTS, VEHICLE_DETECTORS}
 use Rattle.tsb_field_diagram.specs.declared.band.Band.{Band}
 use Rattle.tsb_field_diagram.specs.declared.band.BandKind.{BandKind}
 use Rattle.tsb_field_diagram.specs.declared.band.BandKind.TheVariants as kinds
@@ -46,6 +47,6 @@ phases_on changes rows before (suc count) =
 -- those of a diagram, from top to bottom
 abbrev pub bands_of : List Shown → List LogRow → List Band
 bands_of changes rows =
-    bands_on changes rows kinds.Preempt 0 4 ++ (bands_on changes rows kinds.Flash 0 1 ++ (phases_on changes rows 0 16
-    ++ (bands_on changes rows kinds.Overlap 0 4 ++ (bands_on changes rows kinds.VehicleInput 0 16
-    ++ (bands_on changes rows kinds.PedestrianInput 0 8 ++ bands_on changes rows kinds.PreemptInput 0 4)))))
+    bands_on changes rows kinds.Preempt 0 PREEMPTS ++ (bands_on changes rows kinds.Flash 0 1 ++ (phases_on changes rows 0 16
+    ++ (bands_on changes rows kinds.Overlap 0 OVERLAPS ++ (bands_on changes rows kinds.VehicleInput 0 VEHICLE_DETECTORS
+    ++ (bands_on changes rows kinds.PedestrianInput 0 PEDESTRIAN_DETECTORS ++ bands_on changes rows kinds.PreemptInput 0 PREEMPTS)))))

@@ -2,11 +2,12 @@
 ghost use Rattle.std.specs.Prelude.{◌≡◌};
 ghost use Rattle.tsb_types.specs.Lists.{is};
 ghost use Rattle.tsb_field_display.specs.Events.{is_in_flash};
-ghost use Rattle.tsb_field_diagram.specs.Bands.{flash_mark, mark_in_change, mark_in_row, on_mark, pedestrian_mark, served_mark, shows, vehicle_mark};
+ghost use Rattle.tsb_field_diagram.specs.Bands.{flash_mark, mark_in_change, mark_in_row, on_mark, pedestrian_mark, served_mark, shows, shows_detector, vehicle_mark};
 
 use tsb_field_display::{PedestrianHeads, Shown, Signals, VehicleHeads};
 use tsb_log_text::LogRow;
-use tsb_types::NumberSet;
+use tsb_types::limits::VEHICLE_DETECTORS;
+use tsb_types::{DetectorSet, NumberSet};
 
 /// How high a band is.
 pub(crate) const BAND: u128 = 16;
@@ -86,7 +87,7 @@ pub(crate) fn mark_in_row(band: Band, row: &LogRow) -> BandMark
     ensures { result ≡ mark_in_row band row.now }
 {
     match band.kind {
-        BandKind::VehicleInput => on_mark(shows(row.row.vehicles, band.number)),
+        BandKind::VehicleInput => on_mark(shows_detector(row.row.vehicles, band.number)),
         BandKind::PedestrianInput => on_mark(shows(row.row.pedestrians, band.number)),
         BandKind::PreemptInput => on_mark(shows(row.row.preempts, band.number)),
         _ => BandMark::Dark,
@@ -164,4 +165,11 @@ fn shows(set: NumberSet, number: u8) -> bool
     ensures { result ≡ shows set number }
 {
     1 <= number && number <= 16 && set.contains(number)
+}
+
+/// Whether a vehicle detector is in a set: only one that there is can be.
+fn shows_detector(set: DetectorSet, number: u8) -> bool
+    ensures { result ≡ shows_detector set number }
+{
+    1 <= number && number <= VEHICLE_DETECTORS && set.contains(number)
 }

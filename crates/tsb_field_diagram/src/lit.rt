@@ -7,6 +7,7 @@ use crate::bars::is_same;
 use std::alloc::{AllocError, Global};
 use tsb_field_display::Shown;
 use tsb_log_text::LogRow;
+use tsb_types::limits::{OVERLAPS, PEDESTRIAN_DETECTORS, PREEMPTS, VEHICLE_DETECTORS};
 
 /// How many phases there are.
 const PHASES: u8 = 16;
@@ -21,13 +22,25 @@ pub(crate) fn bands(
     ensures { IfOk result (λ bands. bands.items ≡ bands_of changes.now rows.now) }
 {
     let mut bands = Vec::new(alloc);
-    add_all(&mut bands, BandKind::Preempt, 4, changes, rows)?;
+    add_all(&mut bands, BandKind::Preempt, PREEMPTS, changes, rows)?;
     add_all(&mut bands, BandKind::Flash, 1, changes, rows)?;
     add_phases(&mut bands, changes, rows)?;
-    add_all(&mut bands, BandKind::Overlap, 4, changes, rows)?;
-    add_all(&mut bands, BandKind::VehicleInput, 16, changes, rows)?;
-    add_all(&mut bands, BandKind::PedestrianInput, 8, changes, rows)?;
-    add_all(&mut bands, BandKind::PreemptInput, 4, changes, rows)?;
+    add_all(&mut bands, BandKind::Overlap, OVERLAPS, changes, rows)?;
+    add_all(
+        &mut bands,
+        BandKind::VehicleInput,
+        VEHICLE_DETECTORS,
+        changes,
+        rows,
+    )?;
+    add_all(
+        &mut bands,
+        BandKind::PedestrianInput,
+        PEDESTRIAN_DETECTORS,
+        changes,
+        rows,
+    )?;
+    add_all(&mut bands, BandKind::PreemptInput, PREEMPTS, changes, rows)?;
     Ok(bands)
 }
 

@@ -3,6 +3,7 @@ use Rattle.std.specs.Prelude.{ℕ, ◌+◌, ◌-◌, ◌*◌, ◌==◌, ◌&&◌
 use Rattle.std.specs.List.{list_all}
 use Rattle.tsb_lines.specs.Words.{number_of}
 use Rattle.tsb_types.specs.Lists.{among}
+use Rattle.tsb_types.specs.declared.limits.TheConstants.{PREEMPTS}
 use Rattle.tsb_types.specs.declared.number_set.NumberSet.{NumberSet}
 use Rattle.tsb_types.specs.Sets.{set_of_list}
 use Rattle.tsb_field_display.specs.declared.shown.VehicleHeads.{VehicleHeads}
@@ -44,9 +45,9 @@ is_spelled letters field = list_all (λ b. among b letters) field
 
 -- ## Digits
 
--- a digit of a preempt in service: 0 where none is, or 1 to 4
+-- a digit of a preempt in service: 0 where none is, or 1 to 8
 abbrev pub is_preempt : ℕ → Bool
-is_preempt b = nat_le 48 b && nat_le b 52
+is_preempt b = nat_le 48 b && nat_le b (48 + PREEMPTS)
 
 -- the preempt that such a digit tells
 abbrev pub preempt_of : ℕ → Option ℕ
@@ -66,19 +67,32 @@ field place count line = take count (drop place line)
 abbrev pub has_space : ℕ → List ℕ → Bool
 has_space place line = slice_index line place == 32
 
--- 53 bytes with a space between fields, and letters and digits in their places
+-- a space between fields, and letters and digits in their places, in the first 53 bytes
 unfoldable pub is_display : List ℕ → Bool
 is_display line =
-    length line == 53 && has_space 7 line && has_space 24 line && has_space 41 line && has_space 46 line && has_space 48 line
+    has_space 7 line && has_space 24 line && has_space 41 line && has_space 46 line && has_space 48 line
     && is_spelled (codes "-RYGF") (field 8 16 line) && is_spelled (codes "-DCW") (field 25 16 line)
     && is_spelled (codes "-RYGF") (field 42 4 line) && is_preempt (slice_index line 47) && is_local (field 49 4 line)
 
+-- a line has 53 bytes; a wide one has 70, with a space and letters behind those of a line
+abbrev pub is_whole : Bool → List ℕ → Bool
+is_whole is_wide line =
+    if is_wide then length line == 70 && has_space 53 line && is_spelled (codes "-RYGF") (field 54 16 line) else length line == 53
+
+-- how many overlaps a line shows, or a wide one
+abbrev pub overlaps_in : Bool → ℕ
+overlaps_in is_wide = if is_wide then 16 else 4
+
+-- their letters: the fourth field, or the seventh of a wide line
+abbrev pub overlap_letters : Bool → List ℕ → List ℕ
+overlap_letters is_wide line = if is_wide then field 54 16 line else field 42 4 line
+
 -- what the fields show
-abbrev pub signals_of : List ℕ → Signals
-signals_of line = record {
+abbrev pub signals_of : Bool → List ℕ → Signals
+signals_of is_wide line = record {
   vehicles = vehicles_of (field 8 16 line);
   pedestrians = pedestrians_of (field 25 16 line);
-  overlaps = vehicles_of (field 42 4 line);
+  overlaps = vehicles_of (overlap_letters is_wide line);
   preempt = preempt_of (slice_index line 47);
 }
 
@@ -87,6 +101,8 @@ abbrev pub shown_at : Option ℕ → Signals → Option Shown
 shown_at None signals = None
 shown_at (Some t) signals = Some (record { tick = t; signals = signals })
 
--- what a line shows: nothing where it is no display line, or where its first 7 bytes are no digits
-unfoldable pub shown_of : List ℕ → Option Shown
-shown_of line = if is_display line then shown_at (number_of (field 0 7 line)) (signals_of line) else None
+-- what a line shows, where lines are wide or not: nothing where it is no display line, or where its first 7 bytes are no
+-- digits
+unfoldable pub shown_of : Bool → List ℕ → Option Shown
+shown_of is_wide line =
+    if is_whole is_wide line && is_display line then shown_at (number_of (field 0 7 line)) (signals_of is_wide line) else None

@@ -1,8 +1,8 @@
 //! The events of inputs. Their codes are those of the Indiana Traffic Signal Hi Resolution Data Logger Enumerations,
 //! and their parameters are the numbers of the inputs.
 ghost use Rattle.std.specs.Prelude.{◌≡◌, ◌++◌, OnOk};
-ghost use Rattle.tsb_types.specs.Sets.{has_number};
-ghost use Rattle.tsb_types.specs.Events.{told};
+ghost use Rattle.tsb_types.specs.Sets.{has_detector, has_number};
+ghost use Rattle.tsb_types.specs.Events.{told, told_detectors};
 ghost use Rattle.tsb_field_display.specs.Inputs.{events_of_row, events_of_rows, pedestrian_input_events, preempt_input_events, vehicle_input_events};
 
 use std::alloc::AllocError;
@@ -10,7 +10,7 @@ use tsb_log_text::LogRow;
 use tsb_types::event::{
     PEDESTRIAN_OFF, PEDESTRIAN_ON, PREEMPT_OFF, PREEMPT_ON, VEHICLE_OFF, VEHICLE_ON, begun,
 };
-use tsb_types::{Event, NumberSet, Row};
+use tsb_types::{DetectorSet, Event, NumberSet, Row};
 
 /// Adds the events of the rows of a log to others. Before the first row all inputs are off.
 pub(crate) fn append_rows(events: &mut Vec<Event>, rows: &[LogRow]) -> Result<(), AllocError>
@@ -41,8 +41,8 @@ fn append_vehicles(events: &mut Vec<Event>, before: &Row, now: &LogRow) -> Resul
 {
     let was = before.vehicles;
     let is = now.row.vehicles;
-    tell(events, now.tick, VEHICLE_OFF, begun(is, was))?;
-    tell(events, now.tick, VEHICLE_ON, begun(was, is))?;
+    tell_detectors(events, now.tick, VEHICLE_OFF, was.difference(is))?;
+    tell_detectors(events, now.tick, VEHICLE_ON, is.difference(was))?;
     Ok(())
 }
 
@@ -73,6 +73,27 @@ fn tell(events: &mut Vec<Event>, tick: u32, code: u8, numbers: NumberSet) -> Res
     ensures { OnOk result (events.new.items ≡ events.old.items ++ told tick code (has_number numbers)) }
 {
     let mut rest = numbers;
+    while let Some(number) = rest.first() {
+        rest = rest.with(number, false);
+        events.push(Event {
+            tick,
+            code,
+            parameter: number,
+        })?;
+    }
+    Ok(())
+}
+
+/// Adds an event for each detector of a set to others, the least first.
+fn tell_detectors(
+    events: &mut Vec<Event>,
+    tick: u32,
+    code: u8,
+    detectors: DetectorSet,
+) -> Result<(), AllocError>
+    ensures { OnOk result (events.new.items ≡ events.old.items ++ told_detectors tick code (has_detector detectors)) }
+{
+    let mut rest = detectors;
     while let Some(number) = rest.first() {
         rest = rest.with(number, false);
         events.push(Event {

@@ -36,9 +36,9 @@ pub struct Signals {
     pub vehicles: VehicleHeads,
     /// The pedestrian heads of phases 1 to 16.
     pub pedestrians: PedestrianHeads,
-    /// The heads of overlaps 1 to 4.
+    /// The heads of overlaps 1 to 4, or of a wide line 1 to 16.
     pub overlaps: VehicleHeads,
-    /// The preempt in service, 1 to 4, or `None`.
+    /// The preempt in service, 1 to 8, or `None`.
     pub preempt: Option<u8>,
 }
 

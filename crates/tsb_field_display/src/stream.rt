@@ -9,12 +9,12 @@ use crate::reading::read_line;
 use crate::replay::Replay;
 use std::alloc::{AllocError, Global};
 use std::io::Read;
-use tsb_display_text::WIDTH;
+use tsb_display_text::WIDE;
 use tsb_lines::{KeptLine, Watched, cut_at_feed};
 
-/// How many bytes of a line are kept: those of a display line, the carriage return after them, and one more, by which
-/// a longer line is known.
-const KEPT: usize = WIDTH + 2;
+/// How many bytes of a line are kept: those of a wide display line, the carriage return after them, and one more, by
+/// which a longer line is known.
+const KEPT: usize = WIDE + 2;
 
 /// How many bytes one read asks for.
 const CHUNK: usize = 4096;
@@ -24,16 +24,19 @@ const CHUNK: usize = 4096;
 #[derive(Drop)]
 struct DisplayStream {
     replay: Replay,
+    /// Whether wide lines are read.
+    is_wide: bool,
     line: KeptLine<KEPT>,
 }
 
 impl DisplayStream {
     /// A stream before its first byte.
-    fn new(alloc: Global) -> DisplayStream
-        ensures { StandsAt start result }
+    fn new(alloc: Global, is_wide: bool) -> DisplayStream
+        ensures { StandsAt (start is_wide) result }
     {
         DisplayStream {
             replay: Replay::new(alloc),
+            is_wide,
             line: KeptLine::new(),
         }
     }
@@ -42,7 +45,7 @@ impl DisplayStream {
     fn end_line(&mut self) -> Result<(), AllocError>
         ensures { (s : Stand) → StandsAt s self.old → OnOk result (StandsAt (with_line s) self.new) }
     {
-        if let Some(shown) = read_line(self.line.ended()) {
+        if let Some(shown) = read_line(self.line.ended(), self.is_wide) {
             self.replay.push(shown)?;
         }
         self.line.clear();
@@ -79,9 +82,9 @@ impl DisplayStream {
         reader: &mut Watched<R>,
         chunk: &mut [u8; CHUNK],
     ) -> Result<bool, ReplayError>
-        ensures { (input : Option (List ℕ)) (reads : ℕ) → Going reader.old.failed input (R.remaining reader.old.device) self.old reads → MatchResult result
-            (λ more. GoesOn more reader.new.failed input (R.remaining reader.new.device) self.new reads)
-            (λ e. ReplayRead (Err e) reader.new.failed input (R.remaining reader.new.device)) }
+        ensures { (is_wide : Bool) (input : Option (List ℕ)) (reads : ℕ) → Going is_wide reader.old.failed input (R.remaining reader.old.device) self.old reads → MatchResult result
+            (λ more. GoesOn is_wide more reader.new.failed input (R.remaining reader.new.device) self.new reads)
+            (λ e. ReplayRead is_wide (Err e) reader.new.failed input (R.remaining reader.new.device)) }
     {
         let count = match reader.read_once(chunk) {
             Ok(count) => count,
@@ -95,7 +98,7 @@ impl DisplayStream {
 
     /// Ends the last line, which no line feed ends, and gives the replay.
     fn finish(mut self) -> Result<Replay, ReplayError>
-        ensures { (failed : Bool) (input left : Option (List ℕ)) (reads : ℕ) → Going failed input left self reads → IsAtEnd left → ReplayRead result failed input left }
+        ensures { (is_wide failed : Bool) (input left : Option (List ℕ)) (reads : ℕ) → Going is_wide failed input left self reads → IsAtEnd left → ReplayRead is_wide result failed input left }
     {
         let Ok(()) = self.end_line() else {
             return Err(ReplayError::Memory);
@@ -104,18 +107,22 @@ impl DisplayStream {
     }
 }
 
-/// Reads what a session answers, up to its end, and keeps what remains of its display lines. Other lines are skipped,
-/// however long. What follows the last line feed is a line too, and one carriage return at the end of a line is not
-/// part of it.
+/// Reads what a session answers, up to its end, and keeps what remains of its display lines, or of its wide ones. Other
+/// lines are skipped, however long. What follows the last line feed is a line too, and one carriage return at the end of
+/// a line is not part of it.
 ///
 /// `Read` comes exactly where a read fails or is interrupted, or after 2^64 - 1 reads, and `Memory` where there is none
 /// to keep a change. Nothing is read after either, and what was read until then is lost.
 #[tactic(auto, using(crate::proofs::StreamLemmas::going_start))]
-pub fn read_replay<R: Read>(alloc: Global, reader: &mut Watched<R>) -> Result<Replay, ReplayError>
+pub fn read_replay<R: Read>(
+    alloc: Global,
+    is_wide: bool,
+    reader: &mut Watched<R>,
+) -> Result<Replay, ReplayError>
     requires reads { reader.old.failed ≡ false }
-    ensures { ReplayRead result reader.new.failed (R.remaining reader.old.device) (R.remaining reader.new.device) }
+    ensures { ReplayRead is_wide result reader.new.failed (R.remaining reader.old.device) (R.remaining reader.new.device) }
 {
-    let mut stream = DisplayStream::new(alloc);
+    let mut stream = DisplayStream::new(alloc, is_wide);
     let mut chunk = [0; CHUNK];
     for _read in 0..u64::MAX {
         if !stream.take_read(reader, &mut chunk)? {

@@ -20,17 +20,20 @@ use Rattle.tsb_bench.specs.tsb_step.Runs.{replay}
 use Rattle.tsb_bench.specs.tsb_step.Signs.{display, local, stage}
 use Rattle.tsb_bench.specs.tsb_step.State.{State}
 use Rattle.tsb_display_text.specs.Line.{line_of, tick_field}
+use Rattle.tsb_display_text.specs.Line as shown
 use Rattle.tsb_command_text.specs.declared.command.Command.{Command}
 use Rattle.tsb_command_text.specs.declared.command.Command.TheVariants.{Step, Back, Seek, Undo, Show, Quit, When, Begin, Set, Verify, Commit, Abort, Pattern, Preempt, Fault, Reset, Clock}
 use Rattle.tsb_log_text.specs.declared.log.LogRow.{LogRow}
 use Rattle.tsb_log_text.specs.Logs.{row_at}
 use Rattle.tsb_dialog.specs.Said.{with_feed}
 
--- what a session is given: the plan, the rows of the log, and whether the schedule of the plan acts
+-- what a session is given: the plan, the rows of the log, and whether the schedule of the plan acts; and whether its display
+-- lines are wide, as lines before say
 pub record Setup : Type 0 where
   pub plan : Plan
   pub log : List LogRow
   pub acts : Bool
+  pub is_wide : Bool
 
 -- ## Lines, without their ends
 
@@ -41,6 +44,10 @@ preempt_in_service s = option_map (λ (service : ℕ × Stage). service.0) (stag
 -- the display line of a state
 abbrev pub display_line : State → List ℕ
 display_line s = line_of s.now (display s) (preempt_in_service s) (local s)
+
+-- it, or the wide one
+abbrev pub line_in : Bool → State → List ℕ
+line_in is_wide s = shown.line_in is_wide s.now (display s) (preempt_in_service s) (local s)
 
 -- what `undone` calls an input of a kind
 abbrev pub kind_name : Kind → List ℕ
@@ -95,13 +102,13 @@ when_line None = codes "never"
 when_line (Some tick) = codes "tick " ++ tick_field tick
 
 -- what tells the answer to what the bench was asked, which is then in this state
-abbrev pub told : Cmd → Answer → State → List ℕ
-told cmd Took s = taken_line cmd s
-told cmd (Refused e) s = refused_line e
-told cmd (Undone k) s = undone_line k
-told cmd Moved s = display_line s
-told cmd Nothing s = codes "nothing"
-told cmd (Changed tick) s = when_line tick
+abbrev pub told : Bool → Cmd → Answer → State → List ℕ
+told is_wide cmd Took s = taken_line cmd s
+told is_wide cmd (Refused e) s = refused_line e
+told is_wide cmd (Undone k) s = undone_line k
+told is_wide cmd Moved s = line_in is_wide s
+told is_wide cmd Nothing s = codes "nothing"
+told is_wide cmd (Changed tick) s = when_line tick
 
 -- ## Commands
 -- Inputs are piled up, the newest first, and the state is that of their replay.
@@ -144,7 +151,7 @@ pub record Asked (given : Setup) (is : List Input) (cmd : Cmd) (text : List ℕ)
   pub right : IsRight given.plan is cmd answer
   pub stop : Option Refusal
   pub left : Leads given (remaining_after given.plan is cmd answer) (follower_of given is cmd answer) stop new
-  pub line : text ≡ with_feed (told cmd answer (replay given.plan (remaining_after given.plan is cmd answer))) ++ refused_after [] stop
+  pub line : text ≡ with_feed (told given.is_wide cmd answer (replay given.plan (remaining_after given.plan is cmd answer))) ++ refused_after [] stop
 
 -- the next tick, with the log's row
 abbrev pub next_tick : Setup → List Input → Input
@@ -155,7 +162,7 @@ next_tick given is = inputs.Tick (row_at given.log ((replay given.plan is).now +
 pub record Ticked (given : Setup) (is : List Input) (text rest : List ℕ) (stop : Option Refusal) (left : List Input) : Type 0 where
   pub right : IsRight given.plan is (asks.Apply (next_tick given is)) Took
   pub leads : Leads given (next_tick given is ∷ is) (follower given is (next_tick given is)) stop left
-  pub line : text ≡ with_feed (display_line (replay given.plan (next_tick given is ∷ is))) ++ (refused_after [] stop ++ rest)
+  pub line : text ≡ with_feed (line_in given.is_wide (replay given.plan (next_tick given is ∷ is))) ++ (refused_after [] stop ++ rest)
 
 -- the tick is refused, and leaves all as it was. Out of memory the bench may refuse any tick.
 pub record Stopped (given : Setup) (is : List Input) (text : List ℕ) (new : List Input) : Type 0 where
@@ -175,7 +182,7 @@ Steps given is (suc n) text new =
 -- the answer to a command where these inputs remain, and the inputs that remain then
 abbrev pub Answers : Setup → List Input → Command → List ℕ → List Input → Type 0
 Answers given is (Step n) text new = Steps given is n text new
-Answers given is Show text new = (text ≡ with_feed (display_line (replay given.plan is))) × (new ≡ is)
+Answers given is Show text new = (text ≡ with_feed (line_in given.is_wide (replay given.plan is))) × (new ≡ is)
 -- it has no answer
 Answers given is Quit text new = (text ≡ []) × (new ≡ is)
 -- the way back

@@ -32,7 +32,8 @@ use Rattle.tsb_text.specs.Answers.{Leads, Setup}
 use Rattle.tsb_text.specs.Obeys.{Besides, if_told, news_of}
 
 -- a bench, the rows that its ticks take, what is kept or recorded of its inputs, what is done with them besides, and
--- the events of the newest. Then whether the schedule of the plan acts, and what is yet to be taken after the newest input.
+-- the events of the newest. Then whether the schedule of the plan acts, whether display lines are wide, and what is yet to
+-- be taken after the newest input.
 pub record OnCourse : Type 0 where
   pub bench : Held
   pub rows : List LogRow
@@ -41,6 +42,7 @@ pub record OnCourse : Type 0 where
   pub mode : Mode
   pub news : List Event
   pub acts : Bool
+  pub is_wide : Bool
   pub next : Option Input
 
 -- whether inputs tell their events
@@ -104,6 +106,10 @@ AsksNext m given is cmd = Unit {0}
 abbrev pub holding : Row → OnCourse → OnCourse
 holding row course = record course { rows = rows_in (HeldRow row) }
 
+-- display lines are wide from now on, or not
+abbrev pub laid : Bool → OnCourse → OnCourse
+laid is_wide course = record course { is_wide = is_wide }
+
 -- a bench has come from power-up by these inputs, under what was given
 pub record Stands (given : Setup) (log : List LogRow) (course : OnCourse) (inputs : List Input) : Type 0 where
   pub same : given.log ≡ log
@@ -112,6 +118,7 @@ pub record Stands (given : Setup) (log : List LogRow) (course : OnCourse) (input
   pub keeps : IsKept course.mode course.kept.kept given.plan inputs
   pub tells : IsTold course.mode course.told.told given inputs
   pub acts : course.acts ≡ given.acts
+  pub wide : course.is_wide ≡ given.is_wide
 
 -- so of a bench whose inputs are not kept, as in a session
 abbrev pub StandsPlain : Setup → List LogRow → OnCourse → List Input → Type 0

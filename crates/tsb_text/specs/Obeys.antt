@@ -15,7 +15,7 @@ use Rattle.tsb_objects.specs.tsb_types.declared.event.Event.{Event}
 use Rattle.tsb_objects.specs.tsb_types.declared.refusal.Refusal.{Refusal}
 use Rattle.tsb_text.specs.declared.task.Task.{Task}
 use Rattle.tsb_text.specs.declared.task.Task.TheVariants.{Ticks, Show, Quit, Ask}
-use Rattle.tsb_text.specs.Answers.{GoesUnless, Leads, Setup, display_line, follower, follower_of, next_tick, refused_after, refused_line, told}
+use Rattle.tsb_text.specs.Answers.{GoesUnless, Leads, Setup, follower, follower_of, line_in, next_tick, refused_after, refused_line, told}
 
 -- whether inputs tell their events, and what stands before an answer that is no display line
 pub record Besides : Type 0 where
@@ -85,7 +85,7 @@ pub record AsksOnce (given : Setup) (besides : Besides) (is : List Input) (cmd :
   pub stop : Option Refusal
   pub left : Leads given (remaining_after given.plan is cmd answer) (follower_of given is cmd answer) stop new
   pub line : text ≡ (before_line besides.echo answer (news_of besides.tells given is cmd) ++ trail_of besides.tells given is cmd answer stop)
-      ++ (with_feed (told cmd answer (replay given.plan (remaining_after given.plan is cmd answer))) ++ refused_after besides.echo stop)
+      ++ (with_feed (told given.is_wide cmd answer (replay given.plan (remaining_after given.plan is cmd answer))) ++ refused_after besides.echo stop)
   pub refused : refusal ≡ or_refusal (refusal_in answer) stop
 
 -- the tick is taken, and what follows it, which leaves these inputs; the events of both, the display line after the
@@ -94,7 +94,7 @@ pub record Ticked (given : Setup) (besides : Besides) (is : List Input) (text re
   pub right : IsRight given.plan is (asks.Apply (next_tick given is)) Took
   pub leads : Leads given (next_tick given is ∷ is) (follower given is (next_tick given is)) stop left
   pub line : text ≡ (news besides.tells given is (next_tick given is) ++ trail besides.tells given (next_tick given is ∷ is) (follower given is (next_tick given is)) stop)
-      ++ (with_feed (display_line (replay given.plan (next_tick given is ∷ is))) ++ (refused_after besides.echo stop ++ rest))
+      ++ (with_feed (line_in given.is_wide (replay given.plan (next_tick given is ∷ is))) ++ (refused_after besides.echo stop ++ rest))
 
 -- the tick is refused, and leaves all as it was. Out of memory the bench may refuse any tick.
 pub record Stopped (given : Setup) (besides : Besides) (is : List Input) (text : List ℕ) (refusal : Option Refusal) (new : List Input) : Type 0 where
@@ -115,6 +115,6 @@ TakesTicks given besides is (suc n) text refusal new =
 -- what is said to what is asked where these inputs remain, why it was refused, if it was, and the inputs that remain then
 abbrev pub Obeys : Setup → Besides → List Input → Task → List ℕ → Option Refusal → List Input → Type 0
 Obeys given besides is (Ticks n) text refusal new = TakesTicks given besides is n text refusal new
-Obeys given besides is Show text refusal new = (text ≡ with_feed (display_line (replay given.plan is))) × (refusal ≡ None) × (new ≡ is)
+Obeys given besides is Show text refusal new = (text ≡ with_feed (line_in given.is_wide (replay given.plan is))) × (refusal ≡ None) × (new ≡ is)
 Obeys given besides is Quit text refusal new = (text ≡ []) × (refusal ≡ None) × (new ≡ is)
 Obeys given besides is (Ask cmd) text refusal new = AsksOnce given besides is cmd text refusal new

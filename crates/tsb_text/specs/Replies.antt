@@ -1,10 +1,10 @@
 -- What a session says to a line, and what it has come to then.
-use Rattle.std.specs.Prelude.{◌≡◌, ℕ, List, [], Result, Ok, Err, codes}
+use Rattle.std.specs.Prelude.{◌≡◌, ℕ, Bool, List, [], Result, Ok, Err, codes}
 use Rattle.tsb_bench.specs.tsb_step.declared.inputs.Input.{Input}
 use Rattle.tsb_command_text.specs.declared.command.Command.{Command}
 use Rattle.tsb_command_text.specs.declared.command.Command.TheVariants.{Quit}
 use Rattle.tsb_command_text.specs.declared.command.Reading.{Reading}
-use Rattle.tsb_command_text.specs.declared.command.Reading.TheVariants.{Skip, Bad, Do}
+use Rattle.tsb_command_text.specs.declared.command.Reading.TheVariants.{Skip, Bad, Lines, Do}
 use Rattle.tsb_command_text.specs.Readings.{reading}
 use Rattle.tsb_dialog.specs.declared.answers.Flow.{Flow}
 use Rattle.tsb_dialog.specs.declared.answers.Flow.TheVariants.{On, Over}
@@ -25,10 +25,15 @@ abbrev pub flow_after : Command → Flow
 flow_after Quit = Over
 flow_after c = On
 
+-- display lines are wide from now on, or not
+abbrev pub laid : Bool → Setup → Setup
+laid is_wide given = record given { is_wide = is_wide }
+
 -- this is said to what a line asks, and it has then come to this
 abbrev pub Replies : Stand → Reading → List ℕ → Flow → Stand → Type 0
 Replies stand Skip text flow left = (text ≡ []) × (flow ≡ On) × (left ≡ stand)
 Replies stand Bad text flow left = (text ≡ with_feed (codes "bad command")) × (flow ≡ On) × (left ≡ stand)
+Replies stand (Lines is_wide) text flow left = (text ≡ with_feed (codes "ok")) × (flow ≡ On) × (left ≡ record stand { given = laid is_wide stand.given })
 Replies stand (Do c) text flow left =
     Answers stand.given stand.inputs c text left.inputs × (flow ≡ flow_after c) × (left.given ≡ stand.given)
 

@@ -4,7 +4,7 @@ ghost use Rattle.std.specs.Prelude.{◌≡◌, ◌⊎◌, ◌++◌, List, None, 
 ghost use Rattle.tsb_bench.specs.tsb_step.declared.inputs.Input.{Input as InputValue};
 ghost use Rattle.tsb_bench.specs.Held.{state_of};
 ghost use Rattle.tsb_log_text.specs.declared.log.LogRow.{LogRow};
-ghost use Rattle.tsb_text.specs.Answers.{Setup, display_line, refused_after, refused_line, told};
+ghost use Rattle.tsb_text.specs.Answers.{Setup, line_in, refused_after, refused_line, told};
 ghost use Rattle.tsb_text.specs.Obeyed.{AsksNext, Done, Stands, besides_of, news_in, tells_in};
 ghost use Rattle.tsb_text.specs.Obeys.{AsksOnce, Obeys, TakesTicks, before_line, refusal_in};
 ghost use Rattle.tsb_text.specs.Tasks.{task_of};
@@ -15,10 +15,10 @@ ghost use Rattle.tsb_dialog.specs.Blame.{AfterCalls};
 ghost use Rattle.tsb_dialog.specs.Said.{SaidUntilFault, with_feed};
 
 use crate::course::Course;
-use crate::lines::{line_bytes, refused_line, taken_line, undone_line, when_line};
+use crate::lines::{line_text, refused_line, taken_line, undone_line, when_line};
 use crate::task::{Task, task_of};
 use std::io::Write;
-use tsb_bench::{Answer, Bench, Cmd, Input};
+use tsb_bench::{Answer, Cmd, Input};
 use tsb_command_text::Command;
 use tsb_dialog::{Pending, Watched, WriteError};
 use tsb_display_text::LineMaker;
@@ -46,8 +46,8 @@ pub fn obey<W: Write>(
     match task_of(command) {
         Task::Ticks(ticks) => step(course, lines, ticks, echo, pending, writer),
         Task::Show => {
-            let line = course.line_bytes(lines);
-            pending.say(writer, &line)?;
+            let line = course.line_text(lines);
+            pending.say(writer, line.as_bytes())?;
             Ok(None)
         }
         Task::Quit => Ok(None),
@@ -93,7 +93,7 @@ fn say_tick<W: Write>(
     writer: &mut Watched<W>,
 ) -> Result<Option<Refusal>, WriteError>
     ensures done { (given : Setup) (log : List LogRow) (inputs : List InputValue) → Stands given log course.old inputs
-        → Done result given log course.new (Trails given (besides_of course.old echo.now) inputs course.old.next (news_in course.old) (display_line (state_of course.old.bench))) (W.contents writer.old.device) (W.contents writer.new.device) pending.old pending.new }
+        → Done result given log course.new (Trails given (besides_of course.old echo.now) inputs course.old.next (news_in course.old) (line_in given.is_wide (state_of course.old.bench))) (W.contents writer.old.device) (W.contents writer.new.device) pending.old pending.new }
     ensures wanting { result ≡ Ok (Some Memory) → WantsAfter course.new course.old.next }
     ensures rows { course.new.rows ≡ course.old.rows }
     ensures mode { course.new.mode ≡ course.old.mode }
@@ -101,9 +101,9 @@ fn say_tick<W: Write>(
     ensures blame { writer.old.failed ≡ false → AfterCalls result writer.new.failed }
 {
     course.say_news(pending, writer)?;
-    let line = course.line_bytes(lines);
+    let line = course.line_text(lines);
     let refusal = follow(course, pending, writer)?;
-    pending.say(writer, &line)?;
+    pending.say(writer, line.as_bytes())?;
     say_if_refused(refusal, echo, pending, writer)
 }
 
@@ -188,7 +188,7 @@ fn ask<W: Write>(
     }
     say_before(course, &answer, echo, pending, writer)?;
     let stop = follow(course, pending, writer)?;
-    say_answer(course.bench(), lines, &command, &answer, pending, writer)?;
+    say_answer(course, lines, &command, &answer, pending, writer)?;
     say_if_refused(stop, echo, pending, writer)
 }
 
@@ -215,21 +215,24 @@ fn say_before<W: Write>(
 
 /// Says the line of an answer of the bench to this command.
 fn say_answer<W: Write>(
-    bench: &Bench,
+    course: &Course,
     lines: &mut LineMaker,
     command: &Cmd,
     answer: &Answer,
     pending: &mut Pending,
     writer: &mut Watched<W>,
 ) -> Result<(), WriteError>
-    ensures said { SaidUntilFault result (W.contents writer.old.device) (W.contents writer.new.device) pending.old pending.new (with_feed (told command.now answer.now (state_of bench.now))) }
+    ensures said { SaidUntilFault result (W.contents writer.old.device) (W.contents writer.new.device) pending.old pending.new (with_feed (told course.now.is_wide command.now answer.now (state_of course.now.bench))) }
     ensures blame { writer.old.failed ≡ false → AfterCalls result writer.new.failed }
 {
     match *answer {
-        Answer::Took => pending.say(writer, taken_line(command, bench)),
+        Answer::Took => pending.say(writer, taken_line(command, course.bench())),
         Answer::Refused(refusal) => pending.say(writer, refused_line(refusal)),
         Answer::Undone(kind) => pending.say(writer, undone_line(kind)),
-        Answer::Moved => pending.say(writer, &line_bytes(lines, bench)),
+        Answer::Moved => {
+            let line = line_text(lines, course.is_wide(), course.bench());
+            pending.say(writer, line.as_bytes())
+        }
         Answer::Nothing => pending.say(writer, b"nothing"),
         Answer::Changed(tick) => pending.say(writer, when_line(tick).as_bytes()),
     }

@@ -1,5 +1,5 @@
 //! A bench, with what is kept and told of the inputs that it takes.
-ghost use Rattle.std.specs.Prelude.{◌≡◌, ◌≤◌, ◌+◌, ◌∷◌, Err, IfErr, List, None, OnErr, OnOk, false, option_map, true};
+ghost use Rattle.std.specs.Prelude.{◌≡◌, ◌≤◌, ◌+◌, ◌∷◌, Err, IfErr, List, None, OnErr, OnOk, false, length, option_map, true};
 ghost use Rattle.tsb_bench.specs.Held.{state_of, whole};
 ghost use Rattle.tsb_bench.specs.tsb_history.History.{Change};
 ghost use Rattle.tsb_bench.specs.tsb_step.Past.{earlier};
@@ -17,10 +17,10 @@ ghost use Rattle.tsb_text.specs.recording.Along.{Wants, with_input as with_told}
 ghost use Rattle.tsb_text.specs.recording.Told.{DropsMark, gone_back as told_back, nothing_told};
 ghost use Rattle.tsb_log_text.specs.declared.log.LogRow.{LogRow};
 ghost use Rattle.tsb_text.specs.declared.course.Mode.TheVariants as modes;
-ghost use Rattle.tsb_text.specs.Answers.{Setup, display_line, follower, follower_of, next_tick};
+ghost use Rattle.tsb_text.specs.Answers.{Setup, follower, follower_of, line_in, next_tick};
 ghost use Rattle.tsb_text.specs.Rows.{rows_in};
 ghost use Rattle.tsb_log_text.specs.Logs.{row_at};
-ghost use Rattle.tsb_text.specs.Obeyed.{Answered, AsksNext, Followed, FollowsNone, Forgets, ForgetsNewest, IsNext, Stands, Took, holding, mode_with, news_in};
+ghost use Rattle.tsb_text.specs.Obeyed.{Answered, AsksNext, Followed, FollowsNone, Forgets, ForgetsNewest, IsNext, Stands, Took, holding, laid, mode_with, news_in};
 ghost use Rattle.tsb_text.specs.Wanting.{IsWanting, WantsAfter, WantsTo, tick_of};
 
 use crate::Kept;
@@ -33,7 +33,7 @@ use std::io::Write;
 use std::marker::Model;
 use tsb_bench::{Answer, Bench, Cmd, Input, Kind, Noted, answer};
 use tsb_dialog::{Pending, Watched, WriteError};
-use tsb_display_text::{LineBytes, LineMaker};
+use tsb_display_text::{LineMaker, LineText};
 use tsb_events::Events;
 use tsb_objects::{Refusal, Row};
 use tsb_step::log_form::LogForm;
@@ -65,6 +65,8 @@ pub struct Course<'a> {
     news: Events,
     /// Whether the schedule of the plan acts.
     acts: bool,
+    /// Whether display lines are wide.
+    is_wide: bool,
     /// The pattern that follows the newest input, until it is taken.
     next: Option<u32>,
 }
@@ -77,7 +79,7 @@ impl<'a> Model for Course<'a> {
 
     ghost Value = { OnCourse };
 
-    ghost view = { λ a. record { bench = a.bench; rows = rows_in a.rows; kept = a.kept; told = a.told; mode = a.mode; news = a.news.items; acts = a.acts; next = option_map Pattern a.next } };
+    ghost view = { λ a. record { bench = a.bench; rows = rows_in a.rows; kept = a.kept; told = a.told; mode = a.mode; news = a.news.items; acts = a.acts; is_wide = a.is_wide; next = option_map Pattern a.next } };
 }
 
 impl<'a> Course<'a> {
@@ -89,6 +91,7 @@ impl<'a> Course<'a> {
         ensures told { result.told.told ≡ nothing_told }
         ensures mode { result.mode ≡ mode }
         ensures acts { result.acts ≡ acts }
+        ensures wide { result.is_wide ≡ false }
         ensures next { result.next ≡ None }
     {
         Course {
@@ -99,6 +102,7 @@ impl<'a> Course<'a> {
             mode,
             news: Events::new(),
             acts,
+            is_wide: false,
             next: None,
         }
     }
@@ -110,13 +114,28 @@ impl<'a> Course<'a> {
         &self.bench
     }
 
-    /// The bytes of the display line, without a line feed. The heads are found anew only where a cell has changed, and all
+    /// The display line, wide or not, without a line feed. The heads are found anew only where a cell has changed, and all
     /// stays as it was. It takes no memory.
-    pub fn line_bytes(&mut self, lines: &mut LineMaker) -> LineBytes
-        ensures line { result ≡ display_line (state_of self.old.bench) }
+    pub fn line_text(&mut self, lines: &mut LineMaker) -> LineText
+        ensures line { result ≡ line_in self.old.is_wide (state_of self.old.bench) }
+        ensures short { length result ≤ 70 }
         ensures same { self.new ≡ self.old }
     {
-        shown_line(lines, &mut self.bench)
+        shown_line(lines, self.is_wide, &mut self.bench)
+    }
+
+    /// Whether display lines are wide.
+    pub fn is_wide(&self) -> bool
+        ensures { result ≡ self.now.is_wide }
+    {
+        self.is_wide
+    }
+
+    /// Has display lines be wide from now on, or not.
+    pub fn lay_lines(&mut self, is_wide: bool)
+        ensures { self.new ≡ laid is_wide self.old }
+    {
+        self.is_wide = is_wide;
     }
 
     /// What is kept of the inputs that remain.
@@ -155,6 +174,7 @@ impl<'a> Course<'a> {
         ensures rows { self.new.rows ≡ self.old.rows }
         ensures kept { self.new.kept ≡ self.old.kept }
         ensures acts { self.new.acts ≡ self.old.acts }
+        ensures wide { self.new.is_wide ≡ self.old.is_wide }
         ensures next { self.new.next ≡ self.old.next }
     {
         self.mode = match self.mode {
@@ -202,6 +222,7 @@ impl<'a> Course<'a> {
         ensures mode { self.new.mode ≡ self.old.mode }
         ensures rows { self.new.rows ≡ self.old.rows }
         ensures acts { self.new.acts ≡ self.old.acts }
+        ensures wide { self.new.is_wide ≡ self.old.is_wide }
     {
         if self.may_follow(&input) {
             return self.take_scheduled(input);
@@ -238,6 +259,7 @@ impl<'a> Course<'a> {
         ensures mode { self.new.mode ≡ self.old.mode }
         ensures rows { self.new.rows ≡ self.old.rows }
         ensures acts { self.new.acts ≡ self.old.acts }
+        ensures wide { self.new.is_wide ≡ self.old.is_wide }
     {
         let before = self.bench.action();
         self.next = None;
@@ -258,6 +280,7 @@ impl<'a> Course<'a> {
         ensures mode { self.new.mode ≡ self.old.mode }
         ensures rows { self.new.rows ≡ self.old.rows }
         ensures acts { self.new.acts ≡ self.old.acts }
+        ensures wide { self.new.is_wide ≡ self.old.is_wide }
     {
         match self.next.take() {
             None => Ok(false),
@@ -278,6 +301,7 @@ impl<'a> Course<'a> {
         ensures mode { self.new.mode ≡ self.old.mode }
         ensures rows { self.new.rows ≡ self.old.rows }
         ensures acts { self.new.acts ≡ self.old.acts }
+        ensures wide { self.new.is_wide ≡ self.old.is_wide }
         ensures next { self.new.next ≡ self.old.next }
     {
         match self.mode {
@@ -300,6 +324,7 @@ impl<'a> Course<'a> {
         ensures mode { self.new.mode ≡ self.old.mode }
         ensures rows { self.new.rows ≡ self.old.rows }
         ensures acts { self.new.acts ≡ self.old.acts }
+        ensures wide { self.new.is_wide ≡ self.old.is_wide }
         ensures next { self.new.next ≡ self.old.next }
     {
         let tick = self.bench.now();
@@ -320,6 +345,7 @@ impl<'a> Course<'a> {
         ensures mode { self.new.mode ≡ self.old.mode }
         ensures rows { self.new.rows ≡ self.old.rows }
         ensures acts { self.new.acts ≡ self.old.acts }
+        ensures wide { self.new.is_wide ≡ self.old.is_wide }
         ensures next { self.new.next ≡ self.old.next }
     {
         let tick = self.bench.now();
@@ -343,6 +369,7 @@ impl<'a> Course<'a> {
         ensures mode { self.new.mode ≡ self.old.mode }
         ensures rows { self.new.rows ≡ self.old.rows }
         ensures acts { self.new.acts ≡ self.old.acts }
+        ensures wide { self.new.is_wide ≡ self.old.is_wide }
         ensures next { self.new.next ≡ self.old.next }
     {
         let tick = self.bench.now();
@@ -368,6 +395,7 @@ impl<'a> Course<'a> {
         ensures mode { self.new.mode ≡ self.old.mode }
         ensures rows { self.new.rows ≡ self.old.rows }
         ensures acts { self.new.acts ≡ self.old.acts }
+        ensures wide { self.new.is_wide ≡ self.old.is_wide }
         ensures next { self.new.next ≡ self.old.next }
     {
         if self.told.add(input, tick, &self.news).is_err() {
@@ -393,6 +421,7 @@ impl<'a> Course<'a> {
         ensures rows { self.new.rows ≡ self.old.rows }
         ensures news { self.new.news ≡ self.old.news }
         ensures acts { self.new.acts ≡ self.old.acts }
+        ensures wide { self.new.is_wide ≡ self.old.is_wide }
         ensures next { self.new.next ≡ self.old.next }
     {
         if self.kept.add(input, tick).is_err() {
@@ -411,6 +440,7 @@ impl<'a> Course<'a> {
         ensures mode { self.new.mode ≡ self.old.mode }
         ensures rows { self.new.rows ≡ self.old.rows }
         ensures acts { self.new.acts ≡ self.old.acts }
+        ensures wide { self.new.is_wide ≡ self.old.is_wide }
     {
         match command {
             Cmd::Apply(input) => match self.take(input) {
@@ -434,6 +464,7 @@ impl<'a> Course<'a> {
         ensures mode { self.new.mode ≡ self.old.mode }
         ensures rows { self.new.rows ≡ self.old.rows }
         ensures acts { self.new.acts ≡ self.old.acts }
+        ensures wide { self.new.is_wide ≡ self.old.is_wide }
         ensures next { self.new.next ≡ self.old.next }
     {
         let tick = self.bench.now();

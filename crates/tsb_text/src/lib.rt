@@ -23,7 +23,7 @@ pub use course::{Course, Mode};
 pub use error::{SessionError, fault_of};
 pub use faults::{LineFault, OnFault, fault_line, fault_words};
 pub use kept::{Kept, Other};
-pub use lines::{line, line_bytes, refused_line, when_line};
+pub use lines::{line, line_text, refused_line, when_line};
 pub use recording::{Mark, Outcome, RecordOptions, Told, record};
 pub use rows::Rows;
 pub use run::{COMMANDS, session};
@@ -32,7 +32,7 @@ pub use task::{Task, task_of};
 pub use tsb_bench::{Answer, Bench, Cmd, Input, Kind};
 pub use tsb_command_text::{Command, read_command};
 pub use tsb_dialog::{Pending, Watched, WriteError};
-pub use tsb_display_text::LineBytes;
+pub use tsb_display_text::LineText;
 pub use tsb_log_text::{LIMIT as LOG_LIMIT, Log, LogError, read_log};
 pub use tsb_objects::{
     Checked, Detector, Lamp, Object, ObjectId, Overlap, PedestrianColor, Phase, Plan, Refusal, Row,

@@ -1,12 +1,12 @@
 //! The lines of answers, without their line feeds.
 
 ghost use Rattle.std.specs.Prelude.{◌≡◌, ◌≤◌, length};
-ghost use Rattle.tsb_text.specs.Answers.{busy_line, display_line, preempt_in_service, refused_line, taken_line, undone_line, verified_line, when_line};
+ghost use Rattle.tsb_text.specs.Answers.{busy_line, display_line, line_in, preempt_in_service, refused_line, taken_line, undone_line, verified_line, when_line};
 ghost use Rattle.tsb_bench.specs.Held.{state_of};
 
 use arrayvec::ArrayString;
 use tsb_bench::{Bench, Cmd, Input, Kind};
-use tsb_display_text::{LineBytes, LineMaker};
+use tsb_display_text::{LineMaker, LineText};
 use tsb_lines::{ShortLine, seven_digits};
 use tsb_objects::{Preempt, Refusal, Rule, Station};
 use tsb_plan_text::rule_line;
@@ -26,12 +26,14 @@ pub fn line(bench: &Bench) -> ArrayString<64>
     )
 }
 
-/// The bytes of the display line, without a line feed. Its letters are those of the line made before, where no head has
-/// changed. It takes no memory.
-pub fn line_bytes(lines: &mut LineMaker, bench: &Bench) -> LineBytes
-    ensures { result ≡ display_line (state_of bench.now) }
+/// The display line, without a line feed, or the wide one. Its letters are those of the line made before, where no head
+/// has changed. It takes no memory.
+pub fn line_text(lines: &mut LineMaker, is_wide: bool, bench: &Bench) -> LineText
+    ensures line { result ≡ line_in is_wide (state_of bench.now) }
+    ensures short { length result ≤ 70 }
 {
-    lines.line_bytes(
+    lines.line_text(
+        is_wide,
         bench.now(),
         &bench.display(),
         preempt_in_service(bench),
@@ -39,14 +41,16 @@ pub fn line_bytes(lines: &mut LineMaker, bench: &Bench) -> LineBytes
     )
 }
 
-/// The bytes of the display line, as `line_bytes` has them, of the heads that the bench keeps while no cell changes. The
-/// bench stays as it was.
-pub(crate) fn shown_line(lines: &mut LineMaker, bench: &mut Bench) -> LineBytes
-    ensures line { result ≡ display_line (state_of bench.old) }
+/// The display line, as `line_text` has it, of the heads that the bench keeps while no cell changes. The bench stays as it
+/// was.
+pub(crate) fn shown_line(lines: &mut LineMaker, is_wide: bool, bench: &mut Bench) -> LineText
+    ensures line { result ≡ line_in is_wide (state_of bench.old) }
+    ensures short { length result ≤ 70 }
     ensures same { bench.new ≡ bench.old }
 {
     let shown = bench.shown();
-    lines.line_bytes(
+    lines.line_text(
+        is_wide,
         bench.now(),
         &shown,
         preempt_in_service(bench),

@@ -216,7 +216,7 @@ pub fn record<R: Read, E: Write>(
     requires reads { reader.old.failed ≡ false }
     requires writes { errors.old.failed ≡ false }
     requires flushed { errors.old.flushed ≡ true }
-    ensures ended { EndedFrom result options.on_fault options.form (record { plan = checked_plan plan; log = log.now; acts = options.acts }) options.clock
+    ensures ended { EndedFrom result options.on_fault options.form (record { plan = checked_plan plan; log = log.now; acts = options.acts; is_wide = false }) options.clock
         (R.remaining reader.old.device) (R.remaining reader.new.device) (E.contents errors.old.device) (E.contents errors.new.device) }
     ensures blame { Blames result reader.new.failed errors.new.failed errors.new.flushed }
 {

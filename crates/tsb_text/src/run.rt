@@ -55,6 +55,11 @@ impl Answers for SessionRun<'_> {
                 pending.say(writer, b"bad command")?;
                 Ok(Flow::On)
             }
+            Reading::Lines(is_wide) => {
+                self.course.lay_lines(is_wide);
+                pending.say(writer, b"ok")?;
+                Ok(Flow::On)
+            }
             Reading::Do(command) => {
                 let flow = flow_after(&command);
                 obey(
@@ -110,7 +115,7 @@ pub fn session<R: Read, W: Write>(
     requires reads { reader.old.failed ≡ false }
     requires writes { writer.old.failed ≡ false }
     requires flushed { writer.old.flushed ≡ true }
-    ensures ended { Ended result (record { plan = checked_plan plan; log = log.now; acts = acts })
+    ensures ended { Ended result (record { plan = checked_plan plan; log = log.now; acts = acts; is_wide = false })
         (R.remaining reader.old.device) (R.remaining reader.new.device) (W.contents writer.old.device) (W.contents writer.new.device) }
     ensures blame { Blames result reader.new.failed writer.new.failed writer.new.flushed }
 {

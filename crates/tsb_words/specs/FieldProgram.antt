@@ -56,12 +56,12 @@ record_shape = shape_with (codes "record")
 -- those of `events`
 abbrev pub events_shape : Shape
 events_shape = shape_with (codes "events")
-    (option_rule (codes "log") ∷ source_rules)
+    (option_rule (codes "log") ∷ flag_rule (codes "wide") ∷ source_rules)
 
 -- those of `diagram`
 abbrev pub diagram_shape : Shape
 diagram_shape = shape_with (codes "diagram")
-    (option_rule (codes "log") ∷ option_rule (codes "title") ∷ option_rule (codes "seconds-per-line") ∷ option_rule (codes "from")
+    (option_rule (codes "log") ∷ flag_rule (codes "wide") ∷ option_rule (codes "title") ∷ option_rule (codes "seconds-per-line") ∷ option_rule (codes "from")
     ∷ option_rule (codes "events") ∷ [])
 
 -- those of `review`
@@ -183,13 +183,14 @@ record_in rows =
     (record_manner_in rows)
 
 -- events, where it is said from when and of which device, and a line can name that
-abbrev pub events_with : Option Moment → Option Text → Option Text → Option Wish
-events_with (Some from) (Some device) file = if can_be_written device then Some (events from device file) else None
-events_with from device file = None
+abbrev pub events_with : Option Moment → Option Text → Option Text → Bool → Option Wish
+events_with (Some from) (Some device) file is_wide = if can_be_written device then Some (events from device file is_wide) else None
+events_with from device file is_wide = None
 
 -- what `events` asks for, with these options
 abbrev pub events_in : List Row → Option Wish
-events_in rows = events_with (moment_in rows) (first_of (codes "device") rows) (first_of (codes "log") rows)
+events_in rows =
+    events_with (moment_in rows) (first_of (codes "device") rows) (first_of (codes "log") rows) (is_set (first_of (codes "wide") rows))
 
 -- events, where they are named, have a moment to count from
 abbrev pub is_timed : Option Moment → Option Text → Bool
@@ -198,15 +199,15 @@ is_timed None None = true
 is_timed (Some from) source = true
 
 -- a diagram, where its seconds and its moment are spelled, and events have a moment to count from
-abbrev pub diagram_with : Option Text → Option Text → Option (Option ℕ) → Option (Option Moment) → Option Text → Option Wish
-diagram_with file title (Some seconds) (Some from) source =
-    if is_timed from source then Some (diagram file title seconds from source) else None
-diagram_with file title seconds from source = None
+abbrev pub diagram_with : Option Text → Bool → Option Text → Option (Option ℕ) → Option (Option Moment) → Option Text → Option Wish
+diagram_with file is_wide title (Some seconds) (Some from) source =
+    if is_timed from source then Some (diagram file is_wide title seconds from source) else None
+diagram_with file is_wide title seconds from source = None
 
 -- what `diagram` asks for, with these options
 abbrev pub diagram_in : List Row → Option Wish
 diagram_in rows =
-    diagram_with (first_of (codes "log") rows) (first_of (codes "title") rows) (seconds_in rows) (from_said (first_of (codes "from") rows))
+    diagram_with (first_of (codes "log") rows) (is_set (first_of (codes "wide") rows)) (first_of (codes "title") rows) (seconds_in rows) (from_said (first_of (codes "from") rows))
     (first_of (codes "events") rows)
 
 -- a review, where a plan is named

@@ -25,11 +25,11 @@ pub data Wish : Type 0 where
   log : LogWish → Wish
   -- a record from this moment on, of this device, with the plan and the log in these files, in this manner
   recording : Moment → List ℕ → List ℕ → List ℕ → RecordManner → Wish
-  -- events from this moment on, of this device, with the log in this file
-  events : Moment → List ℕ → Option (List ℕ) → Wish
-  -- a diagram with the log in this file, this title and so many seconds a line. It begins at this moment, and has the
-  -- ends of greens in the event log of this file.
-  diagram : Option (List ℕ) → Option (List ℕ) → Option ℕ → Option Moment → Option (List ℕ) → Wish
+  -- events from this moment on, of this device, with the log in this file, of wide display lines or of others
+  events : Moment → List ℕ → Option (List ℕ) → Bool → Wish
+  -- a diagram with the log in this file, of wide display lines or of others, with this title and so many seconds a line. It
+  -- begins at this moment, and has the ends of greens in the event log of this file.
+  diagram : Option (List ℕ) → Bool → Option (List ℕ) → Option ℕ → Option Moment → Option (List ℕ) → Wish
   -- a review of the plan in this file
   reviewing : List ℕ → Wish
   -- what the schedule of the plan in this file runs in the week that begins with this moment: a picture, or else a table
@@ -73,9 +73,9 @@ seen_log asked = record {
 abbrev pub seen : Asked → Wish
 seen (asks.Log asked) = log (seen_log asked)
 seen (asks.Record asked) = recording asked.from asked.device.now asked.plan.now asked.log.now asked.manner
-seen (asks.Events from device file) = events from device.now (option_map (λ name. name.now) file)
+seen (asks.Events asked) = events asked.from asked.device.now (option_map (λ name. name.now) asked.log) asked.is_wide
 seen (asks.Diagram asked) =
-    diagram (option_map (λ name. name.now) asked.log) (option_map (λ name. name.now) asked.title) asked.seconds_per_line asked.from
+    diagram (option_map (λ name. name.now) asked.log) asked.is_wide (option_map (λ name. name.now) asked.title) asked.seconds_per_line asked.from
     (option_map (λ name. name.now) asked.events)
 seen (asks.Review plan) = reviewing plan.now
 seen (asks.Schedule plan week svg) = weekly plan.now week svg

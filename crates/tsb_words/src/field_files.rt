@@ -84,11 +84,26 @@ pub struct RecordAsked<'a> {
     pub manner: RecordManner,
 }
 
+/// What the words of `events` ask for.
+#[derive(Clone, Copy)]
+pub struct EventsAsked<'a> {
+    /// The moment at which tick 1 begins.
+    pub from: Moment,
+    /// The device that the events are of, which a line can name (`can_be_written`).
+    pub device: &'a str,
+    /// The file of the log of inputs.
+    pub log: Option<&'a str>,
+    /// Whether display lines are wide.
+    pub is_wide: bool,
+}
+
 /// What the words of `diagram` ask for.
 #[derive(Clone, Copy)]
 pub struct DiagramAsked<'a> {
     /// The file of the log of inputs.
     pub log: Option<&'a str>,
+    /// Whether display lines are wide.
+    pub is_wide: bool,
     /// The title above the diagram.
     pub title: Option<&'a str>,
     /// How many seconds a line of the diagram shows, 1 to 86,400.
@@ -107,14 +122,7 @@ pub enum Asked<'a> {
     /// Events of a controller's log, told by a run of commands.
     Record(RecordAsked<'a>),
     /// Events of a controller's log, made from display lines.
-    Events {
-        /// The moment at which tick 1 begins.
-        from: Moment,
-        /// The device that the events are of, which a line can name (`can_be_written`).
-        device: &'a str,
-        /// The file of the log of inputs.
-        log: Option<&'a str>,
-    },
+    Events(EventsAsked<'a>),
     /// A diagram of display lines.
     Diagram(DiagramAsked<'a>),
     /// A review of a plan.
@@ -144,9 +152,9 @@ pub enum Asked<'a> {
 /// `--allow-empty`, `--sort`, `--sort-within SECONDS` and any number of `--vehicle CHANNEL=DETECTOR`, `--pedestrian
 /// CHANNEL=DETECTOR` and `--preempt CHANNEL=INPUT`; `record` has `--from TIME`, `--device ID`, and the files of a plan and a
 /// log, and may have `--go-on`, `--recalls`, `--outputs` and `--no-clock`; `events` has `--from TIME` and `--device ID`,
-/// and may have `--log LOG`; `diagram` may have `--log LOG`, `--title TEXT`, `--seconds-per-line N`, and `--from TIME`,
-/// and with that `--events FILE`; `review` has the file of a plan; `schedule` has the file of a plan, and `--week DATE`,
-/// and may have `--svg`; `worksheet` has the file of a plan.
+/// and may have `--log LOG` and `--wide`; `diagram` may have `--log LOG`, `--wide`, `--title TEXT`, `--seconds-per-line N`,
+/// and `--from TIME`, and with that `--events FILE`; `review` has the file of a plan; `schedule` has the file of a plan,
+/// and `--week DATE`, and may have `--svg`; `worksheet` has the file of a plan.
 /// Options come in any order, and `--NAME=VALUE` is `--NAME VALUE`. A value that begins with a hyphen comes after `=`. All
 /// else is `Bad`, and so are a request for help and a device of `record` or `events` with a double quote, an end of a line
 /// or over 900 bytes. `Memory` may come in place of every answer, as `clap` allocates. Where it takes the words, only those
@@ -337,7 +345,8 @@ fn events_asked<'a>(options: &ArgMatches<'a>) -> Option<Asked<'a>>
     let from = moment(options);
     let device = options.get_str("device");
     let log = options.get_str("log");
-    events_with(from, device, log)
+    let is_wide = is_set(options.get_str("wide"));
+    events_with(from, device, log, is_wide)
 }
 
 /// Events, where options say from when and of which device, and a line can name that device.
@@ -345,16 +354,22 @@ fn events_with<'a>(
     from: Option<Moment>,
     device: Option<&'a str>,
     log: Option<&'a str>,
+    is_wide: bool,
 ) -> Option<Asked<'a>>
     ensures { option_map seen result
-        ≡ events_with from (option_map (λ text. text.now) device.entry) (option_map (λ text. text.now) log.entry) }
+        ≡ events_with from (option_map (λ text. text.now) device.entry) (option_map (λ text. text.now) log.entry) is_wide }
 {
     let from = from?;
     let device = device?;
     if !can_be_written(device.as_bytes()) {
         return None;
     }
-    Some(Asked::Events { from, device, log })
+    Some(Asked::Events(EventsAsked {
+        from,
+        device,
+        log,
+        is_wide,
+    }))
 }
 
 /// What `diagram` asks for, with these options.
@@ -362,23 +377,25 @@ fn diagram_asked<'a>(options: &ArgMatches<'a>) -> Option<Asked<'a>>
     ensures { option_map seen result ≡ diagram_in (rows_of (found_of options.now)) }
 {
     let log = options.get_str("log");
+    let is_wide = is_set(options.get_str("wide"));
     let title = options.get_str("title");
     let seconds = seconds_said(options.get_str("seconds-per-line"));
     let from = from_said(options.get_str("from"));
     let events = options.get_str("events");
-    diagram_with(log, title, seconds, from, events)
+    diagram_with(log, is_wide, title, seconds, from, events)
 }
 
 /// A diagram, where its seconds and its moment are spelled, and events have a moment to count from.
 fn diagram_with<'a>(
     log: Option<&'a str>,
+    is_wide: bool,
     title: Option<&'a str>,
     seconds: Option<Option<u32>>,
     from: Option<Option<Moment>>,
     events: Option<&'a str>,
 ) -> Option<Asked<'a>>
     ensures { option_map seen result
-        ≡ diagram_with (option_map (λ text. text.now) log.entry) (option_map (λ text. text.now) title.entry) seconds from (option_map (λ text. text.now) events.entry) }
+        ≡ diagram_with (option_map (λ text. text.now) log.entry) is_wide (option_map (λ text. text.now) title.entry) seconds from (option_map (λ text. text.now) events.entry) }
 {
     let seconds_per_line = seconds?;
     let from = from?;
@@ -387,6 +404,7 @@ fn diagram_with<'a>(
     }
     Some(Asked::Diagram(DiagramAsked {
         log,
+        is_wide,
         title,
         seconds_per_line,
         from,

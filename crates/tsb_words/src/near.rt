@@ -57,11 +57,12 @@ const RECORD: [&str; 7] = [
 ];
 
 /// The options of `events`.
-const EVENTS: [&str; 4] = ["--log", "--from", "--device", "--help"];
+const EVENTS: [&str; 5] = ["--log", "--wide", "--from", "--device", "--help"];
 
 /// The options of `diagram`.
-const DIAGRAM: [&str; 6] = [
+const DIAGRAM: [&str; 7] = [
     "--log",
+    "--wide",
     "--title",
     "--seconds-per-line",
     "--from",

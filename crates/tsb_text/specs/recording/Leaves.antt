@@ -7,7 +7,7 @@ use Rattle.tsb_step.specs.declared.inputs.Input.TheVariants.{Clock}
 use Rattle.tsb_command_text.specs.declared.command.Command.{Command}
 use Rattle.tsb_command_text.specs.declared.command.Command.TheVariants.{Quit}
 use Rattle.tsb_command_text.specs.declared.command.Reading.{Reading}
-use Rattle.tsb_command_text.specs.declared.command.Reading.TheVariants.{Skip, Bad, Do}
+use Rattle.tsb_command_text.specs.declared.command.Reading.TheVariants.{Skip, Bad, Lines, Do}
 use Rattle.tsb_command_text.specs.Readings.{reading}
 use Rattle.tsb_dialog.specs.declared.answers.Flow.{Flow}
 use Rattle.tsb_dialog.specs.declared.answers.Flow.TheVariants.{On, Over}
@@ -44,6 +44,7 @@ Leaves given is c refusal new = LeavesOf given is (task_of c) refusal new
 abbrev pub Does : Setup → List Input → Reading → Option LineFault → List Input → Type 0
 Does given is Skip fault new = (fault ≡ None) × (new ≡ is)
 Does given is Bad fault new = (fault ≡ Some faults.BadCommand) × (new ≡ is)
+Does given is (Lines is_wide) fault new = (fault ≡ None) × (new ≡ is)
 Does given is (Do c) fault new = (refusal : Option Refusal) × Leaves given is c refusal new × (fault ≡ option_map faults.Refused refusal)
 
 -- a line that reads so is `quit`

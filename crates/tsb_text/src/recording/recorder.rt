@@ -26,6 +26,7 @@ pub(crate) fn carry_out(course: &mut Course, reading: Reading) -> Option<LineFau
     match reading {
         Reading::Skip => None,
         Reading::Bad => Some(LineFault::BadCommand),
+        Reading::Lines(_) => None,
         Reading::Do(command) => match obey(course, command) {
             Some(refusal) => Some(LineFault::Refused(refusal)),
             None => None,

@@ -68,15 +68,17 @@ const RECORD: [Argument; 8] = [
 ];
 
 /// The options of `events`.
-const EVENTS: [Argument; 3] = [
+const EVENTS: [Argument; 4] = [
     Argument::Optional("log"),
+    Argument::Flag("wide"),
     Argument::Required("from"),
     Argument::Required("device"),
 ];
 
 /// The options of `diagram`.
-const DIAGRAM: [Argument; 5] = [
+const DIAGRAM: [Argument; 6] = [
     Argument::Optional("log"),
+    Argument::Flag("wide"),
     Argument::Optional("title"),
     Argument::Optional("seconds-per-line"),
     Argument::Optional("from"),

@@ -16,8 +16,9 @@ PLAN       the file of the plan, as of `tsb check`
 --version  the version
 --help     this page
 
-A row has 16 vehicle detectors, 8 pedestrian buttons and 4 preempts, 1 for on and 0 for off. Other
-lines are commands, such as `step 10`, `status` or `back 5`. Steps are counted in ticks.
+A row has 16 vehicle detectors, 8 pedestrian buttons and 4 preempts, 1 for on and 0 for off. Or it lists
+what is on, of up to 64 detectors, 16 buttons and 8 preempts: `V1,17-20 P2 E1`. Other lines are commands,
+such as `step 10`, `status` or `back 5`. Steps are counted in ticks.
 
 Example: one tick in which detector 2 is on
 
@@ -51,9 +52,9 @@ Reads a controller's event log as CSV, and writes a log of inputs for `tsb run`.
 
 --from TIME                    tick 1 begins then: YYYY-MM-DD HH:MM:SS; has to be given
 --device ID                    only rows of this device count
---vehicle CHANNEL=DETECTOR     the channel is vehicle detector 1 to 16 of the bench
---pedestrian CHANNEL=DETECTOR  the channel is pedestrian detector 1 to 8
---preempt CHANNEL=INPUT        the channel is preempt input 1 to 4
+--vehicle CHANNEL=DETECTOR     the channel is vehicle detector 1 to 64 of the bench
+--pedestrian CHANNEL=DETECTOR  the channel is pedestrian detector 1 to 16
+--preempt CHANNEL=INPUT        the channel is preempt input 1 to 8
 --time-form FORM               year-first, month-first, day-first, seconds or milliseconds
 --zone OFFSET                  times are told by the clock of this zone, as -07:00 or Z
 --sort                         rows may come up to 60 s late
@@ -88,13 +89,14 @@ Steps are counted in ticks of 0.1 s. Example, ten minutes:
 
 /// How `events` is used.
 pub(crate) const EVENTS_HELP: &[u8] =
-    b"usage: tsb_field events --from TIME --device ID [--log LOG] < ANSWERS > EXPORT
+    b"usage: tsb_field events --from TIME --device ID [--log LOG] [--wide] < ANSWERS > EXPORT
 
 Reads what `tsb run` answers, and writes what its display lines tell as a controller's event log, as CSV.
 
 --from TIME  tick 1 begins then: YYYY-MM-DD HH:MM:SS; has to be given
 --device ID  what the first column has, at most 900 bytes; has to be given
 --log LOG    the file of the log that the session ran on: events of its inputs are written too
+--wide       display lines are wide: the session said `lines wide`
 
 A tick is 0.1 s. Example, ten minutes:
 
@@ -108,6 +110,7 @@ pub(crate) const DIAGRAM_HELP: &[u8] = b"usage: tsb_field diagram [OPTION ..] < 
 Reads what `tsb run` answers, and draws it as a phase diagram, as SVG.
 
 --log LOG             the file of the log that the session ran on: its inputs are drawn below the signals
+--wide                display lines are wide: the session said `lines wide`
 --title TEXT          the title over the picture
 --seconds-per-line N  how many seconds a line shows, 1 to 86400 s; 300 s where it is not given
 --from TIME           tick 1 begins then, YYYY-MM-DD HH:MM:SS: the axis has the time of day
