@@ -1,5 +1,5 @@
 -- What is said of a tick and of what follows it.
-use Rattle.std.proofs.Common.{◌≡◌, ℕ, List, ◌∷◌, ◌++◌, Bool, sym, ap, ◌∙◌, append_assoc, Ok, Err, Some}
+use Rattle.std.proofs.Common.{◌≡◌, ℕ, List, ◌++◌, Bool, sym, ap, ◌∙◌, append_assoc, Ok, Err}
 use Rattle.std.specs.declared.option.Option.{Option}
 use Rattle.tsb_lines.specs.declared.writes.WriteError.{WriteError}
 use Rattle.tsb_log_text.specs.declared.log.LogRow.{LogRow}

@@ -12,12 +12,12 @@ use Rattle.tsb_step.specs.Runs.{replay}
 use Rattle.tsb_types.specs.declared.refusal.Refusal.{Refusal}
 use Rattle.tsb_types.specs.declared.row.Row.{Row}
 use Rattle.tsb_dialog.specs.Said.{with_feed}
-use Rattle.tsb_text.specs.Answers.{GoesUnless, Leads, Setup, display_line, follower, refused_after, refused_line}
+use Rattle.tsb_text.specs.Answers.{GoesUnless, Leads, Setup, follower, line_in, refused_after, refused_line}
 use Rattle.tsb_text.specs.Obeys.{Besides, if_told, trail}
 
--- the heads and the preempt of a display line: it without its tick number and without its local counter
+-- the heads and the preempt of a display line, or of a wide one: it without its tick number and without its local counter
 abbrev pub shown : List ℕ → List ℕ
-shown line = take 40 (drop 8 line)
+shown line = take 40 (drop 8 line) ++ drop 53 line
 
 -- two display lines show the same heads and the same preempt
 abbrev pub shows_same : List ℕ → List ℕ → Bool
@@ -28,15 +28,15 @@ abbrev pub owed : Bool → List ℕ → List ℕ
 owed true line = with_feed line
 owed false line = []
 
--- the display line after these inputs
-abbrev pub line_after : Plan → List Input → List ℕ
-line_after plan is = display_line (replay plan is)
+-- the display line after these inputs, or the wide one
+abbrev pub line_after : Bool → Plan → List Input → List ℕ
+line_after is_wide plan is = line_in is_wide (replay plan is)
 
 -- what is said of a tick that is taken, where this is said of what follows it: its events, where they are told, that, and the
 -- display line, if it shows another head or preempt than the line before
-abbrev pub tick_text : Plan → Besides → Row → List Input → List ℕ → List ℕ → List ℕ
-tick_text plan besides row is before after = (if_told besides.tells (events_of (usual_after (last_row is)) (replay plan is) (Tick row)) ++ after)
-    ++ owed (not (shows_same (line_after plan (Tick row ∷ is)) before)) (line_after plan (Tick row ∷ is))
+abbrev pub tick_text : Bool → Plan → Besides → Row → List Input → List ℕ → List ℕ → List ℕ
+tick_text is_wide plan besides row is before after = (if_told besides.tells (events_of (usual_after (last_row is)) (replay plan is) (Tick row)) ++ after)
+    ++ owed (not (shows_same (line_after is_wide plan (Tick row ∷ is)) before)) (line_after is_wide plan (Tick row ∷ is))
 
 -- the tick is refused: the line before it is told, if it is owed, and the refusal
 pub record Stopped (plan : Plan) (besides : Besides) (row : Row) (is : List Input) (before : List ℕ) (is_owed : Bool) (text : List ℕ) (refusal : Option Refusal) (new : List Input) : Type 0 where
@@ -54,7 +54,7 @@ Ends besides before is_owed stop left text refusal new =
 -- a tick was taken, and what follows it, which leaves these inputs; or that was refused. This is said of both
 pub record Follows (given : Setup) (besides : Besides) (row : Row) (is : List Input) (before said : List ℕ) (stop : Option Refusal) (left : List Input) : Type 0 where
   pub leads : Leads given (Tick row ∷ is) (follower given is (Tick row)) stop left
-  pub told : said ≡ tick_text given.plan besides row is before (trail besides.tells given (Tick row ∷ is) (follower given is (Tick row)) stop)
+  pub told : said ≡ tick_text given.is_wide given.plan besides row is before (trail besides.tells given (Tick row ∷ is) (follower given is (Tick row)) stop)
 
 -- so many ticks with these inputs, up to one that is refused, after this display line, which is owed where it was not told.
 -- Each display line is told that shows another head or preempt than the line before, and the last.
@@ -63,8 +63,8 @@ Changes given besides row is before is_owed zero text refusal new = (text ≡ ow
 Changes given besides row is before is_owed (suc n) text refusal new =
     (IsRight given.plan is (Apply (Tick row)) Took × (told rest : List ℕ) × (stop : Option Refusal) × (left : List Input)
     × Follows given besides row is before told stop left × (text ≡ told ++ rest)
-    × GoesUnless stop (Changes given besides row left (line_after given.plan (Tick row ∷ is)) (shows_same (line_after given.plan (Tick row ∷ is)) before) n rest refusal new)
-    (Ends besides (line_after given.plan (Tick row ∷ is)) (shows_same (line_after given.plan (Tick row ∷ is)) before) stop left rest refusal new))
+    × GoesUnless stop (Changes given besides row left (line_after given.is_wide given.plan (Tick row ∷ is)) (shows_same (line_after given.is_wide given.plan (Tick row ∷ is)) before) n rest refusal new)
+    (Ends besides (line_after given.is_wide given.plan (Tick row ∷ is)) (shows_same (line_after given.is_wide given.plan (Tick row ∷ is)) before) stop left rest refusal new))
     ⊎ Stopped given.plan besides row is before is_owed text refusal new
 
 -- what follows a tick is taken, and this is said around it: the events of the tick, its own, and the line of the tick

@@ -27,7 +27,7 @@ use Rattle.tsb_live_text.specs.declared.help.TheConstants.{HELP}
 use Rattle.tsb_live_text.specs.GoTo.{command_to, tick_of}
 use Rattle.tsb_live_text.specs.saved.Saved.{saved_text}
 use Rattle.tsb_status_text.specs.StatusText.{status_text}
-use Rattle.tsb_text.specs.Answers.{Setup, display_line, refused_line, when_line}
+use Rattle.tsb_text.specs.Answers.{Setup, line_in, refused_line, when_line}
 use Rattle.tsb_text.specs.declared.rows.Rows.TheVariants.{Held}
 use Rattle.tsb_text.specs.Obeys as session
 use Rattle.tsb_text.specs.Obeys.{Besides}
@@ -50,13 +50,15 @@ pub record Live : Type 0 where
   -- whether inputs tell their events, and whether answers that are no display lines stand after their command
   pub tells : Bool
   pub echoes : Bool
+  -- whether display lines are wide
+  pub is_wide : Bool
   -- what the run does after a line with which something is wrong, and the line that ended it
   pub on_fault : OnFault
   pub stopped : Option Stopped
 
 -- at power-up; before the first row all inputs are off
 abbrev pub begun : OnFault → Bool → Plan → Live
-begun on_fault acts plan = record { plan = plan; acts = acts; inputs = []; row = all_off; tells = false; echoes = false; on_fault = on_fault; stopped = None }
+begun on_fault acts plan = record { plan = plan; acts = acts; inputs = []; row = all_off; tells = false; echoes = false; is_wide = false; on_fault = on_fault; stopped = None }
 
 -- the state of the controller
 abbrev pub present : Live → State
@@ -78,9 +80,13 @@ with_events on s = record s { tells = on }
 abbrev pub with_echo : Bool → Live → Live
 with_echo on s = record s { echoes = on }
 
+-- display lines are wide from now on, or not
+abbrev pub with_lines : Bool → Live → Live
+with_lines is_wide s = record s { is_wide = is_wide }
+
 -- a session in which each tick has the row last given
 abbrev pub setup : Live → Setup
-setup s = record { plan = s.plan; log = rows_in (Held s.row); acts = s.acts }
+setup s = record { plan = s.plan; log = rows_in (Held s.row); acts = s.acts; is_wide = s.is_wide }
 
 -- ## Answers
 
@@ -107,7 +113,7 @@ Obeys s line c text fault t = Leaves s (session.Obeys (setup s) (besides s line)
 
 -- ticks of which only the changes are told
 abbrev pub TellsChanges : Live → List ℕ → ℕ → List ℕ → Option LineFault → Live → Type 0
-TellsChanges s line n text fault t = Leaves s (Changes (setup s) (besides s line) s.row s.inputs (display_line (present s)) false n) text fault t
+TellsChanges s line n text fault t = Leaves s (Changes (setup s) (besides s line) s.row s.inputs (line_in s.is_wide (present s)) false n) text fault t
 
 -- this is answered, and nothing else than this has become of it
 abbrev pub Tells : Live → List ℕ → List ℕ → Option LineFault → List ℕ → Option LineFault → Live → Live → Type 0
@@ -136,6 +142,7 @@ AsksLive s line asks.Plan text fault t = Tells s line (plan_text (present s).pla
 AsksLive s line asks.Edits text fault t = Tells s line (edits_text (present s).desk) None text fault s t
 AsksLive s line (asks.Events on) text fault t = Tells s line (codes "ok") None text fault (with_events on s) t
 AsksLive s line (asks.Echo on) text fault t = Tells s line (codes "ok") None text fault (with_echo on s) t
+AsksLive s line (asks.Lines is_wide) text fault t = Tells s line (codes "ok") None text fault (with_lines is_wide s) t
 AsksLive s line (asks.When which) text fault t = Tells s line (when_line (last_change (value_of which) s.plan s.inputs)) None text fault s t
 AsksLive s line asks.Help text fault t = Tells s line HELP.now None text fault s t
 AsksLive s line asks.Save text fault t = Tells s line (saved_text (kept_of s.plan s.inputs) (present s).now) None text fault s t

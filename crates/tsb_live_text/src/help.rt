@@ -2,7 +2,7 @@
 
 /// The lines of a live run, each with what it does, without the end of the last.
 pub const HELP: &[u8] =
-    b"ROW                       one tick with these inputs: 16 digits, 8 digits, 4 digits
+    b"ROW                       one tick with these inputs: 16 digits, 8 digits, 4 digits; or lists, as V1,4,17-20 P2 E1
 step N                    N ticks with the row last given
 changes N                 N ticks, of whose lines those that differ are printed
 back N                    N ticks back
@@ -28,6 +28,7 @@ reset                     the monitor is reset
 clock YYYY-MM-DD HH:MM:SS the next tick begins then
 events on                 inputs print their events; off ends that
 echo on                   answers stand after their command; off ends that
+lines wide                display lines have a field with overlaps 1 to 16; lines narrow ends that
 save                      the input log and the commands that come to this state, as JSON
 help                      these lines
 quit                      the run ends";

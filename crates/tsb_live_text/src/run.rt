@@ -187,6 +187,10 @@ impl LiveRun<'_> {
                 self.echoes = on;
                 tell(&echo, b"ok", None, pending, writer)
             }
+            LiveCommand::Lines(is_wide) => {
+                self.course.lay_lines(is_wide);
+                tell(&echo, b"ok", None, pending, writer)
+            }
             LiveCommand::Save => self.tell_saved(&echo, pending, writer),
             LiveCommand::Help => tell(&echo, HELP, None, pending, writer),
         }

@@ -3,7 +3,8 @@ ghost use Rattle.std.specs.Prelude.{◌≡◌, false, true};
 ghost use Rattle.json.specs.Print.{escape};
 ghost use Rattle.tsb_dialog.specs.Blame.{AfterCalls};
 ghost use Rattle.tsb_dialog.specs.Said.{with_feed};
-ghost use Rattle.tsb_log_text.specs.LogText.{log_text, row_line};
+ghost use Rattle.tsb_log_text.specs.Forms.{form_for};
+ghost use Rattle.tsb_log_text.specs.ListText.{line_in, text_in};
 ghost use Rattle.tsb_live_text.specs.saved.Saved.{commands_from, input_text, saved_text, step_text};
 ghost use Rattle.tsb_live_text.specs.saved.Says.{SaysLine, SaysText, are_plain};
 
@@ -13,12 +14,9 @@ pub mod laws;
 use crate::saved::input_line::{input_line, number_line};
 use std::io::Write;
 use tsb_dialog::{Pending, Watched, WriteError};
-use tsb_log_text::{LogRow, row_line};
+use tsb_log_text::{LogRow, RowForm, form_for, line_in};
 use tsb_step::Input;
 use tsb_text::{Kept, Other};
-
-/// The length of the line of a row, without its line feed, in bytes.
-const ROW: usize = 38;
 
 /// Says one line of JSON, with its line feed: an object with the members `log` and `commands`. `log` is the text of a
 /// log with the rows that are kept. `commands` has a line for each input that is no tick, and the ticks before it as
@@ -48,26 +46,29 @@ fn say_rows<W: Write>(
     pending: &mut Pending,
     writer: &mut Watched<W>,
 ) -> Result<(), WriteError>
-    ensures told { SaysText result (escape (log_text rows.now)) (W.contents writer.old.device) (W.contents writer.new.device) pending.old pending.new }
+    ensures told { SaysText result (escape (text_in (form_for rows.now) rows.now)) (W.contents writer.old.device) (W.contents writer.new.device) pending.old pending.new }
     ensures blame { writer.old.failed ≡ false → AfterCalls result writer.new.failed }
 {
+    let form = form_for(rows);
     for row in rows {
-        say_row(*row, pending, writer)?;
+        say_row(form, *row, pending, writer)?;
     }
     Ok(())
 }
 
-/// Says the line of a row, as a string of JSON has it.
+/// Says the line of a row in this form, as a string of JSON has it.
 fn say_row<W: Write>(
+    form: RowForm,
     row: LogRow,
     pending: &mut Pending,
     writer: &mut Watched<W>,
 ) -> Result<(), WriteError>
-    ensures told { SaysText result (escape (with_feed (row_line row))) (W.contents writer.old.device) (W.contents writer.new.device) pending.old pending.new }
+    ensures told { SaysText result (escape (with_feed (line_in form row))) (W.contents writer.old.device) (W.contents writer.new.device) pending.old pending.new }
     ensures blame { writer.old.failed ≡ false → AfterCalls result writer.new.failed }
 {
-    let line = row_line(row);
-    let (line, _) = line.as_bytes().split_at(ROW);
+    let line = line_in(form, row);
+    let bytes = line.as_bytes();
+    let (line, _) = bytes.split_at(bytes.len().saturating_sub(1));
     say_line(line, pending, writer)
 }
 

@@ -5,7 +5,9 @@ use Rattle.json.specs.Json.{Json}
 use Rattle.tsb_plan.specs.declared.object.Object.{Object}
 use Rattle.tsb_plan.specs.declared.version.Version.{Version}
 use Rattle.tsb_plan.specs.declared.version.Version.TheVariants.{One, Two, Three}
-use Rattle.tsb_plan.specs.Objects.{since}
+use Rattle.tsb_plan.specs.Objects.{indices, since}
+use Rattle.tsb_plan.specs.Versions.{range_in}
+use Rattle.tsb_plan.specs.declared.object.Range.{Range}
 use Rattle.tsb_plan_notes.specs.Parts.{whole_of}
 
 -- the version that has a number
@@ -27,6 +29,17 @@ newer_end (Some One) Two = Some (codes ": version 2 has it, and this text is of 
 newer_end (Some One) Three = Some (codes ": version 3 has it, and this text is of version 1\n")
 newer_end (Some Two) Three = Some (codes ": version 3 has it, and this text is of version 2\n")
 newer_end v since = None
+
+-- how many indices a range has, or else so many
+abbrev pub indices_or : Option Range → ℕ → ℕ
+indices_or None n = n
+indices_or (Some range) n = range.indices
+
+-- how many indices an object has in a text of this version: where the version has no such object, as many as in the newest
+abbrev pub indices_noted : Option Version → Object → ℕ
+indices_noted None o = indices o
+indices_noted (Some Three) o = indices o
+indices_noted (Some v) o = indices_or (range_in Two o) (indices o)
 
 -- the line of a name with this end, where it has one
 abbrev pub newer_line : List ℕ → Option (List ℕ) → List ℕ

@@ -1,8 +1,8 @@
 -- WHAT IS NOTED OF A PLAN TEXT, in the order of the text: of a name or an index that comes again in its table, both
 -- values, the last one counting; of a value that is no whole number, its unit; of a value and of an index out of range, the
 -- range; of a name that no object has, the object that was perhaps meant; and of one that is newer than the version of the
--- text, that it is. What is no JSON has no notes. Names, indices
--- and values are those of the newest version.
+-- text, that it is. What is no JSON has no notes. Names
+-- and values are those of the newest version, and so are indices but in a text of an earlier one.
 use Rattle.std.specs.Prelude.{ℕ, List, [], ◌∷◌, ◌++◌, if◌then◌else◌, Bool, true, false, ◌||◌, Option, Some, None, codes, bytes_eq, decimal, nat_le}
 use Rattle.std.specs.Str.{is_utf8}
 use Rattle.std.specs.List.{list_any}
@@ -12,11 +12,12 @@ use Rattle.json.specs.Print.{print}
 use Rattle.json.specs.Tree.{json_tokens}
 use Rattle.tsb_plan.specs.declared.object.Object.{Object}
 use Rattle.tsb_plan.specs.declared.version.Version.{Version}
+use Rattle.tsb_plan.specs.declared.version.Version.TheVariants.{Three}
 use Rattle.tsb_plan.specs.declared.version.TheConstants.Version.{NEWEST}
 use Rattle.tsb_plan.specs.Names.{name_of, object_named}
 use Rattle.tsb_plan.specs.Objects.{greatest, indices}
 use Rattle.tsb_plan_notes.specs.Near.{near_object}
-use Rattle.tsb_plan_notes.specs.Newer.{newer_note, version_of}
+use Rattle.tsb_plan_notes.specs.Newer.{indices_noted, newer_end, newer_line, newer_note, version_of}
 use Rattle.tsb_plan_notes.specs.Parts.{is_exponent, is_index, is_negative, is_point, meant, whole_of}
 use Rattle.tsb_plan_notes.specs.Units.{unit_of, unit_text}
 use Rattle.tsb_plan_notes.specs.declared.units.Unit.{Unit}
@@ -96,28 +97,34 @@ abbrev pub value_note : Option ℕ → Object → List ℕ → Json → List ℕ
 value_note None o index d = unit_note o index d
 value_note (Some n) o index d = if nat_le n (greatest o) then [] else over_note o index d
 
--- that an index is none, with the range of those of an object
-unfoldable pub range_end : Object → List ℕ
-range_end o = codes ": no such index, 1 to " ++ decimal (indices o) ++ 10 ∷ []
+-- that an index is none, with the range of so many
+unfoldable pub range_end : ℕ → List ℕ
+range_end most = codes ": no such index, 1 to " ++ decimal most ++ 10 ∷ []
 
 -- that an object has no such index, with the range
-abbrev pub index_note : Object → List ℕ → List ℕ
-index_note o index = path_of o index ++ range_end o
+abbrev pub index_note : ℕ → Object → List ℕ → List ℕ
+index_note most o index = path_of o index ++ range_end most
+
+-- of an index that a text of this version has not: that the newest has it, or that none has
+abbrev pub no_index_note : Option Version → Object → List ℕ → List ℕ
+no_index_note v o index =
+    if is_index (indices o) index then newer_line (path_of o index) (newer_end v Three) else index_note (indices_noted v o) o index
 
 -- of an index with its value, before these
-abbrev pub entry_note : Bool → Object → List ℕ → Json → Members → List ℕ
-entry_note false o index d later = index_note o index
-entry_note true o index d later = twice_note (path_of o index) d (next_of index later) ++ value_note (whole_of d) o index d
+abbrev pub entry_note : Bool → Option Version → Object → List ℕ → Json → Members → List ℕ
+entry_note false v o index d later = no_index_note v o index
+entry_note true v o index d later = twice_note (path_of o index) d (next_of index later) ++ value_note (whole_of d) o index d
 
 -- of the entries of a table
-abbrev pub entries_notes : Object → Members → List ℕ
-entries_notes o no_members = []
-entries_notes o (member index d later) = entry_note (is_index o index) o index d later ++ entries_notes o later
+abbrev pub entries_notes : Option Version → Object → Members → List ℕ
+entries_notes v o no_members = []
+entries_notes v o (member index d later) =
+    entry_note (is_index (indices_noted v o) index) v o index d later ++ entries_notes v o later
 
 -- of what the text gives for an object
-abbrev pub table_notes : Object → Json → List ℕ
-table_notes o (object entries) = entries_notes o entries
-table_notes o d = []
+abbrev pub table_notes : Option Version → Object → Json → List ℕ
+table_notes v o (object entries) = entries_notes v o entries
+table_notes v o d = []
 
 -- ## The text
 
@@ -143,13 +150,13 @@ abbrev pub is_known_member : List ℕ → Bool
 is_known_member name = bytes_eq name (codes "version") || bytes_eq name (codes "notes")
 
 -- of a member with its value, before these: where it names an object, is one of these two, or neither
-abbrev pub member_note : Option Object → List ℕ → Json → Members → List ℕ
-member_note None name d later = if is_known_member name then twice_note name d (next_of name later) else name_note name
-member_note (Some o) name d later = twice_note name d (next_of name later) ++ table_notes o d
+abbrev pub member_note : Option Version → Option Object → List ℕ → Json → Members → List ℕ
+member_note v None name d later = if is_known_member name then twice_note name d (next_of name later) else name_note name
+member_note v (Some o) name d later = twice_note name d (next_of name later) ++ table_notes v o d
 
 -- of one in a text of this version: that a later one has it, and what is noted of it otherwise
 abbrev pub versed_note : Option Version → Option Object → List ℕ → Json → Members → List ℕ
-versed_note v o name d later = newer_note v o name ++ member_note o name d later
+versed_note v o name d later = newer_note v o name ++ member_note v o name d later
 
 -- of the members of a text of this version
 abbrev pub members_notes : Option Version → Members → List ℕ

@@ -3,8 +3,6 @@ use Rattle.std.specs.Prelude.{ℕ, ◌+◌, ◌*◌, ◌-◌, ◌==◌, ◌&&◌
 use Rattle.json.specs.Find.{as_number, as_str}
 use Rattle.json.specs.Json.{Json}
 use Rattle.tsb_lines.specs.Words.{number_of}
-use Rattle.tsb_plan.specs.declared.object.Object.{Object}
-use Rattle.tsb_plan.specs.Objects.{indices}
 use Rattle.tsb_plan_notes.specs.declared.units.Unit.{Unit}
 use Rattle.tsb_plan_notes.specs.declared.units.Unit.TheVariants.{Phases, Tenths}
 use Rattle.tsb_plan_notes.specs.PhaseLists.{phases_of}
@@ -49,6 +47,6 @@ abbrev pub is_within : ℕ → Option ℕ → Bool
 is_within most None = false
 is_within most (Some n) = nat_le n most
 
--- whether a text is that of an index of the object: in digits, without a leading zero
-unfoldable pub is_index : Object → List ℕ → Bool
-is_index o text = nat_le 49 (slice_index text 0) && is_within (indices o) (number_of text)
+-- whether a text is that of an index of at most so many: in digits, without a leading zero
+unfoldable pub is_index : ℕ → List ℕ → Bool
+is_index most text = nat_le 49 (slice_index text 0) && is_within most (number_of text)

@@ -162,27 +162,28 @@ fn add_greatest(object: Object, notes: &mut Vec<u8>) -> Result<(), AllocError>
     notes.extend_from_slice(b"\n")
 }
 
-/// Adds that an object has no such index, with the range.
+/// Adds that an object has no such index, with the range of so many.
 pub(crate) fn add_index(
     alloc: Global,
+    indices: u32,
     object: Object,
     index: &str,
     notes: &mut Vec<u8>,
 ) -> Result<(), AllocError>
-    ensures { OnOk result (notes.new.items ≡ notes.old.items ++ index_note object index.now) }
+    ensures { OnOk result (notes.new.items ≡ notes.old.items ++ index_note indices object index.now) }
 {
     add_path(alloc, object, index, notes)?;
-    add_range(object, notes)
+    add_range(indices, notes)
 }
 
-/// Adds that an index is none, the range of an object's indices, and the end of the line.
+/// Adds that an index is none, the range of so many indices, and the end of the line.
 #[tactic(auto, unfolding(crate::specs::Notes::range_end))]
-fn add_range(object: Object, notes: &mut Vec<u8>) -> Result<(), AllocError>
-    ensures { OnOk result (notes.new.items ≡ notes.old.items ++ range_end object) }
+fn add_range(indices: u32, notes: &mut Vec<u8>) -> Result<(), AllocError>
+    ensures { OnOk result (notes.new.items ≡ notes.old.items ++ range_end indices) }
 {
     let mut buffer = Buffer::new();
     notes.extend_from_slice(b": no such index, 1 to ")?;
-    notes.extend_from_slice(buffer.format(object.indices()).as_bytes())?;
+    notes.extend_from_slice(buffer.format(indices).as_bytes())?;
     notes.extend_from_slice(b"\n")
 }
 

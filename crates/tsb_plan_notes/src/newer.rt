@@ -4,13 +4,16 @@ ghost use Rattle.json.specs.Find.{get};
 ghost use Rattle.json.specs.Value.{value_view};
 ghost use Rattle.tsb_plan.specs.declared.version.TheConstants.Version.{NEWEST};
 ghost use Rattle.tsb_plan.specs.Names.{object_named};
-ghost use Rattle.tsb_plan_notes.specs.Newer.{newer_end, newer_line, newer_note, numbered, since_of, version_of};
+ghost use Rattle.tsb_plan.specs.declared.version.Version.TheVariants.{Three};
+ghost use Rattle.tsb_plan_notes.specs.Notes.{path_of};
+ghost use Rattle.tsb_plan_notes.specs.Newer.{indices_noted, newer_end, newer_line, newer_note, numbered, since_of, version_of};
 ghost use Rattle.tsb_plan_notes.specs.Parts.{whole_of};
 
+use crate::lines::path_of;
 use crate::numbers::whole_of;
 use crate::text::{NOTES, VERSION};
 use json::Value;
-use std::alloc::AllocError;
+use std::alloc::{AllocError, Global};
 use tsb_plan::{Object, Version};
 
 /// The version that a text says it is of, where it does.
@@ -80,6 +83,38 @@ fn add_newer_line(
         return Ok(());
     };
     notes.extend_from_slice(name.as_bytes())?;
+    notes.extend_from_slice(end)
+}
+
+/// How many indices an object has in a text of this version: where the version has no such object, as many as in the
+/// newest.
+pub(crate) fn indices_in(version: Option<Version>, object: Object) -> u32
+    ensures { result ≡ indices_noted version object }
+{
+    match version {
+        None | Some(Version::Three) => object.indices(),
+        Some(_) => match object.range_in(Version::Two) {
+            Some(range) => range.indices,
+            None => object.indices(),
+        },
+    }
+}
+
+/// Adds that the newest version has an index, where the version of a text has it not.
+pub(crate) fn add_newer_index(
+    alloc: Global,
+    version: Option<Version>,
+    object: Object,
+    index: &str,
+    notes: &mut Vec<u8>,
+) -> Result<(), AllocError>
+    ensures { OnOk result (notes.new.items ≡ notes.old.items ++ newer_line (path_of object index.now) (newer_end version Three)) }
+{
+    let Some(end) = newer_end(version, Version::Three) else {
+        return Ok(());
+    };
+    let path = path_of(alloc, object, index)?;
+    notes.extend_from_slice(&path)?;
     notes.extend_from_slice(end)
 }
 

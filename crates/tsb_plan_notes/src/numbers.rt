@@ -11,7 +11,6 @@ use crate::phase_list::phases_of;
 use crate::units::Unit;
 use json::Value;
 use tsb_lines::number;
-use tsb_plan::Object;
 
 /// A value that is a whole number of 0 to 4,294,967,295, written without point and exponent.
 pub(crate) fn whole_of(value: &Value<'_>) -> Option<u32>
@@ -76,12 +75,12 @@ fn joined(whole: Option<u32>, tenth: Option<u32>) -> Option<u64>
     Some(whole as u64 * 10 + tenth as u64)
 }
 
-/// Whether a text is that of an index of the object: in digits, without a leading zero.
+/// Whether a text is that of an index of at most so many: in digits, without a leading zero.
 #[tactic(auto, unfolding(crate::specs::Parts::is_index))]
-pub(crate) fn is_index(object: Object, text: &str) -> bool
-    ensures { result ≡ is_index object text.now }
+pub(crate) fn is_index(indices: u32, text: &str) -> bool
+    ensures { result ≡ is_index indices text.now }
 {
-    begins_over_0(text.as_bytes()) && is_within(object.indices(), number(text.as_bytes()))
+    begins_over_0(text.as_bytes()) && is_within(indices, number(text.as_bytes()))
 }
 
 /// Whether the first byte is the digit 1 or a greater one.

@@ -25,7 +25,8 @@ pub(crate) const NOTES: &str = "notes";
 /// each value or index out of range, with the range; one for each name that no object has, with the object that was
 /// perhaps meant; and one for each name that a later version than that of the text has. The error is that memory ran out.
 ///
-/// A text that is no JSON in UTF-8 has no notes. Names and ranges are those of the newest version.
+/// A text that is no JSON in UTF-8 has no notes. Names and ranges are those of the newest version. An index that an
+/// earlier version has not is noted in a text of that version.
 pub fn notes(alloc: Global, text: &[u8]) -> Result<Vec<u8>, AllocError>
     ensures { IfOk result (λ notes. notes.items ≡ notes_of text.now) }
 {
@@ -91,12 +92,13 @@ fn add_versed<'a>(
         ≡ notes.old.items ++ versed_note version (object_named NEWEST member.now.0.now) member.now.0.now (value_view member.now.1) (members_view later.now)) }
 {
     add_newer(version, member.0, notes)?;
-    add_member(alloc, member, later, notes)
+    add_member(alloc, version, member, later, notes)
 }
 
 /// Adds what is noted of a member with its value, before these.
 fn add_member<'a>(
     alloc: Global,
+    version: Option<Version>,
     member: &(&'a str, Value<'a>),
     later: &[(&'a str, Value<'a>)],
     notes: &mut Vec<u8>,
@@ -104,13 +106,13 @@ fn add_member<'a>(
     requires value { HasNumbers (value_view member.now.1) }
     requires later { MembersHaveNumbers (members_view later.now) }
     ensures { OnOk result (notes.new.items ≡ notes.old.items
-        ++ member_note (object_named NEWEST member.now.0.now) member.now.0.now (value_view member.now.1) (members_view later.now)) }
+        ++ member_note version (object_named NEWEST member.now.0.now) member.now.0.now (value_view member.now.1) (members_view later.now)) }
 {
     let name = member.0;
     match Object::named(Version::NEWEST, name) {
         Some(object) => {
             add_again(alloc, name, &member.1, later, notes)?;
-            add_table(alloc, object, &member.1, notes)
+            add_table(alloc, version, object, &member.1, notes)
         }
         None => {
             if name != VERSION && name != NOTES {

@@ -1,9 +1,13 @@
 -- The line of a status: one JSON object, in ASCII, without spaces and without a line feed. Its names are those of NTCIP
 -- 1202, group by group: `reds` of `phaseStatusGroup` is phaseStatusGroupReds. A set is the list of its numbers, what is
 -- none is null, times are in tenths of a second, and numbers of phases, detectors and preempts begin with 1.
-use Rattle.std.specs.Prelude.{ℕ, List, [], ◌∷◌, Option, Some, None, option_map, codes, decimal}
+use Rattle.tsb_types.specs.declared.limits.TheConstants.{OVERLAPS, PREEMPTS, VEHICLE_DETECTORS}
+use Rattle.tsb_types.specs.Lists.{run_from}
+use Rattle.std.specs.Prelude.{ℕ, ◌-◌, Bool, true, false, if◌then◌else◌, List, [], ◌∷◌, Option, Some, None, option_map, codes, decimal}
+use Rattle.std.specs.List.{list_all}
 use Rattle.tsb_step.specs.tsb_ring.Rings.{Ring, Ring1, Ring2}
 use Rattle.tsb_step.specs.declared.status.PreemptState.{PreemptState}
+use Rattle.tsb_step.specs.declared.status.PreemptState.TheVariants as preempt_states
 use Rattle.tsb_step.specs.declared.waits.Lack.{Lack}
 use Rattle.tsb_step.specs.declared.waits.Lack.TheVariants as lacks
 use Rattle.tsb_step.specs.declared.waits.Wait.{Wait}
@@ -32,26 +36,34 @@ phases_text s = object (
 -- overlapStatusGroup: Reds, Yellows, Greens
 unfoldable pub overlaps_text : Status → List ℕ
 overlaps_text s = object (
-    member (codes "reds") (numbers s.overlap_reds 4)
-    ∷ member (codes "yellows") (numbers s.overlap_yellows 4)
-    ∷ member (codes "greens") (numbers s.overlap_greens 4)
+    member (codes "reds") (numbers s.overlap_reds OVERLAPS)
+    ∷ member (codes "yellows") (numbers s.overlap_yellows OVERLAPS)
+    ∷ member (codes "greens") (numbers s.overlap_greens OVERLAPS)
     ∷ [])
 
 -- vehicleDetectorStatusGroup: Active, Alarms
 unfoldable pub detectors_text : Status → List ℕ
 detectors_text s = object (
-    member (codes "active") (numbers s.active 16)
-    ∷ member (codes "alarms") (numbers s.alarms 16)
+    member (codes "active") (numbers s.active VEHICLE_DETECTORS)
+    ∷ member (codes "alarms") (numbers s.alarms VEHICLE_DETECTORS)
     ∷ [])
 
--- preemptState of preempts 1 to 4
+-- the state of a preempt that is not in service, and has no call
+abbrev pub is_not_active : PreemptState → Bool
+is_not_active preempt_states.NotActive = true
+is_not_active state = false
+
+-- how many preempts a line has: 4, and all of them where one of the others is active
+abbrev pub shown_preempts : (ℕ → PreemptState) → ℕ
+shown_preempts preempt = if list_all (λ n. is_not_active (preempt n)) (run_from 5 (PREEMPTS - 4)) then 4 else PREEMPTS
+
+-- the name of a preempt's state
+abbrev pub state_text : (ℕ → PreemptState) → ℕ → Option (List ℕ)
+state_text preempt n = Some (string (preempt_name (preempt n)))
+
+-- preemptState of so many preempts
 unfoldable pub preempts_text : (ℕ → PreemptState) → List ℕ
-preempts_text preempt = array (
-    string (preempt_name (preempt 1))
-    ∷ string (preempt_name (preempt 2))
-    ∷ string (preempt_name (preempt 3))
-    ∷ string (preempt_name (preempt 4))
-    ∷ [])
+preempts_text preempt = array (values_from (state_text preempt) 1 (shown_preempts preempt))
 
 -- the desk: the station that owns it, and how far its transaction is
 unfoldable pub desk_text : Status → List ℕ

@@ -1,6 +1,7 @@
 //! The line, and its groups of status objects.
-ghost use Rattle.std.specs.Prelude.{◌≡◌, ◌+◌, ◌-◌, ◌++◌, get_or, length};
-ghost use Rattle.tsb_types.specs.Sets.{has_number};
+ghost use Rattle.std.specs.Prelude.{◌≡◌, ◌≤◌, ◌+◌, ◌-◌, ◌++◌, get_or, length};
+ghost use Rattle.tsb_types.specs.Sets.{has_detector, has_number};
+ghost use Rattle.tsb_types.specs.declared.limits.TheConstants.{OVERLAPS, PREEMPTS, VEHICLE_DETECTORS};
 ghost use Rattle.tsb_step.specs.declared.status.PreemptState.TheVariants.{NotActive};
 ghost use Rattle.tsb_status.specs.Plain.{resting, ring_place, ring_status_of, status_of};
 ghost use Rattle.tsb_status_text.specs.Alike.{TellsAllAlike};
@@ -8,21 +9,24 @@ ghost use Rattle.tsb_status_text.specs.Json.{numbers, optional, string};
 ghost use Rattle.tsb_status_text.specs.Names.{preempt_name};
 ghost use Rattle.tsb_lines.specs.ShortLines.{AddsShort};
 ghost use Rattle.tsb_status_text.specs.declared.line.TheConstants.{LONGEST};
-ghost use Rattle.tsb_status_text.specs.StatusText.{desk_text, detectors_text, end_text, overlaps_text, phases_text, preempts_text, rings_text, status_text, waits_text};
+ghost use Rattle.tsb_status_text.specs.StatusText.{desk_text, detectors_text, end_text, is_not_active, overlaps_text, phases_text, preempts_text, rings_text, shown_preempts, status_text, waits_text};
 
-use crate::line::{StatusLine, push_byte, push_named, push_numbers, push_optional};
+use crate::line::{
+    StatusLine, push_byte, push_detector_numbers, push_named, push_numbers, push_optional, separate,
+};
 use crate::names::{desk_name, flash_name, free_name, preempt_name};
 use crate::rings::push_ring;
 use crate::waits::push_waits;
 use tsb_status::{RingStatus, Status};
 use tsb_step::PreemptState;
-use tsb_types::{NumberSet, Station};
+use tsb_types::limits::{OVERLAPS, PREEMPTS, VEHICLE_DETECTORS};
+use tsb_types::{DetectorSet, NumberSet, Station};
 
-/// How many phases and vehicle detectors there are.
+/// How many phases there are.
 const PHASES: u8 = 16;
 
-/// How many overlaps there are.
-const OVERLAPS: u8 = 4;
+/// How many preempts a line has where no other is active.
+const FEW_PREEMPTS: usize = 4;
 
 /// The line of a status: one object of JSON, in ASCII, without spaces and without a line feed. Its names are those of
 /// NTCIP 1202, group by group, so that `reds` of `phaseStatusGroup` is phaseStatusGroupReds; those that it has not are
@@ -77,7 +81,15 @@ fn push_end(line: &mut StatusLine, time: Option<u32>)
     }
 }
 
-/// Adds a set of phases or vehicle detectors to a line, after a name.
+/// Adds a set of vehicle detectors to a line, after a name.
+fn push_detector_set(line: &mut StatusLine, name: &[u8], set: DetectorSet)
+    ensures { AddsShort LONGEST (length name.now + 184) line.old (name.now ++ numbers (has_detector set) VEHICLE_DETECTORS) line.new }
+{
+    line.push(name);
+    push_detector_numbers(line, set);
+}
+
+/// Adds a set of phases to a line, after a name.
 fn push_set(line: &mut StatusLine, name: &[u8], set: NumberSet)
     ensures { AddsShort LONGEST (length name.now + 40) line.old (name.now ++ numbers (has_number set) 16) line.new }
 {
@@ -87,17 +99,17 @@ fn push_set(line: &mut StatusLine, name: &[u8], set: NumberSet)
 
 /// Adds a set of overlaps to a line, after a name.
 fn push_overlap_set(line: &mut StatusLine, name: &[u8], set: NumberSet)
-    ensures { AddsShort LONGEST (length name.now + 9) line.old (name.now ++ numbers (has_number set) 4) line.new }
+    ensures { AddsShort LONGEST (length name.now + 40) line.old (name.now ++ numbers (has_number set) OVERLAPS) line.new }
 {
     line.push(name);
     push_numbers(line, set, OVERLAPS);
 }
 
-/// Adds preemptState of a preempt to a line, after a name.
-fn push_preempt(line: &mut StatusLine, name: &[u8], state: PreemptState)
-    ensures { AddsShort LONGEST (length name.now + 19) line.old (name.now ++ string (preempt_name state)) line.new }
+/// Adds preemptState of a preempt to a line.
+fn push_preempt(line: &mut StatusLine, state: PreemptState)
+    ensures { AddsShort LONGEST 19 line.old (string (preempt_name state)) line.new }
 {
-    push_named(line, name, preempt_name(state));
+    push_named(line, b"", preempt_name(state));
 }
 
 /// Adds phaseStatusGroup to a line.
@@ -119,7 +131,7 @@ fn push_phases(line: &mut StatusLine, status: &Status)
 
 /// Adds overlapStatusGroup to a line.
 fn push_overlaps(line: &mut StatusLine, status: &Status)
-    ensures { AddsShort LONGEST 57 line.old (overlaps_text (status_of status.entry.now)) line.new }
+    ensures { AddsShort LONGEST 150 line.old (overlaps_text (status_of status.entry.now)) line.new }
 {
     push_overlap_set(line, b"{\"reds\":", status.overlap_reds);
     push_overlap_set(line, b",\"yellows\":", status.overlap_yellows);
@@ -129,22 +141,48 @@ fn push_overlaps(line: &mut StatusLine, status: &Status)
 
 /// Adds vehicleDetectorStatusGroup to a line.
 fn push_detectors(line: &mut StatusLine, status: &Status)
-    ensures { AddsShort LONGEST 101 line.old (detectors_text (status_of status.entry.now)) line.new }
+    ensures { AddsShort LONGEST 389 line.old (detectors_text (status_of status.entry.now)) line.new }
 {
-    push_set(line, b"{\"active\":", status.active);
-    push_set(line, b",\"alarms\":", status.alarms);
+    push_detector_set(line, b"{\"active\":", status.active);
+    push_detector_set(line, b",\"alarms\":", status.alarms);
     line.push(b"}");
 }
 
-/// Adds preemptState of preempts 1 to 4 to a line.
-fn push_preempts(line: &mut StatusLine, states: &[PreemptState; 4])
-    ensures { AddsShort LONGEST 81 line.old (preempts_text (λ n. get_or states.now (n - 1) NotActive)) line.new }
+/// Adds preemptState to a line: that of preempts 1 to 4, and of all of them where one of the others is active.
+fn push_preempts(line: &mut StatusLine, states: &[PreemptState; PREEMPTS as usize])
+    ensures { AddsShort LONGEST 161 line.old (preempts_text (λ n. get_or states.now (n - 1) NotActive)) line.new }
 {
-    push_preempt(line, b"[", states[0]);
-    push_preempt(line, b",", states[1]);
-    push_preempt(line, b",", states[2]);
-    push_preempt(line, b",", states[3]);
+    line.push(b"[");
+    let mut first = true;
+    for k in 0..shown_preempts(states) {
+        separate(line, first);
+        push_preempt(line, states[k]);
+        first = false;
+    }
     line.push(b"]");
+}
+
+/// How many preempts a line has.
+fn shown_preempts(states: &[PreemptState; PREEMPTS as usize]) -> usize
+    ensures value { result ≡ shown_preempts (λ n. get_or states.now (n - 1) NotActive) }
+    ensures within { result ≤ PREEMPTS }
+{
+    for k in FEW_PREEMPTS..PREEMPTS as usize {
+        if !is_not_active(states[k]) {
+            return PREEMPTS as usize;
+        }
+    }
+    FEW_PREEMPTS
+}
+
+/// Whether a preempt is not active.
+fn is_not_active(state: PreemptState) -> bool
+    ensures { result ≡ is_not_active state }
+{
+    match state {
+        PreemptState::NotActive => true,
+        _ => false,
+    }
 }
 
 /// Adds the number of the desk's owner to a line, or null where there is none.

@@ -1,15 +1,17 @@
 //! Parts that are added to a line: bytes, numbers and sets of numbers.
 ghost use Rattle.std.specs.Prelude.{◌+◌, ◌++◌, ◌≤◌, decimal, length};
-ghost use Rattle.tsb_types.specs.Sets.{has_number};
+ghost use Rattle.tsb_types.specs.Sets.{has_detector, has_number};
+ghost use Rattle.tsb_types.specs.declared.limits.TheConstants.{VEHICLE_DETECTORS};
 ghost use Rattle.tsb_status_text.specs.Json.{comma, numbers, optional, string};
 ghost use Rattle.tsb_lines.specs.ShortLines.{AddsShort};
 ghost use Rattle.tsb_status_text.specs.declared.line.TheConstants.{LONGEST};
 
 use tsb_lines::ShortLine;
-use tsb_types::{NumberSet, Phase};
+use tsb_types::limits::VEHICLE_DETECTORS;
+use tsb_types::{DetectorSet, NumberSet, Phase};
 
 /// The most bytes that the line of a status can have.
-pub const LONGEST: usize = 2_773;
+pub const LONGEST: usize = 3_234;
 
 /// The bytes of a line.
 pub type StatusLine = ShortLine<LONGEST>;
@@ -62,6 +64,22 @@ pub(crate) fn push_numbers(line: &mut StatusLine, set: NumberSet, most: u8)
     line.push(b"[");
     let mut first = true;
     for k in 0..most {
+        if set.contains(k + 1) {
+            separate(line, first);
+            push_byte(line, k + 1);
+            first = false;
+        }
+    }
+    line.push(b"]");
+}
+
+/// Adds to a line the list of the detectors that a set has.
+pub(crate) fn push_detector_numbers(line: &mut StatusLine, set: DetectorSet)
+    ensures { AddsShort LONGEST (length (numbers (has_detector set) VEHICLE_DETECTORS)) line.old (numbers (has_detector set) VEHICLE_DETECTORS) line.new }
+{
+    line.push(b"[");
+    let mut first = true;
+    for k in 0..VEHICLE_DETECTORS {
         if set.contains(k + 1) {
             separate(line, first);
             push_byte(line, k + 1);

@@ -1,14 +1,15 @@
 //! The line of a plan.
 ghost use Rattle.std.specs.List.{list_all};
-ghost use Rattle.std.specs.Prelude.{◌≡◌, ◌||◌, ◌++◌, IfOk, None, Ok, OnOk};
+ghost use Rattle.std.specs.Prelude.{◌≡◌, ◌==◌, ◌||◌, ◌++◌, true, IfOk, None, Ok, OnOk};
 ghost use Rattle.json.specs.Json.{Members, object};
 ghost use Rattle.json.specs.Tree.{json_tokens, members_tokens};
 ghost use Rattle.tsb_objects.specs.tsb_rules.Rules.{first_broken};
 ghost use Rattle.tsb_plan.specs.declared.version.Version.TheVariants.{Two};
+ghost use Rattle.tsb_plan.specs.Objects.{has_index};
 ghost use Rattle.tsb_plan.specs.PlanOf.{plan_of};
-ghost use Rattle.tsb_plan.specs.Versions.{has_object};
+ghost use Rattle.tsb_plan.specs.Versions.{has_index_in};
 ghost use Rattle.tsb_plan_text.specs.PlanText.{reading};
-ghost use Rattle.tsb_status_text.specs.PlanLine.{is_all_zeros, members_of, plan_text, table, version_for, with_entry, with_object};
+ghost use Rattle.tsb_status_text.specs.PlanLine.{fits_version_2, is_all_zeros, members_of, plan_text, table, version_for, with_entry, with_object};
 
 use crate::laws::lines_are_read_back;
 use itoa::Buffer;
@@ -20,12 +21,11 @@ use tsb_objects::{Object, Plan, Version};
 const VERSION: &str = "version";
 
 /// The plan as one plan text, without spaces and without a line feed. The text is of version 2, or of version 3 where an
-/// object that version 2 has not is not all zeros.
+/// object is not 0 at an index that version 2 has not.
 ///
 /// `version` comes first, then each object that is not all zeros, in the order of `Object::ALL`, and of each object the
 /// indices at which it is not 0, in ascending order. So two plans are the same exactly where their lines are. An `Err`
 /// says that there is no memory for it.
-
 pub fn plan_line(alloc: Global, plan: &Plan) -> Result<Vec<u8>, AllocError>
     ensures line { IfOk result (λ line. line.items ≡ plan_text (plan_of plan.now)) }
 
@@ -42,22 +42,54 @@ pub fn plan_line(alloc: Global, plan: &Plan) -> Result<Vec<u8>, AllocError>
     Ok(writer.into_inner())
 }
 
-/// The version that tells all of the plan.
+/// The version of the text.
 fn version_for(plan: &Plan) -> Version
     ensures { result ≡ version_for (plan_of plan.now) }
 {
-    if are_told(plan, &Object::ALL) {
+    if all_fit_version_2(plan, &Object::ALL) {
         Version::Two
     } else {
         Version::Three
     }
 }
 
-/// Whether version 2 has each of these objects that is not all zeros.
-fn are_told(plan: &Plan, objects: &[Object]) -> bool
-    ensures { result ≡ list_all (λ o. has_object Two o || is_all_zeros (plan_of plan.now) o) objects.now }
+/// Whether version 2 has each index at which one of these objects is not 0.
+fn all_fit_version_2(plan: &Plan, objects: &[Object]) -> bool
+    ensures { result ≡ list_all (fits_version_2 (plan_of plan.now)) objects.now }
 {
-    objects.iter().all(|object| Version::Two.has(*object) || is_all_zeros(plan, *object))
+    objects.iter().all(|object| fits_version_2(plan, *object))
+}
+
+/// Whether version 2 has each index at which the object is not 0.
+#[tactic(auto, unfolding(crate::specs::PlanLine::fits_version_2))]
+fn fits_version_2(plan: &Plan, object: Object) -> bool
+    ensures { result ≡ fits_version_2 (plan_of plan.now) object }
+{
+    for index in 1..object.indices() + 1 {
+        if !is_told(plan, object, index) {
+            return false;
+        }
+    }
+    true
+}
+
+/// Whether the object is 0 at the index, or version 2 has it there.
+fn is_told(plan: &Plan, object: Object, index: u32) -> bool
+    requires { has_index object index ≡ true }
+    ensures { result ≡ ((plan_of plan.now).value object index == 0 || has_index_in Two object index) }
+{
+    plan.at(object, index) == 0 || is_in_version_2(object, index)
+}
+
+/// Whether version 2 has the object at the index.
+fn is_in_version_2(object: Object, index: u32) -> bool
+    requires { has_index object index ≡ true }
+    ensures { result ≡ has_index_in Two object index }
+{
+    match object.range_in(Version::Two) {
+        Some(range) => index <= range.indices,
+        None => false,
+    }
 }
 
 /// Writes those of these objects that are not all zeros, each with its table, and closes what they are of.

@@ -8,7 +8,8 @@ use Rattle.json.specs.Tree.{json_tokens}
 use Rattle.tsb_types.specs.declared.clock_time.TheConstants.{DAY}
 use Rattle.tsb_command_text.specs.clock.ClockText.{date_of, date_text, time_text}
 use Rattle.tsb_dialog.specs.Said.{with_feed}
-use Rattle.tsb_log_text.specs.LogText.{log_text}
+use Rattle.tsb_log_text.specs.Forms.{form_for}
+use Rattle.tsb_log_text.specs.ListText.{text_in}
 use Rattle.tsb_text.specs.tsb_step.tsb_plan.Names.{name_of}
 use Rattle.tsb_text.specs.tsb_types.declared.lamp.Lamp.{Lamp}
 use Rattle.tsb_text.specs.tsb_types.declared.lamp.Lamp.TheVariants as lamps
@@ -90,7 +91,7 @@ commands_text kept now = commands_from now kept.others 0
 -- the log and the commands as JSON
 abbrev pub saved_json : Keeping → ℕ → Json
 saved_json kept now = object (
-    member (codes "log") (string (log_text kept.rows))
+    member (codes "log") (string (text_in (form_for kept.rows) kept.rows))
     (member (codes "commands") (string (commands_text kept now))
     no_members))
 
