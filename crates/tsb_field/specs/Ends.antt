@@ -105,10 +105,10 @@ NotDrawn failed bytes status told tells =
 
 -- all that a session answered was read, and of this text, which comes of its display lines and the log's rows, as much is
 -- written as the writer takes; or reading it or memory failed, and nothing is written
-abbrev pub Drawn : (List Shown → Option ℕ → List LogRow → List ℕ → Type 0) → ℕ → List LogRow → (before after : Devices) → Type 0
-Drawn Is status rows before after =
+abbrev pub Drawn : Bool → (List Shown → Option ℕ → List LogRow → List ℕ → Type 0) → ℕ → List LogRow → (before after : Devices) → Type 0
+Drawn is_wide Is status rows before after =
     ((bytes : List ℕ) × Consumes before.input.bytes after.input.bytes bytes × (after.input.failed ≡ false) × IsAtEnd after.input.bytes × (text : List ℕ)
-    × Is (changes_of (remaining (shown_lines bytes))) (last_tick (shown_lines bytes)) rows text
+    × Is (changes_of (remaining (shown_lines is_wide bytes))) (last_tick (shown_lines is_wide bytes)) rows text
     × Wrote status 0 text before.output after.output before.errors after.errors)
     ⊎ ((bytes : List ℕ) × Consumes before.input.bytes after.input.bytes bytes × (after.output ≡ before.output)
     × NotDrawn after.input.failed bytes status before.errors after.errors)
@@ -126,14 +126,14 @@ IsLate from status before after =
     × (after.output ≡ before.output) × TellsLate status before.errors after.errors
 
 -- the events of what was read are written; or nothing is: there is no log, or with 2 a tick has no time
-abbrev pub Told : ℕ → Moment → List ℕ → (List ℕ → Option (List ℕ)) → Option (List ℕ) → (before after : Devices) → Type 0
-Told status from device files path before after =
+abbrev pub Told : Bool → ℕ → Moment → List ℕ → (List ℕ → Option (List ℕ)) → Option (List ℕ) → (before after : Devices) → Type 0
+Told is_wide status from device files path before after =
     OnlyTells (Stops files path status) before after
-    ⊎ (((rows : List LogRow) × NamesLog files path rows × Drawn (IsEvents from device) status rows before after) ⊎ IsLate from status before after)
+    ⊎ (((rows : List LogRow) × NamesLog files path rows × Drawn is_wide (IsEvents from device) status rows before after) ⊎ IsLate from status before after)
 
 -- the events of what was read are written, with these rows of a log; or nothing is, since with 2 a tick has no time
-abbrev pub ToldOn : ℕ → Moment → List ℕ → List LogRow → (before after : Devices) → Type 0
-ToldOn status from device rows before after = Drawn (IsEvents from device) status rows before after ⊎ IsLate from status before after
+abbrev pub ToldOn : Bool → ℕ → Moment → List ℕ → List LogRow → (before after : Devices) → Type 0
+ToldOn is_wide status from device rows before after = Drawn is_wide (IsEvents from device) status rows before after ⊎ IsLate from status before after
 
 -- ## `record`
 
@@ -184,13 +184,13 @@ RanSo status from device options given before after =
 -- how `record` ended on this plan and the log in the file of this name: after a run, or with nothing read and nothing written
 abbrev pub RecordedOn : ℕ → Moment → List ℕ → RecordOptions → Plan → (rows : List ℕ) → (List ℕ → Option (List ℕ)) → (before after : Devices) → Type 0
 RecordedOn status from device options plan rows files before after =
-    ((log : List LogRow) × HasLog (files rows) log × RanSo status from device options (record { plan = plan; log = log; acts = true }) before after)
+    ((log : List LogRow) × HasLog (files rows) log × RanSo status from device options (record { plan = plan; log = log; acts = true; is_wide = false }) before after)
     ⊎ OnlyTells (Stops files (Some rows) status) before after
 
 -- how `record` ended on the files of a plan and a log, of these names: after a run, or with nothing read and nothing written
 abbrev pub Recorded : ℕ → Moment → List ℕ → RecordOptions → (plan rows : List ℕ) → (List ℕ → Option (List ℕ)) → (before after : Devices) → Type 0
 Recorded status from device options plan rows files before after =
-    ((given : Setup) × HasPlan (files plan) given.plan × HasLog (files rows) given.log × (given.acts ≡ true) × RanSo status from device options given before after)
+    ((given : Setup) × HasPlan (files plan) given.plan × HasLog (files rows) given.log × (given.acts ≡ true) × (given.is_wide ≡ false) × RanSo status from device options given before after)
     ⊎ OnlyTells (NoRun plan rows files status) before after
 
 -- the same, where it may be that no clock can be set to tick 1, and one has to be: nothing is read or written then
@@ -227,17 +227,17 @@ Draws text status old new told tells = Wrote status 0 text old new told tells �
 
 -- the picture of what was read is written, with the ends of greens in the event log of this file, where words name one and a
 -- moment to count from; or nothing is, since that has none. Without such a file it has no ends.
-abbrev pub PicturedBeside : Option (List ℕ) → Option Moment → ℕ → Form → List LogRow → (List ℕ → Option (List ℕ)) → (before after : Devices) → Type 0
-PicturedBeside (Some source) (Some from) status form rows files before after =
+abbrev pub PicturedBeside : Bool → Option (List ℕ) → Option Moment → ℕ → Form → List LogRow → (List ℕ → Option (List ℕ)) → (before after : Devices) → Type 0
+PicturedBeside is_wide (Some source) (Some from) status form rows files before after =
     OnlyTells (NoEnds from source files status) before after
-    ⊎ ((greens : List GreenEnd) × HasEnds from (files source) greens × Drawn (IsDiagram form greens) status rows before after)
-PicturedBeside source from status form rows files before after = Drawn (IsDiagram form []) status rows before after
+    ⊎ ((greens : List GreenEnd) × HasEnds from (files source) greens × Drawn is_wide (IsDiagram form greens) status rows before after)
+PicturedBeside is_wide source from status form rows files before after = Drawn is_wide (IsDiagram form []) status rows before after
 
 -- the picture of what was read is written; or nothing is, since there is no log, or no end of a green
-abbrev pub Pictured : ℕ → Form → Option (List ℕ) → (List ℕ → Option (List ℕ)) → Option (List ℕ) → (before after : Devices) → Type 0
-Pictured status form source files path before after =
+abbrev pub Pictured : Bool → ℕ → Form → Option (List ℕ) → (List ℕ → Option (List ℕ)) → Option (List ℕ) → (before after : Devices) → Type 0
+Pictured is_wide status form source files path before after =
     OnlyTells (Stops files path status) before after
-    ⊎ ((rows : List LogRow) × NamesLog files path rows × PicturedBeside source form.from status form rows files before after)
+    ⊎ ((rows : List LogRow) × NamesLog files path rows × PicturedBeside is_wide source form.from status form rows files before after)
 
 -- what the schedule of a plan runs in the week from a moment on is written as a picture, or else as a table
 abbrev pub RunsWeek : Bool → ℕ → Plan → ℕ → (old new told tells : Seen) → Type 0
@@ -265,9 +265,9 @@ abbrev pub DidWish : Wish → ℕ → (List ℕ → Option (List ℕ)) → (befo
 DidWish (log wish) status files before after = LoggedOn wish.as_outputs status wish files before after
 DidWish (recording from device plan file manner) status files before after =
     RecordedWith (lacks_clock manner.no_clock from) status from device (options_of from manner) plan file files before after
-DidWish (events from device path) status files before after = Told status from device files path before after
-DidWish (diagram path title seconds from told_by) status files before after =
-    Pictured status (form_of title seconds from) told_by files path before after
+DidWish (events from device path is_wide) status files before after = Told is_wide status from device files path before after
+DidWish (diagram path is_wide title seconds from told_by) status files before after =
+    Pictured is_wide status (form_of title seconds from) told_by files path before after
 DidWish (weekly plan week svg) status files before after = ReadsNothing (Scheduled status plan week svg (files plan)) before after
 DidWish (worksheet plan) status files before after = ReadsNothing (Worked status plan (files plan)) before after
 DidWish (reviewing plan) status files before after = ReadsNothing (Reviewed status plan (files plan)) before after

@@ -60,7 +60,7 @@ pub(crate) fn write_diagram<F: Files, R: Read, W: Write, E: Write>(
     streams: &mut Streams<R, W, E>,
 ) -> u8
     requires reads { streams.old.input.failed ≡ false }
-    ensures { Pictured result (form_asked asked.now) (option_map (λ path. path.now) asked.now.events) (F.bytes files.now)
+    ensures { Pictured asked.now.is_wide result (form_asked asked.now) (option_map (λ path. path.now) asked.now.events) (F.bytes files.now)
         (option_map (λ path. path.now) asked.now.log) streams.old streams.new }
 {
     match log_named(alloc, files, asked.log) {
@@ -79,7 +79,7 @@ fn write_beside<F: Files, R: Read, W: Write, E: Write>(
     streams: &mut Streams<R, W, E>,
 ) -> u8
     requires reads { streams.old.input.failed ≡ false }
-    ensures { PicturedBeside (option_map (λ path. path.now) asked.now.events) asked.now.from result (form_asked asked.now) rows.now (F.bytes files.now)
+    ensures { PicturedBeside asked.now.is_wide (option_map (λ path. path.now) asked.now.events) asked.now.from result (form_asked asked.now) rows.now (F.bytes files.now)
         streams.old streams.new }
 {
     let Some(path) = asked.events else {
@@ -108,9 +108,9 @@ fn write_with<R: Read, W: Write, E: Write>(
     streams: &mut Streams<R, W, E>,
 ) -> u8
     requires reads { streams.old.input.failed ≡ false }
-    ensures { Drawn (IsDiagram (form_asked asked.now) ends.now) result rows.now streams.old streams.new }
+    ensures { Drawn asked.now.is_wide (IsDiagram (form_asked asked.now) ends.now) result rows.now streams.old streams.new }
 {
-    match read_replay(alloc, &mut streams.input) {
+    match read_replay(alloc, asked.is_wide, &mut streams.input) {
         Ok(replay) => {
             let session = DiagramSession {
                 changes: replay.changes(),

@@ -105,7 +105,7 @@ fn record_run<R: Read, W: Write, E: Write>(
     requires reads { streams.old.input.failed ≡ false }
     requires writes { streams.old.errors.failed ≡ false }
     requires flushed { streams.old.errors.flushed ≡ true }
-    ensures { RanSo result asked.now.from asked.now.device.now (options_of asked.now.from asked.now.manner) (record { plan = checked_plan plan; log = rows.now; acts = true })
+    ensures { RanSo result asked.now.from asked.now.device.now (options_of asked.now.from asked.now.manner) (record { plan = checked_plan plan; log = rows.now; acts = true; is_wide = false })
         streams.old streams.new }
 {
     let options = options_of(asked.from, asked.manner);

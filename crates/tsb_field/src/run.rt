@@ -82,9 +82,7 @@ fn run_wish<F: Files, R: Read, W: Write, E: Write>(
     match asked {
         Asked::Log(asked) => run_log(alloc, asked, files, streams),
         Asked::Record(asked) => write_record(alloc, asked, files, streams),
-        Asked::Events { from, device, log } => {
-            write_events(alloc, *from, device, *log, files, streams)
-        }
+        Asked::Events(asked) => write_events(alloc, asked, files, streams),
         Asked::Diagram(asked) => write_diagram(alloc, asked, files, streams),
         Asked::Review { plan } => review_plan(alloc, plan, files, streams),
         Asked::Schedule { plan, week, svg } => {

@@ -63,7 +63,7 @@ includes_none plan o = plan.value OverlapIncludedPhases o == 0
 
 -- no overlap includes one, so none lasts by a commitment
 abbrev pub has_no_overlaps : Plan → Bool
-has_no_overlaps plan = list_all (includes_none plan) (run_from 1 4)
+has_no_overlaps plan = list_all (includes_none plan) (run_from 1 plan.counts.overlaps)
 
 -- THE LONGEST ENTRY of preempt n: so long after its service began, at most, all phases of its first stage are Green. That
 -- are its track phases, or its dwell phases where it has no others

@@ -3,6 +3,7 @@
 
 ghost use Rattle.std.specs.Prelude.{◌≡◌};
 ghost use Rattle.std.specs.List.{list_any};
+ghost use Rattle.tsb_types.specs.declared.limits.TheConstants.{OVERLAPS};
 ghost use Rattle.tsb_plan.specs.Objects.{indices};
 ghost use Rattle.tsb_plan.specs.Plan.{phases};
 ghost use Rattle.tsb_plan.specs.PlanOf.{plan_of};
@@ -94,7 +95,7 @@ fn is_carried(plan: &Plan, overlap: Overlap) -> bool
 
 /// The value of a list of the overlap.
 fn list_of(plan: &Plan, object: Object, overlap: Overlap) -> u32
-    requires { indices object ≡ 4 }
+    requires { indices object ≡ OVERLAPS }
     ensures { result ≡ (plan_of plan.now).value object overlap }
 {
     plan.at(object, u32::from(overlap.number()))

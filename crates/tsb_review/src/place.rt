@@ -2,6 +2,7 @@
 ghost use Rattle.std.specs.Prelude.{◌≡◌, ◌≤◌};
 ghost use Rattle.tsb_review.specs.Places.{firsts, seconds, thirds, place_of};
 
+use tsb_types::limits::{OVERLAPS, PEDESTRIAN_DETECTORS, PREEMPTS, VEHICLE_DETECTORS};
 use tsb_types::{
     Action, DayEvent, DayPlan, Detector, Entry, Number, Overlap, Pattern, PedestrianDetector,
     Phase, Preempt, Ring, Sequence, Side,
@@ -116,16 +117,17 @@ impl Shape {
     /// How many places of the kind there are by their first number.
     pub fn firsts(self) -> u8
         ensures value { result ≡ firsts self }
-        ensures range { result ≤ 32 }
+        ensures range { result ≤ 64 }
     {
         match self {
             Shape::Unit => 1,
             Shape::Ring | Shape::RingSide => 2,
             Shape::Listing | Shape::SequencePhase => 4,
-            Shape::Overlap | Shape::OverlapPhase => 4,
-            Shape::Preempt | Shape::PreemptPhase | Shape::PreemptPhases => 4,
-            Shape::PedestrianDetector => 8,
-            Shape::Phase | Shape::Phases | Shape::Detector => 16,
+            Shape::Overlap | Shape::OverlapPhase => OVERLAPS,
+            Shape::Preempt | Shape::PreemptPhase | Shape::PreemptPhases => PREEMPTS,
+            Shape::PedestrianDetector => PEDESTRIAN_DETECTORS,
+            Shape::Phase | Shape::Phases => 16,
+            Shape::Detector => VEHICLE_DETECTORS,
             Shape::Pattern | Shape::PatternPhase | Shape::PatternPhases => 16,
             Shape::PatternSide | Shape::PatternRing => 16,
             Shape::DayEvent | Shape::DayEvents => 16,
