@@ -17,7 +17,7 @@ AnswersAll given is (c ∷ cs) text left = (first rest : List ℕ) × (mid : Lis
 
 -- the plan, and the log that is saved of these inputs
 abbrev pub saved_setup : Plan → List Input → Setup
-saved_setup plan is = record { plan = plan; log = (kept_of plan is).rows; acts = false }
+saved_setup plan is = record { plan = plan; log = (kept_of plan is).rows; acts = false; is_wide = false }
 
 -- A session on the saved log may answer the saved commands so that the same inputs remain.
 abbrev pub SavedRunsAreSessions : Type 0

@@ -35,7 +35,7 @@ IsLoose is a = ⊥
 would_be_right : IsLoose begun (Undone kinds.Begin) × IsLoose begun Nothing
 would_be_right = (refl, tt)
 
-would_be_two : bytes_eq (told Undo (Undone kinds.Begin) (start two)) (told Undo Nothing (start two)) ≡ false
+would_be_two : bytes_eq (told false Undo (Undone kinds.Begin) (start two)) (told false Undo Nothing (start two)) ≡ false
 would_be_two = refl
 
 is_right : IsRight two begun Undo (Undone kinds.Begin)

@@ -10,6 +10,7 @@ use Rattle.tsb_step.specs.declared.inputs.Input.{Input}
 use Rattle.tsb_step.specs.declared.inputs.Input.TheVariants as inputs
 use Rattle.tsb_step.proofs.Examples.Scenes as scenes
 use Rattle.tsb_text.specs.tsb_command_text.Commands.{command_of_one, command_of_two}
+use Rattle.tsb_text.specs.tsb_command_text.Readings.{lines_of_two}
 use Rattle.tsb_text.specs.tsb_display_text.Line.{line_of}
 use Rattle.tsb_text.specs.declared.error.SessionError.{SessionError}
 use Rattle.tsb_text.specs.declared.error.SessionError.TheVariants.{TooLarge, Read}
@@ -19,11 +20,11 @@ use Rattle.tsb_laws.specs.OneText.{tells_memory, Session}
 
 -- what a computed text opens
 unfoldable pub opened : Unit {0}
-unfolding scenes.opened two command_of_one command_of_two line_of
+unfolding scenes.opened two command_of_one command_of_two lines_of_two line_of
 opened = tt
 
 abbrev pub given : Setup
-given = record { plan = two; log = []; acts = true }
+given = record { plan = two; log = []; acts = true; is_wide = false }
 
 abbrev pub commands : List ℕ
 commands = codes "step 1\nbegin 1\nundo\nback 2\n"
@@ -132,7 +133,7 @@ session = record {
       whole = refl;
       short = omega (arith, few);
       said = [];
-      going = record { left = []; held = []; unfinished = tt; carries = record { on = λ more rest t. t } };
+      going = record { is_wide = false; left = []; held = []; unfinished = tt; carries = record { on = λ more rest t. t } };
     };
   };
 }
