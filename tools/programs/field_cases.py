@@ -38,6 +38,8 @@ RECORD = ["record", *FROM, "--device", "1001", "quad.json"]
 
 # The last moment of tick 6,000,000, and the first one behind it.
 LAST, BEHIND = "2026-11-29 05:39:59.999999999", "2026-11-29 05:40:00"
+# How many bytes a log has at most, and how many rows of digits.
+LONGEST_LOG = 64 << 20
 MOST_ROWS = 1_720_740
 
 # Words, and what is printed of them: written by hand from docs/use/FIELD.md.
@@ -58,9 +60,9 @@ WRONG = [
     ([*LOG, "--sort-within", "3601"], b'--sort-within "3601": a number of seconds is 1 to 3600'),
     ([*LOG, "--count=5"], b'--count "5": it takes no value'),
     ([*LOG, "--count", "--count"], b"--count comes twice"),
-    ([*LOG, "--vehicle", "5=17"], b'--vehicle "5=17": CHANNEL=DETECTOR, with a detector from 1 to 16'),
-    ([*LOG, "--pedestrian", "5"], b'--pedestrian "5": CHANNEL=DETECTOR, with a detector from 1 to 8'),
-    ([*LOG, "--preempt", "1=5"], b'--preempt "1=5": CHANNEL=INPUT, with an input from 1 to 4'),
+    ([*LOG, "--vehicle", "5=65"], b'--vehicle "5=65": CHANNEL=DETECTOR, with a detector from 1 to 64'),
+    ([*LOG, "--pedestrian", "5"], b'--pedestrian "5": CHANNEL=DETECTOR, with a detector from 1 to 16'),
+    ([*LOG, "--preempt", "1=9"], b'--preempt "1=9": CHANNEL=INPUT, with an input from 1 to 8'),
     ([*LOG, "--as-outputs"], b"--as-outputs has no value (one that begins with a hyphen comes after =): a name or a text has to follow"),
     (["log", "--from", "2026-11-22 07:00"], b'--from "2026-11-22 07:00": ' + A_TIME[:-1]),
     (["log"], b"--from has to be given: " + A_TIME[:-1]),
@@ -767,7 +769,7 @@ def event_runs():
         ALL_LINES.replace(b"----\n", b"0000\n"), b"".join(line * 2 for line in LINES),
         ALL_LINES + display(132) + display(140), b"x" * 100_000 + b"\n" + ALL_LINES,
         b"".join(LINES[:3] + [b"undone tick\n", b"tick 0000031\n", b"refused E5 NotOwner\n"] + LINES[3:]),
-        ALL_LINES + LINES[0][:-1] + b" \n" + LINES[0].replace(b"-R-", b"-W-") + LINES[0].replace(b" 0 ", b" 5 ")
+        ALL_LINES + LINES[0][:-1] + b" \n" + LINES[0].replace(b"-R-", b"-W-") + LINES[0].replace(b" 0 ", b" 9 ")
         + LINES[0].replace(b"0000001", b"000000x") + b"\xff\n",
     ])
     # Lit in the first line; all kinds at once; the last heads.
@@ -847,9 +849,9 @@ def word_runs():
         [*LOG, "--vehicle", "1"], [*LOG, "--time-form"], [*LOG, "--time-form", "month"], [*LOG, "--zone", "07:00"],
         [*LOG, "--zone"], [*LOG, "--zone=+24:00"], [*LOG, "--zone", "-07:00"], [*LOG, "--count=1"], [*LOG, "--count", "--count"],
         [*LOG, EMPTY, EMPTY], [*EVENTS, "--count"], [*LOG, "--zone=Z", "--zone=Z"],
-        [*LOG, "--vehicle", "1=17"], [*LOG, "--vehicle", "1=0"], [*LOG, "--vehicle", "=1"], [*LOG, "--vehicle", "1="],
+        [*LOG, "--vehicle", "1=65"], [*LOG, "--vehicle", "1=0"], [*LOG, "--vehicle", "=1"], [*LOG, "--vehicle", "1="],
         [*LOG, "--vehicle", "1=1=1"], [*LOG, "--vehicle", "4294967296=1"], [*LOG, "--vehicle", "x=1"],
-        [*LOG, "--pedestrian", "1=9"], [*LOG, "--preempt", "1=5"], [*LOG, "--device", "7", "--device", "7"],
+        [*LOG, "--pedestrian", "1=17"], [*LOG, "--preempt", "1=9"], [*LOG, "--device", "7", "--device", "7"],
         ["log", "--", "--from=x"], ["log", "--from"], ["events", *FROM], ["events", "--device", "7"],
         [*EVENTS, "--device", "7"], [*EVENTS, "--title", "x"], [*EVENTS, "car.log"],
         ["events", *FROM, "--device", 'a"b'], ["events", *FROM, "--device", "a\nb"],

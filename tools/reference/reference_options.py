@@ -33,13 +33,13 @@ OBJECTS = {
 }
 # The objects that plan texts of version 3 alone have, those of them that a commit changes only while nothing is in
 # service, and that version.
-OF_VERSION_3 = {"overlapAcrossRings": (4, 1), "preemptChoosesAnew": (4, 1), "coordReference": (1, 5)}
+OF_VERSION_3 = {"overlapAcrossRings": (16, 1), "preemptChoosesAnew": (8, 1), "coordReference": (1, 5)}
 STRUCTURAL = {"overlapAcrossRings"}
 NEWEST = 3
 # The functions of the reference that are replaced.
 REPLACED = ("clear", "local_of", "check", "tick", "step", "overlap", "read_plan")
 
-PATTERNS, OVERLAPS = range(1, 17), range(1, 5)
+PATTERNS, OVERLAPS = range(1, 17), range(1, 17)
 STAGE_LISTS = {"Track": "preemptTrackPhase", "Dwell": "preemptDwellPhase", "Exit": "preemptExitPhase"}
 AT_ONCE, DWELL, SHORT_WAY = range(3)
 # The numbers of coordReference: what offsets are counted to.
@@ -395,14 +395,9 @@ class Options:
     def read_plan(self, data: bytes, lim: Limits) -> tuple[Plan | None, str | None]:
         """The plan of a text, or its fault: a text of version 3 is one of version 2 with more objects."""
         newest = without_version(data)
-        if newest is not None:
-            found: tuple[Plan | None, str | None] = self.old["read_plan"](newest, lim)
-            return found
-        objects = self.bench.V2.objects
-        self.bench.V2.objects = {name: it for name, it in objects.items() if name not in OF_VERSION_3}
-        plan, fault = self.old["read_plan"](data, lim)
-        self.bench.V2.objects = objects
-        return None if plan is None else lim.empty() | plan, fault
+        self.bench.OF_TEXTS = self.bench.TEXTS_2 if newest is None else self.bench.V2
+        found: tuple[Plan | None, str | None] = self.old["read_plan"](data if newest is None else newest, lim)
+        return found
 
     # --- rules ---
 
@@ -468,6 +463,7 @@ def with_options(bench: Any, made: "type[Options] | None" = None) -> Any:
         return bench
     options = (made or Options)(bench)
     bench.V2.objects |= OBJECTS | OF_VERSION_3
+    bench.TEXTS_2.objects |= OBJECTS
     bench.V2.structural |= STRUCTURAL
     bench.State = OptionState
     for name in (*REPLACED, "local_at", "ahead_at"):

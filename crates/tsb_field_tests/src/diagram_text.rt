@@ -7,7 +7,7 @@ use tsb_field_diagram::{
 };
 use tsb_field_display::{Replay, Shown, read_line};
 use tsb_log_text::LogRow;
-use tsb_types::{NumberSet, Row};
+use tsb_types::{DetectorSet, NumberSet, Row};
 
 const RED: &[u8] = b"0000001 -R-R------------ -D-------------- R--- 0 ----";
 
@@ -179,7 +179,7 @@ const LOG: &[u8] = b"SignalID,Timestamp,EventCode,EventParam
 fn replay(alloc: Global, lines: &[&[u8]]) -> Result<Replay, AllocError> {
     let mut replay = Replay::new(alloc);
     for line in lines {
-        if let Some(shown) = read_line(line) {
+        if let Some(shown) = read_line(line, false) {
             replay.push(shown)?;
         }
     }
@@ -191,7 +191,7 @@ fn row(tick: u32, vehicles: u16, pedestrians: u16, preempts: u16) -> LogRow {
     LogRow {
         tick,
         row: Row {
-            vehicles: NumberSet::from_list(vehicles),
+            vehicles: DetectorSet::from_list(u64::from(vehicles)),
             pedestrians: NumberSet::from_list(pedestrians),
             preempts: NumberSet::from_list(preempts),
         },

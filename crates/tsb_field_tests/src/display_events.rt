@@ -30,7 +30,7 @@ fn told(
     line: &[u8],
 ) -> Result<Vec<(u32, u8, u8)>, AllocError> {
     let mut all = Vec::new(alloc);
-    let Some(now) = read_line(line) else {
+    let Some(now) = read_line(line, false) else {
         return Ok(all);
     };
     let signals = match before {
@@ -70,10 +70,33 @@ fn shows_last(shown: &Shown) -> bool {
 
 #[test]
 fn lines_show_their_heads(rt: HostRuntime) {
-    let (Some(clearing), Some(last)) = (read_line(CLEARING), read_line(LAST)) else {
+    let (Some(clearing), Some(last)) = (read_line(CLEARING, false), read_line(LAST, false)) else {
         panic!(rt; "nothing is shown");
     };
     assert!(rt; shows_clearing(&clearing) && shows_last(&last));
+}
+
+/// A wide line: overlaps 1 and 16 green, overlap 5 yellow, and preempt 8 in service.
+const WIDE: &[u8] = b"0000045 -G-R------------ -C-------------- G--- 8 0759 G---Y----------G";
+
+/// Whether this is shown of the wide line.
+fn shows_wide(shown: &Shown) -> bool {
+    let signals = &shown.signals;
+    shown.tick == 45
+        && signals.vehicles.greens == set(2)
+        && signals.pedestrians.clearances == set(2)
+        && signals.overlaps.greens == set(32_769)
+        && signals.overlaps.yellows == set(16)
+        && signals.preempt == Some(8)
+}
+
+#[test]
+fn wide_lines_show_all_overlaps(rt: HostRuntime) {
+    let Some(wide) = read_line(WIDE, true) else {
+        panic!(rt; "nothing is shown");
+    };
+    assert!(rt; shows_wide(&wide));
+    assert!(rt; read_line(WIDE, false).is_none() && read_line(CLEARING, true).is_none());
 }
 
 /// Answers that are no display lines.
@@ -87,7 +110,7 @@ const OTHERS: [&[u8]; 12] = [
     b"0000001 -R-W------------ -D-------------- R--- 0 ----",
     b"0000001 -R-R------------ -G-------------- R--- 0 ----",
     b"0000001 -R-R------------ -D-------------- D--- 0 ----",
-    b"0000001 -R-R------------ -D-------------- R--- 5 ----",
+    b"0000001 -R-R------------ -D-------------- R--- 9 ----",
     b"0000001 -R-R------------ -D-------------- R--- 0 07--",
     b"0000001 -R-R-------------D--------------- R--- 0 ----",
 ];
@@ -95,7 +118,7 @@ const OTHERS: [&[u8]; 12] = [
 /// Whether none of the answers shows anything.
 fn show_nothing(all: &[&[u8]]) -> bool {
     for line in all {
-        if read_line(line) != None {
+        if read_line(line, false) != None {
             return false;
         }
     }
@@ -109,7 +132,7 @@ fn other_answers_show_nothing(rt: HostRuntime) {
 
 /// Whether these are the ticks, codes and parameters of the events of a change between two lines.
 fn tells(alloc: Global, before: &[u8], line: &[u8], wanted: &[(u32, u8, u8)]) -> bool {
-    match told(alloc, read_line(before), line) {
+    match told(alloc, read_line(before, false), line) {
         Ok(all) => all.as_slice() == wanted,
         Err(_) => false,
     }
@@ -158,7 +181,7 @@ fn changes_have_their_events(rt: HostRuntime) {
 fn at(tick: u32, line: &[u8]) -> Shown {
     Shown {
         tick,
-        signals: match read_line(line) {
+        signals: match read_line(line, false) {
             Some(shown) => shown.signals,
             None => Signals::nothing_lit(),
         },

@@ -67,7 +67,7 @@ impl Read for Pieces<'_> {
 fn at(tick: u32, line: &[u8]) -> Shown {
     Shown {
         tick,
-        signals: match read_line(line) {
+        signals: match read_line(line, false) {
             Some(shown) => shown.signals,
             None => Signals::nothing_lit(),
         },
@@ -76,7 +76,7 @@ fn at(tick: u32, line: &[u8]) -> Shown {
 
 /// Whether these changes, with this last tick, are kept of what a reader gives.
 fn keeps<R: Read>(alloc: Global, reader: &mut R, changes: &[Shown], last: Option<u32>) -> bool {
-    match read_replay(alloc, &mut Watched::new(reader)) {
+    match read_replay(alloc, false, &mut Watched::new(reader)) {
         Ok(replay) => replay.changes() == changes && replay.last_tick() == last,
         Err(_) => false,
     }
@@ -117,7 +117,7 @@ fn no_answer_leaves_no_line(rt: HostRuntime) {
 
 /// Whether a line is among what a reader gives, or none where that can't be read.
 fn has_line<R: Read>(alloc: Global, reader: &mut R) -> Option<bool> {
-    let replay = read_replay(alloc, &mut Watched::new(reader)).ok()?;
+    let replay = read_replay(alloc, false, &mut Watched::new(reader)).ok()?;
     Some(replay.last_tick().is_some())
 }
 
@@ -223,7 +223,7 @@ fn odd_after(calls: usize, odd: Odd) -> Pieces<'static> {
 fn ends_the_reading(alloc: Global, calls: usize, kind: ErrorKind) -> bool {
     let mut reader = odd_after(calls, Odd::Fails(kind));
     matches!(
-        read_replay(alloc, &mut Watched::new(&mut reader)),
+        read_replay(alloc, false, &mut Watched::new(&mut reader)),
         Err(ReplayError::Read)
     ) && reader.left.len().saturating_add(calls) == ANSWERS.len()
 }
@@ -247,7 +247,7 @@ fn a_read_that_fails_ends_the_reading(rt: HostRuntime) {
 fn ends_the_answers(alloc: Global, calls: usize) -> bool {
     let mut front = &ANSWERS[..calls.min(ANSWERS.len())];
     let mut reader = odd_after(calls, Odd::IsIdle);
-    match read_replay(alloc, &mut Watched::new(&mut front)) {
+    match read_replay(alloc, false, &mut Watched::new(&mut front)) {
         Ok(whole) => {
             keeps(alloc, &mut reader, whole.changes(), whole.last_tick())
                 && reader.left.len().saturating_add(calls) == ANSWERS.len()

@@ -4,7 +4,7 @@ use std::alloc::Global;
 use tsb_event_text::{Moment, read_moment};
 use tsb_field_display::{EventsError, Shown, events_text, read_line};
 use tsb_log_text::LogRow;
-use tsb_types::{NumberSet, Row};
+use tsb_types::{DetectorSet, NumberSet, Row};
 
 const START: &[u8] = b"2026-11-22 07:00:00";
 
@@ -93,7 +93,7 @@ fn moment(text: &[u8]) -> Moment {
 
 /// What a line shows; tick 77 with no head lit where it shows nothing.
 fn shown(line: &[u8]) -> Shown {
-    match read_line(line) {
+    match read_line(line, false) {
         Some(shown) => shown,
         None => Shown {
             tick: 77,
@@ -106,7 +106,7 @@ fn row(tick: u32, vehicles: u16, pedestrians: u16, preempts: u16) -> LogRow {
     LogRow {
         tick,
         row: Row {
-            vehicles: NumberSet::from_list(vehicles),
+            vehicles: DetectorSet::from_list(u64::from(vehicles)),
             pedestrians: NumberSet::from_list(pedestrians),
             preempts: NumberSet::from_list(preempts),
         },

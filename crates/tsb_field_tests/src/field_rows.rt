@@ -4,7 +4,7 @@ use std::alloc::{AllocError, Global};
 use std::test::Fail;
 use tsb_field_log::{InputEvent, InputKind, KnownRows, Street, Wire, is_wired, laws, wires};
 use tsb_log_text::{LogRow, row_line};
-use tsb_types::{NumberSet, Row};
+use tsb_types::{DetectorSet, NumberSet, Row};
 
 /// The moment at which tick 1 begins.
 const START: u128 = 1_000_000_000;
@@ -20,7 +20,7 @@ fn row(tick: u32, vehicles: u16, pedestrians: u16, preempts: u16) -> LogRow {
     LogRow {
         tick,
         row: Row {
-            vehicles: NumberSet::from_list(vehicles),
+            vehicles: DetectorSet::from_list(u64::from(vehicles)),
             pedestrians: NumberSet::from_list(pedestrians),
             preempts: NumberSet::from_list(preempts),
         },

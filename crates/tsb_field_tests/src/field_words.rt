@@ -102,11 +102,14 @@ fn log_words_name_a_plan(rt: HostRuntime) {
     assert!(rt; are_bad(rt.alloc(), &[&none, &two]));
 }
 
-/// Whether the words ask for the events of this device from this time on, with those of this log.
-fn ask_for_events(alloc: Global, words: &[&str], time: &[u8], name: &str, rows: &str) -> bool {
+/// Whether the words ask for the events of device 1001 from this time on, with those of `a.log`, of wide lines or not.
+fn ask_for_events(alloc: Global, words: &[&str], time: &[u8], is_wide: bool) -> bool {
     match read_words(alloc, words) {
-        Ok(Asked::Events { from, device, log }) => {
-            Some(from) == read_moment(time) && device == name && log == Some(rows)
+        Ok(Asked::Events(asked)) => {
+            Some(asked.from) == read_moment(time)
+                && asked.device == "1001"
+                && asked.log == Some("a.log")
+                && asked.is_wide == is_wide
         }
         _ => false,
     }
@@ -125,7 +128,17 @@ fn events_words(rt: HostRuntime) {
         "2026-11-22T07:00:00",
     ];
     let time = b"2026-11-22 07:00:00".as_slice();
-    assert!(rt; ask_for_events(rt.alloc(), &words, time, "1001", "a.log"));
+    assert!(rt; ask_for_events(rt.alloc(), &words, time, false));
+    let from = "--from=2026-11-22T07:00:00";
+    let wide = [
+        "tsb_field",
+        "events",
+        "--wide",
+        "--log=a.log",
+        "--device=1001",
+        from,
+    ];
+    assert!(rt; ask_for_events(rt.alloc(), &wide, time, true));
 }
 
 /// Whether the words ask for a record of this device from this time on, on this plan and log, in this manner.
@@ -355,12 +368,12 @@ const BAD: [&[&str]; 39] = [
     &["tsb_field", "log", FROM, "--log=a"],
     &["tsb_field", "log", FROM, "--device", "-7"],
     &["tsb_field", "log", FROM, "more"],
-    &["tsb_field", "log", FROM, "--vehicle=1=17"],
+    &["tsb_field", "log", FROM, "--vehicle=1=65"],
     &["tsb_field", "log", FROM, "--vehicle=1=0"],
     &["tsb_field", "log", FROM, "--vehicle=1"],
     &["tsb_field", "log", FROM, "--vehicle==1"],
-    &["tsb_field", "log", FROM, "--pedestrian=1=9"],
-    &["tsb_field", "log", FROM, "--preempt=1=5"],
+    &["tsb_field", "log", FROM, "--pedestrian=1=17"],
+    &["tsb_field", "log", FROM, "--preempt=1=9"],
     &["tsb_field", "log", FROM, "--vehicle=4294967296=1"],
     &["tsb_field", "record", FROM, "--device=1", "a.json"],
     &["tsb_field", "record", FROM, "a.json", "a.log"],

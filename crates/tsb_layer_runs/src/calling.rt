@@ -56,8 +56,8 @@ impl Ticked for Calling {
 
     fn read(numbers: &mut Numbers) -> Result<Given, Fault> {
         let observed = Observed {
-            outputs: numbers.set()?,
-            actuated: numbers.set()?,
+            outputs: numbers.detectors()?,
+            actuated: numbers.detectors()?,
             buttons: numbers.set()?,
             intervals: numbers.intervals()?,
             pedestrians: numbers.pedestrians()?,

@@ -4,14 +4,14 @@ ghost use Rattle.tsb_phase.specs.Counts.{AreCounts};
 
 use crate::fault::Fault;
 use crate::numbers::Numbers;
-use tsb_objects::{Called, NumberSet, Orders, PhaseSet, Row, Sequence, Timing};
+use tsb_objects::{Called, DetectorSet, NumberSet, Orders, PhaseSet, Row, Sequence, Timing};
 use tsb_ring::RingConditions;
 
 impl<'a> Numbers<'a> {
     /// The next number, the vehicle inputs of a row; the others are off.
     pub fn vehicle_row(&mut self) -> Result<Row, Fault> {
         Ok(Row {
-            vehicles: self.set()?,
+            vehicles: self.detectors()?,
             pedestrians: NumberSet::empty(),
             preempts: NumberSet::empty(),
         })
@@ -20,7 +20,7 @@ impl<'a> Numbers<'a> {
     /// The next number, the preempt inputs of a row; the others are off.
     pub fn preempt_row(&mut self) -> Result<Row, Fault> {
         Ok(Row {
-            vehicles: NumberSet::empty(),
+            vehicles: DetectorSet::empty(),
             pedestrians: NumberSet::empty(),
             preempts: self.set()?,
         })

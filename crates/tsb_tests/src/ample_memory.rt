@@ -7,7 +7,7 @@ use tsb_bench::{Answer, Bench, Cmd, Input, Kind, Nothing, play};
 use tsb_history::History;
 use tsb_log_text::{Log, LogError, read_log};
 use tsb_objects::{
-    Checked, Lamp, NumberSet, Object, ObjectId, Phase, Plan, Row, SignalColor, Station,
+    Checked, DetectorSet, Lamp, NumberSet, Object, ObjectId, Phase, Plan, Row, SignalColor, Station,
 };
 
 /// More than a million.
@@ -22,7 +22,7 @@ const ROUNDS: usize = 2000;
 /// A tick with all inputs on.
 fn busy_tick() -> Input {
     Input::Tick(Row {
-        vehicles: NumberSet::from_list(0xFFFF),
+        vehicles: DetectorSet::from_list(0xFFFF),
         pedestrians: NumberSet::from_list(0x00FF),
         preempts: NumberSet::from_list(0x000F),
     })
@@ -235,7 +235,7 @@ fn many_rows(alloc: Global) -> Result<Vec<u8>, AllocError> {
 fn has_many_rows(log: &Log) -> bool {
     let mut place = 0;
     for tick in [1, 2, 65_536, 65_537, ROWS - 1, ROWS] {
-        if u32::from(log.row(tick, &mut place).vehicles.list()) != tick % 2 {
+        if log.row(tick, &mut place).vehicles.list() != u64::from(tick % 2) {
             return false;
         }
     }

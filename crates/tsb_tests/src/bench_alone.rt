@@ -3,14 +3,14 @@
 use std::alloc::{AllocError, Global};
 use std::test::Fail;
 use tsb_bench::{
-    Answer, Bench, Checked, Cmd, Detector, Input, Lamp, NumberSet, Object, ObjectId, Overlap,
-    PedestrianColor, Phase, Plan, Refusal, Row, SignalColor, Station, Watch, play,
+    Answer, Bench, Checked, Cmd, Detector, DetectorSet, Input, Lamp, NumberSet, Object, ObjectId,
+    Overlap, PedestrianColor, Phase, Plan, Refusal, Row, SignalColor, Station, Watch, play,
 };
 
 /// Vehicle detector 3, the walk button of phase 2 and preempt 3 are on, which has no dwell phases and so never requests.
 fn row() -> Row {
     Row {
-        vehicles: NumberSet::from_list(0x0004),
+        vehicles: DetectorSet::from_list(0x0004),
         pedestrians: NumberSet::from_list(0x0002),
         preempts: NumberSet::from_list(0x0004),
     }

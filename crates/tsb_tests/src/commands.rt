@@ -108,8 +108,8 @@ fn switches_are_commands(six: Phase) -> bool {
             Lamp::Phase(Phase::of(16), SignalColor::Yellow),
         )
         && is_fault(
-            b"fault O4 R",
-            Lamp::Overlap(Overlap::of(4), SignalColor::Red),
+            b"fault O16 R",
+            Lamp::Overlap(Overlap::of(16), SignalColor::Red),
         )
         && is_fault(
             b"fault W6 C",
@@ -137,7 +137,7 @@ const OTHERS: [&[u8]; 13] = [
     b"begin 5",
     b"fault W1 G",
     b"fault P03 G",
-    b"fault O5 R",
+    b"fault O17 R",
     b"when ped 17",
     b"# quit",
     b"",

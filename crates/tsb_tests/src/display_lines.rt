@@ -96,7 +96,10 @@ fn makes(
     preempt: Option<Preempt>,
     wanted: &[u8],
 ) -> bool {
-    lines.line_bytes(tick, display, preempt, None).as_slice() == wanted
+    lines
+        .line_text(false, tick, display, preempt, None)
+        .as_bytes()
+        == wanted
 }
 
 /// Whether a maker writes heads that stay, heads that change, and again those before.

@@ -4,7 +4,7 @@
 
 use std::alloc::Global;
 use tsb_bench::{Bench, Checked, Input, Plan, Row};
-use tsb_objects::{Aspect, NumberSet, Object, ObjectId, Phase};
+use tsb_objects::{Aspect, DetectorSet, NumberSet, Object, ObjectId, Phase};
 
 /// The built-in plan of eight phases with these values at these indices, if it breaks no rule.
 fn quad_with(values: &[(Object, u32, u32)]) -> Option<Checked> {
@@ -22,7 +22,7 @@ fn quad_with(values: &[(Object, u32, u32)]) -> Option<Checked> {
 /// A tick with a car at phase 4.
 fn driven() -> Input {
     Input::Tick(Row {
-        vehicles: NumberSet::from_list(0x0008),
+        vehicles: DetectorSet::from_list(0x0008),
         ..Row::all_off()
     })
 }

@@ -312,7 +312,7 @@ fn has_phases_of_quad(quad: &Checked) -> bool {
         && quad.side(Side::of(2)).list() == 0x00CC
         && quad.side(Side::of(4)).list() == 0
         && quad.concurrent_to(Phase::of(1)).list() == 0x0030
-        && quad.phases_called_by(NumberSet::from_list(0x0004)).list() == 0x0004
+        && quad.phases_called_by(DetectorSet::from_list(0x0004)).list() == 0x0004
         && quad.walks_called_by(NumberSet::from_list(0x0002)).list() == 0x0002
 }
 

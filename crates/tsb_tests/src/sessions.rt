@@ -243,6 +243,35 @@ fn no_step_has_no_line(rt: HostRuntime) {
     assert!(rt; answers(rt.alloc(), b"step 0\nback 0\n", POWER_UP));
 }
 
+/// Display lines have a seventh field, of overlaps 1 to 16, from `lines wide` on up to `lines narrow`.
+#[test]
+fn lines_are_wide_or_narrow(rt: HostRuntime) {
+    for (commands, text) in [
+        (
+            b"lines narrow\nshow\n".as_slice(),
+            b"ok\n0000000 -R-R------------ ---------------- ---- 0 ----\n".as_slice(),
+        ),
+        (
+            b"lines wide\nshow\n",
+            b"ok\n0000000 -R-R------------ ---------------- ---- 0 ---- ----------------\n",
+        ),
+        (
+            b"lines wide\nlines narrow\nshow\n",
+            b"ok\nok\n0000000 -R-R------------ ---------------- ---- 0 ----\n",
+        ),
+        (
+            b"lines wide\nundo\nseek 0\n",
+            b"ok\nnothing\n0000000 -R-R------------ ---------------- ---- 0 ---- ----------------\n",
+        ),
+        (
+            b"lines\nlines broad\nlines wide 1\n",
+            b"bad command\nbad command\nbad command\n",
+        ),
+    ] {
+        assert!(rt; answers(rt.alloc(), commands, text));
+    }
+}
+
 /// A carriage return belongs to a line's end only where a line feed follows it.
 #[test]
 fn the_last_line_keeps_its_return(rt: HostRuntime) {
