@@ -94,7 +94,7 @@ def test_errors_are_told_to_other_processes() -> None:
 def test_ranges_are_told() -> None:
     """Each object names its range where a value is over it."""
     for name, it in OBJECTS.items():
-        plan = Plan(max(it.since, 2))
+        plan = Plan(it.since_index(it.count))
         plan[name][it.count] = it.greatest
         said = re.escape(f"0 to {it.greatest} ({it.unit})")
         with pytest.raises(OutOfRange, match=said):

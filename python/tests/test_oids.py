@@ -55,6 +55,21 @@ def alike(one: Plan, other: Plan) -> list[str]:
 # What is printed
 
 
+@pytest.mark.parametrize("version", [2, 3])
+def test_rows_of_all_versions(version: int, examples: Path) -> None:
+    """A walk has all rows that a bench has, whatever the version of the plan's text; what is
+    made of it is of version 3 only where a row beyond version 2 says something."""
+    plan = Plan.read(examples / "quad.json").wide(version)
+    if version == 3:
+        plan["vehicleDetectorDelay"][40] = 25
+    lines = list(oids.lines_of(plan))
+    for column, last in (("2.2.1.6", 64), ("2.7.1.2", 16), ("9.2.1.2", 16), ("6.2.1.4", 8)):
+        rows = [it for it in lines if it.startswith(f"{ROOT}.{column}.")]
+        assert len(rows) == last
+    made = read("\n".join(lines)).plan
+    assert made.version == version and not alike(plan, made)
+
+
 def test_the_objects_of_the_profile() -> None:
     """Those that NTCIP 1202 v02 has no object for: all others are printed."""
     assert oids.profile_objects() == PROFILE
@@ -309,7 +324,7 @@ def made(kinds: Sequence[str], values: Sequence[tuple[str, int, int]]) -> Plan:
     plan = plan_of(Choice(throughs, lefts)).wide(3)
     for name, index, value in values:
         what = OBJECTS[name]
-        plan[name][1 + index % what.count] = value % (what.greatest + 1)
+        plan[name][1 + index % what.counts(plan.version)] = value % (what.greatest + 1)
     return plan
 
 

@@ -211,7 +211,7 @@ def test_the_questions_of_the_readme(room: Path) -> None:
     typed(room, DAY)
     rows = re.findall(r"^\| [^|]*\? \| (.*) \|$", (TOP / "README.md").read_text(), re.M)
     typed_ones = [it for row in rows for it in re.findall(r"`(tsb\S* .*?)`", row)]
-    assert len(rows) == 15 and len(typed_ones) == 15
+    assert len(rows) == 16 and len(typed_ones) == 15
     for command in typed_ones:
         served(room, command)
 

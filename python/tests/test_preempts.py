@@ -251,8 +251,8 @@ def test_words_are_not_cut(examples: Path, capsys: pytest.CaptureFixture[str]) -
         assert ended.value.code == 2
         assert "--ticks and --within are 1 or more" in capsys.readouterr().err
     with pytest.raises(SystemExit):
-        main(["preempt", files[0], "5", files[1]])
-    assert "invalid choice: 5" in capsys.readouterr().err
+        main(["preempt", files[0], "9", files[1]])
+    assert "invalid choice: 9" in capsys.readouterr().err
     assert main(["preempt", files[0], "1", files[1], "--ticks", "1"]) == 0
     assert "\n1 moments tried, 1 with the green\n" in capsys.readouterr().out
 

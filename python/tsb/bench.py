@@ -24,11 +24,11 @@ from tsb.errors import (
     Refused,
 )
 from tsb.hold import Hold, whole
-from tsb.lines import Display, Event, Lines
+from tsb.lines import OVERLAPS, Display, Event, Lines
 from tsb.manual import NEWEST
 from tsb.plan import Plan
 from tsb.progress import progress
-from tsb.rows import ALL_OFF, PEDESTRIANS, PREEMPTS, ROW, VEHICLES, Log, On, digits
+from tsb.rows import ALL_OFF, COUNTS, Log, On, digits, fields, of_fields
 from tsb.status import Edits, Status
 from tsb.talk import Talk
 from tsb.values import SECOND, TENTH, Index, Value, index_of, number_of, object_of
@@ -96,6 +96,8 @@ class Bench:
         self._tells = events
         if events:
             self._ask("events on")
+        if has_many_overlaps(plan):
+            self.wide()
 
     def __enter__(self) -> Self:
         return self
@@ -197,11 +199,11 @@ class Bench:
         """One tick in which these inputs are on: numbers, or a digit for each from
         the first on. What is not named is as the log has it, off without one."""
         row = ALL_OFF if self._log is None else self._log.at(self._now + 1)
-        given = [(vehicles, VEHICLES), (pedestrians, PEDESTRIANS), (preempts, PREEMPTS)]
-        if vehicles is not None or pedestrians is not None or preempts is not None:
-            row = " ".join(
+        given = vehicles, pedestrians, preempts
+        if any(on is not None for on in given):
+            row = of_fields(
                 was if on is None else digits(on, count)
-                for was, (on, count) in zip(row.split(" "), given, strict=True)
+                for was, on, count in zip(fields(row), given, COUNTS, strict=True)
             )
         shown = self._shown(self._ask(row))
         self._follow_up()
@@ -212,9 +214,9 @@ class Bench:
         """A tick for each row (`tsb.row`), all sent ahead: what the heads showed."""
         given = list(rows)
         for row in given:
-            if not isinstance(row, str) or not ROW.fullmatch(row):
-                raise OutOfRange(f"{row!r} is no row of 16, 8 and 4 digits")
-        return self._block("".join(f"{row}\n" for row in given))
+            fields(row)
+        # (a row of lists with nothing on would be a blank line)
+        return self._block("".join(f"{row or ALL_OFF}\n" for row in given))
 
     @whole
     def step(self, count: int = 1) -> Lines:
@@ -229,6 +231,12 @@ class Bench:
             if self._hold.is_asked:
                 break
         return Lines(b"".join(shown))
+
+    @whole
+    def wide(self, on: bool = True) -> None:
+        """Has display lines show overlaps 1 to 16 from now on, or again 1 to 4. A bench
+        does so from the begin whose plan has an overlap above 4."""
+        self._ask("lines wide" if on else "lines narrow")
 
     @whole
     def changes(self, count: int) -> Lines:
@@ -482,6 +490,15 @@ class Transaction:
             # (the way back may have taken the begin back, and the program may be gone)
             with suppress(Refused, ProgramDied):
                 self._say("abort")
+
+
+def has_many_overlaps(plan: Plan | str | PathLike[str]) -> bool:
+    """Whether a plan has overlaps beyond those of display lines that are not wide."""
+    if not isinstance(plan, Plan):
+        if not Path(plan).is_file():
+            return False
+        plan = Plan.read(plan)
+    return max(plan["overlapIncludedPhases"], default=0) > OVERLAPS[0]
 
 
 def _notes(plan: Plan | str | PathLike[str]) -> dict[str, str]:

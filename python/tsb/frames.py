@@ -29,9 +29,9 @@ from tsb import programs
 from tsb.errors import Error, ProgramDied, shown
 from tsb.files import read
 from tsb.forms import INPUTS, columns_of, moments_of, numbers_of, places_of
-from tsb.lines import WIDTH, Event, Lines
+from tsb.lines import OVERLAPS, WIDE, WIDTH, Event, Lines
 from tsb.manual import COLUMNS
-from tsb.rows import PEDESTRIANS, PREEMPTS, VEHICLES, Log
+from tsb.rows import COUNTS, DIGITS, Log, fields, of_fields
 
 TENTH = np.timedelta64(100, "ms")
 GAP = pd.Timedelta(minutes=15)  # of an export: without a row for so long is told
@@ -41,9 +41,10 @@ BAD_WORDS = 2  # the status of a program that has bad words
 # Of each kind of head, the place of its first letter in a line, how many there are,
 # and its letters.
 _HEADS = {"P": (8, 16, "GYRF-"), "W": (25, 16, "WCD-"), "O": (42, 4, "GYRF-")}
+_WIDE = {"O": (54, 16, "GYRF-")}  # of wide lines
 _PREEMPT, _LOCAL = 47, 49
 PIECE, LONGEST = 1 << 20, 1 << 30  # bytes of an export: read at a time, and at most
-_INPUTS = {"V": (0, VEHICLES), "B": (17, PEDESTRIANS), "I": (26, PREEMPTS)}
+_KINDS = "VBI"  # the columns of vehicle detectors, buttons and preempt inputs
 
 AnyPath = str | PathLike[str]
 Cells = npt.NDArray[Any]
@@ -61,9 +62,10 @@ def _numbers(digits: Cells) -> Cells:
 
 def of_lines(lines: Lines) -> pd.DataFrame:
     """Display lines as a table."""
-    cells = np.frombuffer(lines.text, np.uint8).reshape(-1, WIDTH)
+    cells = np.frombuffer(lines.text, np.uint8).reshape(-1, lines.width)
     table = {}
-    for kind, (first, count, letters) in _HEADS.items():
+    heads = _HEADS if lines.width == WIDTH else _HEADS | _WIDE
+    for kind, (first, count, letters) in heads.items():
         codes = np.full(256, -1, np.int8)
         codes[list(letters.encode())] = range(len(letters))
         for place in range(count):
@@ -80,9 +82,11 @@ def of_lines(lines: Lines) -> pd.DataFrame:
 
 def to_lines(table: pd.DataFrame) -> Lines:
     """The display lines of a table."""
-    cells = np.full((len(table), WIDTH), ord(" "), np.uint8)
+    is_wide = f"O{OVERLAPS[1]}" in table
+    cells = np.full((len(table), WIDE if is_wide else WIDTH), ord(" "), np.uint8)
     cells[:, -1] = ord("\n")
-    for kind, (first, count, _) in _HEADS.items():
+    heads = [*_HEADS.items(), *(_WIDE.items() if is_wide else ())]
+    for kind, (first, count, _) in heads:
         for place in range(count):
             letters = np.asarray(table[f"{kind}{place + 1}"], "S1")
             cells[:, first + place] = letters.view(np.uint8)
@@ -119,26 +123,32 @@ def to_events(table: pd.DataFrame) -> list[Event]:
 
 
 def of_log(log: Log) -> pd.DataFrame:
-    """A log as a table: a row for each tick at which inputs change."""
-    rows = "".join(log.rows).encode()
-    cells = np.frombuffer(rows, np.uint8).reshape(-1, 30) == ord("1")
-    table = {
-        f"{kind}{place + 1}": cells[:, first + place]
-        for kind, (first, count) in _INPUTS.items()
+    """A log as a table: a row for each tick at which inputs change. It has columns for
+    the inputs of a row in digits, or for all where a row of the log has lists."""
+    is_listed = any(not row.startswith(("0", "1")) for row in log.rows)
+    counts = COUNTS if is_listed else DIGITS
+    told = [fields(row) for row in log.rows] if is_listed else map(str.split, log.rows)
+    rows = "".join("".join(row) for row in told).encode()
+    cells = np.frombuffer(rows, np.uint8).reshape(-1, sum(counts)) == ord("1")
+    names = [
+        f"{kind}{place + 1}"
+        for kind, count in zip(_KINDS, counts, strict=True)
         for place in range(count)
-    }
+    ]
+    table = {name: cells[:, at] for at, name in enumerate(names)}
     return pd.DataFrame(table, index=pd.Index(log.ticks, name="tick", dtype=np.int64))
 
 
 def to_log(table: pd.DataFrame) -> Log:
     """The log of a table; a column that is not there is off."""
-    cells = np.full((len(table), 30), ord("0"), np.uint8)
-    cells[:, [16, 25]] = ord(" ")
-    for kind, (first, count) in _INPUTS.items():
+    kinds = []
+    for kind, count in zip(_KINDS, COUNTS, strict=True):
+        cells = np.full((len(table), count), ord("0"), np.uint8)
         for place in range(count):
             if (name := f"{kind}{place + 1}") in table:
-                cells[:, first + place] += table[name].to_numpy(bool)
-    rows = [row.tobytes().decode() for row in cells]
+                cells[:, place] += table[name].to_numpy(bool)
+        kinds.append([row.tobytes().decode() for row in cells])
+    rows = map(of_fields, zip(*kinds, strict=True))
     return Log.of(zip(map(int, table.index), rows, strict=True))
 
 

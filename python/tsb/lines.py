@@ -4,15 +4,17 @@ from collections.abc import Iterable, Iterator, Sequence
 from typing import NamedTuple, overload
 
 WIDTH = 54  # bytes of a display line with its line end
+WIDE = 71  # bytes of a wide one
+OVERLAPS = 4, 16  # of a display line, and of a wide one
 
 
 class Display(NamedTuple):
     """What the heads show in a tick.
 
     `vehicles` has a letter for each of 16 phases (G, Y, R, F for flashing red, - for
-    none), `pedestrians` likewise (W, C, D, -), `overlaps` for 4 overlaps. `preempt`
-    is the preempt in service, or 0. `local` is the local counter of the pattern in
-    tenths of a second, None in free operation.
+    none), and so has `pedestrians` (W, C, D, -). `overlaps` has one for each of 4, or
+    of 16 where lines are wide. `preempt` is the preempt in service, or 0. `local` is
+    the local counter of the pattern in tenths of a second, None in free operation.
     """
 
     tick: int
@@ -25,7 +27,8 @@ class Display(NamedTuple):
     @classmethod
     def of(cls, line: str) -> "Display":
         """The display of a line."""
-        tick, vehicles, pedestrians, overlaps, preempt, local = line.split(" ")
+        tick, vehicles, pedestrians, overlaps, preempt, local, *wide = line.split(" ")
+        overlaps = wide[0] if wide else overlaps
         counter = None if local == "----" else int(local)
         return cls(int(tick), vehicles, pedestrians, overlaps, int(preempt), counter)
 
@@ -33,16 +36,19 @@ class Display(NamedTuple):
     def line(self) -> str:
         """The display line."""
         local = "----" if self.local is None else f"{self.local:04}"
-        heads = f"{self.vehicles} {self.pedestrians} {self.overlaps}"
-        return f"{self.tick:07} {heads} {self.preempt} {local}"
+        few, many = self.overlaps[: OVERLAPS[0]], self.overlaps
+        heads = f"{self.vehicles} {self.pedestrians} {few}"
+        told = f"{self.tick:07} {heads} {self.preempt} {local}"
+        return told if many == few else f"{told} {many}"
 
     def head(self, name: str) -> str:
         """The letter of a head: `P2` (vehicles of phase 2), `W2` (its pedestrians) or
-        `O1` (overlap 1)."""
-        kinds = {"P": self.vehicles, "W": self.pedestrians, "O": self.overlaps}
+        `O1` (overlap 1; one above 4 is dark where lines are not wide)."""
+        overlaps = self.overlaps.ljust(OVERLAPS[1], "-")
+        kinds = {"P": self.vehicles, "W": self.pedestrians, "O": overlaps}
         letters, number = kinds.get(name[:1], ""), name[1:]
         if not number.isdecimal() or not 1 <= int(number) <= len(letters):
-            raise KeyError(f"there is no head {name}: P1 to P16, W1 to W16, O1 to O4")
+            raise KeyError(f"there is no head {name}: P1 to P16, W1 to W16, O1 to O16")
         return letters[int(number) - 1]
 
     @property
@@ -58,7 +64,9 @@ class Lines(Sequence[Display]):
     """
 
     def __init__(self, text: bytes = b"") -> None:
-        if len(text) % WIDTH:
+        # (the first line says how wide all are)
+        self.width = WIDE if text[WIDTH - 1 : WIDTH] == b" " else WIDTH
+        if len(text) % self.width:
             raise ValueError("these are no display lines")
         self.text = text
 
@@ -68,7 +76,7 @@ class Lines(Sequence[Display]):
         return cls("".join(f"{it.line}\n" for it in displays).encode())
 
     def __len__(self) -> int:
-        return len(self.text) // WIDTH
+        return len(self.text) // self.width
 
     @overload
     def __getitem__(self, place: int) -> Display:
@@ -99,7 +107,7 @@ class Lines(Sequence[Display]):
         return f"<{len(self)} display lines>"
 
     def _line(self, place: int) -> bytes:
-        return self.text[WIDTH * place : WIDTH * (place + 1)]
+        return self.text[self.width * place : self.width * (place + 1)]
 
 
 class Event(NamedTuple):

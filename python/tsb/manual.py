@@ -20,13 +20,17 @@ TIMES = {
 }
 
 
+# How many there are of some things in plan texts of versions 1 and 2.
+BEFORE = {"vehicle detector": 16, "pedestrian detector": 8, "overlap": 4, "preempt": 4}
+
+
 @dataclass(frozen=True)
 class Object:
     """An object of a plan: what its index counts, and the range of its values.
 
     `since` is the first version of plan texts that has it. `count` is the greatest
-    index and `greatest` the greatest value of versions 2 and 3; `count_1` and
-    `greatest_1` are those of version 1, None where it has no such object. `structural`
+    index of version 3, and `greatest` the greatest value of versions 2 and 3; `count_1`
+    and `greatest_1` are those of version 1, None where it has no such object. `structural`
     objects can be changed by a commit only while nothing is in service.
     """
 
@@ -45,7 +49,12 @@ class Object:
         """The greatest index in plan texts of a version; 0 where it has no object."""
         if version < self.since:
             return 0
-        return (self.count_1 if version == 1 else self.count) or 0
+        count = (self.count_1 if version == 1 else self.count) or 0
+        return count if version >= NEWEST else min(count, BEFORE.get(self.index, count))
+
+    def since_index(self, index: int) -> int:
+        """The first version of plan texts, from 2 on, that has the object at an index."""
+        return max(self.since, 2 if index <= self.counts(2) else NEWEST)
 
     def most(self, version: int) -> int:
         """The greatest value in plan texts of a version."""

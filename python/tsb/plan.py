@@ -260,7 +260,11 @@ class Plan:
 
     def wide(self, version: int = 2) -> "Plan":
         """The same plan in this version, 2 or 3, or in the first later one that has all that it has."""
-        newer = (OBJECTS[name].since for name, _ in self.items())
+        newer = (
+            OBJECTS[name].since_index(max(values))
+            for name, values in self.items()
+            if self.version == NEWEST
+        )
         plan = Plan(NEWEST if self.notes else max((version, *newer)))
         plan.notes = dict(self.notes)
         for name, values in self.items():

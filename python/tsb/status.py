@@ -11,6 +11,8 @@ from dataclasses import dataclass, fields
 from datetime import datetime, timedelta
 from typing import Any, Self
 
+from tsb.rows import PREEMPTS
+
 Numbers = frozenset[int]
 # What globalTime counts seconds from.
 EPOCH = datetime(1970, 1, 1)
@@ -197,6 +199,11 @@ class Edits:
         return cls(told["owner"], told["state"], told["rule"], edits)
 
 
+def _all_of(preempts: list[str]) -> tuple[str, ...]:
+    """The state of each preempt: a line has the last ones where one of them is active."""
+    return (*preempts, *["notActive"] * (PREEMPTS - len(preempts)))
+
+
 @dataclass(frozen=True)
 class Status:
     """The status of the controller after `tick`."""
@@ -229,7 +236,7 @@ class Status:
             phases=PhaseStatusGroup.of(told["phaseStatusGroup"]),
             overlaps=OverlapStatusGroup.of(told["overlapStatusGroup"]),
             detectors=VehicleDetectorStatusGroup.of(told["vehicleDetectorStatusGroup"]),
-            preempt_state=tuple(told["preemptState"]),
+            preempt_state=_all_of(told["preemptState"]),
             coord_pattern_status=told["coordPatternStatus"],
             local_free_status=told["localFreeStatus"],
             local_counter=told["localCounter"],

@@ -148,7 +148,7 @@ def _sizes() -> Iterator[tuple[Oid, Getter]]:
         ((7, 1, 0), RINGS),
         ((7, 2, 0), SEQUENCES),
         ((9, 1, 0), overlaps),
-        ((9, 3, 0), 1),
+        ((9, 3, 0), overlaps // GROUP),
     ):
         yield place, _constant(size)
 
@@ -165,11 +165,11 @@ def _indices() -> Iterator[tuple[Oid, Getter]]:
 
 def _groups() -> Iterator[tuple[Oid, Getter]]:
     """Sets in groups of eight."""
-    phases = OBJECTS["phaseRing"].count
+    phases, overlaps = (OBJECTS[it].count for it in ("phaseRing", "overlapType"))
     for place, part, names, count in (
         ((1, 4, 1), "phases", PHASE_SETS, phases // GROUP),
         ((2, 4, 1), "detectors", DETECTOR_SETS, VEHICLES // GROUP),
-        ((9, 4, 1), "overlaps", OVERLAP_SETS, 1),
+        ((9, 4, 1), "overlaps", OVERLAP_SETS, overlaps // GROUP),
     ):
         for group in range(1, count + 1):
             yield (*place, 1, group), _constant(group)

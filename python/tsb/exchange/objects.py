@@ -590,7 +590,8 @@ def row_of(leaf: Leaf) -> Row:
 
 
 def values_of(plan: Plan) -> Iterator[tuple[Oid, Value]]:
-    """All values of a plan, by their OIDs in ascending order."""
+    """All values of a plan, by their OIDs in ascending order: those of the newest version, as a bench that runs the
+    plan has them."""
     plan = plan.wide(NEWEST)
     for oid, leaf in plan_leaves().items():
         form = leaf.column.form

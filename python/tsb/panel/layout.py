@@ -108,7 +108,7 @@ def _layout_of(told: Any) -> Layout:
     return Layout(
         lanes=dict(_lanes("phases", parts["phases"], 16)),
         crossings=crossings,
-        overlaps=dict(_lanes("overlaps", parts["overlaps"], 4)),
+        overlaps=dict(_lanes("overlaps", parts["overlaps"], 16)),
         streets=parts["streets"],
     )
 

@@ -102,7 +102,7 @@ def _one_of(names: Any, what: str) -> Any:
     return field(metadata={"check": check})
 
 
-HEAD = r"([PW]([1-9]|1[0-6])|O[1-4])"
+HEAD = r"[PWO]([1-9]|1[0-6])"
 DAY = r"20\d\d-\d\d-\d\d"
 TIME = r"\d\d:\d\d:\d\d(\.\d)?"
 NAME = r"[A-Za-z0-9][A-Za-z0-9_-]{0,39}"
@@ -145,7 +145,7 @@ class Lamp(_Given):
     """Lights a lamp in place of a head's own."""
 
     FORM = "fault {head} {lamp}"
-    head: str = _word(HEAD, "P1 to P16, W1 to W16 or O1 to O4")
+    head: str = _word(HEAD, "P1 to P16, W1 to W16 or O1 to O16")
     lamp: str = _one_of(tuple("GYRWCD"), "a letter of GYR, of a pedestrian head WCD")
 
 
@@ -300,7 +300,7 @@ class Mark:
     """Marks each change of a watched value, or marks it no more."""
 
     watch: Watch = _one_of(WATCHES, "nothing that can be watched")
-    number: int = _number(0, PHASES)
+    number: int = _number(0, VEHICLES)
     on: bool = _truth()
 
 

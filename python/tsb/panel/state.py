@@ -3,11 +3,13 @@
 from datetime import datetime
 from typing import Any
 
+from tsb.lines import OVERLAPS, WIDTH
 from tsb.manual import OBJECTS, RULES
 from tsb.panel import words
 from tsb.panel.layout import Layout, layout_of
 from tsb.panel.run import Run, is_tripped
 from tsb.programs import marked
+from tsb.rows import fields
 from tsb.status import Edits, Status
 from tsb.values import RINGS, SEQUENCES, parts_of
 
@@ -18,14 +20,16 @@ def state_of(run: Run) -> dict[str, Any]:
     """All that a page shows, except pictures and the plan."""
     bench, tape, now = run.bench, run.tape, run.now
     hands, given, lamp = tape.hands(now), tape.before(now), tape.lamp(now)
-    ahead = tape.end - now
+    shown = bench.show()
+    row = tape.row(now + 1) if tape.end > now else next(tape.next_rows(now, 1))[0]
     return {
         "now": now,
         "clock": _shown(bench.time),
         "end": tape.end,
         "log_end": max(tape.log.ticks, default=0),
-        "line": bench.show().line,
-        "row": tape.row(now + 1) if ahead else next(tape.next_rows(now, 1))[0],
+        "line": shown.line[: WIDTH - 1],
+        "overlaps": shown.overlaps.ljust(OVERLAPS[1], "-"),
+        "row": "".join(fields(row)),
         "hands": {where: hand.at(now + 1) for where, hand in sorted(hands.items())},
         "switches": sorted(tape.switches(now)),
         "lamp": None if lamp is None else f"{lamp.head} {lamp.lamp}",

@@ -7,18 +7,19 @@ these inputs until another is given, so that it can give them again.
 from bisect import bisect_right
 from collections.abc import Iterable, Iterator, Mapping
 from dataclasses import dataclass, field
+from itertools import pairwise
 
 from tsb.panel.requests import Given, Lamp, NoLamp, Reset, Switch
-from tsb.rows import ALL_OFF, Log
+from tsb.rows import ALL_OFF, PEDESTRIANS, VEHICLES, Log, fields, of_fields
 
-# Where the digits of each kind begin in a row.
-BEGINS = {"vehicle": 0, "pedestrian": 17, "preempt": 26}
+# Where the digits of each kind begin among those of all inputs.
+BEGINS = {"vehicle": 0, "pedestrian": VEHICLES, "preempt": VEHICLES + PEDESTRIANS}
 
 Stretch = tuple[str, int]  # a row, and how many ticks it holds for
 
 
 def place(kind: str, number: int) -> int:
-    """The place of an input's digit in a row."""
+    """The place of an input's digit among those of all inputs."""
     return BEGINS[kind] + number - 1
 
 
@@ -172,7 +173,8 @@ def _with_hands(row: str, hands: Hands, tick: int) -> str:
     """A row of the log as hands make it in a tick."""
     if not hands:
         return row
-    digits = list(row)
+    digits = list("".join(fields(row)))
     for where, hand in hands.items():
         digits[where] = "1" if hand.at(tick) else "0"
-    return "".join(digits)
+    begins = [*BEGINS.values(), len(digits)]
+    return of_fields("".join(digits[at:end]) for at, end in pairwise(begins))

@@ -12,14 +12,14 @@ from typing import Any
 
 import numpy as np
 
-from tsb.lines import Display
+from tsb.lines import OVERLAPS, Display
 from tsb.panel.requests import View
-from tsb.rows import ALL_OFF, PEDESTRIANS, PREEMPTS, VEHICLES, Log
+from tsb.rows import ALL_OFF, PEDESTRIANS, PREEMPTS, VEHICLES, Log, fields
 
 NAMES = [
     *(f"P{it}" for it in range(1, 17)),
     *(f"W{it}" for it in range(1, 17)),
-    *(f"O{it}" for it in range(1, 5)),
+    *(f"O{it}" for it in range(1, OVERLAPS[1] + 1)),
     "preempt",
 ]
 INPUTS = [
@@ -28,20 +28,20 @@ INPUTS = [
     *(f"I{it}" for it in range(1, PREEMPTS + 1)),
 ]
 # The letters whose share a column has: right of way, a preempt, an input.
-SHARED = frozenset(b"GWC1234")
+SHARED = frozenset(b"GWC12345678")
 # What shows nothing: no head, and no preempt or input.
 DARK, NONE = ord("-"), ord("0")
 
 
 def letters(display: Display) -> str:
     """The letter of each of `NAMES` in a display: of the preempt its number."""
-    heads = display.vehicles + display.pedestrians + display.overlaps
-    return heads + str(display.preempt)
+    overlaps = display.overlaps.ljust(OVERLAPS[1], "-")
+    return display.vehicles + display.pedestrians + overlaps + str(display.preempt)
 
 
 def digits(row: str) -> str:
     """The digits of a row, one for each of `INPUTS`."""
-    return row.replace(" ", "")
+    return "".join(fields(row))
 
 
 class Band:

@@ -7,7 +7,7 @@ which of them a line asks for.
 import shlex
 from collections.abc import Iterator
 from dataclasses import dataclass, field, replace
-from itertools import groupby
+from itertools import accumulate, groupby, pairwise
 from pathlib import Path
 
 from tsb.bench import Bench
@@ -27,7 +27,7 @@ from tsb.options import called
 from tsb.panel.keep import Source
 from tsb.panel.requests import given_of
 from tsb.plan import Plan
-from tsb.rows import ALL_OFF, Log
+from tsb.rows import ALL_OFF, COUNTS, Log, fields, of_fields
 from tsb.scenario.expect import Came, Played, Stretch, Waits
 from tsb.scenario.text import Command, Laid, Scenario
 from tsb.scenario.times import Clock, Times, Value
@@ -297,10 +297,13 @@ def _rows(base: Log, turned: dict[int, dict[int, str]]) -> Iterator[tuple[int, s
     """The rows of a log with the digits that lines turn, each from a tick on."""
     held: dict[int, str] = {}
     rows, row = dict(zip(base.ticks, base.rows, strict=True)), ALL_OFF
+    ends = [0, *accumulate(COUNTS)]
     for tick in sorted({*rows, *turned}):
         row = rows.get(tick, row)
         held |= turned.get(tick, {})
-        yield tick, "".join(held.get(at, digit) for at, digit in enumerate(row))
+        digits = enumerate("".join(fields(row)))
+        told = "".join(held.get(at, digit) for at, digit in digits)
+        yield tick, of_fields(told[at:end] for at, end in pairwise(ends))
 
 
 def _advance(bench: Bench, run: Played, tick: int) -> None:

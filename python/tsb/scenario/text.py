@@ -24,7 +24,7 @@ LONGEST = 1 << 20  # bytes of a file
 LINE_LONGEST = 1000  # characters of a line
 #: Inputs by their letter, as the tables of `tsb.frames` have them.
 KINDS: Mapping[str, Kind] = {"V": "vehicle", "B": "pedestrian", "I": "preempt"}
-IS_INPUT = "V1 to V16, B1 to B8 and I1 to I4 are inputs"
+IS_INPUT = "V1 to V64, B1 to B16 and I1 to I8 are inputs"
 #: Every index of an object that a line sets.
 ALL = "*"
 

@@ -29,7 +29,7 @@ from tsb.errors import Error
 from tsb.files import read
 from tsb.rows import PEDESTRIANS, PREEMPTS, VEHICLES
 
-PHASES, OVERLAPS = 16, 4
+PHASES, OVERLAPS = 16, 16
 LONGEST = 1 << 20  # bytes of a mapping
 
 

@@ -12,6 +12,7 @@ from os import PathLike
 from typing import Any
 
 from tsb.plan import Plan
+from tsb.rows import PEDESTRIANS
 from tsb.sumo.draft import Draft
 from tsb.sumo.intersection import met
 from tsb.sumo.mapping import Mapping
@@ -110,7 +111,7 @@ class _Proposal:
             permissive=_sorted(self.permissive),
             pedestrians=pedestrians,
             channels=channels,
-            buttons={at: it for at, it in pedestrians.items() if at <= 8},
+            buttons={at: it for at, it in pedestrians.items() if at <= PEDESTRIANS},
             free=tuple(sorted(self.free)),
         )
         return Draft(plan, mapping, self.notes)

@@ -7,7 +7,7 @@ is a call, and a subscription would only cost.
 from collections.abc import Callable, Iterable
 from typing import Any, Protocol
 
-from tsb.rows import PEDESTRIANS, PREEMPTS, VEHICLES
+from tsb.rows import PEDESTRIANS, PREEMPTS, VEHICLES, of_fields
 from tsb.sumo.intersection import Intersection
 from tsb.sumo.mapping import MappingFault
 
@@ -44,10 +44,10 @@ class Reader:
         self._preempts = [self._coming(at) for at in range(1, PREEMPTS + 1)]
 
     def row(self) -> str:
-        """The row of inputs: 16, 8 and 4 digits. A channel is on while a vehicle is on
-        a detector of it (on a loop: was in the last step)."""
+        """The row of inputs. A channel is on while a vehicle is on a detector of it (on a
+        loop: was in the last step)."""
         self._get.renew()
-        return " ".join(
+        return of_fields(
             "".join("1" if any(test() for test in tests) else "0" for tests in inputs)
             for inputs in (self._vehicles, self._buttons, self._preempts)
         )

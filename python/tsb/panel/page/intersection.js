@@ -7,14 +7,14 @@ import { byId, mark, onPress, say, svg } from "./dom.js";
 const X = 340, Y = 320;
 const TURN = { west: 0, north: 90, east: 180, south: 270 };
 const LANES = { left: 15, through: 45, right: 75 };
-const HALF = 92, CROSSING = 98, ZEBRA = 26, STOP = 130, HEAD = 136, LENS = 17, FIRST = 200, DETECTOR = 28;
+const HALF = 92, CROSSING = 98, ZEBRA = 26, STOP = 130, HEAD = 136, LENS = 17, FIRST = 200, DETECTOR = 28, IN_LANE = 3;
 const EDGE = 312;
 const LAMPS = ["R", "Y", "G"];
-// Where the digits of each kind begin in a row, and the letter of each.
+// Where the digits of each kind begin among those of all inputs, and the letter of each.
 const KINDS = {
   vehicle: { begins: 0, letter: "D", name: "detector" },
-  pedestrian: { begins: 17, letter: "B", name: "button" },
-  preempt: { begins: 26, letter: "I", name: "preempt input" },
+  pedestrian: { begins: 64, letter: "B", name: "button" },
+  preempt: { begins: 80, letter: "I", name: "preempt input" },
 };
 
 /** The point of a place on a leg. */
@@ -35,6 +35,8 @@ export class Intersection {
     this.node = byId("map");
     this.now = 0;
     this.inputs = new Map();
+    // (which detectors of each phase are in view, where there are more than places)
+    this.pages = new Map();
     this.heads = [];
     this.moves = [];
     this.walks = [];
@@ -110,12 +112,39 @@ export class Intersection {
     this.moves.push([kind, number, move]);
     this.head(kind, number, lane.leg, across, turn);
     if (kind === "P") {
-      const found = Object.entries(this.plan.detectors).filter(([, phase]) => phase === number);
-      found.forEach(([detector], at) => {
-        const [x, y] = point(lane.leg, FIRST + DETECTOR / 2 + at * (DETECTOR + 5), across);
-        this.node.append(this.input("vehicle", Number(detector), x, y, DETECTOR, 23));
-      });
+      const places = Array.from({ length: IN_LANE }, (_, at) => point(lane.leg, FIRST + DETECTOR / 2 + at * (DETECTOR + 5), across));
+      this.detectors(number, places);
     }
+  }
+
+  /** The detectors of a phase, at these places. Where there are more, the last place scrolls through them. */
+  detectors(phase, places) {
+    const found = Object.entries(this.plan.detectors).filter(([, it]) => it === phase).map(([detector]) => Number(detector));
+    const step = found.length > places.length ? places.length - 1 : places.length;
+    const nodes = found.map((detector, at) => {
+      const [x, y] = places[at % step];
+      const node = this.input("vehicle", detector, x, y, DETECTOR, 23);
+      this.node.append(node);
+      return node;
+    });
+    if (found.length > places.length) this.scroll(phase, nodes, step, places.at(-1));
+  }
+
+  /** What shows so many of these nodes at a time: the next ones at each press, and then the first again. */
+  scroll(phase, nodes, step, [x, y]) {
+    const count = Math.ceil(nodes.length / step);
+    const label = text(x, y, "", "small");
+    const node = svg("g", { class: "input more", tabindex: 0, role: "button", id: `more-${phase}` },
+      svg("rect", { x: x - DETECTOR / 2, y: y - 11.5, width: DETECTOR, height: 23, rx: 11 }), label);
+    const show = (page) => {
+      this.pages.set(phase, page);
+      nodes.forEach((it, at) => (it.style.display = Math.floor(at / step) === page ? "" : "none"));
+      say(label, `${page + 1}/${count}`);
+      node.setAttribute("aria-label", `detectors of phase ${phase}: ${page + 1} of ${count}, press for the next`);
+    };
+    onPress(node, () => show((this.pages.get(phase) + 1) % count), () => {});
+    show((this.pages.get(phase) ?? 0) % count);
+    this.node.append(node);
   }
 
   /** A head of three lenses, the red one farthest from the stop line, and its name. */
@@ -150,10 +179,7 @@ export class Intersection {
     this.heads.push([kind, number, lenses]);
     if (kind === "O") this.node.append(text(x + 114, y, this.included(number), "small"));
     else {
-      const found = Object.entries(this.plan.detectors).filter(([, phase]) => phase === number);
-      found.forEach(([detector], at) => {
-        this.node.append(this.input("vehicle", Number(detector), x + 106 + at * 30, y, DETECTOR, 23));
-      });
+      this.detectors(number, [[x + 106, y], [x + 136, y]]);
     }
   }
 
@@ -201,7 +227,7 @@ export class Intersection {
 
   /** A preempt: its switch and its input, in the upper left. */
   preempt(number, at) {
-    const y = 24 + 34 * at;
+    const y = 24 + Math.min(34, 204 / this.plan.preempts.length) * at;
     const toggle = svg("g", { class: "input switch", tabindex: 0, role: "switch", "aria-label": `switch of preempt ${number}`, id: `switch-${number}` },
       svg("rect", { x: 92, y: y - 12, width: 58, height: 24, rx: 12 }), text(121, y, "switch"));
     const isOn = () => toggle.getAttribute("aria-checked") === "true";
@@ -265,7 +291,8 @@ export class Intersection {
   /** Shows a state. */
   show(state) {
     this.now = state.now;
-    const [, vehicles, pedestrians, overlaps] = state.line.split(" ");
+    const [, vehicles, pedestrians] = state.line.split(" ");
+    const { overlaps } = state;
     const letterOf = (kind, number) => (kind === "P" ? vehicles : overlaps)[number - 1];
     for (const [kind, number, lenses] of this.heads) this.light(letterOf(kind, number), lenses);
     for (const [kind, number, move] of this.moves) {

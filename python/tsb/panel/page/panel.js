@@ -386,7 +386,7 @@ class Page {
     byId("watch").addEventListener("change", () => (byId("watch-number").disabled = isOne()));
     byId("mark").addEventListener("click", () => {
       this.tried("time-said", () => {
-        const number = isOne() ? 0 : whole(byId("watch-number").value, "a number", 1, 16);
+        const number = isOne() ? 0 : whole(byId("watch-number").value, "a number", 1, 64);
         this.ask({ do: "mark", watch: byId("watch").value, number, on: true });
       });
     });
